@@ -1,0 +1,5 @@
+pub mod Fault
+pub mod Position
+pub mod Id
+pub mod Name
+pub mod Properties

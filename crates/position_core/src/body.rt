@@ -1,0 +1,57 @@
+// What a producer hands in, shared by all who hold it.
+ghost use Rattle.std.specs.Prelude.{◌≡◌, IfOk};
+
+use crate::payload::Payload;
+use crate::properties::Properties;
+use crate::text::Key;
+use std::alloc::{AllocError, Global};
+use std::marker::Model;
+use std::sync::Arc;
+
+/// A message's key, properties and payload.
+#[derive(Debug, Drop)]
+pub struct Content {
+    pub key: Option<Key>,
+    pub properties: Properties,
+    pub payload: Payload,
+}
+
+/// A content that is shared. A clone is one more owner of the same bytes.
+#[derive(Drop)]
+pub struct Body {
+    content: Arc<Content>,
+}
+
+impl Model for Body {
+    ghost use Rattle.position_core.specs.declared.body.Content.{Content};
+
+    ghost Value = { Content };
+
+    ghost view = { λ b. b.content.value };
+}
+
+impl Body {
+    pub fn new(alloc: Global, content: Content) -> Result<Self, AllocError>
+        ensures { IfOk result (λ body. body ≡ content) }
+    {
+        Ok(Body {
+            content: Arc::new(alloc, content)?,
+        })
+    }
+
+    pub fn content(&self) -> &Content
+        ensures { result.now ≡ self.now }
+    {
+        &self.content
+    }
+}
+
+impl Clone for Body {
+    ghost is_clone = { λ body copy. copy ≡ body };
+
+    fn clone(&self) -> Result<Self, AllocError> {
+        Ok(Body {
+            content: Arc::try_clone(&self.content)?,
+        })
+    }
+}

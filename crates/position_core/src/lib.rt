@@ -1,0 +1,24 @@
+//! The values of a topic: positions and their texts, names, moments, bodies, messages and refusals.
+#![tactic(auto)]
+
+mod body;
+mod bounded;
+mod fault;
+mod message;
+mod moment;
+mod name;
+mod payload;
+mod position;
+mod properties;
+mod text;
+
+pub use body::{Body, Content};
+pub use bounded::{Bounded, LedgerSize, Level, Millis, RedeliverLimit, WindowSize};
+pub use fault::Fault;
+pub use message::{Entry, Message};
+pub use moment::{Base, Moment};
+pub use name::{Name, SubscriptionName, TopicName};
+pub use payload::Payload;
+pub use position::Position;
+pub use properties::Properties;
+pub use text::{Key, ProducerName, Text};
