@@ -1,0 +1,51 @@
+-- Producers and the log: connecting, publishing, storing.
+use Rattle.std.specs.Prelude.{◌≡◌, ℕ, ◌+◌, ◌<◌, Bool, true, false, ◌||◌, List, [], ◌∷◌, ◌++◌, length, Option, Some, None, if◌then◌else◌, ℤ, codes}
+use Rattle.std.specs.List.{list_any}
+use Rattle.std.specs.Fmt.{decimal}
+use Rattle.position_core.specs.declared.body.Content.{Content}
+use Rattle.position_core.specs.declared.message.Entry.{Entry}
+use Rattle.delivery_machine.specs.State.{State, Producer}
+use Rattle.delivery_machine.specs.Words.{is_connected, is_by, last_sequence, next_position}
+use Rattle.delivery_machine.specs.Refusals.{is_duplicate}
+use Rattle.delivery_machine.specs.declared.reply.Reply.{Reply}
+use Rattle.delivery_machine.specs.declared.reply.Reply.TheVariants.{ProducerAdded, Published, Duplicate, Durable}
+
+-- the name that the topic makes of a number: `auto-0` and on
+abbrev pub auto_name : ℕ → List ℕ
+auto_name n = codes "auto-" ++ decimal n
+
+-- a producer of the name is connected, or wrote a message of the log
+abbrev pub is_used : State → List ℕ → Bool
+is_used s name = is_connected s name || list_any (is_by name) s.log
+
+-- the least number whose name is not used
+abbrev pub IsLeastFree : State → ℕ → Type 0
+IsLeastFree s n = (is_used s (auto_name n) ≡ false) × ((k : ℕ) → k < n → is_used s (auto_name k) ≡ true)
+
+abbrev pub with_producer : State → Producer → State
+with_producer s p = record s { producers = s.producers ++ p ∷ []; next_producer = s.next_producer + 1 }
+
+abbrev pub Connects : State → List ℕ → Option ℕ → ℤ → Reply → State → Type 0
+Connects s name auto base reply t =
+    (reply ≡ ProducerAdded s.next_producer auto (last_sequence s.log name base))
+    × (t ≡ with_producer s (record { number = s.next_producer; name = name; base = base }))
+
+abbrev pub AddsProducer : State → Option (List ℕ) → ℤ → Reply → State → Type 0
+AddsProducer s (Some name) base reply t = Connects s name None base reply t
+AddsProducer s None base reply t = (n : ℕ) × IsLeastFree s n × Connects s (auto_name n) (Some n) base reply t
+
+abbrev pub with_message : State → Entry → State
+with_message s e = record s { log = s.log ++ e ∷ []; ledger = e.position.ledger }
+
+abbrev pub message_of : State → Producer → ℤ → Content → ℕ → Entry
+message_of s p sequence body now =
+    record { position = next_position s; producer = p.name; sequence = sequence; time = now; body = body }
+
+-- a duplicate changes nothing; another message is appended
+abbrev pub Publishes : State → Producer → ℤ → Content → ℕ → Reply → State → Type 0
+Publishes s p sequence body now reply t =
+    (reply ≡ (if is_duplicate s p sequence then Duplicate (length s.log) else Published (next_position s) (length s.log + 1)))
+    × (t ≡ (if is_duplicate s p sequence then s else with_message s (message_of s p sequence body now)))
+
+abbrev pub Stores : State → Reply → State → Type 0
+Stores s reply t = (reply ≡ Durable (length s.log)) × (t ≡ record s { durable = length s.log })

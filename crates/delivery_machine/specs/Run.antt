@@ -1,0 +1,54 @@
+-- Steps and runs of the delivery machine.
+use Rattle.std.specs.Prelude.{◌≡◌, List, [], ◌∷◌, Some, None, IsTrue, IsSomeAnd}
+use Rattle.std.specs.List.{find}
+use Rattle.position_core.specs.declared.fault.Fault.TheVariants.{NoMemory}
+use Rattle.delivery_machine.specs.State.{State}
+use Rattle.delivery_machine.specs.Words.{is_producer, is_named}
+use Rattle.delivery_machine.specs.Refusals.{refusal_of, takes_memory}
+use Rattle.delivery_machine.specs.Producing.{AddsProducer, Publishes, Stores}
+use Rattle.delivery_machine.specs.Joining.{Subscribes}
+use Rattle.delivery_machine.specs.Acknowledging.{Acks}
+use Rattle.delivery_machine.specs.Delivering.{Dispatches, Collects}
+use Rattle.delivery_machine.specs.declared.event.Event.{Event}
+use Rattle.delivery_machine.specs.declared.event.Event.TheVariants.{AddProducer, Publish, Stored, Subscribe, Ack, Dispatch, Collect}
+use Rattle.delivery_machine.specs.declared.reply.Reply.{Reply}
+use Rattle.delivery_machine.specs.declared.reply.Reply.TheVariants.{Refused}
+
+-- what an event that is not refused does
+abbrev pub Takes : State → Event → Reply → State → Type 0
+Takes s (AddProducer name base) r t = AddsProducer s name base r t
+Takes s (Publish producer sequence body now) r t = IsSomeAnd (find (is_producer producer) s.producers) (λ p. Publishes s p sequence body now r t)
+Takes s Stored r t = Stores s r t
+Takes s (Subscribe name kind level flow ack_timeout nack_delay max_redeliver dead_topic initial) r t =
+    Subscribes s kind initial (record {
+      number = s.next_consumer;
+      subscription = name;
+      level = level;
+      flow = flow;
+      ack_timeout = ack_timeout;
+      nack_delay = nack_delay;
+      max_redeliver = max_redeliver;
+      dead_topic = dead_topic;
+      share = [];
+      out = [];
+    }) r t
+Takes s (Ack consumer position) r t = Acks s consumer position r t
+Takes s (Dispatch name now) r t = IsSomeAnd (find (is_named name) s.subscriptions) (λ sub. Dispatches s now sub r t)
+Takes s (Collect consumer) r t = Collects s consumer r t
+
+-- a refusal leaves the state as it was
+abbrev pub Step : State → Event → Reply → State → Type 0
+Step s event (Refused fault) t = (refusal_of s event ≡ Some fault) × (t ≡ s)
+Step s event reply t = (refusal_of s event ≡ None) × Takes s event reply t
+
+-- want of memory is no step: it comes only from an event that takes memory and is not refused, and leaves the state as it was
+abbrev pub Answers : State → Event → Reply → State → Type 0
+Answers s event (Refused NoMemory) t = IsTrue (takes_memory event) × (refusal_of s event ≡ None) × (t ≡ s)
+Answers s event reply t = Step s event reply t
+
+-- each event is answered in turn
+abbrev pub Run : State → List Event → List Reply → State → Type 0
+Run s [] [] t = t ≡ s
+Run s (event ∷ events) (reply ∷ replies) t = (mid : State) × Answers s event reply mid × Run mid events replies t
+Run s [] (reply ∷ replies) t = ⊥
+Run s (event ∷ events) [] t = ⊥

@@ -1,0 +1,87 @@
+-- The state of a topic: what the machine knows, and no more.
+use Rattle.std.specs.Prelude.{ℕ, List, [], ℤ, Option}
+use Rattle.std.specs.FinSet.{FinSet}
+use Rattle.std.specs.FinMap.{FinMap}
+use Rattle.position_core.specs.declared.position.Position.{Position}
+use Rattle.position_core.specs.declared.name.TopicName.{TopicName}
+use Rattle.position_core.specs.declared.message.Entry.{Entry}
+use Rattle.position_core.specs.Position.{position_cmp}
+use Rattle.delivery_machine.specs.declared.delivery.Delivery.{Delivery}
+use Rattle.delivery_machine.specs.declared.event.Kind.{Kind}
+use Rattle.delivery_machine.specs.declared.event.Flow.{Flow}
+
+-- a connected producer; `base` stands for its last sequence number where the log has none of its messages
+pub record Producer : Type 0 where
+  pub number : ℕ
+  pub name : List ℕ
+  pub base : ℤ
+
+-- a run of hashes: `size` of them, `from` on
+pub record Span : Type 0 where
+  pub from : ℕ
+  pub size : ℕ
+
+-- a consumer of a subscription; `out` is what it was sent and has not collected
+pub record Member : Type 0 where
+  pub number : ℕ
+  pub subscription : List ℕ
+  pub level : ℕ
+  pub flow : Flow
+  pub ack_timeout : ℕ
+  pub nack_delay : ℕ
+  pub max_redeliver : ℕ
+  pub dead_topic : TopicName
+  pub share : List Span
+  pub out : List Delivery
+
+-- at whom a message is pending, and from which moment on it may be released, if ever
+pub record Held : Type 0 where
+  pub consumer : ℕ
+  pub due : Option ℕ
+
+-- a message that was redelivered too often, and the topic that it goes to
+pub record Dead : Type 0 where
+  pub position : Position
+  pub target : TopicName
+  pub ordinal : ℕ
+
+-- `counts` has the messages that were redelivered; the first `safe` dead letters are stored
+pub record Subscription : Type 0 where
+  pub name : List ℕ
+  pub kind : Kind
+  pub acknowledged : FinSet position_cmp
+  pub pending : FinMap position_cmp Held
+  pub counts : FinMap position_cmp ℕ
+  pub dead : List Dead
+  pub safe : ℕ
+
+-- producers and members stand in order of joining, subscriptions in order of their names;
+-- the first `durable` messages of the log are stored
+pub record State : Type 0 where
+  pub name : TopicName
+  pub ledger_size : ℕ
+  pub ledger : ℕ
+  pub next_ordinal : ℕ
+  pub next_producer : ℕ
+  pub next_consumer : ℕ
+  pub log : List Entry
+  pub durable : ℕ
+  pub producers : List Producer
+  pub members : List Member
+  pub subscriptions : List Subscription
+
+-- a topic with nothing in it
+abbrev pub fresh : TopicName → ℕ → State
+fresh name ledger_size = record {
+  name = name;
+  ledger_size = ledger_size;
+  ledger = 0;
+  next_ordinal = 0;
+  next_producer = 1;
+  next_consumer = 1;
+  log = [];
+  durable = 0;
+  producers = [];
+  members = [];
+  subscriptions = [];
+}

@@ -1,0 +1,137 @@
+-- What the rules speak of: who is there, the log, live and waiting messages, room, the active member, eligible pairs.
+use Rattle.std.specs.Prelude.{◌≡◌, ℕ, ◌+◌, ◌==◌, nat_lt, Bool, false, not, ◌&&◌, ◌||◌, List, [], ◌∷◌, map, length, take, ℤ, Option, Some, None, is_some, if◌then◌else◌, IsTrue}
+use Rattle.std.specs.List.{filter, count_by, list_any, find}
+use Rattle.std.specs.Option.{option_map_or, unwrap_or}
+use Rattle.std.specs.Int.{int_max}
+use Rattle.std.specs.Str.{bytes_eq}
+use Rattle.std.specs.FinSet as set
+use Rattle.std.specs.FinMap as map_of
+use Rattle.position_core.specs.declared.position.Position.{Position}
+use Rattle.position_core.specs.declared.message.Entry.{Entry}
+use Rattle.position_core.specs.Position.{same_position}
+use Rattle.delivery_machine.specs.State.{State, Producer, Member, Subscription, Held}
+use Rattle.delivery_machine.specs.declared.event.Flow.{Flow}
+use Rattle.delivery_machine.specs.declared.event.Flow.TheVariants.{Window}
+use Rattle.delivery_machine.specs.declared.event.Kind.{Kind}
+use Rattle.delivery_machine.specs.declared.event.Kind.TheVariants.{Exclusive}
+
+-- ---- lists
+
+-- the list with the first element that passes changed
+abbrev pub changed : {A : Type 0} → (A → Bool) → (A → A) → List A → List A
+changed p f [] = []
+changed p f (x ∷ xs) = if p x then f x ∷ xs else x ∷ changed p f xs
+
+-- the one that is picked from each pair
+abbrev pub best_by : {A : Type 0} → (A → A → A) → List A → Option A
+best_by pick [] = None
+best_by pick (x ∷ xs) = Some (option_map_or (pick x) (best_by pick xs) x)
+
+-- ---- who is there
+
+abbrev pub is_producer : ℕ → Producer → Bool
+is_producer number p = p.number == number
+
+abbrev pub is_member : ℕ → Member → Bool
+is_member number m = m.number == number
+
+abbrev pub is_named : List ℕ → Subscription → Bool
+is_named name sub = bytes_eq sub.name name
+
+-- the member is at the subscription of the name
+abbrev pub is_at : List ℕ → Member → Bool
+is_at name m = bytes_eq m.subscription name
+
+abbrev pub members_of : State → List ℕ → List Member
+members_of s name = filter (is_at name) s.members
+
+abbrev pub has_member : State → ℕ → Bool
+has_member s consumer = is_some (find (is_member consumer) s.members)
+
+abbrev pub has_subscription : State → List ℕ → Bool
+has_subscription s name = is_some (find (is_named name) s.subscriptions)
+
+abbrev pub is_connected : State → List ℕ → Bool
+is_connected s name = list_any (λ p. bytes_eq p.name name) s.producers
+
+-- ---- the log
+
+abbrev pub is_by : List ℕ → Entry → Bool
+is_by name e = bytes_eq e.producer name
+
+abbrev pub greatest : List ℤ → Option ℤ
+greatest numbers = best_by int_max numbers
+
+-- the greatest sequence number of the producer's messages, or the base where there are none
+abbrev pub last_sequence : List Entry → List ℕ → ℤ → ℤ
+last_sequence log name base = unwrap_or (greatest (map (λ e. e.sequence) (filter (is_by name) log))) base
+
+-- a full ledger makes the next message begin the next ledger
+abbrev pub next_position : State → Position
+next_position s =
+    let used = count_by (λ e. e.position.ledger == s.ledger) s.log in
+    if nat_lt used s.ledger_size
+    then record { ledger = s.ledger; entry = used }
+    else record { ledger = s.ledger + 1; entry = 0 }
+
+abbrev pub visible : State → List Entry
+visible s = take s.durable s.log
+
+abbrev pub has_position : Position → Entry → Bool
+has_position position e = same_position e.position position
+
+-- ---- a subscription's messages
+
+abbrev pub is_dead : Subscription → Position → Bool
+is_dead sub position = list_any (λ d. same_position d.position position) sub.dead
+
+-- neither acknowledged nor dead
+abbrev pub is_live : Subscription → Entry → Bool
+is_live sub e = not (set.contains sub.acknowledged e.position) && not (is_dead sub e.position)
+
+-- live, and pending at nobody
+abbrev pub is_waiting : Subscription → Entry → Bool
+is_waiting sub e = is_live sub e && not (map_of.contains_key sub.pending e.position)
+
+abbrev pub first_waiting : State → Subscription → Option Entry
+first_waiting s sub = find (is_waiting sub) (visible s)
+
+-- how often the message was redelivered
+abbrev pub count_of : Subscription → Position → ℕ
+count_of sub position = unwrap_or (map_of.get sub.counts position) 0
+
+-- ---- room
+
+abbrev pub is_held_by : ℕ → Option Held → Bool
+is_held_by consumer held = option_map_or (λ h. h.consumer == consumer) held false
+
+-- how many messages are pending at the consumer
+abbrev pub pending_at : State → Subscription → ℕ → ℕ
+pending_at s sub consumer = count_by (λ e. is_held_by consumer (map_of.get sub.pending e.position)) s.log
+
+abbrev pub flow_has_room : Flow → ℕ → Bool
+flow_has_room (Window size) held = nat_lt held size
+
+abbrev pub has_room : State → Subscription → Member → Bool
+has_room s sub m = flow_has_room m.flow (pending_at s sub m.number)
+
+-- ---- who is served
+
+-- the first stands before the second by level, and then by number
+abbrev pub comes_before : Member → Member → Bool
+comes_before a b = nat_lt a.level b.level || (a.level == b.level && nat_lt a.number b.number)
+
+abbrev pub earlier : Member → Member → Member
+earlier a b = if comes_before b a then b else a
+
+-- the member of the least level and number
+abbrev pub active_of : List Member → Option Member
+active_of members = best_by earlier members
+
+-- by the subscription's kind, the message may go to the member
+abbrev pub ChoosesBy : Kind → State → Subscription → Entry → Member → Type 0
+ChoosesBy Exclusive s sub e m = (first_waiting s sub ≡ Some e) × (active_of (members_of s sub.name) ≡ Some m)
+
+-- the message may be sent to the member
+abbrev pub IsEligible : State → Subscription → Entry → Member → Type 0
+IsEligible s sub e m = IsTrue (has_room s sub m) × ChoosesBy sub.kind s sub e m

@@ -1,0 +1,89 @@
+// Messages on their way to a consumer.
+ghost use Rattle.std.specs.Prelude.{◌≡◌, ◌-◌, [], ◌∷◌, ◌++◌, OnOk, OnErr, length, take};
+ghost use Rattle.delivery_machine.specs.Acknowledging.{is_of, without};
+
+use position_core::{Message, Position};
+use std::alloc::{AllocError, Global};
+use std::marker::Model;
+
+/// A message for a consumer, and how often it was redelivered before.
+#[derive(Clone, Drop)]
+pub struct Delivery {
+    pub message: Message,
+    pub count: u32,
+}
+
+fn is_of(delivery: &Delivery, position: Position) -> bool
+    ensures { result ≡ is_of position delivery.now }
+{
+    delivery.message.position().is(position)
+}
+
+fn leave_out(items: &mut Vec<Delivery>, position: Position)
+    ensures { items.new.items ≡ without position items.old.items }
+{
+    items.retain(|delivery| !is_of(delivery, position));
+}
+
+/// Messages for a consumer, in the order in which they were sent.
+#[derive(Drop)]
+pub struct Deliveries {
+    items: Vec<Delivery>,
+}
+
+impl Model for Deliveries {
+    ghost use Rattle.std.specs.Prelude.{List};
+    ghost use Rattle.delivery_machine.specs.declared.delivery.Delivery.{Delivery};
+
+    ghost Value = { List Delivery };
+
+    ghost view = { λ d. d.items.items };
+}
+
+impl Deliveries {
+    pub fn new(alloc: Global) -> Self
+        ensures { result ≡ [] }
+    {
+        Deliveries {
+            items: Vec::new(alloc),
+        }
+    }
+
+    pub fn as_slice(&self) -> &[Delivery]
+        ensures { result.now ≡ self.now }
+    {
+        self.items.as_slice()
+    }
+
+    pub fn push(&mut self, delivery: Delivery) -> Result<(), AllocError>
+        ensures ok { OnOk result (self.new ≡ self.old ++ delivery ∷ []) }
+        ensures err { OnErr result (self.new ≡ self.old) }
+    {
+        self.items.push(delivery)?;
+        Ok(())
+    }
+
+    /// Takes the last one back, where there is one.
+    pub fn drop_last(&mut self)
+        ensures { self.new ≡ take (length self.old - 1) self.old }
+    {
+        self.items.pop();
+    }
+
+    /// Leaves out the copies of one message.
+    pub fn leave_out(&mut self, position: Position)
+        ensures { self.new ≡ without position self.old }
+    {
+        leave_out(&mut self.items, position);
+    }
+}
+
+impl Clone for Deliveries {
+    ghost is_clone = { λ deliveries copy. copy ≡ deliveries };
+
+    fn clone(&self) -> Result<Self, AllocError> {
+        Ok(Deliveries {
+            items: self.items.clone()?,
+        })
+    }
+}

@@ -1,0 +1,15 @@
+//! The delivery machine: what may be asked of a topic, what it answers, and the rules that tie them.
+#![tactic(auto)]
+
+mod delivery;
+mod event;
+mod reply;
+mod runs;
+mod topic;
+
+pub use delivery::{Deliveries, Delivery};
+pub use event::{Event, Flow, Initial, Kind};
+pub use position_core::Fault;
+pub use reply::Reply;
+pub use runs::run;
+pub use topic::Topic;
