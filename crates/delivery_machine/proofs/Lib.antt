@@ -1,1 +1,3 @@
 pub mod RunSteps
+pub mod Places
+pub mod Best

@@ -24,19 +24,19 @@ abbrev pub given : Delivery → Member → Member
 given d m = record m { out = m.out ++ d ∷ [] }
 
 -- the message is pending at the member, and stands last in its out list
-abbrev pub sent : State → Subscription → Entry → Member → ℕ → State
-sent s sub e m now = record s {
-  subscriptions = changed (is_named sub.name) (holding e.position (record { consumer = m.number; due = due_after now m.ack_timeout })) s.subscriptions;
+abbrev pub sent : State → List ℕ → Subscription → Entry → Member → ℕ → State
+sent s name sub e m now = record s {
+  subscriptions = changed (is_named name) (holding e.position (record { consumer = m.number; due = due_after now m.ack_timeout })) s.subscriptions;
   members = changed (is_member m.number) (given (record { message = e; count = count_of sub e.position })) s.members;
 }
 
 -- any eligible pair may be taken; `Idle` is the answer exactly where there is none
-abbrev pub Dispatches : State → ℕ → Subscription → Reply → State → Type 0
-Dispatches s now sub (Sent consumer position count) t =
+abbrev pub Dispatches : State → List ℕ → ℕ → Subscription → Reply → State → Type 0
+Dispatches s name now sub (Sent consumer position count) t =
     (e : Entry) × (m : Member) × IsEligible s sub e m
-    × (consumer ≡ m.number) × (position ≡ e.position) × (count ≡ count_of sub e.position) × (t ≡ sent s sub e m now)
-Dispatches s now sub Idle t = ((e : Entry) (m : Member) → IsEligible s sub e m → ⊥) × (t ≡ s)
-Dispatches s now sub reply t = ⊥
+    × (consumer ≡ m.number) × (position ≡ e.position) × (count ≡ count_of sub e.position) × (t ≡ sent s name sub e m now)
+Dispatches s name now sub Idle t = ((e : Entry) (m : Member) → IsEligible s sub e m → ⊥) × (t ≡ s)
+Dispatches s name now sub reply t = ⊥
 
 -- ---- collecting
 

@@ -33,7 +33,7 @@ Takes s (Subscribe name kind level flow ack_timeout nack_delay max_redeliver dea
       out = [];
     }) r t
 Takes s (Ack consumer position) r t = Acks s consumer position r t
-Takes s (Dispatch name now) r t = IsSomeAnd (find (is_named name) s.subscriptions) (λ sub. Dispatches s now sub r t)
+Takes s (Dispatch name now) r t = IsSomeAnd (find (is_named name) s.subscriptions) (λ sub. Dispatches s name now sub r t)
 Takes s (Collect consumer) r t = Collects s consumer r t
 
 -- a refusal leaves the state as it was

@@ -1,0 +1,5 @@
+pub mod Greatest
+pub mod Tables
+pub mod Active
+pub mod Undone
+pub mod Free

@@ -1,0 +1,9 @@
+use Rattle.std.proofs.Common.{ap, ◌∙◌, sym}
+use Rattle.std.specs.FinMap as map_of
+use Rattle.plain_lists.proofs.Tables.{get-entries}
+use Rattle.plain_lists.proofs.pending.PendingTable.get.Goals as goal
+
+pub returns : goal.returns
+returns c =
+    let got = get-entries c.self.inside.entries.items c.args.position in
+    cc (c.find_hold.ensures, c.deref.ensures.value, c.self.view_is, got)

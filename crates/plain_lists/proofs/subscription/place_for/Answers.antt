@@ -1,0 +1,12 @@
+use Rattle.std.proofs.Common.{◌≡◌, ◌≤◌, ◌<◌, arith, length, cond, ℕ, List, Some, None, Bool, true, false, refl, sym, ap, ◌∙◌}
+use Rattle.std.specs.Prelude.{nat_lt}
+use Rattle.std.specs.List.{position, position_or_len}
+use Rattle.std.proofs.lemmas.Bool.Decides.{nat_tests}
+use Rattle.std.proofs.lemmas.List.Sums.{prefix_len-le-length}
+use Rattle.plain_lists.proofs.subscription.place_for.Goals as goal
+
+at_the_end : (i n : ℕ) → i ≤ n → None ≡ cond (nat_lt i n) (Some i) None → n ≡ i
+at_the_end i n within nowhere = grind (arith, nat_tests)
+
+pub returns-in-None : goal.returns-in-None
+returns-in-None c = at_the_end _ _ (prefix_len-le-length _ c.args.subscriptions.now) c.in-None.ensures

@@ -1,0 +1,53 @@
+-- Codes of the values that hold sets and maps, as their models want them.
+use Rattle.std.specs.Prelude.{ℕ, List, Option, zero, suc, ◌≡◌}
+use Rattle.std.proofs.Common.{refl}
+use Rattle.std.specs.Coded.{Coded, code_by, coded×, coded_ℕ, coded_list, coded_option}
+use Rattle.std.specs.FinSet as set
+use Rattle.std.specs.FinMap as map_of
+use Rattle.position_core.specs.declared.position.Position.{Position}
+use Rattle.position_core.specs.declared.name.TopicName.{TopicName}
+use Rattle.position_core.specs.Position.{position_cmp, coded_position}
+use Rattle.delivery_machine.specs.State.{Held, Dead, Subscription}
+use Rattle.delivery_machine.specs.declared.event.Kind.{Kind}
+use Rattle.delivery_machine.specs.declared.event.Kind.TheVariants.{Exclusive}
+
+abbrev pub coded_held : Coded Held
+coded_held = code_by (ℕ × Option ℕ) (coded× coded_ℕ (coded_option coded_ℕ)) (λ h. (h.consumer, h.due)) (λ p. record { consumer = p.0; due = p.1 }) (λ _. refl)
+
+abbrev pub coded_positions : Coded (set.FinSet position_cmp)
+coded_positions = set.code coded_position
+
+abbrev pub coded_pending : Coded (map_of.FinMap position_cmp Held)
+coded_pending = map_of.code coded_position coded_held
+
+abbrev pub coded_counts : Coded (map_of.FinMap position_cmp ℕ)
+coded_counts = map_of.code coded_position coded_ℕ
+
+abbrev pub coded_text : Coded (List ℕ)
+coded_text = coded_list coded_ℕ
+
+abbrev pub coded_topic : Coded TopicName
+coded_topic = code_by ((List ℕ × List ℕ) × List ℕ) (coded× (coded× coded_text coded_text) coded_text) (λ t. ((t.tenant, t.namespace), t.topic)) (λ p. record { tenant = p.0.0; namespace = p.0.1; topic = p.1 }) (λ _. refl)
+
+abbrev pub coded_dead : Coded Dead
+coded_dead = code_by ((Position × TopicName) × ℕ) (coded× (coded× coded_position coded_topic) coded_ℕ) (λ d. ((d.position, d.target), d.ordinal)) (λ p. record { position = p.0.0; target = p.0.1; ordinal = p.1 }) (λ _. refl)
+
+abbrev pub kind_number : Kind → ℕ
+kind_number Exclusive = 0
+
+abbrev pub kind_at : ℕ → Kind
+kind_at n = Exclusive
+
+pub kind_at-kind_number : (k : Kind) → kind_at (kind_number k) ≡ k
+kind_at-kind_number Exclusive = refl
+
+abbrev pub coded_kind : Coded Kind
+coded_kind = code_by ℕ coded_ℕ kind_number kind_at kind_at-kind_number
+
+abbrev pub coded_subscription : Coded Subscription
+coded_subscription =
+    code_by ((((((List ℕ × Kind) × set.FinSet position_cmp) × map_of.FinMap position_cmp Held) × map_of.FinMap position_cmp ℕ) × List Dead) × ℕ)
+      (coded× (coded× (coded× (coded× (coded× (coded× coded_text coded_kind) coded_positions) coded_pending) coded_counts) (coded_list coded_dead)) coded_ℕ)
+      (λ s. ((((((s.name, s.kind), s.acknowledged), s.pending), s.counts), s.dead), s.safe))
+      (λ p. record { name = p.0.0.0.0.0.0; kind = p.0.0.0.0.0.1; acknowledged = p.0.0.0.0.1; pending = p.0.0.0.1; counts = p.0.0.1; dead = p.0.1; safe = p.1 })
+      (λ _. refl)

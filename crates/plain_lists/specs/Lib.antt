@@ -1,0 +1,4 @@
+pub mod Codes
+pub mod Raised
+pub mod Members
+pub mod Auto

@@ -1,0 +1,27 @@
+-- A member as it joins, the one of two that is served, and what a member was sent.
+use Rattle.std.specs.Prelude.{ℕ, ◌-◌, List, [], Option, take, length}
+use Rattle.std.specs.List.{find}
+use Rattle.std.specs.Option.{option_map_or}
+use Rattle.position_core.specs.declared.name.TopicName.{TopicName}
+use Rattle.delivery_machine.specs.State.{Member}
+use Rattle.delivery_machine.specs.Words.{earlier, is_member}
+use Rattle.delivery_machine.specs.declared.delivery.Delivery.{Delivery}
+use Rattle.plain_lists.specs.declared.member.Terms.{Terms}
+
+abbrev pub joining : ℕ → List ℕ → Terms → TopicName → Member
+joining number name terms dead_topic = record {
+    number = number; subscription = name; level = terms.level; flow = terms.flow; ack_timeout = terms.ack_timeout;
+    nack_delay = terms.nack_delay; max_redeliver = terms.max_redeliver; dead_topic = dead_topic; share = []; out = []
+  }
+
+-- of the one so far and the next, the one that is served
+abbrev pub sooner : Option Member → Member → Member
+sooner best m = option_map_or (λ b. earlier b m) best m
+
+-- what the consumer was sent and has not collected
+abbrev pub out_in : List Member → ℕ → List Delivery
+out_in members consumer = option_map_or (λ m. m.out) (find (is_member consumer) members) []
+
+-- without what it was given last
+abbrev pub shortened : Member → Member
+shortened m = record m { out = take (length m.out - 1) m.out }

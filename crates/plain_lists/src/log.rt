@@ -1,0 +1,62 @@
+// What is found by looking through the log.
+ghost use Rattle.std.specs.Prelude.{◌≡◌, ◌==◌};
+ghost use Rattle.std.specs.List.{count_by, find};
+ghost use Rattle.std.specs.Option.{option_copied};
+ghost use Rattle.std.specs.FinMap as map_of;
+ghost use Rattle.delivery_machine.specs.Words.{is_by, is_held_by, is_waiting, last_sequence};
+ghost use Rattle.plain_lists.specs.Raised.{raised};
+
+use crate::subscription::Subscription;
+use position_core::{Message, ProducerName};
+
+fn is_by(message: &Message, name: &ProducerName) -> bool
+    ensures { result ≡ is_by name.now message.now }
+{
+    message.entry().producer.is(name)
+}
+
+fn raised(greatest: Option<i64>, number: i64) -> i64
+    ensures { result ≡ raised greatest number }
+{
+    match greatest {
+        Some(greatest) => greatest.max(number),
+        None => number,
+    }
+}
+
+/// The greatest sequence number of the producer's messages, or the base where there are none.
+pub fn last_sequence(log: &[Message], name: &ProducerName, base: i64) -> i64
+    ensures { result ≡ last_sequence log.now name.now base }
+{
+    let mut last = None;
+    for message in log {
+        if is_by(message, name) {
+            last = Some(raised(last, message.entry().sequence));
+        }
+    }
+    match last {
+        Some(number) => number,
+        None => base,
+    }
+}
+
+/// How many messages of the log are of the ledger.
+pub fn used_in(log: &[Message], ledger: u64) -> usize
+    ensures { result ≡ count_by (λ e. e.position.ledger == ledger) log.now }
+{
+    log.iter().filter(|message| message.position().ledger == ledger).count()
+}
+
+/// The first message that waits in the subscription.
+pub fn first_waiting<'a>(visible: &'a [Message], subscription: &Subscription) -> Option<&'a Message>
+    ensures { option_copied result ≡ find (is_waiting subscription.now) visible.now }
+{
+    visible.iter().find(|message| subscription.is_waiting(message))
+}
+
+/// How many messages are pending at the consumer.
+pub fn pending_at(log: &[Message], subscription: &Subscription, consumer: u64) -> usize
+    ensures { result ≡ count_by (λ e. is_held_by consumer (map_of.get subscription.now.pending e.position)) log.now }
+{
+    log.iter().filter(|message| subscription.holds_at(consumer, message)).count()
+}

@@ -1,0 +1,71 @@
+// The connected producers.
+ghost use Rattle.std.specs.Prelude.{◌≡◌};
+ghost use Rattle.std.specs.Option.{option_copied};
+ghost use Rattle.std.specs.List.{find, list_any};
+ghost use Rattle.std.specs.Str.{bytes_eq};
+ghost use Rattle.delivery_machine.specs.Words.{is_producer};
+
+use position_core::{Base, ProducerName};
+use std::marker::Model;
+
+/// A connected producer.
+#[derive(Drop)]
+pub struct Producer {
+    number: u64,
+    name: ProducerName,
+    base: Base,
+}
+
+impl Model for Producer {
+    ghost use Rattle.delivery_machine.specs.State.{Producer};
+
+    ghost Value = { Producer };
+
+    ghost view = { λ p. record { number = p.number; name = p.name; base = p.base } };
+}
+
+impl Producer {
+    pub fn new(number: u64, name: ProducerName, base: Base) -> Self
+        ensures { result ≡ record { number = number; name = name; base = base } }
+    {
+        Producer { number, name, base }
+    }
+
+    fn is_number(&self, number: u64) -> bool
+        ensures { result ≡ is_producer number self.now }
+    {
+        self.number == number
+    }
+
+    fn is_named(&self, name: &ProducerName) -> bool
+        ensures { result ≡ bytes_eq self.now.name name.now }
+    {
+        self.name.is(name)
+    }
+
+    pub fn name(&self) -> &ProducerName
+        ensures { result.now ≡ self.now.name }
+    {
+        &self.name
+    }
+
+    pub fn base(&self) -> Base
+        ensures { result ≡ self.now.base }
+    {
+        self.base
+    }
+}
+
+/// The producer of the number.
+pub fn producer_at(producers: &[Producer], number: u64) -> Option<&Producer>
+    ensures { option_copied result ≡ find (is_producer number) producers.now }
+{
+    producers.iter().find(|producer| producer.is_number(number))
+}
+
+/// Whether a producer of the name is connected.
+pub fn is_connected(producers: &[Producer], name: &ProducerName) -> bool
+    ensures { result ≡ list_any (λ p. bytes_eq p.name name.now) producers.now }
+{
+    producers.iter().any(|producer| producer.is_named(name))
+}
