@@ -30,9 +30,13 @@ Connects s name auto base reply t =
     (reply ≡ ProducerAdded s.next_producer auto (last_sequence s.log name base))
     × (t ≡ with_producer s (record { number = s.next_producer; name = name; base = base }))
 
+-- the name that was asked for, or else one of the topic's making
+abbrev pub IsGiven : State → Option (List ℕ) → List ℕ → Option ℕ → Type 0
+IsGiven s (Some asked) name auto = (name ≡ asked) × (auto ≡ None)
+IsGiven s None name auto = (n : ℕ) × IsLeastFree s n × (name ≡ auto_name n) × (auto ≡ Some n)
+
 abbrev pub AddsProducer : State → Option (List ℕ) → ℤ → Reply → State → Type 0
-AddsProducer s (Some name) base reply t = Connects s name None base reply t
-AddsProducer s None base reply t = (n : ℕ) × IsLeastFree s n × Connects s (auto_name n) (Some n) base reply t
+AddsProducer s asked base reply t = (name : List ℕ) × (auto : Option ℕ) × IsGiven s asked name auto × Connects s name auto base reply t
 
 abbrev pub with_message : State → Entry → State
 with_message s e = record s { log = s.log ++ e ∷ []; ledger = e.position.ledger }

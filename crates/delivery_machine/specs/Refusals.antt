@@ -1,7 +1,6 @@
 -- Why each event is refused, in the order of the tests. Want of memory comes after all of them.
 use Rattle.std.specs.Prelude.{ℕ, ◌^◌, nat_lt, nat_le, Bool, true, false, not, is_some, ◌&&◌, ◌||◌, length, List, Option, Some, None, if◌then◌else◌, ℤ, int_le}
 use Rattle.std.specs.List.{list_any, find}
-use Rattle.std.specs.Option.{option_map_or}
 use Rattle.position_core.specs.declared.position.Position.{Position}
 use Rattle.position_core.specs.declared.fault.Fault.{Fault}
 use Rattle.position_core.specs.declared.fault.Fault.TheVariants.{ProducerBusy, NoSession, TopicFull, ConsumerBusy, TooMany, NoSuchMessage, NoSuchSubscription}
@@ -16,9 +15,14 @@ use Rattle.delivery_machine.specs.declared.event.Event.TheVariants.{AddProducer,
 abbrev pub is_spent : ℕ → Bool
 is_spent next = nat_le (2 ^ 63) next
 
+-- the name that is asked for, if any, is connected
+abbrev pub is_busy : State → Option (List ℕ) → Bool
+is_busy s None = false
+is_busy s (Some name) = is_connected s name
+
 abbrev pub adding_refused : State → Option (List ℕ) → Option Fault
 adding_refused s name =
-    if option_map_or (is_connected s) name false then Some ProducerBusy
+    if is_busy s name then Some ProducerBusy
     else if nat_le 256 (length s.producers) || is_spent s.next_producer then Some TooMany
     else None
 

@@ -9,7 +9,7 @@ mod positions;
 mod producer;
 mod subscription;
 
-pub use auto::least_free;
+pub use auto::{auto_name, least_free};
 pub use log::{first_waiting, last_sequence, pending_at, used_in};
 pub use member::{
     Member, Terms, active_at, count_at, give_to, leave_out_at, member_at, take_back_from, take_out_of,

@@ -1,0 +1,18 @@
+use Rattle.std.proofs.Common.{◌≡◌, List, ℕ, take, drop, length, ◌++◌, ap, ◌∙◌, arith}
+use Rattle.std.proofs.lemmas.Grind.{common_steps}
+use Rattle.delivery_machine.specs.Words.{changed, is_member}
+use Rattle.plain_lists.specs.Members.{shortened}
+use Rattle.plain_lists.proofs.Undone.{undone}
+use Rattle.plain_topic.proofs.delivering.hand_over.Goals as goal
+
+front_of : {A : Type 0} (xs ys : List A) (n : ℕ) → length xs ≡ n → take n (xs ++ ys) ≡ xs
+front_of xs ys n e = grind (arith, common_steps)
+
+-- what was given is taken back
+pub returns-in-Err-clause-members_same : goal.returns-in-Err-clause-members_same
+returns-in-Err-clause-members_same c =
+    let long : length c.give_to.new.members ≡ c.args.members.now.len = omega (arith, c.give_to.auto.members, c.deref_mut.ensures.len) in
+    let short : length c.take_back_from.new.members ≡ c.args.members.now.len = omega (arith, c.take_back_from.auto.members, c.deref_mut-in-Err.ensures.len, c.give_to.auto.members, c.deref_mut.ensures.len) in
+    front_of c.take_back_from.new.members _ _ short ∙ c.take_back_from.ensures
+    ∙ ap (changed (is_member c.args.consumer) shortened) (c.deref_mut-in-Err.ensures.value ∙ front_of c.give_to.new.members _ _ long ∙ c.in_ok-give_to.ensures.ok)
+    ∙ undone c.args.consumer c.args.delivery c.deref_mut.result.now ∙ c.deref_mut.ensures.value

@@ -1,0 +1,3 @@
+pub mod StateOf
+pub mod Names
+pub mod Chosen

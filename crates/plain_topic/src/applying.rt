@@ -1,0 +1,54 @@
+// The plain topic as a topic: each event by its own method.
+use crate::plain::PlainTopic;
+use delivery_machine::{Deliveries, Event, Reply, Topic};
+use plain_lists::Terms;
+use position_core::Fault;
+
+impl Topic for PlainTopic {
+    ghost use Rattle.plain_topic.specs.StateOf.{state_of};
+
+    ghost state = { state_of };
+
+    fn apply(&mut self, event: &Event) -> Reply {
+        match event {
+            Event::AddProducer { name, base } => self.add_producer(name, *base),
+            Event::Publish {
+                producer,
+                sequence,
+                body,
+                now,
+            } => self.publish(*producer, *sequence, body, *now),
+            Event::Stored => self.stored(),
+            Event::Subscribe {
+                subscription,
+                kind,
+                level,
+                flow,
+                ack_timeout,
+                nack_delay,
+                max_redeliver,
+                dead_topic,
+                initial,
+            } => self.subscribe(
+                subscription,
+                *kind,
+                Terms {
+                    level: *level,
+                    flow: *flow,
+                    ack_timeout: *ack_timeout,
+                    nack_delay: *nack_delay,
+                    max_redeliver: *max_redeliver,
+                },
+                dead_topic,
+                *initial,
+            ),
+            Event::Ack { consumer, position } => self.ack(*consumer, *position),
+            Event::Dispatch { subscription, now } => self.dispatch(subscription, *now),
+            Event::Collect { consumer } => self.collect(*consumer),
+        }
+    }
+
+    fn out_copy(&self, consumer: u64) -> Result<Deliveries, Fault> {
+        self.out_of(consumer)
+    }
+}

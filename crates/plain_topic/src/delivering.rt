@@ -1,0 +1,125 @@
+// Dispatching a message to a consumer, and collecting.
+ghost use Rattle.std.specs.Prelude.{◌≡◌, OnOk, OnErr};
+ghost use Rattle.delivery_machine.specs.Words.{changed, is_member, is_named};
+ghost use Rattle.delivery_machine.specs.Delivering.{given, holding};
+
+use crate::plain::PlainTopic;
+use delivery_machine::{Deliveries, Delivery, Flow, Kind, Reply};
+use plain_lists::{
+    Hold, Member, Subscription, active_at, first_waiting, give_to, hold_at, member_at, pending_at, subscription_at,
+    take_back_from, take_out_of,
+};
+use position_core::{Fault, Message, Moment, Position, SubscriptionName};
+use std::alloc::AllocError;
+
+/// Gives a message to the consumer that holds it from now on. Nothing changes where there is no
+/// memory.
+fn hand_over(
+    members: &mut Vec<Member>,
+    subscriptions: &mut Vec<Subscription>,
+    name: &SubscriptionName,
+    position: Position,
+    consumer: u64,
+    hold: Hold,
+    delivery: Delivery,
+) -> Result<(), AllocError>
+    ensures given { OnOk result (members.new.items ≡ changed (is_member consumer) (given delivery) members.old.items) }
+    ensures held { OnOk result (subscriptions.new.items ≡ changed (is_named name.now) (holding position hold) subscriptions.old.items) }
+    ensures members_same { OnErr result (members.new.items ≡ members.old.items) }
+    ensures subscriptions_same { OnErr result (subscriptions.new.items ≡ subscriptions.old.items) }
+{
+    give_to(members, consumer, delivery)?;
+    match hold_at(subscriptions, name, position, hold) {
+        Ok(()) => Ok(()),
+        Err(error) => {
+            take_back_from(members, consumer);
+            Err(error)
+        }
+    }
+}
+
+impl PlainTopic {
+    ghost use Rattle.std.specs.Prelude.{◌≡◌, IfSome, IfNone, IfOk, IfErr};
+    ghost use Rattle.position_core.specs.declared.fault.Fault.TheVariants.{NoMemory};
+    ghost use Rattle.delivery_machine.specs.Run.{Answers};
+    ghost use Rattle.delivery_machine.specs.Words.{IsEligible, has_room};
+    ghost use Rattle.delivery_machine.specs.Delivering.{out_of};
+    ghost use Rattle.delivery_machine.specs.declared.event.Event.TheVariants.{Collect, Dispatch};
+    ghost use Rattle.plain_topic.specs.StateOf.{state_of};
+    ghost use Rattle.plain_topic.specs.Chosen.{NoneEligible};
+
+    fn has_room(&self, subscription: &Subscription, member: &Member) -> bool
+        ensures { result ≡ has_room (state_of self.now) subscription.now member.now }
+    {
+        match member.flow() {
+            Flow::Window(size) => pending_at(&self.log, subscription, member.number()) < size.get() as usize,
+        }
+    }
+
+    /// A message and a member that it may be sent to.
+    fn choose<'a>(&'a self, subscription: &Subscription) -> Option<(&'a Message, &'a Member)>
+        ensures pair { IfSome result (λ p. IsEligible (state_of self.entry.now) subscription.now p.0.now p.1.now) }
+        ensures none { IfNone result (NoneEligible (state_of self.entry.now) subscription.now) }
+    {
+        let message = first_waiting(self.visible(), subscription)?;
+        match subscription.kind() {
+            Kind::Exclusive => {
+                let member = active_at(&self.members, subscription.name())?;
+                if self.has_room(subscription, member) {
+                    Some((message, member))
+                } else {
+                    None
+                }
+            }
+        }
+    }
+
+    pub(crate) fn dispatch(&mut self, name: &SubscriptionName, now: Moment) -> Reply
+        ensures { Answers (state_of self.old) (Dispatch name.now now) result (state_of self.new) }
+    {
+        let Some(subscription) = subscription_at(&self.subscriptions, name) else {
+            return Reply::Refused(Fault::NoSuchSubscription);
+        };
+        let Some((message, member)) = self.choose(subscription) else {
+            return Reply::Idle;
+        };
+        let position = message.position();
+        let consumer = member.number();
+        let count = subscription.count_of(position);
+        let hold = Hold::new(consumer, member.due_after(now));
+        let Ok(message) = message.clone() else {
+            return Reply::Refused(Fault::NoMemory);
+        };
+        let delivery = Delivery { message, count };
+        if hand_over(&mut self.members, &mut self.subscriptions, name, position, consumer, hold, delivery).is_err() {
+            return Reply::Refused(Fault::NoMemory);
+        }
+        Reply::Sent {
+            consumer,
+            position,
+            count,
+        }
+    }
+
+    pub(crate) fn collect(&mut self, consumer: u64) -> Reply
+        ensures { Answers (state_of self.old) (Collect consumer) result (state_of self.new) }
+    {
+        match take_out_of(&mut self.members, self.alloc, consumer) {
+            Some(copies) => Reply::Copies(copies),
+            None => Reply::Refused(Fault::NoSession),
+        }
+    }
+
+    pub(crate) fn out_of(&self, consumer: u64) -> Result<Deliveries, Fault>
+        ensures ok { IfOk result (λ copies. copies ≡ out_of (state_of self.now) consumer) }
+        ensures err { IfErr result (λ fault. fault ≡ NoMemory) }
+    {
+        let Some(member) = member_at(&self.members, consumer) else {
+            return Ok(Deliveries::new(self.alloc));
+        };
+        match member.out_copy() {
+            Ok(copies) => Ok(copies),
+            Err(_) => Err(Fault::NoMemory),
+        }
+    }
+}

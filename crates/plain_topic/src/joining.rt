@@ -1,0 +1,92 @@
+// Joining a subscription.
+use crate::plain::PlainTopic;
+use delivery_machine::{Initial, Kind, Reply};
+use plain_lists::{Member, PositionSet, Subscription, Terms, count_at, place_for, set_kind_of, subscription_at};
+use position_core::{Fault, SubscriptionName, TopicName};
+use std::alloc::AllocError;
+
+impl PlainTopic {
+    ghost use Rattle.std.specs.Prelude.{◌≡◌, IfOk, OnOk, OnErr, vec_capacity};
+    ghost use Rattle.delivery_machine.specs.Run.{Answers};
+    ghost use Rattle.delivery_machine.specs.Joining.{acknowledged_at_first, joined};
+    ghost use Rattle.delivery_machine.specs.Refusals.{subscribing_refused};
+    ghost use Rattle.delivery_machine.specs.declared.event.Event.TheVariants.{Subscribe};
+    ghost use Rattle.plain_topic.specs.StateOf.{state_of};
+
+    /// Why the consumer is turned away, if it is.
+    fn subscribing_refused(&self, name: &SubscriptionName, kind: Kind) -> Option<Fault>
+        ensures { result ≡ subscribing_refused (state_of self.now) name.now kind }
+    {
+        let members = count_at(&self.members, name);
+        if members > 0 && kind == Kind::Exclusive {
+            return Some(Fault::ConsumerBusy);
+        }
+        if members >= 64 {
+            return Some(Fault::TooMany);
+        }
+        if self.subscriptions.len() >= 64 && subscription_at(&self.subscriptions, name).is_none() {
+            return Some(Fault::TooMany);
+        }
+        if self.next_consumer >= 1 << 63 {
+            return Some(Fault::TooMany);
+        }
+        None
+    }
+
+    /// What a new subscription begins with as acknowledged.
+    fn first_acknowledged(&self, initial: Initial) -> Result<PositionSet, AllocError>
+        ensures { IfOk result (λ acknowledged. acknowledged ≡ acknowledged_at_first initial (state_of self.now).log) }
+    {
+        match initial {
+            Initial::Earliest => Ok(PositionSet::new(self.alloc)),
+            Initial::Latest => PositionSet::all_of(self.alloc, &self.log),
+        }
+    }
+
+    /// Makes the subscription, or gives it the kind. Nothing changes where there is no memory.
+    fn enter(&mut self, name: &SubscriptionName, kind: Kind, initial: Initial) -> Result<(), AllocError>
+        ensures ok { OnOk result (state_of self.new ≡ record (state_of self.old) { subscriptions = joined (state_of self.old) name.now kind initial }) }
+        ensures err { OnErr result (state_of self.new ≡ state_of self.old) }
+        ensures room { vec_capacity self.new.members ≡ vec_capacity self.old.members }
+    {
+        if set_kind_of(&mut self.subscriptions, name, kind) {
+            return Ok(());
+        }
+        let acknowledged = self.first_acknowledged(initial)?;
+        let made = Subscription::new(self.alloc, name.clone()?, kind, acknowledged);
+        let place = place_for(&self.subscriptions, name);
+        self.subscriptions.insert(place, made)?;
+        Ok(())
+    }
+
+    pub(crate) fn subscribe(
+        &mut self,
+        name: &SubscriptionName,
+        kind: Kind,
+        terms: Terms,
+        dead_topic: &TopicName,
+        initial: Initial,
+    ) -> Reply
+        ensures { Answers (state_of self.old) (Subscribe name.now kind terms.level terms.flow terms.ack_timeout terms.nack_delay terms.max_redeliver dead_topic.now initial) result (state_of self.new) }
+    {
+        if let Some(fault) = self.subscribing_refused(name, kind) {
+            return Reply::Refused(fault);
+        }
+        let number = self.next_consumer;
+        let Ok(at) = name.clone() else {
+            return Reply::Refused(Fault::NoMemory);
+        };
+        let Ok(dead_topic) = dead_topic.clone() else {
+            return Reply::Refused(Fault::NoMemory);
+        };
+        if self.members.reserve(1).is_err() {
+            return Reply::Refused(Fault::NoMemory);
+        }
+        if self.enter(name, kind, initial).is_err() {
+            return Reply::Refused(Fault::NoMemory);
+        }
+        self.members.push_reserved(Member::new(self.alloc, number, at, terms, dead_topic));
+        self.next_consumer = number + 1;
+        Reply::Subscribed { consumer: number }
+    }
+}

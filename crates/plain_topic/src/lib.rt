@@ -1,0 +1,12 @@
+//! The plain topic: the delivery machine over lists, where everything is found by looking through them.
+#![tactic(auto)]
+
+mod acknowledging;
+mod applying;
+mod delivering;
+mod joining;
+mod plain;
+mod producing;
+
+pub use plain::PlainTopic;
+

@@ -1,0 +1,58 @@
+// The topic's fields.
+ghost use Rattle.std.specs.Prelude.{◌≤◌, ◌+◌, ◌^◌, vec_len};
+
+use plain_lists::{Member, Producer, Subscription};
+use position_core::{LedgerSize, Message, TopicName};
+use std::alloc::Global;
+
+/// A topic over lists. It is slow on purpose: each event looks through whole lists, as the machine's
+/// rules say it.
+#[derive(Drop)]
+pub struct PlainTopic {
+    pub(crate) alloc: Global,
+    pub(crate) name: TopicName,
+    pub(crate) ledger_size: LedgerSize,
+    pub(crate) ledger: u64,
+    pub(crate) next_producer: u64,
+    pub(crate) next_consumer: u64,
+    pub(crate) log: Vec<Message>,
+    pub(crate) durable: usize,
+    pub(crate) producers: Vec<Producer>,
+    pub(crate) members: Vec<Member>,
+    pub(crate) subscriptions: Vec<Subscription>,
+    ghost visible_in_log: { durable ≤ vec_len log },
+    ghost ledger_fits: { ledger ≤ 2 ^ 62 + 1 },
+}
+
+impl PlainTopic {
+    ghost use Rattle.std.specs.Prelude.{◌≡◌};
+    ghost use Rattle.delivery_machine.specs.State.{fresh};
+    ghost use Rattle.delivery_machine.specs.Words.{visible};
+    ghost use Rattle.plain_topic.specs.StateOf.{state_of};
+
+    /// A topic with nothing in it.
+    pub fn new(alloc: Global, name: TopicName, ledger_size: LedgerSize) -> Self
+        ensures { state_of result ≡ fresh name ledger_size }
+    {
+        PlainTopic {
+            alloc,
+            name,
+            ledger_size,
+            ledger: 0,
+            next_producer: 1,
+            next_consumer: 1,
+            log: Vec::new(alloc),
+            durable: 0,
+            producers: Vec::new(alloc),
+            members: Vec::new(alloc),
+            subscriptions: Vec::new(alloc),
+        }
+    }
+
+    /// The messages that may be sent.
+    pub(crate) fn visible(&self) -> &[Message]
+        ensures { result.now ≡ visible (state_of self.now) }
+    {
+        &self.log[..self.durable]
+    }
+}
