@@ -4,12 +4,15 @@
 mod body;
 mod bounded;
 mod fault;
+mod id;
 mod message;
 mod moment;
 mod name;
 mod payload;
 mod position;
 mod properties;
+#[cfg(test)]
+mod tests;
 mod text;
 
 pub use body::{Body, Content};

@@ -1,5 +1,6 @@
 // The named values that a message carries beside its payload.
 ghost use Rattle.std.specs.Prelude.{◌≡◌, ◌↔◌, [], IsTrue, IsSome, IfSome};
+ghost use Rattle.std.specs.List.{list_all};
 ghost use Rattle.position_core.specs.Properties.{pairs_of, fits, are_properties};
 
 use std::alloc::Global;
@@ -24,6 +25,26 @@ impl Model for Properties {
     ghost invariant = { λ p. IsTrue (are_properties (pairs_of p.values)) };
 }
 
+fn fits(name: &str, value: &str) -> bool
+    ensures { result ≡ fits (name.now, value.now) }
+{
+    name.len() <= 255 && value.len() <= 1024
+}
+
+fn all_fit(values: &BTreeMap<String, String>) -> bool
+    ensures { result ≡ list_all fits (pairs_of values.now) }
+{
+    values
+        .iter()
+        .all(|(name, value)| fits(name.as_str(), value.as_str()))
+}
+
+fn are_properties(values: &BTreeMap<String, String>) -> bool
+    ensures { result ≡ are_properties (pairs_of values.now) }
+{
+    values.len() <= 64 && all_fit(values)
+}
+
 impl Properties {
     /// No properties.
     pub fn none(alloc: Global) -> Self
@@ -31,6 +52,18 @@ impl Properties {
     {
         Properties {
             values: BTreeMap::new(alloc),
+        }
+    }
+
+    /// None beyond the limits.
+    pub fn new(values: BTreeMap<String, String>) -> Option<Self>
+        ensures fits { IsSome result ↔ IsTrue (are_properties (pairs_of values)) }
+        ensures value { IfSome result (λ p. p ≡ pairs_of values) }
+    {
+        if are_properties(&values) {
+            Some(Properties { values })
+        } else {
+            None
         }
     }
 
