@@ -1,5 +1,5 @@
 -- A run goes on by one step.
-use Rattle.std.proofs.Common.{◌≡◌, List, [], ◌∷◌, ◌++◌, subst, sym, refl}
+use Rattle.std.proofs.Common.{List, [], ◌∷◌, ◌++◌, subst, refl}
 use Rattle.delivery_machine.specs.State.{State}
 use Rattle.delivery_machine.specs.Run.{Run, Answers}
 use Rattle.delivery_machine.specs.declared.event.Event.{Event}

@@ -1,5 +1,5 @@
 -- Why each event is refused, in the order of the tests. Want of memory comes after all of them.
-use Rattle.std.specs.Prelude.{ℕ, ◌^◌, nat_lt, nat_le, Bool, true, false, not, is_some, ◌&&◌, ◌||◌, length, List, Option, Some, None, if◌then◌else◌, ℤ, int_le}
+use Rattle.std.specs.Prelude.{ℕ, ◌^◌, nat_lt, nat_le, Bool, true, false, not, ◌&&◌, ◌||◌, length, List, Option, Some, None, if◌then◌else◌, ℤ, int_le}
 use Rattle.std.specs.List.{list_any, find}
 use Rattle.position_core.specs.declared.position.Position.{Position}
 use Rattle.position_core.specs.declared.fault.Fault.{Fault}

@@ -1,5 +1,5 @@
 -- What the rules speak of: who is there, the log, live and waiting messages, room, the active member, eligible pairs.
-use Rattle.std.specs.Prelude.{◌≡◌, ℕ, ◌+◌, ◌==◌, nat_lt, Bool, false, not, ◌&&◌, ◌||◌, List, [], ◌∷◌, map, length, take, ℤ, Option, Some, None, is_some, if◌then◌else◌, IsTrue}
+use Rattle.std.specs.Prelude.{◌≡◌, ℕ, ◌+◌, ◌==◌, nat_lt, Bool, false, not, ◌&&◌, ◌||◌, List, [], ◌∷◌, map, take, ℤ, Option, Some, None, is_some, if◌then◌else◌, IsTrue}
 use Rattle.std.specs.List.{filter, count_by, list_any, find}
 use Rattle.std.specs.Option.{option_map_or, unwrap_or}
 use Rattle.std.specs.Int.{int_max}

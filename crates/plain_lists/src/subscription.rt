@@ -1,5 +1,5 @@
 // The subscriptions of a topic.
-ghost use Rattle.std.specs.Prelude.{◌≡◌, OnOk, OnErr, is_some};
+ghost use Rattle.std.specs.Prelude.{◌≡◌, ◌≤◌, OnOk, OnErr, is_some, length};
 ghost use Rattle.std.specs.List.{find, position, position_or_len};
 ghost use Rattle.std.specs.Bool.{OnFalse};
 ghost use Rattle.std.specs.Option.{option_copied};
@@ -147,7 +147,8 @@ fn place_after(subscriptions: &[Subscription], name: &SubscriptionName) -> Optio
 
 /// Where a new subscription of the name goes: before the first of a greater name.
 pub fn place_for(subscriptions: &[Subscription], name: &SubscriptionName) -> usize
-    ensures { result ≡ position_or_len (λ other. is_lt (name_order name.now other.name)) subscriptions.now }
+    ensures value { result ≡ position_or_len (λ other. is_lt (name_order name.now other.name)) subscriptions.now }
+    ensures within { result ≤ length subscriptions.now }
 {
     match place_after(subscriptions, name) {
         Some(place) => place,

@@ -1,7 +1,6 @@
-use Rattle.std.proofs.Common.{◌≡◌, arith, List, ◌∷◌, [], ◌++◌, take, subst, sym, ◌∙◌, ap, ◌+◌}
+use Rattle.std.proofs.Common.{◌≡◌, arith, ◌∷◌, [], ◌++◌, take, sym, ◌∙◌, ap, ◌+◌}
 use Rattle.std.proofs.lemmas.List.{take_more}
 use Rattle.std.proofs.lemmas.Grind.{common_steps}
-use Rattle.delivery_machine.specs.Run.{Run, Answers}
 use Rattle.delivery_machine.specs.declared.event.Event.{Event}
 use Rattle.delivery_machine.proofs.RunSteps.{Run-push}
 use Rattle.delivery_machine.proofs.runs.run.Goals as goal

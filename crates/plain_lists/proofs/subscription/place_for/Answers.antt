@@ -8,5 +8,5 @@ use Rattle.plain_lists.proofs.subscription.place_for.Goals as goal
 at_the_end : (i n : ℕ) → i ≤ n → None ≡ cond (nat_lt i n) (Some i) None → n ≡ i
 at_the_end i n within nowhere = grind (arith, nat_tests)
 
-pub returns-in-None : goal.returns-in-None
-returns-in-None c = at_the_end _ _ (prefix_len-le-length _ c.args.subscriptions.now) c.in-None.ensures
+pub returns-in-None-clause-value : goal.returns-in-None-clause-value
+returns-in-None-clause-value c = at_the_end _ _ (prefix_len-le-length _ c.args.subscriptions.now) c.in-None.ensures
