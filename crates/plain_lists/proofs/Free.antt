@@ -1,13 +1,11 @@
 -- The least number whose name is free, as the names that are in use are taken out one by one.
-use Rattle.std.proofs.Common.{◌≡◌, ℕ, ◌+◌, ◌<◌, ◌^◌, List, [], ◌∷◌, ◌++◌, Bool, true, false, Some, length, get_or, take, drop, arith, refl, sym, ap, ◌∙◌, zero, suc, subst, inl, inr}
+use Rattle.std.proofs.Common.{◌≡◌, ℕ, ◌+◌, ◌<◌, ◌^◌, List, [], ◌∷◌, Bool, true, false, Some, length, get_or, arith, sym, ap, ◌∙◌, zero, suc, subst, inl, inr}
 use Rattle.std.specs.Prelude.{codes, ◌||◌}
 use Rattle.std.specs.List.{list_any, position, remove}
 use Rattle.std.specs.Str.{bytes_eq}
 use Rattle.std.specs.Fmt.{decimal}
 use Rattle.std.proofs.lemmas.Bool.{false_from_ne_true, cases_lt}
-use Rattle.std.proofs.lemmas.Bool.Decides.{nat_tests}
 use Rattle.std.proofs.lemmas.Fmt.{decimal_injective}
-use Rattle.std.proofs.lemmas.Grind.{common_steps}
 use Rattle.std.proofs.lemmas.List.{append_cancel_left}
 use Rattle.std.proofs.lemmas.List.Edits.{length-remove}
 use Rattle.std.proofs.lemmas.List.Folds.{list_any_at}
@@ -26,9 +24,9 @@ pub record Searched (first left : List (List ℕ)) (number : ℕ) : Type 0 where
 pub auto_names_differ : (k n : ℕ) → k < n → n < 2 ^ 64 → bytes_eq (auto_name k) (auto_name n) ≡ false
 auto_names_differ k n below small =
     false_from_ne_true _ (λ same.
-      let texts = (bytes_eq-Decides (auto_name k) (auto_name n)).0 same in
-      let numbers = decimal_injective k n (omega arith) small (append_cancel_left (codes "auto-") (decimal k) (decimal n) texts) in
-      absurd (omega (arith, numbers)))
+    let texts = (bytes_eq-Decides (auto_name k) (auto_name n)).0 same in
+    let numbers = decimal_injective k n (omega arith) small (append_cancel_left (codes "auto-") (decimal k) (decimal n) texts) in
+    absurd (omega (arith, numbers)))
 
 -- a name that is taken out was the one, or it makes no difference
 pub list_any-remove : {A : Type 0} (p : A → Bool) (xs : List A) (i : ℕ) (d : A) → i < length xs → p (get_or xs i d) ≡ false → list_any p xs ≡ list_any p (remove xs i)
@@ -43,8 +41,8 @@ Searched-more first left n i small before there =
     let within : n < 2 ^ 64 = omega (arith, before.taken, small, at.0) in
     let is : get_or left i [] ≡ auto_name n = (bytes_eq-Decides (get_or left i []) (auto_name n)).0 at.1 in
     let now_used : is_among first (auto_name n) ≡ true =
-      before.same (auto_name n) (λ k below. auto_names_differ k n below within)
-      ∙ list_any_at (λ other. bytes_eq other (auto_name n)) left i [] at.0 at.1 in
+    before.same (auto_name n) (λ k below. auto_names_differ k n below within)
+    ∙ list_any_at (λ other. bytes_eq other (auto_name n)) left i [] at.0 at.1 in
     record {
       taken = omega (arith, before.taken, one_less);
       used = λ k below. elim (cases_lt k n) [
@@ -54,8 +52,8 @@ Searched-more first left n i small before there =
             subst (λ (m : ℕ). is_among first (auto_name m) ≡ true) e now_used
       ];
       same = λ q differs.
-        before.same q (λ k below. differs k (omega arith))
-        ∙ list_any-remove (λ other. bytes_eq other q) left i [] at.0 (ap (λ (x : List ℕ). bytes_eq x q) is ∙ differs n (omega arith));
+          before.same q (λ k below. differs k (omega arith))
+          ∙ list_any-remove (λ other. bytes_eq other q) left i [] at.0 (ap (λ (x : List ℕ). bytes_eq x q) is ∙ differs n (omega arith));
     }
 
 -- where none of the names that are left is the next one, that one is the least

@@ -1,8 +1,7 @@
 -- The greatest sequence number, one message at a time.
-use Rattle.std.proofs.Common.{◌≡◌, ℕ, ◌+◌, ◌<◌, List, [], ◌∷◌, ◌++◌, take, get_or, cond, map, Some, None, Option, refl, ap, ◌∙◌, arith, eqb, length}
-use Rattle.std.specs.Prelude.{ℤ, if◌then◌else◌, Bool}
+use Rattle.std.proofs.Common.{◌≡◌, ℕ, ◌+◌, ◌<◌, List, [], ◌∷◌, ◌++◌, take, get_or, map, Some, ap, ◌∙◌, arith, length}
+use Rattle.std.specs.Prelude.{ℤ, if◌then◌else◌}
 use Rattle.std.specs.List.{filter}
-use Rattle.std.specs.Option.{option_map_or}
 use Rattle.std.specs.Int.{int_max}
 use Rattle.std.specs.Str.{bytes_eq}
 use Rattle.std.proofs.lemmas.List.{take_more}

@@ -1,5 +1,5 @@
 -- Codes of the values that hold sets and maps, as their models want them.
-use Rattle.std.specs.Prelude.{ℕ, List, Option, zero, suc, ◌≡◌}
+use Rattle.std.specs.Prelude.{ℕ, List, Option, ◌≡◌}
 use Rattle.std.proofs.Common.{refl}
 use Rattle.std.specs.Coded.{Coded, code_by, coded×, coded_ℕ, coded_list, coded_option}
 use Rattle.std.specs.FinSet as set
@@ -47,7 +47,7 @@ coded_kind = code_by ℕ coded_ℕ kind_number kind_at kind_at-kind_number
 abbrev pub coded_subscription : Coded Subscription
 coded_subscription =
     code_by ((((((List ℕ × Kind) × set.FinSet position_cmp) × map_of.FinMap position_cmp Held) × map_of.FinMap position_cmp ℕ) × List Dead) × ℕ)
-      (coded× (coded× (coded× (coded× (coded× (coded× coded_text coded_kind) coded_positions) coded_pending) coded_counts) (coded_list coded_dead)) coded_ℕ)
-      (λ s. ((((((s.name, s.kind), s.acknowledged), s.pending), s.counts), s.dead), s.safe))
-      (λ p. record { name = p.0.0.0.0.0.0; kind = p.0.0.0.0.0.1; acknowledged = p.0.0.0.0.1; pending = p.0.0.0.1; counts = p.0.0.1; dead = p.0.1; safe = p.1 })
-      (λ _. refl)
+    (coded× (coded× (coded× (coded× (coded× (coded× coded_text coded_kind) coded_positions) coded_pending) coded_counts) (coded_list coded_dead)) coded_ℕ)
+    (λ s. ((((((s.name, s.kind), s.acknowledged), s.pending), s.counts), s.dead), s.safe))
+    (λ p. record { name = p.0.0.0.0.0.0; kind = p.0.0.0.0.0.1; acknowledged = p.0.0.0.0.1; pending = p.0.0.0.1; counts = p.0.0.1; dead = p.0.1; safe = p.1 })
+    (λ _. refl)

@@ -10,9 +10,17 @@ use Rattle.plain_lists.specs.declared.member.Terms.{Terms}
 
 abbrev pub joining : ℕ → List ℕ → Terms → TopicName → Member
 joining number name terms dead_topic = record {
-    number = number; subscription = name; level = terms.level; flow = terms.flow; ack_timeout = terms.ack_timeout;
-    nack_delay = terms.nack_delay; max_redeliver = terms.max_redeliver; dead_topic = dead_topic; share = []; out = []
-  }
+  number = number;
+  subscription = name;
+  level = terms.level;
+  flow = terms.flow;
+  ack_timeout = terms.ack_timeout;
+  nack_delay = terms.nack_delay;
+  max_redeliver = terms.max_redeliver;
+  dead_topic = dead_topic;
+  share = [];
+  out = [];
+}
 
 -- of the one so far and the next, the one that is served
 abbrev pub sooner : Option Member → Member → Member

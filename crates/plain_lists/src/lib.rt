@@ -12,7 +12,8 @@ mod subscription;
 pub use auto::{auto_name, least_free};
 pub use log::{first_waiting, last_sequence, pending_at, used_in};
 pub use member::{
-    Member, Terms, active_at, count_at, give_to, leave_out_at, member_at, take_back_from, take_out_of,
+    Member, Terms, active_at, count_at, give_to, leave_out_at, member_at, take_back_from,
+    take_out_of,
 };
 pub use pending::Hold;
 pub use positions::PositionSet;

@@ -44,19 +44,25 @@ pub fn last_sequence(log: &[Message], name: &ProducerName, base: i64) -> i64
 pub fn used_in(log: &[Message], ledger: u64) -> usize
     ensures { result ≡ count_by (λ e. e.position.ledger == ledger) log.now }
 {
-    log.iter().filter(|message| message.position().ledger == ledger).count()
+    log.iter()
+        .filter(|message| message.position().ledger == ledger)
+        .count()
 }
 
 /// The first message that waits in the subscription.
 pub fn first_waiting<'a>(visible: &'a [Message], subscription: &Subscription) -> Option<&'a Message>
     ensures { option_copied result ≡ find (is_waiting subscription.now) visible.now }
 {
-    visible.iter().find(|message| subscription.is_waiting(message))
+    visible
+        .iter()
+        .find(|message| subscription.is_waiting(message))
 }
 
 /// How many messages are pending at the consumer.
 pub fn pending_at(log: &[Message], subscription: &Subscription, consumer: u64) -> usize
     ensures { result ≡ count_by (λ e. is_held_by consumer (map_of.get subscription.now.pending e.position)) log.now }
 {
-    log.iter().filter(|message| subscription.holds_at(consumer, message)).count()
+    log.iter()
+        .filter(|message| subscription.holds_at(consumer, message))
+        .count()
 }

@@ -33,16 +33,16 @@ impl Model for Member {
     ghost Value = { Member };
 
     ghost view = { λ m. record {
-        number = m.number;
-        subscription = m.subscription;
-        level = m.level;
-        flow = m.flow;
-        ack_timeout = m.ack_timeout;
-        nack_delay = m.nack_delay;
-        max_redeliver = m.max_redeliver;
-        dead_topic = m.dead_topic;
-        share = [];
-        out = m.out
+      number = m.number;
+      subscription = m.subscription;
+      level = m.level;
+      flow = m.flow;
+      ack_timeout = m.ack_timeout;
+      nack_delay = m.nack_delay;
+      max_redeliver = m.max_redeliver;
+      dead_topic = m.dead_topic;
+      share = [];
+      out = m.out;
     } };
 }
 
@@ -189,7 +189,11 @@ fn earlier<'a>(best: Option<&'a Member>, member: &'a Member) -> &'a Member
     ensures { result.now ≡ sooner (option_copied best.entry) member.now }
 {
     match best {
-        Some(best) => if member.comes_before(best) { member } else { best },
+        Some(best) => if member.comes_before(best) {
+            member
+        } else {
+            best
+        },
         None => member,
     }
 }

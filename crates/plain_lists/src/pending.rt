@@ -109,7 +109,10 @@ impl PendingTable {
 fn find_hold(entries: &[(Position, Hold)], position: Position) -> Option<Hold>
     ensures { result ≡ option_map (λ e. e.1) (find (λ e. same_position position e.0) entries.now) }
 {
-    entries.iter().find(|entry| position.is(entry.0)).map(|entry| entry.1)
+    entries
+        .iter()
+        .find(|entry| position.is(entry.0))
+        .map(|entry| entry.1)
 }
 
 fn leave_out(entries: &mut Vec<(Position, Hold)>, position: Position)

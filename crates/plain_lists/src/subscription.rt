@@ -38,13 +38,13 @@ impl Model for Subscription {
     ghost coded = { coded_subscription };
 
     ghost view = { λ s. record {
-        name = s.name;
-        kind = s.kind;
-        acknowledged = s.acknowledged;
-        pending = s.pending;
-        counts = map_of.empty;
-        dead = [];
-        safe = 0
+      name = s.name;
+      kind = s.kind;
+      acknowledged = s.acknowledged;
+      pending = s.pending;
+      counts = map_of.empty;
+      dead = [];
+      safe = 0;
     } };
 }
 
@@ -127,22 +127,31 @@ impl Subscription {
 }
 
 /// The subscription of the name.
-pub fn subscription_at<'a>(subscriptions: &'a [Subscription], name: &SubscriptionName) -> Option<&'a Subscription>
+pub fn subscription_at<'a>(
+    subscriptions: &'a [Subscription],
+    name: &SubscriptionName,
+) -> Option<&'a Subscription>
     ensures { option_copied result ≡ find (is_named name.now) subscriptions.now }
 {
-    subscriptions.iter().find(|subscription| subscription.is_named(name))
+    subscriptions
+        .iter()
+        .find(|subscription| subscription.is_named(name))
 }
 
 fn place_of_subscription(subscriptions: &[Subscription], name: &SubscriptionName) -> Option<usize>
     ensures { result ≡ position (is_named name.now) subscriptions.now }
 {
-    subscriptions.iter().position(|subscription| subscription.is_named(name))
+    subscriptions
+        .iter()
+        .position(|subscription| subscription.is_named(name))
 }
 
 fn place_after(subscriptions: &[Subscription], name: &SubscriptionName) -> Option<usize>
     ensures { result ≡ position (λ other. is_lt (name_order name.now other.name)) subscriptions.now }
 {
-    subscriptions.iter().position(|other| name.order(other.name()).is_lt())
+    subscriptions
+        .iter()
+        .position(|other| name.order(other.name()).is_lt())
 }
 
 /// Where a new subscription of the name goes: before the first of a greater name.
@@ -172,7 +181,12 @@ pub fn set_kind_of(subscriptions: &mut [Subscription], name: &SubscriptionName, 
 }
 
 /// Makes the message pending in the subscription. Nothing changes where there is no memory.
-pub fn hold_at(subscriptions: &mut [Subscription], name: &SubscriptionName, position: Position, hold: Hold) -> Result<(), AllocError>
+pub fn hold_at(
+    subscriptions: &mut [Subscription],
+    name: &SubscriptionName,
+    position: Position,
+    hold: Hold,
+) -> Result<(), AllocError>
     ensures ok { OnOk result (subscriptions.new ≡ changed (is_named name.now) (holding position hold) subscriptions.old) }
     ensures err { OnErr result (subscriptions.new ≡ subscriptions.old) }
 {
@@ -183,7 +197,11 @@ pub fn hold_at(subscriptions: &mut [Subscription], name: &SubscriptionName, posi
 }
 
 /// Acknowledges the message in the subscription. Nothing changes where there is no memory.
-pub fn acknowledge_at(subscriptions: &mut [Subscription], name: &SubscriptionName, position: Position) -> Result<(), AllocError>
+pub fn acknowledge_at(
+    subscriptions: &mut [Subscription],
+    name: &SubscriptionName,
+    position: Position,
+) -> Result<(), AllocError>
     ensures ok { OnOk result (subscriptions.new ≡ changed (is_named name.now) (acknowledging position) subscriptions.old) }
     ensures err { OnErr result (subscriptions.new ≡ subscriptions.old) }
 {

@@ -1,11 +1,11 @@
 -- The names that a topic knows are those that are used.
-use Rattle.std.proofs.Common.{◌≡◌, ℕ, List, [], ◌∷◌, ◌++◌, Bool, map, refl, sym, ap, ◌∙◌}
+use Rattle.std.proofs.Common.{◌≡◌, ℕ, List, [], ◌∷◌, Bool, map, refl, sym, ap, ◌∙◌}
 use Rattle.std.specs.Prelude.{◌||◌}
 use Rattle.std.specs.List.{list_any}
 use Rattle.std.specs.Str.{bytes_eq}
 use Rattle.std.proofs.lemmas.List.Folds.{list_any-append}
 use Rattle.delivery_machine.specs.State.{State}
-use Rattle.delivery_machine.specs.Words.{is_connected, is_by}
+use Rattle.delivery_machine.specs.Words.{is_connected}
 use Rattle.delivery_machine.specs.Producing.{IsLeastFree, is_used, auto_name}
 use Rattle.plain_lists.specs.Auto.{is_among, IsLeastFreeIn}
 use Rattle.plain_topic.specs.Names.{names_used}

@@ -4,15 +4,15 @@ use Rattle.plain_topic.specs.declared.plain.PlainTopic.{PlainTopic}
 
 abbrev pub state_of : PlainTopic → State
 state_of t = record {
-    name = t.name;
-    ledger_size = t.ledger_size;
-    ledger = t.ledger;
-    next_ordinal = 0;
-    next_producer = t.next_producer;
-    next_consumer = t.next_consumer;
-    log = t.log.items;
-    durable = t.durable;
-    producers = t.producers.items;
-    members = t.members.items;
-    subscriptions = t.subscriptions.items
-  }
+  name = t.name;
+  ledger_size = t.ledger_size;
+  ledger = t.ledger;
+  next_ordinal = 0;
+  next_producer = t.next_producer;
+  next_consumer = t.next_consumer;
+  log = t.log.items;
+  durable = t.durable;
+  producers = t.producers.items;
+  members = t.members.items;
+  subscriptions = t.subscriptions.items;
+}

@@ -11,7 +11,9 @@ use position_core::{Fault, Message, Position};
 fn has_position(messages: &[Message], position: Position) -> bool
     ensures { result ≡ list_any (has_position position) messages.now }
 {
-    messages.iter().any(|message| message.position().is(position))
+    messages
+        .iter()
+        .any(|message| message.position().is(position))
 }
 
 impl PlainTopic {

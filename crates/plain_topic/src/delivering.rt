@@ -6,8 +6,8 @@ ghost use Rattle.delivery_machine.specs.Delivering.{given, holding};
 use crate::plain::PlainTopic;
 use delivery_machine::{Deliveries, Delivery, Flow, Kind, Reply};
 use plain_lists::{
-    Hold, Member, Subscription, active_at, first_waiting, give_to, hold_at, member_at, pending_at, subscription_at,
-    take_back_from, take_out_of,
+    Hold, Member, Subscription, active_at, first_waiting, give_to, hold_at, member_at, pending_at,
+    subscription_at, take_back_from, take_out_of,
 };
 use position_core::{Fault, Message, Moment, Position, SubscriptionName};
 use std::alloc::AllocError;
@@ -52,7 +52,8 @@ impl PlainTopic {
         ensures { result ≡ has_room (state_of self.now) subscription.now member.now }
     {
         match member.flow() {
-            Flow::Window(size) => pending_at(&self.log, subscription, member.number()) < size.get() as usize,
+            Flow::Window(size) => pending_at(&self.log, subscription, member.number())
+                < size.get() as usize,
         }
     }
 
@@ -91,7 +92,17 @@ impl PlainTopic {
             return Reply::Refused(Fault::NoMemory);
         };
         let delivery = Delivery { message, count };
-        if hand_over(&mut self.members, &mut self.subscriptions, name, position, consumer, hold, delivery).is_err() {
+        if hand_over(
+            &mut self.members,
+            &mut self.subscriptions,
+            name,
+            position,
+            consumer,
+            hold,
+            delivery,
+        )
+        .is_err()
+        {
             return Reply::Refused(Fault::NoMemory);
         }
         Reply::Sent {

@@ -1,7 +1,9 @@
 // Joining a subscription.
 use crate::plain::PlainTopic;
 use delivery_machine::{Initial, Kind, Reply};
-use plain_lists::{Member, PositionSet, Subscription, Terms, count_at, place_for, set_kind_of, subscription_at};
+use plain_lists::{
+    Member, PositionSet, Subscription, Terms, count_at, place_for, set_kind_of, subscription_at,
+};
 use position_core::{Fault, SubscriptionName, TopicName};
 use std::alloc::AllocError;
 
@@ -44,7 +46,12 @@ impl PlainTopic {
     }
 
     /// Makes the subscription, or gives it the kind. Nothing changes where there is no memory.
-    fn enter(&mut self, name: &SubscriptionName, kind: Kind, initial: Initial) -> Result<(), AllocError>
+    fn enter(
+        &mut self,
+        name: &SubscriptionName,
+        kind: Kind,
+        initial: Initial,
+    ) -> Result<(), AllocError>
         ensures ok { OnOk result (state_of self.new ≡ record (state_of self.old) { subscriptions = joined (state_of self.old) name.now kind initial }) }
         ensures err { OnErr result (state_of self.new ≡ state_of self.old) }
         ensures room { vec_capacity self.new.members ≡ vec_capacity self.old.members }
@@ -85,7 +92,8 @@ impl PlainTopic {
         if self.enter(name, kind, initial).is_err() {
             return Reply::Refused(Fault::NoMemory);
         }
-        self.members.push_reserved(Member::new(self.alloc, number, at, terms, dead_topic));
+        self.members
+            .push_reserved(Member::new(self.alloc, number, at, terms, dead_topic));
         self.next_consumer = number + 1;
         Reply::Subscribed { consumer: number }
     }

@@ -9,4 +9,3 @@ mod plain;
 mod producing;
 
 pub use plain::PlainTopic;
-

@@ -3,7 +3,9 @@ ghost use Rattle.std.specs.Prelude.{◌≡◌, ◌++◌, IfOk, OnOk, map};
 
 use crate::plain::PlainTopic;
 use delivery_machine::Reply;
-use plain_lists::{Producer, auto_name, is_connected, last_sequence, least_free, producer_at, used_in};
+use plain_lists::{
+    Producer, auto_name, is_connected, last_sequence, least_free, producer_at, used_in,
+};
 use position_core::{Base, Body, Entry, Fault, Message, Moment, Position, ProducerName};
 use std::alloc::{AllocError, Global};
 
@@ -26,7 +28,14 @@ fn add_writers(names: &mut Vec<ProducerName>, log: &[Message]) -> Result<(), All
     Ok(())
 }
 
-fn message_of(alloc: Global, sender: &ProducerName, position: Position, sequence: i64, body: &Body, now: Moment) -> Result<Message, AllocError>
+fn message_of(
+    alloc: Global,
+    sender: &ProducerName,
+    position: Position,
+    sequence: i64,
+    body: &Body,
+    now: Moment,
+) -> Result<Message, AllocError>
     ensures { IfOk result (λ e. e ≡ record { position = position; producer = sender.now; sequence = sequence; time = now; body = body.now }) }
 {
     let entry = Entry {
@@ -89,7 +98,10 @@ impl PlainTopic {
     }
 
     /// The name that was asked for, or else one of the topic's making with its number.
-    fn given_name(&self, asked: &Option<ProducerName>) -> Result<(ProducerName, Option<u64>), AllocError>
+    fn given_name(
+        &self,
+        asked: &Option<ProducerName>,
+    ) -> Result<(ProducerName, Option<u64>), AllocError>
         ensures { IfOk result (λ given. IsGiven (state_of self.now) asked.now given.0 given.1) }
     {
         match asked {
@@ -107,7 +119,8 @@ impl PlainTopic {
         ensures ok { OnOk result (state_of self.new ≡ with_producer (state_of self.old) (record { number = (state_of self.old).next_producer; name = name; base = base })) }
         ensures err { OnErr result (state_of self.new ≡ state_of self.old) }
     {
-        self.producers.push(Producer::new(self.next_producer, name, base))?;
+        self.producers
+            .push(Producer::new(self.next_producer, name, base))?;
         self.next_producer += 1;
         Ok(())
     }
@@ -156,7 +169,13 @@ impl PlainTopic {
         self.log.len() >= 1_048_576 || self.next_position().ledger > 1 << 62
     }
 
-    pub(crate) fn publish(&mut self, producer: u64, sequence: i64, body: &Body, now: Moment) -> Reply
+    pub(crate) fn publish(
+        &mut self,
+        producer: u64,
+        sequence: i64,
+        body: &Body,
+        now: Moment,
+    ) -> Reply
         ensures { Answers (state_of self.old) (Publish producer sequence body.now now) result (state_of self.new) }
     {
         let length = self.log.len() as u64;
@@ -171,7 +190,8 @@ impl PlainTopic {
         if full {
             return Reply::Refused(Fault::TopicFull);
         }
-        let Ok(message) = message_of(self.alloc, sender.name(), position, sequence, body, now) else {
+        let Ok(message) = message_of(self.alloc, sender.name(), position, sequence, body, now)
+        else {
             return Reply::Refused(Fault::NoMemory);
         };
         if self.log.push(message).is_err() {

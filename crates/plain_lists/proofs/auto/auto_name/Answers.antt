@@ -1,7 +1,5 @@
-use Rattle.std.proofs.Common.{◌≡◌, ◌≤◌, ◌<◌, ◌^◌, ◌∙◌, ap, length, lit<, ◌++◌, length-append, arith, ℕ, List}
+use Rattle.std.proofs.Common.{◌≡◌, ◌≤◌, ◌<◌, ◌^◌, ◌∙◌, ap, length, lit<, arith, ℕ}
 use Rattle.std.specs.Arc.{arc_str_bytes}
-use Rattle.std.specs.Fmt.{decimal}
-use Rattle.std.specs.Prelude.{codes}
 use Rattle.std.proofs.lemmas.Fmt.{length-decimal-le}
 use Rattle.delivery_machine.specs.Producing.{auto_name}
 use Rattle.plain_lists.proofs.auto.auto_name.Goals as goal

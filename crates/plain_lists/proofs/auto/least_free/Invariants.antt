@@ -1,7 +1,4 @@
-use Rattle.std.proofs.Common.{◌≡◌, ◌+◌, ◌<◌, ℕ, Bool, true, false, vec_len}
-use Rattle.std.specs.Str.{bytes_eq}
-use Rattle.delivery_machine.specs.Producing.{auto_name}
-use Rattle.plain_lists.specs.Auto.{is_among}
+use Rattle.std.proofs.Common.{vec_len}
 use Rattle.plain_lists.proofs.Free.{Searched}
 use Rattle.plain_lists.proofs.auto.least_free.Given as goal
 

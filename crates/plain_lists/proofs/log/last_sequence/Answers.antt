@@ -1,4 +1,4 @@
-use Rattle.std.proofs.Common.{rules, arith}
+use Rattle.std.proofs.Common.{arith}
 use Rattle.std.proofs.lemmas.Bool.Decides.{nat_tests}
 use Rattle.plain_lists.proofs.Greatest.{last_more}
 use Rattle.plain_lists.proofs.log.last_sequence.Goals as goal

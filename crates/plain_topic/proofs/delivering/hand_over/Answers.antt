@@ -1,4 +1,4 @@
-use Rattle.std.proofs.Common.{◌≡◌, List, ℕ, take, drop, length, ◌++◌, ap, ◌∙◌, arith}
+use Rattle.std.proofs.Common.{◌≡◌, List, ℕ, take, length, ◌++◌, ap, ◌∙◌, arith}
 use Rattle.std.proofs.lemmas.Grind.{common_steps}
 use Rattle.delivery_machine.specs.Words.{changed, is_member}
 use Rattle.plain_lists.specs.Members.{shortened}

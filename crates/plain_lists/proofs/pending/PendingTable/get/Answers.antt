@@ -1,5 +1,3 @@
-use Rattle.std.proofs.Common.{ap, ◌∙◌, sym}
-use Rattle.std.specs.FinMap as map_of
 use Rattle.plain_lists.proofs.Tables.{get-entries}
 use Rattle.plain_lists.proofs.pending.PendingTable.get.Goals as goal
 

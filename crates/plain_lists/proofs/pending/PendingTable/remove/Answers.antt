@@ -1,4 +1,4 @@
-use Rattle.std.proofs.Common.{ap, ◌∙◌, sym}
+use Rattle.std.proofs.Common.{ap, ◌∙◌}
 use Rattle.std.specs.FinMap as map_of
 use Rattle.plain_lists.proofs.Tables.{entries_without}
 use Rattle.plain_lists.proofs.pending.PendingTable.remove.Goals as goal

@@ -1,4 +1,3 @@
-use Rattle.std.proofs.Common.{ap, ◌∙◌, sym}
 use Rattle.std.specs.FinSet as set
 use Rattle.position_core.specs.Position.{positions_total}
 use Rattle.plain_lists.proofs.positions.PositionSet.contains.Goals as goal

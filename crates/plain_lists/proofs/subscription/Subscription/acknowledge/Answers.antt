@@ -1,9 +1,4 @@
 use Rattle.std.proofs.Common.{refl, ℕ}
-use Rattle.std.specs.FinSet as set
-use Rattle.std.specs.FinMap as map_of
-use Rattle.position_core.specs.Position.{position_cmp}
-use Rattle.delivery_machine.specs.State.{Subscription, Held}
-use Rattle.delivery_machine.specs.Acknowledging.{acknowledging}
 use Rattle.plain_lists.proofs.Tables.{remove-empty}
 use Rattle.plain_lists.proofs.subscription.Subscription.acknowledge.Goals as goal
 

@@ -1,4 +1,4 @@
-use Rattle.std.proofs.Common.{◌≡◌, ap, ◌∙◌, sym, ℕ, Option}
+use Rattle.std.proofs.Common.{ap, ◌∙◌, sym, ℕ, Option}
 use Rattle.std.specs.Option.{unwrap_or}
 use Rattle.std.specs.FinMap as map_of
 use Rattle.position_core.specs.Position.{position_cmp}

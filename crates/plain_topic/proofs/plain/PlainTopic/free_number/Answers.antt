@@ -1,9 +1,8 @@
-use Rattle.std.proofs.Common.{ℕ, List, ap, subst}
+use Rattle.std.proofs.Common.{ℕ, List, subst}
 use Rattle.std.proofs.lemmas.Result.{IfOk-weaker}
 use Rattle.delivery_machine.specs.Producing.{IsLeastFree}
 use Rattle.plain_lists.specs.Auto.{IsLeastFreeIn}
 use Rattle.plain_topic.specs.StateOf.{state_of}
-use Rattle.plain_topic.specs.Names.{names_used}
 use Rattle.plain_topic.proofs.Used.{least_of_used}
 use Rattle.plain_topic.proofs.plain.PlainTopic.free_number.Goals as goal
 
