@@ -3,7 +3,7 @@ use Rattle.std.specs.Prelude.{ℕ, List, [], ℤ, Option}
 use Rattle.std.specs.FinSet.{FinSet}
 use Rattle.std.specs.FinMap.{FinMap}
 use Rattle.position_core.specs.declared.position.Position.{Position}
-use Rattle.position_core.specs.declared.name.TopicName.{TopicName}
+use Rattle.position_core.specs.declared.topic_name.TopicName.{TopicName}
 use Rattle.position_core.specs.declared.message.Entry.{Entry}
 use Rattle.position_core.specs.Position.{position_cmp}
 use Rattle.delivery_machine.specs.declared.delivery.Delivery.{Delivery}

@@ -5,7 +5,7 @@ use Rattle.std.specs.Coded.{Coded, code_by, coded×, coded_ℕ, coded_list, code
 use Rattle.std.specs.FinSet as set
 use Rattle.std.specs.FinMap as map_of
 use Rattle.position_core.specs.declared.position.Position.{Position}
-use Rattle.position_core.specs.declared.name.TopicName.{TopicName}
+use Rattle.position_core.specs.declared.topic_name.TopicName.{TopicName}
 use Rattle.position_core.specs.Position.{position_cmp, coded_position}
 use Rattle.delivery_machine.specs.State.{Held, Dead, Subscription}
 use Rattle.delivery_machine.specs.declared.event.Kind.{Kind}

@@ -2,7 +2,7 @@
 use Rattle.std.specs.Prelude.{ℕ, ◌-◌, List, [], Option, take, length}
 use Rattle.std.specs.List.{find}
 use Rattle.std.specs.Option.{option_map_or}
-use Rattle.position_core.specs.declared.name.TopicName.{TopicName}
+use Rattle.position_core.specs.declared.topic_name.TopicName.{TopicName}
 use Rattle.delivery_machine.specs.State.{Member}
 use Rattle.delivery_machine.specs.Words.{earlier, is_member}
 use Rattle.delivery_machine.specs.declared.delivery.Delivery.{Delivery}

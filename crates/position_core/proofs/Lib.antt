@@ -1,2 +1,3 @@
 pub mod Varint
 pub mod Ids
+pub mod TopicNames

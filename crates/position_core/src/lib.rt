@@ -14,14 +14,16 @@ mod properties;
 #[cfg(test)]
 mod tests;
 mod text;
+mod topic_name;
 
 pub use body::{Body, Content};
 pub use bounded::{Bounded, LedgerSize, Level, Millis, RedeliverLimit, WindowSize};
 pub use fault::Fault;
 pub use message::{Entry, Message};
 pub use moment::{Base, Moment};
-pub use name::{Name, SubscriptionName, TopicName};
+pub use name::{Name, SubscriptionName};
 pub use payload::Payload;
 pub use position::Position;
 pub use properties::Properties;
 pub use text::{Key, ProducerName, Text};
+pub use topic_name::TopicName;

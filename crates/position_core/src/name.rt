@@ -1,11 +1,11 @@
 // Names of tenants, namespaces, topics and subscriptions.
-ghost use Rattle.std.specs.Prelude.{◌≡◌, ◌↔◌, IsTrue, IsSome, IfSome};
+ghost use Rattle.std.specs.Prelude.{◌≡◌, ◌↔◌, IsTrue, IfOk, IsSome, IfSome};
 ghost use Rattle.std.specs.Arc.{arc_str_bytes};
 ghost use Rattle.std.specs.List.{list_any};
 ghost use Rattle.std.specs.Str.{bytes_eq};
 ghost use Rattle.position_core.specs.Name.{is_barred, is_name, name_order};
 
-use std::alloc::AllocError;
+use std::alloc::{AllocError, Global};
 use std::cmp::Ordering;
 use std::marker::Model;
 use std::sync::ArcStr;
@@ -62,6 +62,17 @@ impl Name {
         }
     }
 
+    /// The text as a name, where it is one.
+    pub fn from_text(alloc: Global, text: &str) -> Result<Option<Self>, AllocError>
+        ensures fits { IfOk result (λ found. IsSome found ↔ IsTrue (is_name text.now)) }
+        ensures value { IfOk result (λ found. IfSome found (λ name. name ≡ text.now)) }
+    {
+        if !is_name(text) {
+            return Ok(None);
+        }
+        Ok(Name::new(ArcStr::from_str(alloc, text)?))
+    }
+
     pub fn as_str(&self) -> &str
         ensures value { result.now ≡ self.now }
         ensures name { IsTrue (is_name result.now) }
@@ -92,12 +103,4 @@ impl Clone for Name {
             text: self.text.clone()?,
         })
     }
-}
-
-/// A topic's name: `persistent://tenant/namespace/topic`.
-#[derive(Clone, Debug, Drop)]
-pub struct TopicName {
-    pub tenant: Name,
-    pub namespace: Name,
-    pub topic: Name,
 }

@@ -1,0 +1,80 @@
+// Topics' names and their texts.
+ghost use Rattle.std.specs.Prelude.{◌≡◌, ℕ, List, ◌∷◌, ◌++◌, IsTrue, IfSome, IsSomeAnd};
+ghost use Rattle.position_core.specs.Name.{is_name};
+ghost use Rattle.position_core.specs.TopicName.{scheme, text_of_parts};
+
+use crate::name::Name;
+use std::alloc::{AllocError, Global};
+
+/// A topic's name: `persistent://tenant/namespace/topic`.
+#[derive(Clone, Debug, Drop)]
+pub struct TopicName {
+    pub tenant: Name,
+    pub namespace: Name,
+    pub topic: Name,
+}
+
+/// What follows the scheme.
+fn after_scheme(text: &str) -> Option<&str>
+    ensures some { IfSome result (λ rest. text.now ≡ scheme ++ rest.now) }
+    ensures all_parted { (rest : List ℕ) → text.now ≡ scheme ++ rest → IsSomeAnd result (λ r. r.now ≡ rest) }
+{
+    text.strip_prefix("persistent://")
+}
+
+/// What stands before the first `/`, and what stands after it.
+fn split_at_slash(text: &str) -> Option<(&str, &str)>
+    ensures some { IfSome result (λ r. text.now ≡ r.0.now ++ 47 ∷ r.1.now) }
+    ensures all_parted { (name rest : List ℕ) → IsTrue (is_name name) → text.now ≡ name ++ 47 ∷ rest → IsSomeAnd result (λ r. (r.0.now ≡ name) × (r.1.now ≡ rest)) }
+{
+    text.split_once('/')
+}
+
+fn parts_of(text: &str) -> Option<(&str, &str, &str)>
+    ensures some { IfSome result (λ r. text.now ≡ text_of_parts r.0.now r.1.now r.2.now) }
+    ensures all_parted { (tenant namespace topic : List ℕ) → IsTrue (is_name tenant) → IsTrue (is_name namespace) → text.now ≡ text_of_parts tenant namespace topic → IsSomeAnd result (λ r. (r.0.now ≡ tenant) × (r.1.now ≡ namespace) × (r.2.now ≡ topic)) }
+{
+    let (tenant, rest) = split_at_slash(after_scheme(text)?)?;
+    let (namespace, topic) = split_at_slash(rest)?;
+    Some((tenant, namespace, topic))
+}
+
+impl TopicName {
+    ghost use Rattle.std.specs.Prelude.{◌≡◌, IsTrue, IfOk, IfSome, IfNone};
+    ghost use Rattle.position_core.specs.Name.{is_name};
+    ghost use Rattle.position_core.specs.TopicName.{topic_text, same_topic};
+    ghost use Rattle.position_core.specs.declared.topic_name.TopicName.{TopicName};
+
+    /// The topic's name that the text is, where it is one.
+    pub fn from_text(alloc: Global, text: &str) -> Result<Option<TopicName>, AllocError>
+        ensures read { IfOk result (λ found. IfSome found (λ name. text.now ≡ topic_text name)) }
+        ensures all_read { IfOk result (λ found. IfNone found ((name : TopicName) → IsTrue (is_name name.tenant) → IsTrue (is_name name.namespace) → IsTrue (is_name name.topic) → text.now ≡ topic_text name → ⊥)) }
+    {
+        let Some((tenant, namespace, topic)) = parts_of(text) else {
+            return Ok(None);
+        };
+        let Some(tenant) = Name::from_text(alloc, tenant)? else {
+            return Ok(None);
+        };
+        let Some(namespace) = Name::from_text(alloc, namespace)? else {
+            return Ok(None);
+        };
+        let Some(topic) = Name::from_text(alloc, topic)? else {
+            return Ok(None);
+        };
+        Ok(Some(TopicName {
+            tenant,
+            namespace,
+            topic,
+        }))
+    }
+
+    /// Whether two names are the same.
+    pub fn is(&self, other: &Self) -> bool
+        ensures { result ≡ same_topic self.now other.now }
+    {
+        self.tenant.is(&other.tenant)
+            && self.namespace.is(&other.namespace)
+            && self.topic.is(&other.topic)
+    }
+}
