@@ -3,6 +3,7 @@ use Rattle.std.specs.Prelude.{ℕ, Bool, ◌&&◌, List, ◌∷◌, ◌++◌, co
 use Rattle.std.specs.Str.{bytes_eq}
 use Rattle.position_core.specs.declared.topic_name.TopicName.{TopicName}
 
+-- what each topic's text begins with
 abbrev pub scheme : List ℕ
 scheme = codes "persistent://"
 
@@ -10,6 +11,7 @@ scheme = codes "persistent://"
 abbrev pub text_of_parts : List ℕ → List ℕ → List ℕ → List ℕ
 text_of_parts tenant namespace topic = scheme ++ (tenant ++ 47 ∷ (namespace ++ 47 ∷ topic))
 
+-- the one text of the topic
 abbrev pub topic_text : TopicName → List ℕ
 topic_text name = text_of_parts name.tenant name.namespace name.topic
 
