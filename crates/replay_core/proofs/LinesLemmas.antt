@@ -1,0 +1,101 @@
+-- How the lines of an input begin, and how one ends.
+use Rattle.std.proofs.Common.{◌≡◌, ℕ, ◌<◌, ◌==◌, List, [], ◌∷◌, ◌++◌, Bool, true, false, cond, length, drop, refl, sym, ap, ◌∙◌, subst, append_assoc, length-append, arith}
+use Rattle.std.specs.Prelude.{◌||◌, ◌&&◌, not}
+use Rattle.std.specs.List.{list_all}
+use Rattle.std.proofs.Math.Seq.{drop-append_seam}
+use Rattle.position_core.specs.declared.topic_name.TopicName.{TopicName}
+use Rattle.replay_core.specs.Lines.{lines_of, onto_line, longest_line}
+use Rattle.replay_core.specs.Grammar.{IsBadLine}
+use Rattle.replay_core.specs.Replay.{Answer, AreAnswered, IsAnswered, IsBadFirst}
+use Rattle.replay_core.specs.Progress.{has_end, joined, IsBadWhatever}
+
+first_no : (a b : Bool) → (a || b) ≡ false → a ≡ false
+first_no false b e = refl
+first_no true b e = e
+
+second_no : (a b : Bool) → (a || b) ≡ false → b ≡ false
+second_no false b e = e
+second_no true b e = absurd (cc)
+
+-- a line ends at its end
+pub lines_of-line : (line rest : List ℕ) → has_end line ≡ false → lines_of (line ++ 10 ∷ rest) ≡ line ∷ lines_of rest
+lines_of-line [] rest e = refl
+lines_of-line (b ∷ line) rest e =
+    ap (λ t. cond t ([] ∷ lines_of (line ++ 10 ∷ rest)) (onto_line b (lines_of (line ++ 10 ∷ rest)))) (first_no (b == 10) (has_end line) e)
+    ∙ ap (onto_line b) (lines_of-line line rest (second_no (b == 10) (has_end line) e))
+
+-- the last line may lack its end
+pub lines_of-last : (b : ℕ) (line : List ℕ) → has_end (b ∷ line) ≡ false → lines_of (b ∷ line) ≡ (b ∷ line) ∷ []
+lines_of-last b [] e = ap (λ t. cond t ([] ∷ []) (onto_line b [])) (first_no (b == 10) false e)
+lines_of-last b (x ∷ line) e =
+    ap (λ t. cond t ([] ∷ lines_of (x ∷ line)) (onto_line b (lines_of (x ∷ line)))) (first_no (b == 10) (has_end (x ∷ line)) e)
+    ∙ ap (onto_line b) (lines_of-last x line (second_no (b == 10) (has_end (x ∷ line)) e))
+
+onto_begins : (b : ℕ) (lines : List (List ℕ)) → (front : List ℕ) × (rest : List (List ℕ)) × (onto_line b lines ≡ (b ∷ front) ∷ rest)
+onto_begins b [] = ([], [], refl)
+onto_begins b (line ∷ lines) = (line, lines, refl)
+
+-- a text with no end begins the first line
+pub lines_begin : (b : ℕ) (line more : List ℕ) → has_end (b ∷ line) ≡ false → (front : List ℕ) × (rest : List (List ℕ)) × (lines_of (b ∷ line ++ more) ≡ (b ∷ line ++ front) ∷ rest)
+lines_begin b [] more e =
+    let on = onto_begins b (lines_of more) in
+    (on.0, on.1, ap (λ t. cond t ([] ∷ lines_of more) (onto_line b (lines_of more))) (first_no (b == 10) false e) ∙ on.2)
+lines_begin b (x ∷ line) more e =
+    let on = lines_begin x line more (second_no (b == 10) (has_end (x ∷ line)) e) in (
+      on.0,
+      on.1,
+      ap (λ t. cond t ([] ∷ lines_of (x ∷ line ++ more)) (onto_line b (lines_of (x ∷ line ++ more)))) (first_no (b == 10) (has_end (x ∷ line)) e)
+          ∙ ap (onto_line b) on.2,
+    )
+
+first_all : (a b : Bool) → (not a && b) ≡ true → a ≡ false
+first_all false b e = refl
+first_all true b e = absurd (cc)
+
+second_all : (a b : Bool) → (not a && b) ≡ true → b ≡ true
+second_all false b e = e
+second_all true b e = absurd (cc)
+
+-- whole lines are the first lines of the input
+pub lines_of-joined : (whole : List (List ℕ)) (tail : List ℕ) → list_all (λ line. not (has_end line)) whole ≡ true → lines_of (joined whole ++ tail) ≡ whole ++ lines_of tail
+lines_of-joined [] tail e = refl
+lines_of-joined (line ∷ whole) tail e =
+    ap lines_of (append_assoc line (10 ∷ joined whole) tail)
+    ∙ lines_of-line line (joined whole ++ tail) (first_all (has_end line) _ e)
+    ∙ ap (λ (ls : List (List ℕ)). line ∷ ls) (lines_of-joined whole tail (second_all (has_end line) _ e))
+
+pub joined-push : (whole : List (List ℕ)) (line : List ℕ) → joined (whole ++ line ∷ []) ≡ joined whole ++ (line ++ 10 ∷ [])
+joined-push [] line = refl
+joined-push (first ∷ whole) line =
+    ap (λ (x : List ℕ). first ++ 10 ∷ x) (joined-push whole line) ∙ sym (append_assoc first (10 ∷ joined whole) (line ++ 10 ∷ []))
+
+-- what was answered stays answered, whatever lines follow
+pub AreAnswered-append : (this : TopicName) (lines more : List (List ℕ)) (answers : List Answer) → AreAnswered this lines answers → AreAnswered this (lines ++ more) answers
+AreAnswered-append this lines more [] h = tt
+AreAnswered-append this [] more (a ∷ answers) h = absurd h
+AreAnswered-append this (line ∷ lines) more (a ∷ answers) h = (h.0, AreAnswered-append this lines more answers h.1)
+
+pub AreAnswered-push : (this : TopicName) (lines : List (List ℕ)) (line : List ℕ) (answers : List Answer) (answer : Answer) → length lines ≡ length answers → AreAnswered this lines answers → IsAnswered this line answer → AreAnswered this (lines ++ line ∷ []) (answers ++ answer ∷ [])
+AreAnswered-push this [] line [] answer same h is = (is, tt)
+AreAnswered-push this (l ∷ lines) line (a ∷ answers) answer same h is = (h.0, AreAnswered-push this lines line answers answer (omega (arith, same)) h.1 is)
+AreAnswered-push this [] line (a ∷ answers) answer same h is = absurd h
+AreAnswered-push this (l ∷ lines) line [] answer same h is = absurd (omega (arith, same))
+
+-- the lines after those that were answered
+pub lines_left : (whole more : List (List ℕ)) (n : ℕ) → length whole ≡ n → drop n (whole ++ more) ≡ more
+lines_left whole more n same = ap (λ (k : ℕ). drop k (whole ++ more)) (sym same) ∙ drop-append_seam whole more
+
+-- a line that is too long stands for nothing
+pub long_line : (this : TopicName) (line : List ℕ) → longest_line < length line → IsBadLine this line
+long_line this line long read is = absurd (omega (arith, is.0, long))
+
+pub long_is_bad : (this : TopicName) (line : List ℕ) → longest_line < length line → has_end line ≡ false → IsBadWhatever this line
+long_is_bad this [] long e more = absurd (omega (arith, long))
+long_is_bad this (b ∷ line) long e more =
+    let begins = lines_begin b line more e in
+    subst (IsBadFirst this) (sym begins.2) (long_line this (b ∷ line ++ begins.0) (omega (arith, long, length-append line begins.0)))
+
+-- a whole line that stands for nothing
+pub whole_is_bad : (this : TopicName) (line rest : List ℕ) → has_end line ≡ false → IsBadLine this line → IsBadWhatever this (line ++ 10 ∷ rest)
+whole_is_bad this line rest e bad more =
+    subst (IsBadFirst this) (sym (ap lines_of (append_assoc line (10 ∷ rest) more) ∙ lines_of-line line (rest ++ more) e)) bad

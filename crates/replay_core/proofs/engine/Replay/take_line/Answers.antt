@@ -1,0 +1,10 @@
+use Rattle.std.proofs.Common.{◌++◌, ◌∷◌, [], List, ℕ, sym, append-nil}
+use Rattle.replay_core.proofs.Taking.{Takes-then}
+use Rattle.replay_core.proofs.engine.Replay.take_line.Goals as goal
+
+pub returns-then-is_large-clause-takes : goal.returns-then-is_large-clause-takes
+returns-then-is_large-clause-takes g c =
+    let w = g.W.Write.contents c.args.writer.now in
+    let u = g.T.Topic.state c.end_line.new.topic in
+    let part : List ℕ = c.args.part.now ++ 10 ∷ [] in
+    Takes-then part [] part c.args.self.now c.end_line.new.self _ w w _ (g.T.Topic.state c.args.topic.now) u u c.end_line.result c.write_answers.result (c.end_line.ensures.takes w) c.in_ok-end_line.was (c.write_answers.ensures.takes u) (sym (append-nil part))

@@ -1,0 +1,16 @@
+-- The lines of an input, and how long one may be.
+use Rattle.std.specs.Prelude.{ℕ, ◌==◌, List, [], ◌∷◌, if◌then◌else◌}
+
+-- how many bytes a line may have
+abbrev pub longest_line : ℕ
+longest_line = 1500000
+
+-- the byte goes onto the first of the lines, which it makes where there is none
+abbrev pub onto_line : ℕ → List (List ℕ) → List (List ℕ)
+onto_line byte [] = (byte ∷ []) ∷ []
+onto_line byte (line ∷ lines) = (byte ∷ line) ∷ lines
+
+-- each line ends with LF, which the last may lack
+abbrev pub lines_of : List ℕ → List (List ℕ)
+lines_of [] = []
+lines_of (byte ∷ input) = if byte == 10 then [] ∷ lines_of input else onto_line byte (lines_of input)

@@ -1,0 +1,14 @@
+-- How a program ends after a replay.
+use Rattle.std.specs.Prelude.{ℕ}
+use Rattle.std.specs.declared.result.Result.{Result}
+use Rattle.std.specs.declared.result.Result.TheVariants.{Ok, Err}
+use Rattle.replay_core.specs.declared.stop.Stop.{Stop}
+use Rattle.replay_core.specs.declared.stop.Stop.TheVariants.{BadLine, Read, Write, Memory}
+
+-- 2 after a bad line, and 1 after the other faults
+abbrev pub status_of : Result (Unit {0}) Stop → ℕ
+status_of (Ok done) = 0
+status_of (Err (BadLine number)) = 2
+status_of (Err Read) = 1
+status_of (Err Write) = 1
+status_of (Err Memory) = 1

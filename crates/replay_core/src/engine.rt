@@ -1,0 +1,336 @@
+// The replay of a topic: lines in, lines out.
+ghost use Rattle.std.specs.Prelude.{◌≡◌, ◌+◌, ◌<◌, ◌≤◌, ◌^◌, List, ℕ, Option, [], ◌∷◌, ◌++◌, length, OnOk, OnErr, IfErr, IfOk, Err, false, string_bytes};
+ghost use Rattle.std.specs.Io.KnownBytes.{Appends, Consumes, IsAtEnd};
+ghost use Rattle.delivery_machine.specs.Run.{Answers};
+ghost use Rattle.delivery_machine.specs.declared.reply.Reply.{Reply};
+ghost use Rattle.replay_core.specs.Grammar.{IsBadLine, IsLine};
+ghost use Rattle.replay_core.specs.Reads.{Reads};
+ghost use Rattle.replay_core.specs.Printing.{reply_text};
+ghost use Rattle.replay_core.specs.Replay.{Answer, IsAnswered, IsReplay, answer_text, bad_id};
+ghost use Rattle.replay_core.specs.Answering.{IsStepOf, StopsAt};
+ghost use Rattle.replay_core.specs.Outcomes.{bad_line_in, failed_writing};
+ghost use Rattle.replay_core.specs.declared.words.Unread.TheVariants.{BadLine};
+
+use crate::output::Output;
+use crate::parting::split;
+use crate::printing::{append_refused, append_reply};
+use crate::reading::{Line, read_line};
+use crate::stop::Stop;
+use crate::words::Unread;
+use delivery_machine::{Event, Topic};
+use position_core::{Fault, TopicName};
+use std::alloc::{AllocError, Global};
+use std::io::{Read, Write};
+use std::mem;
+
+/// How long a line may be. No line of an event needs more.
+const LONGEST_LINE: usize = 1_500_000;
+
+/// How often the reader is asked before it counts as one that does not end.
+const MOST_READS: u64 = 4_294_967_296;
+
+/// How many bytes are read at once.
+const PIECE: usize = 65_536;
+
+/// A replay, between two pieces of its input.
+#[derive(Drop)]
+pub struct Replay {
+    pub alloc: Global,
+    pub name: TopicName,
+    /// How many lines were answered.
+    pub lines: u64,
+    /// What has come of a line whose end has not.
+    pub held: Vec<u8>,
+    /// The line that is being answered.
+    pub answer: String,
+    pub output: Output,
+}
+
+/// Answers the event, and appends the line of the reply with its end.
+fn append_event_answer<T: Topic>(
+    topic: &mut T,
+    event: &Event,
+    out: &mut String,
+) -> Result<(), AllocError>
+    ensures { OnOk result ((reply : Reply) × Answers (T.state topic.old) event.now reply (T.state topic.new) × (string_bytes out.new ≡ string_bytes out.old ++ (reply_text event.now reply ++ 10 ∷ []))) }
+{
+    let reply = topic.apply(event);
+    append_reply(out, event, &reply)?;
+    out.push_str("\n")
+}
+
+/// Appends the line for a bad id, with its end.
+fn append_bad_id(out: &mut String) -> Result<(), AllocError>
+    ensures { OnOk result (string_bytes out.new ≡ string_bytes out.old ++ answer_text bad_id) }
+{
+    append_refused(out, Fault::BadId)?;
+    out.push_str("\n")
+}
+
+/// Reads a line that is not too long.
+fn read_short_line(alloc: Global, name: &TopicName, line: &[u8]) -> Result<Line, Unread>
+    ensures { Reads (IsLine name.now line.now) result }
+{
+    if line.len() > LONGEST_LINE {
+        return Err(Unread::BadLine);
+    }
+    read_line(alloc, name, line)
+}
+
+/// Appends what the line is answered, with its end.
+fn append_answer<T: Topic>(
+    alloc: Global,
+    name: &TopicName,
+    topic: &mut T,
+    line: &[u8],
+    out: &mut String,
+) -> Result<(), Unread>
+    ensures ok { OnOk result ((answer : Answer) × IsAnswered name.now line.now answer × IsStepOf (T.state topic.old) answer (T.state topic.new) × (string_bytes out.new ≡ string_bytes out.old ++ answer_text answer)) }
+    ensures bad { result ≡ Err BadLine → IsBadLine name.now line.now }
+{
+    match read_short_line(alloc, name, line) {
+        Ok(Line::Event(event)) => {
+            append_event_answer(topic, &event, out)?;
+            Ok(())
+        }
+        Ok(Line::BadId) => {
+            append_bad_id(out)?;
+            Ok(())
+        }
+        Err(unread) => Err(unread),
+    }
+}
+
+/// The number of the bad line, where the replay ended at one.
+fn bad_line(outcome: &Result<(), Stop>) -> Option<u64>
+    ensures { result ≡ bad_line_in outcome.now }
+{
+    match outcome {
+        Err(Stop::BadLine(number)) => Some(*number),
+        Ok(()) | Err(Stop::Read | Stop::Write | Stop::Memory) => None,
+    }
+}
+
+fn failed_writing(outcome: &Result<(), Stop>) -> bool
+    ensures { result ≡ failed_writing outcome.now }
+{
+    matches!(outcome, Err(Stop::Write))
+}
+
+impl Replay {
+    ghost use Rattle.std.specs.Prelude.{◌≡◌, ◌+◌, ◌<◌, ◌≤◌, ◌^◌, List, ℕ, Option, [], ◌∷◌, ◌++◌, length, OnOk, OnErr, IfErr, IsOk, false};
+    ghost use Rattle.replay_core.specs.Replay.{Answer, IsAnswered, answer_text};
+    ghost use Rattle.replay_core.specs.Answering.{IsStepOf, StopsAt};
+    ghost use Rattle.delivery_machine.specs.State.{State};
+    ghost use Rattle.replay_core.specs.Progress.{Closing, Ended, Progress, Start, Takes, has_end};
+    ghost use Rattle.replay_core.specs.Replay.{IsReplay, bad_line_text};
+    ghost use Rattle.std.specs.Io.KnownBytes.{Appends, Consumes, IsAtEnd};
+
+    /// Answers a whole line, without its end.
+    pub fn answer_line<T: Topic>(&mut self, topic: &mut T, line: &[u8]) -> Result<(), Stop>
+        requires { self.old.lines + 1 < 2 ^ 64 }
+        ensures ok { OnOk result ((answer : Answer) × IsAnswered self.old.name line.now answer × IsStepOf (T.state topic.old) answer (T.state topic.new) × (self.new.output.text.items ≡ self.old.output.text.items ++ answer_text answer)) }
+        ensures err { OnErr result (self.new.output.text.items ≡ self.old.output.text.items) }
+        ensures why { IfErr result (StopsAt self.old.name line.now (self.old.lines + 1)) }
+        ensures count { OnOk result (self.new.lines ≡ self.old.lines + 1) }
+        ensures most { self.new.lines ≤ self.old.lines + 1 }
+        ensures held { self.new.held.items ≡ self.old.held.items }
+        ensures name { self.new.name ≡ self.old.name }
+    {
+        self.answer.clear();
+        match append_answer(self.alloc, &self.name, topic, line, &mut self.answer) {
+            Ok(()) => {}
+            Err(Unread::BadLine) => return Err(Stop::BadLine(self.lines + 1)),
+            Err(Unread::Memory) => return Err(Stop::Memory),
+        }
+        self.output.append(self.answer.as_bytes())?;
+        self.lines += 1;
+        Ok(())
+    }
+
+    /// Keeps a part of a line until its end comes.
+    fn hold(&mut self, part: &[u8]) -> Result<(), Stop>
+        requires bound { self.old.lines + 1 < 2 ^ 64 }
+        requires open_end { has_end part.now ≡ false }
+        ensures takes { (w : Option (List ℕ)) (t : State) → Takes part.now self.old w t result self.new w t }
+        ensures lines { self.new.lines ≡ self.old.lines }
+    {
+        if self.held.len().saturating_add(part.len()) > LONGEST_LINE {
+            return Err(Stop::BadLine(self.lines + 1));
+        }
+        self.held.extend_from_slice(part)?;
+        Ok(())
+    }
+
+    /// Answers the line that is held, which has ended.
+    fn answer_held<T: Topic>(&mut self, topic: &mut T) -> Result<(), Stop>
+        requires { self.old.lines + 1 < 2 ^ 64 }
+        ensures takes { (w : Option (List ℕ)) → Takes (10 ∷ []) self.old w (T.state topic.old) result self.new w (T.state topic.new) }
+        ensures lines { self.new.lines ≤ self.old.lines + 1 }
+        ensures held { self.new.held.items ≡ [] }
+    {
+        let line = mem::replace(&mut self.held, Vec::new(self.alloc));
+        self.answer_line(topic, line.as_slice())
+    }
+
+    /// Answers the line that ends after this part.
+    fn end_line<T: Topic>(&mut self, topic: &mut T, part: &[u8]) -> Result<(), Stop>
+        requires bound { self.old.lines + 1 < 2 ^ 64 }
+        requires open_end { has_end part.now ≡ false }
+        ensures takes { (w : Option (List ℕ)) → Takes (part.now ++ 10 ∷ []) self.old w (T.state topic.old) result self.new w (T.state topic.new) }
+        ensures lines { self.new.lines ≤ self.old.lines + 1 }
+    {
+        if self.held.is_empty() {
+            return self.answer_line(topic, part);
+        }
+        self.hold(part)?;
+        self.answer_held(topic)
+    }
+
+    /// Writes the gathered answers.
+    fn write_answers<W: Write>(&mut self, writer: &mut W) -> Result<(), Stop>
+        ensures takes { (t : State) → Takes [] self.old (W.contents writer.old) t result self.new (W.contents writer.new) t }
+        ensures lines { self.new.lines ≡ self.old.lines }
+    {
+        self.output.write_to(writer)
+    }
+
+    /// Answers the line that ends after this part, and writes the answers where they are many.
+    fn take_line<T: Topic, W: Write>(
+        &mut self,
+        topic: &mut T,
+        part: &[u8],
+        writer: &mut W,
+    ) -> Result<(), Stop>
+        requires bound { self.old.lines + 1 < 2 ^ 64 }
+        requires open_end { has_end part.now ≡ false }
+        ensures takes { Takes (part.now ++ 10 ∷ []) self.old (W.contents writer.old) (T.state topic.old) result self.new (W.contents writer.new) (T.state topic.new) }
+        ensures lines { self.new.lines ≤ self.old.lines + 1 }
+    {
+        self.end_line(topic, part)?;
+        if self.output.is_large() {
+            return self.write_answers(writer);
+        }
+        Ok(())
+    }
+
+    /// Answers the lines that end in the piece.
+    fn take_piece<T: Topic, W: Write>(
+        &mut self,
+        topic: &mut T,
+        piece: &[u8],
+        writer: &mut W,
+    ) -> Result<(), Stop>
+        requires { self.old.lines + length piece.now + 1 < 2 ^ 64 }
+        ensures takes { Takes piece.now self.old (W.contents writer.old) (T.state topic.old) result self.new (W.contents writer.new) (T.state topic.new) }
+        ensures lines { self.new.lines ≤ self.old.lines + length piece.now }
+    {
+        let mut rest = piece;
+        while let Some((part, after)) = split(rest, b'\n') {
+            self.take_line(topic, part, writer)?;
+            rest = after;
+        }
+        self.hold(rest)
+    }
+
+    /// Answers the last line, where the input does not end with the end of a line.
+    fn end_input<T: Topic>(&mut self, topic: &mut T) -> Result<(), Stop>
+        requires { self.old.lines + 1 < 2 ^ 64 }
+        ensures { (s : Start) (input : List ℕ) (before w : Option (List ℕ)) → Progress s input before self.old w (T.state topic.old) → Ended s input before self.new w result }
+    {
+        if self.held.is_empty() {
+            return Ok(());
+        }
+        self.answer_held(topic)
+    }
+
+    /// Answers the lines of the whole input, but for what is left in the output.
+    fn run<T: Topic, R: Read, W: Write>(
+        &mut self,
+        topic: &mut T,
+        reader: &mut R,
+        writer: &mut W,
+        piece: &mut [u8],
+    ) -> Result<(), Stop>
+        requires begins { (self.old.lines ≡ 0) × (self.old.held.items ≡ []) × (self.old.output.text.items ≡ []) }
+        requires room { (0 < length piece.old) × (length piece.old ≤ 65536) }
+        ensures ended { (read : List ℕ) × Consumes (R.remaining reader.old) (R.remaining reader.new) read × Ended (record { state = T.state topic.old; name = self.old.name }) read (W.contents writer.old) self.new (W.contents writer.new) result }
+        ensures at_end { OnOk result (IsAtEnd (R.remaining reader.new)) }
+    {
+        for turn in 0..MOST_READS {
+            self.write_answers(writer)?;
+            let Ok(count) = reader.read(piece) else {
+                return Err(Stop::Read);
+            };
+            if count == 0 {
+                return self.end_input(topic);
+            }
+            self.take_piece(topic, &piece[..count], writer)?;
+        }
+        Err(Stop::Read)
+    }
+
+    fn append_bad_line(&mut self, number: u64) -> Result<(), AllocError>
+        ensures ok { OnOk result (self.new.output.text.items ≡ self.old.output.text.items ++ bad_line_text number) }
+        ensures err { OnErr result (self.new.output.text.items ≡ self.old.output.text.items) }
+        ensures name { self.new.name ≡ self.old.name }
+    {
+        self.answer.clear();
+        writeln!(self.answer, "bad line {number}")?;
+        self.output.append(self.answer.as_bytes())
+    }
+
+    /// Gathers which line was bad, if one was.
+    fn name_bad_line(&mut self, outcome: Result<(), Stop>) -> Result<(), Stop>
+        ensures closes { (s : Start) (input : List ℕ) (before w : Option (List ℕ)) → Ended s input before self.old w outcome → Closing s input before self.new w result }
+        ensures name { self.new.name ≡ self.old.name }
+        ensures through { OnOk result (IsOk outcome) }
+    {
+        let Some(number) = bad_line(&outcome) else {
+            return outcome;
+        };
+        self.append_bad_line(number)?;
+        outcome
+    }
+
+    /// Writes what is left in the output, where writing has not failed before.
+    fn write_rest<W: Write>(
+        &mut self,
+        outcome: Result<(), Stop>,
+        writer: &mut W,
+    ) -> Result<(), Stop>
+        ensures through { OnOk result (IsOk outcome) }
+        ensures replays { (s : Start) (input : List ℕ) (before : Option (List ℕ)) → Closing s input before self.old (W.contents writer.old) outcome → (written : List ℕ) × Appends before (W.contents writer.new) written × IsReplay s.state s.name input result written }
+    {
+        if failed_writing(&outcome) {
+            return outcome;
+        }
+        self.output.write_to(writer)?;
+        outcome
+    }
+}
+
+/// Replays the topic of the name: answers each line of the input with a line of the output.
+pub fn replay_over<T: Topic, R: Read, W: Write>(
+    alloc: Global,
+    name: TopicName,
+    topic: &mut T,
+    reader: &mut R,
+    writer: &mut W,
+) -> Result<(), Stop>
+    ensures replays { (read written : List ℕ) × Consumes (R.remaining reader.old) (R.remaining reader.new) read × Appends (W.contents writer.old) (W.contents writer.new) written × IsReplay (T.state topic.old) name read result written }
+    ensures at_end { OnOk result (IsAtEnd (R.remaining reader.new)) }
+{
+    let mut piece = vec![in alloc; 0u8; PIECE]?;
+    let mut replay = Replay {
+        alloc,
+        name,
+        lines: 0,
+        held: Vec::new(alloc),
+        answer: String::new(alloc),
+        output: Output::new(alloc),
+    };
+    let outcome = replay.run(topic, reader, writer, piece.as_mut_slice());
+    let outcome = replay.name_bad_line(outcome);
+    replay.write_rest(outcome, writer)
+}

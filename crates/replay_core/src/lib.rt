@@ -1,0 +1,22 @@
+//! Replays a topic: it reads one event a line and writes one reply a line.
+#![tactic(auto)]
+
+mod arguments;
+mod engine;
+mod names;
+mod numbers;
+mod output;
+mod parting;
+mod payloads;
+mod plain;
+mod printing;
+mod reading;
+mod stop;
+#[cfg(test)]
+mod tests;
+mod words;
+
+pub use arguments::read_ledger_size;
+pub use engine::replay_over;
+pub use plain::replay;
+pub use stop::{Stop, status};

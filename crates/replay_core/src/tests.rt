@@ -1,0 +1,345 @@
+// Worked rows, lines that are no events, and readers and writers that fail.
+ghost use Rattle.std.specs.Prelude.{◌≤◌};
+
+use crate::plain::replay;
+use crate::stop::Stop;
+use position_core::LedgerSize;
+use std::io::{Error, ErrorKind, Read, Result, Write};
+use std::process::Abort;
+
+type Ended = std::result::Result<(), Stop>;
+
+const FIRST_ROW: &[u8] = b"producer p -
+publish 1 0 - aGk= 1000
+subscribe s Exclusive 0 push:1000 0 60000 0 - Earliest
+stored
+dispatch s 1000
+collect 1
+ack 1 CAAQAA==
+dispatch s 1001
+";
+
+const FIRST_REPLIES: &[u8] = b"producer 1 p -1
+published CAAQAA== 1
+consumer 1
+durable 1
+sent 1 CAAQAA== 0
+copies 1 CAAQAA==:0:aGk=
+done
+idle
+";
+
+/// Gives one byte a read, and an error after the last where `fails`.
+#[derive(Drop)]
+struct ByByte<'a> {
+    rest: &'a [u8],
+    fails: bool,
+}
+
+impl Read for ByByte<'_> {
+    fn read(&mut self, buf: &mut [u8]) -> Result<usize> {
+        let Some((first, rest)) = self.rest.split_first() else {
+            if self.fails {
+                return Err(Error::from(ErrorKind::Other));
+            }
+            return Ok(0);
+        };
+        if buf.is_empty() {
+            return Ok(0);
+        }
+        buf[0] = *first;
+        self.rest = rest;
+        Ok(1)
+    }
+}
+
+/// Takes so many bytes a write, until it has `most`; then it answers an error, or 0 where `full`.
+#[derive(Drop)]
+struct Narrow {
+    taken: Vec<u8>,
+    width: usize,
+    most: usize,
+    full: bool,
+}
+
+impl Write for Narrow {
+    fn write(&mut self, buf: &[u8]) -> Result<usize> {
+        if self.taken.len() >= self.most {
+            if self.full {
+                return Ok(0);
+            }
+            return Err(Error::from(ErrorKind::Other));
+        }
+        let count = self.width.min(buf.len());
+        self.taken.extend_from_slice(&buf[..count])?;
+        Ok(count)
+    }
+
+    fn flush(&mut self) -> Result<()> {
+        Ok(())
+    }
+}
+
+fn size_of(number: u32) -> LedgerSize
+    requires { (1 ≤ number) × (number ≤ 50000) }
+{
+    LedgerSize::new(number).unwrap()
+}
+
+/// Replays the input, and compares what is written and how it ends.
+fn check<R: Abort + AllocGlobal>(rt: &R, input: &[u8], output: &[u8], ended: Ended) {
+    let mut reader = input;
+    let mut written = Vec::new(rt.alloc());
+    let outcome = replay(rt.alloc(), &mut reader, &mut written, size_of(50_000));
+    assert!(rt; written.as_slice() == output, "{:?}", written.as_slice());
+    assert!(rt; outcome == ended);
+}
+
+/// A bad third line after two good ones.
+fn check_bad<R: Abort + AllocGlobal>(rt: &R, line: &[u8]) {
+    let mut input = b"stored\nstored\n"
+        .to_vec(rt.alloc())
+        .expect(rt, "no memory");
+    input.extend_from_slice(line).expect(rt, "no memory");
+    input
+        .extend_from_slice(b"\nstored\n")
+        .expect(rt, "no memory");
+    let output = b"durable 0\ndurable 0\nbad line 3\n";
+    check(rt, input.as_slice(), output, Err(Stop::BadLine(3)));
+}
+
+#[test]
+fn first_row(rt: HostRuntime) {
+    check(&rt, FIRST_ROW, FIRST_REPLIES, Ok(()));
+}
+
+#[test]
+fn nothing_to_dispatch_before_stored(rt: HostRuntime) {
+    let input = b"producer p -
+publish 1 0 - aGk= 1000
+subscribe s Exclusive 0 push:1000 0 60000 0 - Earliest
+dispatch s 1000
+";
+    let output = b"producer 1 p -1
+published CAAQAA== 1
+consumer 1
+idle
+";
+    check(&rt, input, output, Ok(()));
+}
+
+#[test]
+fn second_exclusive_member(rt: HostRuntime) {
+    let input = b"subscribe s Exclusive 0 push:1000 0 60000 0 - Earliest
+subscribe s Exclusive 0 push:1000 0 60000 0 - Earliest
+ack 1 CAAQAw==
+ack 1 CIAAEAM=
+ack 1 CAAQAw
+ack 2 CAAQAw==
+";
+    let output = b"consumer 1
+refused F6
+refused F8
+refused F17
+refused F17
+refused F3
+";
+    check(&rt, input, output, Ok(()));
+}
+
+#[test]
+fn small_ledgers(rt: HostRuntime) {
+    let mut reader = b"producer - -\npublish 1 0 - - 0\npublish 1 1 - - 0\n".as_slice();
+    let mut written = Vec::new(rt.alloc());
+    let outcome = replay(rt.alloc(), &mut reader, &mut written, size_of(1));
+    assert!(rt;
+        written.as_slice()
+            == b"producer 1 auto-0 -1\npublished CAAQAA== 1\npublished CAEQAA== 2\n".as_slice()
+    );
+    assert!(rt; outcome == Ok(()));
+}
+
+#[test]
+fn names_are_escaped(rt: HostRuntime) {
+    let input = b"producer a%20b%2Fc~%c3%A9%zz -\nproducer %2D 4\nproducer %2d -\nproducer %252D 0";
+    let output =
+        b"producer 1 a%20b/c~%C3%A9%25zz -1\nproducer 2 %2D 4\nrefused F2\nproducer 3 %252D 0\n";
+    check(&rt, input, output, Ok(()));
+}
+
+#[test]
+fn empty_input(rt: HostRuntime) {
+    check(&rt, b"", b"", Ok(()));
+}
+
+#[test]
+fn last_line_without_its_end(rt: HostRuntime) {
+    check(&rt, b"stored\nstored", b"durable 0\ndurable 0\n", Ok(()));
+    check(
+        &rt,
+        b"stored\n\n",
+        b"durable 0\nbad line 2\n",
+        Err(Stop::BadLine(2)),
+    );
+}
+
+#[test]
+fn bad_lines(rt: HostRuntime) {
+    let lines: [&[u8]; 36] = [
+        b"",
+        b" ",
+        b"stored ",
+        b" stored",
+        b"stored  ",
+        b"stored\r",
+        b"Stored",
+        b"restart",
+        b"stored 1",
+        b"producer p",
+        b"producer p - ",
+        b"producer  p -",
+        b"producer %FF -",
+        b"producer p 01",
+        b"producer p -1",
+        b"producer p 4611686018427387905",
+        b"publish 1 9223372036854775808 - - 0",
+        b"publish 18446744073709551616 0 - - 0",
+        b"publish 1 0 - aGk 0",
+        b"publish 1 0 - aGl= 0",
+        b"publish 1 0 - - 253402300800000",
+        b"publish - 0 - - 0",
+        b"publish 1 0 - - 00",
+        b"publish 1 +1 - - 0",
+        b"ack 1",
+        b"ack 01 CAAQAA==",
+        b"ack 01 x",
+        b"ack 1 x ",
+        b"ack 1 ",
+        b"dispatch - 0",
+        b"dispatch a%2Fb 0",
+        b"collect -",
+        b"collect 99999999999999999999999",
+        b"tick s 0",
+        b"leave 1",
+        b"stats s",
+    ];
+    for line in lines {
+        check_bad(&rt, line);
+    }
+}
+
+#[test]
+fn bad_subscribes(rt: HostRuntime) {
+    let lines: [&[u8]; 14] = [
+        b"subscribe s Shared 0 push:1000 0 60000 0 - Earliest",
+        b"subscribe s Exclusive 2147483648 push:1000 0 60000 0 - Earliest",
+        b"subscribe s Exclusive 0 push:0 0 60000 0 - Earliest",
+        b"subscribe s Exclusive 0 push:100001 0 60000 0 - Earliest",
+        b"subscribe s Exclusive 0 push: 0 60000 0 - Earliest",
+        b"subscribe s Exclusive 0 push:01 0 60000 0 - Earliest",
+        b"subscribe s Exclusive 0 pull 0 60000 0 - Earliest",
+        b"subscribe s Exclusive 0 push:1 0 60000 1 - Earliest",
+        b"subscribe s Exclusive 0 push:1 0 60000 - - Earliest",
+        b"subscribe s Exclusive 0 push:1 0 60000 0 t Earliest",
+        b"subscribe s Exclusive 0 push:1 0 60000 0 - earliest",
+        b"subscribe s Exclusive 0 push:1 0 60000 0 -",
+        b"subscribe - Exclusive 0 push:1 0 60000 0 - Latest",
+        b"subscribe s Exclusive 0 push:1 0 60000 0 - Latest 0-1",
+    ];
+    for line in lines {
+        check_bad(&rt, line);
+    }
+}
+
+#[test]
+fn long_line(rt: HostRuntime) {
+    let mut input = vec![in rt.alloc(); b'x'; 1_500_001].expect(&rt, "no memory");
+    let mut reader = input.as_slice();
+    let mut written = Vec::new(rt.alloc());
+    let outcome = replay(rt.alloc(), &mut reader, &mut written, size_of(1));
+    assert!(rt; written.as_slice() == b"bad line 1\n".as_slice());
+    assert!(rt; outcome == Err(Stop::BadLine(1)));
+    assert!(rt; !reader.is_empty() || input.pop().is_some());
+}
+
+#[test]
+fn byte_by_byte(rt: HostRuntime) {
+    for fails in [false, true] {
+        let mut reader = ByByte {
+            rest: FIRST_ROW,
+            fails,
+        };
+        let mut written = Vec::new(rt.alloc());
+        let outcome = replay(rt.alloc(), &mut reader, &mut written, size_of(1));
+        assert!(rt; written.as_slice() == FIRST_REPLIES);
+        let ended = if fails { Err(Stop::Read) } else { Ok(()) };
+        assert!(rt; outcome == ended);
+    }
+}
+
+#[test]
+fn narrow_writers(rt: HostRuntime) {
+    for (most, full) in [
+        (1000, false),
+        (0, false),
+        (0, true),
+        (20, false),
+        (20, true),
+    ] {
+        let mut reader = FIRST_ROW;
+        let mut writer = Narrow {
+            taken: Vec::new(rt.alloc()),
+            width: 1,
+            most,
+            full,
+        };
+        let outcome = replay(rt.alloc(), &mut reader, &mut writer, size_of(1));
+        let count = FIRST_REPLIES.len().min(most);
+        assert!(rt; writer.taken.as_slice() == &FIRST_REPLIES[..count]);
+        let ended = if count < FIRST_REPLIES.len() {
+            Err(Stop::Write)
+        } else {
+            Ok(())
+        };
+        assert!(rt; outcome == ended);
+    }
+}
+
+/// Whether the rest, after whole lines of the row, is refused for want of memory, or was not written
+/// for want of it.
+fn is_end_or_refused(rest: &[u8], is_whole: bool, outcome: Ended) -> bool {
+    if rest.is_empty() {
+        outcome == Err(Stop::Memory) || is_whole && outcome == Ok(())
+    } else {
+        rest.starts_with(b"refused F1\n")
+    }
+}
+
+/// Whether the written lines are the row's up to one that says `refused F1`, or to the end by want
+/// of memory.
+fn is_row_or_refused(written: &[u8], outcome: Ended) -> bool {
+    for count in 0..=FIRST_REPLIES.len() {
+        let (lines, others) = FIRST_REPLIES.split_at(count);
+        if lines.is_empty() || lines.ends_with(b"\n") {
+            if let Some(rest) = written.strip_prefix(lines) {
+                if is_end_or_refused(rest, others.is_empty(), outcome) {
+                    return true;
+                }
+            }
+        }
+    }
+    false
+}
+
+/// Each growth may be refused.
+#[test]
+fn first_row_with_refused_growths(rt: HostRuntime) {
+    let mut reader = FIRST_ROW;
+    let mut written = [0; 1000];
+    let mut room = written.as_mut_slice();
+    let outcome = replay(rt.alloc(), &mut reader, &mut room, size_of(50_000));
+    let left = room.len();
+    assert!(rt; left <= 1000);
+    let count = 1000 - left;
+    assert!(rt; is_row_or_refused(&written[..count], outcome));
+}

@@ -1,0 +1,91 @@
+// The words of a line, which single spaces part.
+ghost use Rattle.std.specs.Prelude.{◌≡◌, ◌<◌, ◌↔◌, [], ◌∷◌, IsTrue, IfOk, IfErr, OnOk, OnErr, codes, length};
+ghost use Rattle.replay_core.specs.Parting.{words_of, NoneEmpty};
+ghost use Rattle.replay_core.specs.declared.words.Unread.TheVariants.{BadLine};
+
+use crate::parting::split;
+use std::alloc::AllocError;
+use std::marker::Model;
+
+/// Why a line, or a word of it, was not read.
+#[derive(Clone, Copy, Debug, PartialEq, Eq)]
+pub enum Unread {
+    /// It has another form.
+    BadLine,
+    /// A growth was refused.
+    Memory,
+}
+
+impl From<AllocError> for Unread {
+    ghost use Rattle.replay_core.specs.declared.words.Unread.TheVariants.{Memory};
+
+    ghost from_gives = { λ _ e. e ≡ Memory };
+
+    fn from(_: AllocError) -> Unread {
+        Unread::Memory
+    }
+}
+
+/// Whether the word stands for none.
+pub fn is_none(word: &[u8]) -> bool
+    ensures { IsTrue result ↔ (word.now ≡ codes "-") }
+{
+    matches!(word, b"-")
+}
+
+/// The words of a line that were not taken yet. Contracts see them as a list.
+#[derive(Drop)]
+pub struct Words<'a> {
+    rest: Option<&'a [u8]>,
+}
+
+impl<'a> Model for Words<'a> {
+    ghost use Rattle.std.specs.Prelude.{ℕ, List};
+    ghost use Rattle.std.specs.Option.{option_copied};
+    ghost use Rattle.replay_core.specs.Parting.{words_left};
+
+    ghost Value = { List (List ℕ) };
+
+    ghost view = { λ w. words_left (option_copied w.rest) };
+}
+
+impl<'a> Words<'a> {
+    pub fn of(line: &'a [u8]) -> Self
+        ensures { result ≡ words_of line.now }
+    {
+        Words { rest: Some(line) }
+    }
+
+    /// The next word, which is not empty.
+    pub fn take(&mut self) -> Result<&'a [u8], Unread>
+        ensures ok { IfOk result (λ word. self.old ≡ word.now ∷ self.new) }
+        ensures some { IfOk result (λ word. 0 < length word.now) }
+        ensures bad { IfErr result (λ unread. unread ≡ BadLine) }
+        ensures none { OnErr result (NoneEmpty self.old → self.old ≡ []) }
+    {
+        let Some(text) = self.rest else {
+            return Err(Unread::BadLine);
+        };
+        let (word, rest) = match split(text, b' ') {
+            Some((word, rest)) => (word, Some(rest)),
+            None => (text, None),
+        };
+        if word.is_empty() {
+            return Err(Unread::BadLine);
+        }
+        self.rest = rest;
+        Ok(word)
+    }
+
+    /// No word is left.
+    pub fn end(self) -> Result<(), Unread>
+        ensures ok { OnOk result (self.entry ≡ []) }
+        ensures bad { IfErr result (λ unread. unread ≡ BadLine) }
+        ensures some { OnErr result (self.entry ≡ [] → ⊥) }
+    {
+        match self.rest {
+            None => Ok(()),
+            Some(_) => Err(Unread::BadLine),
+        }
+    }
+}
