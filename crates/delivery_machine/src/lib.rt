@@ -5,6 +5,8 @@ mod delivery;
 mod event;
 mod reply;
 mod runs;
+#[cfg(test)]
+mod tests;
 mod topic;
 
 pub use delivery::{Deliveries, Delivery};

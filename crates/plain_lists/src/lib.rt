@@ -8,6 +8,8 @@ mod pending;
 mod positions;
 mod producer;
 mod subscription;
+#[cfg(test)]
+mod tests;
 
 pub use auto::{auto_name, least_free};
 pub use log::{first_waiting, last_sequence, pending_at, used_in};

@@ -7,5 +7,7 @@ mod delivering;
 mod joining;
 mod plain;
 mod producing;
+#[cfg(test)]
+mod tests;
 
 pub use plain::PlainTopic;

@@ -1,0 +1,5 @@
+// What the proofs do not see: worked rows with values from outside, and that calls with memory succeed.
+mod names;
+mod rows;
+mod rules;
+mod script;

@@ -1,0 +1,187 @@
+// What the tests ask of a topic, and what it answers, as plain values.
+use crate::PlainTopic;
+use delivery_machine::{Event, Flow, Initial, Kind, Reply, run};
+use position_core::{
+    Base, Body, Content, LedgerSize, Level, Millis, Moment, Name, Payload, Position, ProducerName,
+    Properties, RedeliverLimit, TopicName, WindowSize,
+};
+use std::alloc::Global;
+use std::process::Abort;
+use std::sync::ArcStr;
+use std::test::Fail;
+
+/// The position whose text is `CAAQAA==`.
+pub(super) const FIRST: Position = Position {
+    ledger: 0,
+    entry: 0,
+};
+
+/// The position whose text is `CAAQAQ==`.
+pub(super) const SECOND: Position = Position {
+    ledger: 0,
+    entry: 1,
+};
+
+#[derive(Clone, Copy)]
+pub(super) enum Ask {
+    /// A producer's name, and the sequence number that it begins after.
+    Connect(&'static str, i64),
+    ConnectUnnamed,
+    /// A producer, a sequence number and a payload.
+    Publish(u64, i64, &'static str),
+    Store,
+    /// A subscription, and how many messages may be pending at the consumer.
+    Subscribe(&'static str, u32, Initial),
+    Acknowledge(u64, Position),
+    Send(&'static str),
+    Collect(u64),
+}
+
+#[derive(Clone, Copy, Debug, PartialEq, Eq)]
+pub(super) enum Answer {
+    /// A producer's number, the number in a name of the topic's making, and the last sequence number.
+    Added(u64, Option<u64>, i64),
+    Published(Position, u64),
+    Duplicate(u64),
+    Durable(u64),
+    Subscribed(u64),
+    Done,
+    Sent(u64, Position, u32),
+    Idle,
+    /// The one copy: its position, and how often it was redelivered.
+    Copy(Position, u32),
+    NoCopies,
+    SeveralCopies,
+    /// The number of the refusal.
+    Refused(u8),
+}
+
+fn name(alloc: Global, text: &str) -> Result<Name, Fail> {
+    Ok(Name::new(ArcStr::from_str(alloc, text)?).ok_or("no name")?)
+}
+
+fn topic_name(alloc: Global, topic: &str) -> Result<TopicName, Fail> {
+    Ok(TopicName {
+        tenant: name(alloc, "public")?,
+        namespace: name(alloc, "default")?,
+        topic: name(alloc, topic)?,
+    })
+}
+
+pub(super) fn new_topic(alloc: Global, ledger_size: u32) -> Result<PlainTopic, Fail> {
+    let size = LedgerSize::new(ledger_size).ok_or("no ledger size")?;
+    Ok(PlainTopic::new(alloc, topic_name(alloc, "t")?, size))
+}
+
+fn connecting(alloc: Global, name: &str, base: i64) -> Result<Event, Fail> {
+    let name = ProducerName::new(ArcStr::from_str(alloc, name)?).ok_or("no producer's name")?;
+    Ok(Event::AddProducer {
+        name: Some(name),
+        base: Base::new(base).ok_or("no base")?,
+    })
+}
+
+fn publishing(alloc: Global, producer: u64, sequence: i64, payload: &str) -> Result<Event, Fail> {
+    let content = Content {
+        key: None,
+        properties: Properties::none(alloc),
+        payload: Payload::new(payload.as_bytes().to_vec(alloc)?).ok_or("no payload")?,
+    };
+    Ok(Event::Publish {
+        producer,
+        sequence,
+        body: Body::new(alloc, content)?,
+        now: Moment::new(1000).ok_or("no moment")?,
+    })
+}
+
+fn subscribing(
+    alloc: Global,
+    subscription: &str,
+    window: u32,
+    initial: Initial,
+) -> Result<Event, Fail> {
+    Ok(Event::Subscribe {
+        subscription: name(alloc, subscription)?,
+        kind: Kind::Exclusive,
+        level: Level::new(0).ok_or("no level")?,
+        flow: Flow::Window(WindowSize::new(window).ok_or("no window")?),
+        ack_timeout: Millis::new(0).ok_or("no timeout")?,
+        nack_delay: Millis::new(60_000).ok_or("no delay")?,
+        max_redeliver: RedeliverLimit::new(0).ok_or("no limit")?,
+        dead_topic: topic_name(alloc, "t-s-DLQ")?,
+        initial,
+    })
+}
+
+fn event_of(alloc: Global, ask: Ask) -> Result<Event, Fail> {
+    Ok(match ask {
+        Ask::Connect(name, base) => connecting(alloc, name, base)?,
+        Ask::ConnectUnnamed => Event::AddProducer {
+            name: None,
+            base: Base::new(-1).ok_or("no base")?,
+        },
+        Ask::Publish(producer, sequence, payload) => {
+            publishing(alloc, producer, sequence, payload)?
+        }
+        Ask::Store => Event::Stored,
+        Ask::Subscribe(name, window, initial) => subscribing(alloc, name, window, initial)?,
+        Ask::Acknowledge(consumer, position) => Event::Ack { consumer, position },
+        Ask::Send(subscription) => Event::Dispatch {
+            subscription: name(alloc, subscription)?,
+            now: Moment::new(1000).ok_or("no moment")?,
+        },
+        Ask::Collect(consumer) => Event::Collect { consumer },
+    })
+}
+
+fn answer_of(reply: &Reply) -> Answer {
+    match reply {
+        Reply::ProducerAdded {
+            producer,
+            auto,
+            last,
+        } => Answer::Added(*producer, *auto, *last),
+        Reply::Published { position, index } => Answer::Published(*position, *index),
+        Reply::Duplicate { index } => Answer::Duplicate(*index),
+        Reply::Durable(length) => Answer::Durable(*length),
+        Reply::Subscribed { consumer } => Answer::Subscribed(*consumer),
+        Reply::Done => Answer::Done,
+        Reply::Sent {
+            consumer,
+            position,
+            count,
+        } => Answer::Sent(*consumer, *position, *count),
+        Reply::Idle => Answer::Idle,
+        Reply::Copies(copies) => match copies.as_slice() {
+            [] => Answer::NoCopies,
+            [copy] => Answer::Copy(copy.message.position(), copy.count),
+            _ => Answer::SeveralCopies,
+        },
+        Reply::Refused(fault) => Answer::Refused(fault.number()),
+    }
+}
+
+fn events_of(alloc: Global, steps: &[(Ask, Answer)]) -> Result<Vec<Event>, Fail> {
+    let mut events = Vec::new(alloc);
+    for step in steps {
+        events.push(event_of(alloc, step.0)?)?;
+    }
+    Ok(events)
+}
+
+/// Asks all of it in one run, and expects the answers.
+pub(super) fn expect(
+    rt: &impl Abort,
+    topic: &mut PlainTopic,
+    steps: &[(Ask, Answer)],
+) -> Result<(), Fail> {
+    let alloc = topic.alloc;
+    let events = events_of(alloc, steps)?;
+    let replies = run::<PlainTopic>(alloc, topic, &events)?;
+    assert_eq!(rt; replies.len(), steps.len());
+    for (reply, step) in replies.iter().zip(steps) {
+        assert_eq!(rt; answer_of(reply), step.1);
+    }
+    Ok(())
+}
