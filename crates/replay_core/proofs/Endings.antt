@@ -7,15 +7,15 @@ use Rattle.std.specs.Io.KnownBytes.{Appends}
 use Rattle.std.proofs.KnownBytes.{Appends-trans, Appends-nil}
 use Rattle.position_core.specs.declared.topic_name.TopicName.{TopicName}
 use Rattle.delivery_machine.specs.State.{State}
-use Rattle.replay_core.specs.Lines.{lines_of}
-use Rattle.replay_core.specs.Replay.{Answer, AreAnswered, IsBadFirst, IsBadAfter, IsReplay, Ends, texts, bad_line_text}
+use Rattle.replay_core.specs.Lines.{lines_of, ends_in}
+use Rattle.replay_core.specs.Replay.{Answer, Reaches, AreAnswered, IsBadFirst, IsBadAfter, IsReplay, Ends, texts, bad_line_text}
 use Rattle.replay_core.specs.Output.{WritesFront}
 use Rattle.replay_core.specs.Outcomes.{bad_line_in, failed_writing}
 use Rattle.replay_core.specs.Progress.{Progress, Start, Stopped, Because, Ended, EndsAt, Closing, ClosesWith, AreApart, IsBadWhatever, has_end, joined}
 use Rattle.replay_core.specs.declared.engine.Replay.{Replay}
 use Rattle.replay_core.specs.declared.stop.Stop.{Stop}
 use Rattle.replay_core.specs.declared.stop.Stop.TheVariants.{BadLine, Read, Write, Memory}
-use Rattle.replay_core.proofs.LinesLemmas.{lines_of-joined, lines_of-line, lines_of-last, lines_left, AreAnswered-append}
+use Rattle.replay_core.proofs.LinesLemmas.{ends_in-joined, lines_of-joined, lines_of-line, lines_of-last, lines_left, AreAnswered-append}
 
 lines_here : (whole : List (List ℕ)) (tail input : List ℕ) → input ≡ joined whole ++ tail → AreApart whole → lines_of input ≡ whole ++ lines_of tail
 lines_here whole tail input parted apart = ap lines_of parted ∙ lines_of-joined whole tail apart
@@ -32,9 +32,15 @@ bad_after this whole tail input answers n lines all bad number =
 
 ends_because : (this : TopicName) (whole : List (List ℕ)) (tail input : List ℕ) (answers : List Answer) (written gathered : List ℕ) (stop : Stop) → lines_of input ≡ whole ++ lines_of tail → length whole ≡ length answers → Because this tail answers written gathered stop → EndsAt this (lines_of input) answers written gathered (Err stop)
 ends_because this whole tail input answers written gathered (BadLine n) lines all why = (bad_after this whole tail input answers n lines all why.0 why.1, why.2)
-ends_because this whole tail input answers written gathered Read lines all why = why
+ends_because this whole tail input answers written gathered Read lines all why = absurd why
 ends_because this whole tail input answers written gathered Memory lines all why = why
 ends_because this whole tail input answers written gathered Write lines all why = why
+
+reaches_because : (this : TopicName) (tail input : List ℕ) (answers : List Answer) (written gathered : List ℕ) (stop : Stop) → Because this tail answers written gathered stop → Reaches input answers (Err stop)
+reaches_because this tail input answers written gathered (BadLine n) why = tt
+reaches_because this tail input answers written gathered Read why = absurd why
+reaches_because this tail input answers written gathered Memory why = tt
+reaches_because this tail input answers written gathered Write why = tt
 
 -- a replay that stopped has ended
 pub Ended-stopped : (s : Start) (input : List ℕ) (before : Option (List ℕ)) (r : Replay) (now : Option (List ℕ)) (stop : Stop) → Stopped s input before r now stop → Ended s input before r now (Err stop)
@@ -49,6 +55,7 @@ Ended-stopped s input before r now stop h =
       run = h.run;
       appended = h.appended;
       ends = ends_because s.name h.whole h.tail input h.answers h.written r.output.text.items stop lines h.all h.because;
+      reaches = reaches_because s.name h.tail input h.answers h.written r.output.text.items stop h.because;
     }
 
 -- at the end of the input, where nothing is held
@@ -64,6 +71,7 @@ Ended-whole s input before r now t p none =
       run = p.run;
       appended = p.appended;
       ends = (omega (arith, p.all, ap length (lines ∙ append-nil p.whole)), p.text);
+      reaches = tt;
     }
 
 -- at a fault, wherever it is
@@ -79,6 +87,7 @@ Ended-fault s input before r now t p =
       run = p.run;
       appended = p.appended;
       ends = p.text;
+      reaches = sym p.all ∙ sym (ap ends_in p.parted ∙ ends_in-joined p.whole r.held.items p.apart p.held);
     }
 
 -- the lines of an input are the same with the end of the last
@@ -88,8 +97,8 @@ same_lines whole b held apart e =
     ∙ ap (λ (ls : List (List ℕ)). whole ++ ls) (lines_of-line (b ∷ held) [] e ∙ sym (lines_of-last b held e))
     ∙ sym (lines_of-joined whole (b ∷ held) apart)
 
-relined : (s : Start) (input other : List ℕ) (before : Option (List ℕ)) (r : Replay) (now : Option (List ℕ)) (outcome : Result (Unit {0}) Stop) → lines_of other ≡ lines_of input → Ended s other before r now outcome → Ended s input before r now outcome
-relined s input other before r now outcome same h =
+relined : (s : Start) (input other : List ℕ) (before : Option (List ℕ)) (r : Replay) (now : Option (List ℕ)) (outcome : Result (Unit {0}) Stop) → lines_of other ≡ lines_of input → (h : Ended s other before r now outcome) → Reaches input h.answers outcome → Ended s input before r now outcome
+relined s input other before r now outcome same h reaches =
     record {
       name = h.name;
       answers = h.answers;
@@ -99,6 +108,7 @@ relined s input other before r now outcome same h =
       run = h.run;
       appended = h.appended;
       ends = subst (λ (ls : List (List ℕ)). EndsAt s.name ls h.answers h.written r.output.text.items outcome) same h.ends;
+      reaches = reaches;
     }
 
 line_end_alike : (s : Start) (input held : List ℕ) (before : Option (List ℕ)) (r : Replay) (now : Option (List ℕ)) (t : State) → (p : Progress s input before r now t) → held ≡ r.held.items → (length held ≡ 0 → ⊥) → lines_of (input ++ 10 ∷ []) ≡ lines_of input
@@ -115,10 +125,12 @@ pub Ended-last : (s : Start) (input : List ℕ) (before : Option (List ℕ)) (r 
     → Progress s input before r now t → (length r.held.items ≡ 0 → ⊥) → q.held.items ≡ []
     → MatchResult outcome (λ done. Progress s (input ++ 10 ∷ []) before q now u) (λ stop. Stopped s (input ++ 10 ∷ []) before q now stop)
     → Ended s input before q now outcome
+unfolding Ended-stopped
 Ended-last s input before r q now t u (Ok done) p some none h =
-    relined s input (input ++ 10 ∷ []) before q now (Ok done) (line_end_alike s input r.held.items before r now t p refl some) (Ended-whole s (input ++ 10 ∷ []) before q now u h none)
+    relined s input (input ++ 10 ∷ []) before q now (Ok done) (line_end_alike s input r.held.items before r now t p refl some) (Ended-whole s (input ++ 10 ∷ []) before q now u h none) tt
 Ended-last s input before r q now t u (Err stop) p some none h =
     relined s input (input ++ 10 ∷ []) before q now (Err stop) (line_end_alike s input r.held.items before r now t p refl some) (Ended-stopped s (input ++ 10 ∷ []) before q now stop h)
+    (reaches_because s.name h.tail input h.answers h.written q.output.text.items stop h.because)
 
 -- ---- the last words
 
@@ -138,6 +150,7 @@ Closing-bad s input before r q now n h name text =
       run = h.run;
       appended = h.appended;
       ends = closes s.name (lines_of input) h.answers h.written r.output.text.items q.output.text.items n h.ends text;
+      reaches = tt;
     }
 
 -- there is no memory for it
@@ -152,6 +165,7 @@ Closing-lost s input before r q now n h name text =
       run = h.run;
       appended = h.appended;
       ends = ap (λ (x : List ℕ). h.written ++ x) text ∙ h.ends.1;
+      reaches = tt;
     }
 
 still_closes : (this : TopicName) (lines : List (List ℕ)) (answers : List Answer) (written gathered : List ℕ) (outcome : Result (Unit {0}) Stop) → ((n : ℕ) → outcome ≡ Err (BadLine n) → ⊥) → EndsAt this lines answers written gathered outcome → ClosesWith this lines answers written gathered outcome
@@ -173,6 +187,7 @@ Closing-other s input before r now outcome other h =
       run = h.run;
       appended = h.appended;
       ends = still_closes s.name (lines_of input) h.answers h.written r.output.text.items outcome other h.ends;
+      reaches = h.reaches;
     }
 
 all_written : (this : TopicName) (lines : List (List ℕ)) (answers : List Answer) (written gathered : List ℕ) (outcome : Result (Unit {0}) Stop) → (outcome ≡ Err Write → ⊥) → ClosesWith this lines answers written gathered outcome → Ends this lines answers outcome (written ++ gathered)
@@ -208,6 +223,7 @@ Replayed-all s input before r now after outcome h other more = (
     answered = h.answered;
     run = h.run;
     ends = all_written s.name (lines_of input) h.answers h.written r.output.text.items outcome other h.ends;
+    reaches = h.reaches;
   },
 )
 
@@ -221,6 +237,7 @@ Replayed-front s input before r now after outcome h other front = (
     answered = h.answered;
     run = h.run;
     ends = front_written s.name (lines_of input) h.answers h.written r.output.text.items front.0 front.1 outcome other h.ends front.2;
+    reaches = tt;
   },
 )
 
@@ -234,6 +251,7 @@ Replayed-before s input before r now h = (
     answered = h.answered;
     run = h.run;
     ends = h.ends;
+    reaches = tt;
   },
 )
 
@@ -309,4 +327,4 @@ through P a b (Err z) h i p = tt
 
 -- a replay that had no memory for its topic
 pub without_topic : (s : State) (this : TopicName) (outcome : Result (Unit {0}) Stop) → outcome ≡ Err Memory → IsReplay s this [] outcome []
-without_topic s this outcome is = subst (λ (o : Result (Unit {0}) Stop). IsReplay s this [] o []) (sym is) (record { answers = []; last = s; answered = tt; run = refl; ends = refl })
+without_topic s this outcome is = subst (λ (o : Result (Unit {0}) Stop). IsReplay s this [] o []) (sym is) (record { answers = []; last = s; answered = tt; run = refl; ends = refl; reaches = tt })

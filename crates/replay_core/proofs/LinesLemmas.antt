@@ -1,10 +1,11 @@
 -- How the lines of an input begin, and how one ends.
-use Rattle.std.proofs.Common.{◌≡◌, ℕ, ◌<◌, ◌==◌, List, [], ◌∷◌, ◌++◌, Bool, true, false, cond, length, drop, refl, sym, ap, ◌∙◌, subst, append_assoc, length-append, arith}
+use Rattle.std.proofs.Common.{◌≡◌, ℕ, ◌+◌, ◌<◌, ◌==◌, List, [], ◌∷◌, ◌++◌, Bool, true, false, cond, length, drop, refl, sym, ap, ◌∙◌, subst, append_assoc, length-append, arith}
 use Rattle.std.specs.Prelude.{◌||◌, ◌&&◌, not}
 use Rattle.std.specs.List.{list_all}
 use Rattle.std.proofs.Math.Seq.{drop-append_seam}
+use Rattle.std.proofs.lemmas.List.Sums.{sum_by-cons}
 use Rattle.position_core.specs.declared.topic_name.TopicName.{TopicName}
-use Rattle.replay_core.specs.Lines.{lines_of, onto_line, longest_line}
+use Rattle.replay_core.specs.Lines.{lines_of, onto_line, longest_line, ends_in}
 use Rattle.replay_core.specs.Grammar.{IsBadLine}
 use Rattle.replay_core.specs.Replay.{Answer, AreAnswered, IsAnswered, IsBadFirst}
 use Rattle.replay_core.specs.Progress.{has_end, joined, IsBadWhatever}
@@ -63,6 +64,33 @@ lines_of-joined (line ∷ whole) tail e =
     ap lines_of (append_assoc line (10 ∷ joined whole) tail)
     ∙ lines_of-line line (joined whole ++ tail) (first_all (has_end line) _ e)
     ∙ ap (λ (ls : List (List ℕ)). line ∷ ls) (lines_of-joined whole tail (second_all (has_end line) _ e))
+
+-- ---- how many lines have their end
+
+ends_in-cons : (b : ℕ) (text : List ℕ) → ends_in (b ∷ text) ≡ cond (b == 10) 1 0 + ends_in text
+ends_in-cons b text = sum_by-cons (λ (x : ℕ). cond (x == 10) 1 0) b text
+
+-- a byte that is no end
+ends_in-other : (b : ℕ) (text : List ℕ) → (b == 10) ≡ false → ends_in (b ∷ text) ≡ ends_in text
+ends_in-other b text e =
+    let count : Bool → ℕ = λ (t : Bool). cond t 1 0 in
+    let none : count (b == 10) ≡ 0 = ap count e in
+    omega (arith, ends_in-cons b text, none)
+
+ends_in-none : (text : List ℕ) → has_end text ≡ false → ends_in text ≡ 0
+ends_in-none [] e = refl
+ends_in-none (b ∷ text) e = ends_in-other b text (first_no (b == 10) (has_end text) e) ∙ ends_in-none text (second_no (b == 10) (has_end text) e)
+
+ends_in-line : (line rest : List ℕ) → has_end line ≡ false → ends_in (line ++ 10 ∷ rest) ≡ 1 + ends_in rest
+ends_in-line [] rest e = ends_in-cons 10 rest
+ends_in-line (b ∷ line) rest e = ends_in-other b (line ++ 10 ∷ rest) (first_no (b == 10) (has_end line) e) ∙ ends_in-line line rest (second_no (b == 10) (has_end line) e)
+
+-- whole lines, and a text with no end
+pub ends_in-joined : (whole : List (List ℕ)) (tail : List ℕ) → list_all (λ line. not (has_end line)) whole ≡ true → has_end tail ≡ false → ends_in (joined whole ++ tail) ≡ length whole
+ends_in-joined [] tail apart none = ends_in-none tail none
+ends_in-joined (line ∷ whole) tail apart none =
+    let first : ends_in ((line ++ 10 ∷ joined whole) ++ tail) ≡ 1 + ends_in (joined whole ++ tail) = ap ends_in (append_assoc line (10 ∷ joined whole) tail) ∙ ends_in-line line (joined whole ++ tail) (first_all (has_end line) _ apart) in
+    omega (arith, first, ends_in-joined whole tail (second_all (has_end line) _ apart) none)
 
 pub joined-push : (whole : List (List ℕ)) (line : List ℕ) → joined (whole ++ line ∷ []) ≡ joined whole ++ (line ++ 10 ∷ [])
 joined-push [] line = refl

@@ -131,14 +131,14 @@ Progress-written s input before r q now after t p more held name lines text =
 -- why a replay may end between two lines
 abbrev pub MayStop : Replay → List ℕ → Stop → Type 0
 MayStop r tail (BadLine n) = IsBadWhatever r.name tail × (n ≡ r.lines + 1)
-MayStop r tail Read = Unit {0}
+MayStop r tail Read = ⊥
 MayStop r tail Memory = Unit {0}
 MayStop r tail Write = ⊥
 
 because : (this : TopicName) (r q : Replay) (tail : List ℕ) (answers : List Answer) (written : List ℕ) (stop : Stop) → r.name ≡ this → q.output.text.items ≡ r.output.text.items → r.lines ≡ length answers → written ++ r.output.text.items ≡ texts answers → MayStop r tail stop → Because this tail answers written q.output.text.items stop
 because this r q tail answers written (BadLine n) name text count all may =
     (subst (λ name. IsBadWhatever name tail) name may.0, omega (arith, may.1, count), ap (λ (x : List ℕ). written ++ x) text ∙ all)
-because this r q tail answers written Read name text count all may = ap (λ (x : List ℕ). written ++ x) text ∙ all
+because this r q tail answers written Read name text count all may = absurd may
 because this r q tail answers written Memory name text count all may = ap (λ (x : List ℕ). written ++ x) text ∙ all
 because this r q tail answers written Write name text count all may = absurd may
 

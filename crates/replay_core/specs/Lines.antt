@@ -1,5 +1,6 @@
 -- The lines of an input, and how long one may be.
 use Rattle.std.specs.Prelude.{ℕ, ◌==◌, List, [], ◌∷◌, if◌then◌else◌}
+use Rattle.std.specs.List.{count_by}
 
 -- how many bytes a line may have
 abbrev pub longest_line : ℕ
@@ -14,3 +15,7 @@ onto_line byte (line ∷ lines) = (byte ∷ line) ∷ lines
 abbrev pub lines_of : List ℕ → List (List ℕ)
 lines_of [] = []
 lines_of (byte ∷ input) = if byte == 10 then [] ∷ lines_of input else onto_line byte (lines_of input)
+
+-- how many of the lines have their end
+abbrev pub ends_in : List ℕ → ℕ
+ends_in input = count_by (λ byte. byte == 10) input

@@ -7,7 +7,7 @@ use Rattle.std.specs.declared.result.Result.TheVariants.{Ok, Err}
 use Rattle.position_core.specs.declared.topic_name.TopicName.{TopicName}
 use Rattle.delivery_machine.specs.State.{State}
 use Rattle.replay_core.specs.Lines.{lines_of}
-use Rattle.replay_core.specs.Replay.{Answer, AreAnswered, IsRun, IsBadFirst, IsBadAfter, Ends, texts}
+use Rattle.replay_core.specs.Replay.{Answer, AreAnswered, IsRun, IsBadFirst, IsBadAfter, Ends, Reaches, texts}
 use Rattle.replay_core.specs.declared.stop.Stop.{Stop}
 use Rattle.replay_core.specs.declared.stop.Stop.TheVariants.{BadLine, Read, Write, Memory}
 use Rattle.replay_core.specs.declared.engine.Replay.{Replay}
@@ -51,10 +51,10 @@ pub record Progress (s : Start) (input : List ℕ) (before : Option (List ℕ)) 
 abbrev pub IsBadWhatever : TopicName → List ℕ → Type 0
 IsBadWhatever this tail = (more : List ℕ) → IsBadFirst this (lines_of (tail ++ more))
 
--- why it ended: a bad line by its number, or a fault; where writing failed some of the answers were lost
+-- why it ended between two reads: a bad line by its number, or a fault; where writing failed some of the answers were lost
 abbrev pub Because : TopicName → List ℕ → List Answer → List ℕ → List ℕ → Stop → Type 0
 Because this tail answers written gathered (BadLine n) = IsBadWhatever this tail × (n ≡ length answers + 1) × (written ++ gathered ≡ texts answers)
-Because this tail answers written gathered Read = written ++ gathered ≡ texts answers
+Because this tail answers written gathered Read = ⊥
 Because this tail answers written gathered Memory = written ++ gathered ≡ texts answers
 Because this tail answers written gathered Write = (rest : List ℕ) × (written ++ rest ≡ texts answers)
 
@@ -97,6 +97,7 @@ pub record Ended (s : Start) (input : List ℕ) (before : Option (List ℕ)) (r 
   pub run : IsRun s.state answers last
   pub appended : Appends before now written
   pub ends : EndsAt s.name (lines_of input) answers written r.output.text.items outcome
+  pub reaches : Reaches input answers outcome
 
 -- the same, with the text of a bad line gathered too
 abbrev pub ClosesWith : TopicName → List (List ℕ) → List Answer → List ℕ → List ℕ → Result (Unit {0}) Stop → Type 0
@@ -115,3 +116,4 @@ pub record Closing (s : Start) (input : List ℕ) (before : Option (List ℕ)) (
   pub run : IsRun s.state answers last
   pub appended : Appends before now written
   pub ends : ClosesWith s.name (lines_of input) answers written r.output.text.items outcome
+  pub reaches : Reaches input answers outcome

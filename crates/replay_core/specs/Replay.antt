@@ -10,7 +10,7 @@ use Rattle.delivery_machine.specs.State.{State}
 use Rattle.delivery_machine.specs.Run.{Run}
 use Rattle.delivery_machine.specs.declared.event.Event.{Event}
 use Rattle.delivery_machine.specs.declared.reply.Reply.{Reply}
-use Rattle.replay_core.specs.Lines.{lines_of}
+use Rattle.replay_core.specs.Lines.{lines_of, ends_in}
 use Rattle.replay_core.specs.Grammar.{IsLine, IsBadLine}
 use Rattle.replay_core.specs.Printing.{reply_text, refused_text}
 use Rattle.replay_core.specs.declared.reading.Line.TheVariants as lines
@@ -74,6 +74,14 @@ Ends this lines answers (Err Write) written =
     (whole : List ℕ) × (rest : List ℕ) × (written ++ rest ≡ whole)
     × ((whole ≡ texts answers) ⊎ ((n : ℕ) × IsBadAfter this lines answers n × (whole ≡ texts answers ++ bad_line_text n)))
 
+-- where the reader failed, just the lines that had their end were answered
+abbrev pub Reaches : List ℕ → List Answer → Result (Unit {0}) Stop → Type 0
+Reaches input answers (Ok done) = Unit {0}
+Reaches input answers (Err (BadLine n)) = Unit {0}
+Reaches input answers (Err Read) = length answers ≡ ends_in input
+Reaches input answers (Err Write) = Unit {0}
+Reaches input answers (Err Memory) = Unit {0}
+
 -- from the state, by the lines of the input: the first lines are answered by a run, and what is written is their answers and an end
 pub record IsReplay (s : State) (this : TopicName) (input : List ℕ) (outcome : Result (Unit {0}) Stop) (written : List ℕ) : Type 0 where
   pub answers : List Answer
@@ -81,6 +89,7 @@ pub record IsReplay (s : State) (this : TopicName) (input : List ℕ) (outcome :
   pub answered : AreAnswered this (lines_of input) answers
   pub run : IsRun s answers last
   pub ends : Ends this (lines_of input) answers outcome written
+  pub reaches : Reaches input answers outcome
 
 -- `persistent://public/default/t`
 abbrev pub this_topic : TopicName

@@ -2,6 +2,8 @@
 #![tactic(auto)]
 
 mod arguments;
+#[cfg(test)]
+mod doubles;
 mod engine;
 mod names;
 mod numbers;

@@ -1,13 +1,14 @@
 // Worked rows, lines that are no events, and readers and writers that fail.
 ghost use Rattle.std.specs.Prelude.{◌≤◌};
 
+use crate::doubles::{ByByte, Narrow};
 use crate::plain::replay;
-use crate::stop::Stop;
+use crate::stop::{Stop, status};
 use position_core::LedgerSize;
-use std::io::{Error, ErrorKind, Read, Result, Write};
+use std::io::Read;
 use std::process::Abort;
 
-type Ended = std::result::Result<(), Stop>;
+type Ended = Result<(), Stop>;
 
 const FIRST_ROW: &[u8] = b"producer p -
 publish 1 0 - aGk= 1000
@@ -29,70 +30,23 @@ done
 idle
 ";
 
-/// Gives one byte a read, and an error after the last where `fails`.
-#[derive(Drop)]
-struct ByByte<'a> {
-    rest: &'a [u8],
-    fails: bool,
-}
-
-impl Read for ByByte<'_> {
-    fn read(&mut self, buf: &mut [u8]) -> Result<usize> {
-        let Some((first, rest)) = self.rest.split_first() else {
-            if self.fails {
-                return Err(Error::from(ErrorKind::Other));
-            }
-            return Ok(0);
-        };
-        if buf.is_empty() {
-            return Ok(0);
-        }
-        buf[0] = *first;
-        self.rest = rest;
-        Ok(1)
-    }
-}
-
-/// Takes so many bytes a write, until it has `most`; then it answers an error, or 0 where `full`.
-#[derive(Drop)]
-struct Narrow {
-    taken: Vec<u8>,
-    width: usize,
-    most: usize,
-    full: bool,
-}
-
-impl Write for Narrow {
-    fn write(&mut self, buf: &[u8]) -> Result<usize> {
-        if self.taken.len() >= self.most {
-            if self.full {
-                return Ok(0);
-            }
-            return Err(Error::from(ErrorKind::Other));
-        }
-        let count = self.width.min(buf.len());
-        self.taken.extend_from_slice(&buf[..count])?;
-        Ok(count)
-    }
-
-    fn flush(&mut self) -> Result<()> {
-        Ok(())
-    }
-}
-
 fn size_of(number: u32) -> LedgerSize
     requires { (1 ≤ number) × (number ≤ 50000) }
 {
     LedgerSize::new(number).unwrap()
 }
 
-/// Replays the input, and compares what is written and how it ends.
-fn check<R: Abort + AllocGlobal>(rt: &R, input: &[u8], output: &[u8], ended: Ended) {
-    let mut reader = input;
+/// Replays what the reader gives, and compares what is written and how it ends.
+fn check_read<R: Abort + AllocGlobal, I: Read>(rt: &R, input: &mut I, output: &[u8], ended: Ended) {
     let mut written = Vec::new(rt.alloc());
-    let outcome = replay(rt.alloc(), &mut reader, &mut written, size_of(50_000));
+    let outcome = replay(rt.alloc(), input, &mut written, size_of(50_000));
     assert!(rt; written.as_slice() == output, "{:?}", written.as_slice());
     assert!(rt; outcome == ended);
+}
+
+fn check<R: Abort + AllocGlobal>(rt: &R, input: &[u8], output: &[u8], ended: Ended) {
+    let mut reader = input;
+    check_read(rt, &mut reader, output, ended);
 }
 
 /// A bad third line after two good ones.
@@ -251,45 +205,44 @@ fn bad_subscribes(rt: HostRuntime) {
     }
 }
 
+/// A line of the most bytes has an id that is none; with a byte more it is no line.
 #[test]
-fn long_line(rt: HostRuntime) {
-    let mut input = vec![in rt.alloc(); b'x'; 1_500_001].expect(&rt, "no memory");
-    let mut reader = input.as_slice();
-    let mut written = Vec::new(rt.alloc());
-    let outcome = replay(rt.alloc(), &mut reader, &mut written, size_of(1));
-    assert!(rt; written.as_slice() == b"bad line 1\n".as_slice());
-    assert!(rt; outcome == Err(Stop::BadLine(1)));
-    assert!(rt; !reader.is_empty() || input.pop().is_some());
+fn longest_line(rt: HostRuntime) {
+    let mut line = b"ack 1 ".to_vec(rt.alloc()).expect(&rt, "no memory");
+    line.resize(1_500_000, b'x').expect(&rt, "no memory");
+    check(&rt, line.as_slice(), b"refused F17\n", Ok(()));
+    line.push(b'x').expect(&rt, "no memory");
+    check(&rt, line.as_slice(), b"bad line 1\n", Err(Stop::BadLine(1)));
 }
 
 #[test]
 fn byte_by_byte(rt: HostRuntime) {
-    for fails in [false, true] {
-        let mut reader = ByByte {
-            rest: FIRST_ROW,
-            fails,
-        };
-        let mut written = Vec::new(rt.alloc());
-        let outcome = replay(rt.alloc(), &mut reader, &mut written, size_of(1));
-        assert!(rt; written.as_slice() == FIRST_REPLIES);
-        let ended = if fails { Err(Stop::Read) } else { Ok(()) };
-        assert!(rt; outcome == ended);
+    for (rest, fails, output, ended) in [
+        (FIRST_ROW, false, FIRST_REPLIES, Ok(())),
+        (
+            b"stored\nstored\nsto",
+            true,
+            b"durable 0\ndurable 0\n",
+            Err(Stop::Read),
+        ),
+    ] {
+        check_read(&rt, &mut ByByte { rest, fails }, output, ended);
     }
 }
 
 #[test]
 fn narrow_writers(rt: HostRuntime) {
-    for (most, full) in [
-        (1000, false),
-        (0, false),
-        (0, true),
-        (20, false),
-        (20, true),
+    for (width, most, full) in [
+        (7, 1000, false),
+        (1, 0, false),
+        (1, 0, true),
+        (1, 20, false),
+        (1, 20, true),
     ] {
         let mut reader = FIRST_ROW;
         let mut writer = Narrow {
             taken: Vec::new(rt.alloc()),
-            width: 1,
+            width,
             most,
             full,
         };
@@ -302,6 +255,7 @@ fn narrow_writers(rt: HostRuntime) {
             Ok(())
         };
         assert!(rt; outcome == ended);
+        assert!(rt; status(&outcome) == u8::from(outcome.is_err()));
     }
 }
 
