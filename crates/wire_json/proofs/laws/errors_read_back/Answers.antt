@@ -1,0 +1,5 @@
+use Rattle.wire_json.proofs.Written.{errors_read_back}
+use Rattle.wire_json.proofs.laws.errors_read_back.Goals as goal
+
+pub returns : goal.returns
+returns c = errors_read_back

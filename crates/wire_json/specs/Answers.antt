@@ -1,0 +1,67 @@
+-- What a producer is answered.
+use Rattle.std.specs.Prelude.{ℕ, List, [], ◌++◌, Option, Some, None, codes}
+use Rattle.std.specs.Fmt.{decimal}
+use Rattle.json.specs.Print.{quoted}
+use Rattle.position_core.specs.declared.position.Position.{Position}
+use Rattle.position_core.specs.declared.fault.Fault.{Fault}
+use Rattle.position_core.specs.declared.fault.Fault.TheVariants.{BadJson, BadPayload, NoMemory, TopicFull}
+use Rattle.position_core.specs.Id.{text_of}
+use Rattle.wire_json.specs.declared.answers.SendError.{SendError}
+use Rattle.wire_json.specs.declared.answers.SendError.TheVariants.{CreateProducer, Subscribe, Deserialize, Serialize, Authenticate, Authorize, PayloadEncoding, Unknown}
+
+-- the number of each error
+abbrev pub number_of : SendError → ℕ
+number_of CreateProducer = 1
+number_of Subscribe = 2
+number_of Deserialize = 3
+number_of Serialize = 4
+number_of Authenticate = 5
+number_of Authorize = 6
+number_of PayloadEncoding = 7
+number_of Unknown = 8
+
+-- what each error says
+abbrev pub message_of : SendError → List ℕ
+message_of CreateProducer = codes "Failed to create producer"
+message_of Subscribe = codes "Failed to subscribe"
+message_of Deserialize = codes "Failed to deserialize from JSON"
+message_of Serialize = codes "Failed to serialize to JSON"
+message_of Authenticate = codes "Failed to authenticate"
+message_of Authorize = codes "Not authorized"
+message_of PayloadEncoding = codes "Invalid payload encoding"
+message_of Unknown = codes "Unknown error"
+
+-- how a refused publish is answered, where it is
+abbrev pub of_fault : Fault → Option SendError
+of_fault BadJson = Some Deserialize
+of_fault BadPayload = Some PayloadEncoding
+of_fault NoMemory = Some Unknown
+of_fault TopicFull = Some Unknown
+of_fault fault = None
+
+-- Each member but the last is followed by a comma.
+
+-- where the request had a context
+abbrev pub context_member : Option (List ℕ) → List ℕ
+context_member None = []
+context_member (Some context) = codes "\"context\":" ++ quoted context ++ codes ","
+
+-- the id of the message
+abbrev pub id_member : Position → List ℕ
+id_member position = codes "\"messageId\":\"" ++ text_of position ++ codes "\","
+
+-- the publish was taken, and has the id
+abbrev pub ok_text : Option (List ℕ) → Position → List ℕ
+ok_text context id = codes "{" ++ context_member context ++ id_member id ++ codes "\"result\":\"ok\"}"
+
+-- what the error says
+abbrev pub message_member : List ℕ → List ℕ
+message_member message = codes "\"errorMsg\":\"" ++ message ++ codes "\","
+
+-- the error's number
+abbrev pub number_member : SendError → List ℕ
+number_member error = codes "\"result\":\"send-error:" ++ decimal (number_of error) ++ codes "\""
+
+-- the publish was refused
+abbrev pub error_text : Option (List ℕ) → SendError → List ℕ
+error_text context error = codes "{" ++ context_member context ++ message_member (message_of error) ++ number_member error ++ codes "}"

@@ -1,0 +1,7 @@
+pub mod Answers
+pub mod Escapes
+pub mod Times
+pub mod Deliveries
+pub mod Members
+pub mod Publishes
+pub mod Laws

@@ -1,0 +1,85 @@
+-- What a producer's text stands for.
+use Rattle.std.specs.Prelude.{◌≡◌, ℕ, List, [], length, nat_le, ◌&&◌, ◌⊎◌, if◌then◌else◌, Option, Some, None, is_some, unwrap_or, option_map, option_and_then, ok_or, codes, Result, Ok, Err}
+use Rattle.std.specs.Option.{option_or}
+use Rattle.std.specs.Str.{is_utf8}
+use Rattle.base64.specs.GeneralPurpose.{decoded_of}
+use Rattle.base64.specs.Engines.{standard, standard_no_pad}
+use Rattle.serde_json.specs.Data.{Data}
+use Rattle.serde_json.specs.Find.{get, as_str, as_object}
+use Rattle.serde_json.specs.Read.{read}
+use Rattle.position_core.specs.declared.body.Content.{Content}
+use Rattle.position_core.specs.declared.fault.Fault.{Fault}
+use Rattle.position_core.specs.declared.fault.Fault.TheVariants.{BadJson, BadPayload, NoMemory}
+use Rattle.wire_json.specs.Members.{word_of, short_text, said_at, properties_of}
+
+-- what a text says: its context, where it has one, and the content or why it is refused
+pub record Reading : Type 0 where
+  pub context : Option (List ℕ)
+  pub content : Result Content Fault
+
+-- a value that is an object
+abbrev pub if_object : Data → Option Data
+if_object d = if is_some (as_object d) then Some d else None
+
+-- the object that a text of at most 2,097,152 bytes is
+abbrev pub object_of : List ℕ → Option Data
+object_of text = if nat_le (length text) 2097152 && is_utf8 text then option_and_then if_object (read text) else None
+
+-- the bytes whose base64 the text is, with all its padding or none
+abbrev pub bytes_of : List ℕ → Option (List ℕ)
+bytes_of text = option_or (decoded_of standard text) (decoded_of standard_no_pad text)
+
+-- at most 1,048,576 bytes
+abbrev pub fitting_payload : List ℕ → Option (List ℕ)
+fitting_payload bytes = if nat_le (length bytes) 1048576 then Some bytes else None
+
+-- the text has to be there, then to be base64, then to be short enough
+abbrev pub payload_from : Option (List ℕ) → Result (List ℕ) Fault
+payload_from None = Err BadJson
+payload_from (Some text) = ok_or (option_and_then fitting_payload (bytes_of text)) BadPayload
+
+-- the payload of the object
+abbrev pub payload_in : Data → Result (List ℕ) Fault
+payload_in d = payload_from (option_and_then as_str (get (codes "payload") d))
+
+-- its key, of at most 1,024 bytes
+abbrev pub key_in : Data → Option (Option (List ℕ))
+key_in d = said_at (short_text 1024) (get (codes "key") d)
+
+-- its properties, none where it names none
+abbrev pub properties_in : Data → Option (List (List ℕ × List ℕ))
+properties_in d = option_map (λ said. unwrap_or said []) (said_at properties_of (get (codes "properties") d))
+
+-- its context, which every answer carries
+abbrev pub context_in : Data → Option (Option (List ℕ))
+context_in d = said_at word_of (get (codes "context") d)
+
+-- the payload is looked at first, then the key, then the properties
+abbrev pub content_from : Result (List ℕ) Fault → Option (Option (List ℕ)) → Option (List (List ℕ × List ℕ)) → Result Content Fault
+content_from (Err fault) key properties = Err fault
+content_from (Ok payload) None properties = Err BadJson
+content_from (Ok payload) (Some key) None = Err BadJson
+content_from (Ok payload) (Some key) (Some properties) = Ok (record { key = key; properties = properties; payload = payload })
+
+-- what the object says beside its context
+abbrev pub content_in : Data → Result Content Fault
+content_in d = content_from (payload_in d) (key_in d) (properties_in d)
+
+-- without a context that can be read, there is none to answer with
+abbrev pub reading_with : Option (Option (List ℕ)) → Result Content Fault → Reading
+reading_with None content = record { context = None; content = Err BadJson }
+reading_with (Some context) content = record { context = context; content = content }
+
+-- what is no object says nothing
+abbrev pub reading_of : Option Data → Reading
+reading_of None = record { context = None; content = Err BadJson }
+reading_of (Some d) = reading_with (context_in d) (content_in d)
+
+-- what the text says
+abbrev pub publish_of : List ℕ → Reading
+publish_of text = reading_of (object_of text)
+
+-- a refusal is the one that is meant, with the context; where memory was wanting, the context is there as far as it was read
+abbrev pub IsRefusal : Reading → Option (List ℕ) → Fault → Type 0
+IsRefusal reading context NoMemory = (context ≡ None) ⊎ (context ≡ reading.context)
+IsRefusal reading context fault = (context ≡ reading.context) × (reading.content ≡ Err fault)
