@@ -1,4 +1,4 @@
-// Texts of RFC 8259's grammar and beside it, each with what Rust's `serde_json` makes of it as a `Value`.
+// Texts of RFC 8259's grammar and beside it, each with the answer that Rust's `serde_json` is known to give.
 use super::{answer, read, repeated};
 use std::test::Fail;
 
