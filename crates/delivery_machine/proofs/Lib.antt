@@ -1,3 +1,4 @@
 pub mod RunSteps
 pub mod Places
 pub mod Best
+pub mod Passes

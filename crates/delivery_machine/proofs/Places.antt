@@ -1,12 +1,12 @@
 -- What stands at the first place that passes a test.
 use Rattle.std.proofs.Common.{◌≡◌, ℕ, ◌<◌, List, [], ◌∷◌, Some, None, Bool, true, false, cond, get_or, set, length, refl, ap, ◌∙◌, sym, arith, suc, zero}
 use Rattle.std.specs.Prelude.{nat_lt, ◌||◌}
-use Rattle.std.specs.List.{find, list_any, position, position_or_len}
+use Rattle.std.specs.List.{find, list_any, position, position_or_len, remove}
 use Rattle.std.proofs.lemmas.List.Recursion.{found_at, found_nowhere}
 use Rattle.std.proofs.lemmas.List.Quantifiers.{position-Some}
 use Rattle.std.proofs.lemmas.List.Sums.{fails_before_first}
 use Rattle.std.proofs.lemmas.Bool.Decides.{nat_tests}
-use Rattle.delivery_machine.specs.Words.{changed}
+use Rattle.delivery_machine.specs.Words.{changed, removed}
 
 pub find-position : {A : Type 0} (p : A → Bool) (xs : List A) (i : ℕ) (d : A) → position p xs ≡ Some i → find p xs ≡ Some (get_or xs i d)
 find-position p xs i d is =
@@ -69,3 +69,25 @@ any_nowhere p (x ∷ xs) none =
 
 pub none_passes : {A : Type 0} (p : A → Bool) (xs : List A) → None ≡ position p xs → list_any p xs ≡ false
 none_passes p xs nowhere = any_nowhere p xs (fails_everywhere p xs (sym nowhere))
+
+removed_at : {A : Type 0} (p : A → Bool) (xs : List A) (i : ℕ) (d : A) → i < length xs → p (get_or xs i d) ≡ true → ((k : ℕ) → k < i → p (get_or xs k d) ≡ false) → removed p xs ≡ remove xs i
+removed_at p [] i d lt here before = absurd (omega arith)
+removed_at p (x ∷ xs) zero d lt here before = ap (λ b. cond b xs (x ∷ removed p xs)) here
+removed_at p (x ∷ xs) (suc i) d lt here before =
+    ap (λ b. cond b xs (x ∷ removed p xs)) (before 0 (omega arith))
+    ∙ ap (λ ys. x ∷ ys) (removed_at p xs i d (omega arith) here (λ k below. before (suc k) (omega arith)))
+
+removed_nowhere : {A : Type 0} (p : A → Bool) (xs : List A) → ((k : ℕ) (d : A) → k < length xs → p (get_or xs k d) ≡ false) → removed p xs ≡ xs
+removed_nowhere p [] none = refl
+removed_nowhere p (x ∷ xs) none =
+    ap (λ b. cond b xs (x ∷ removed p xs)) (none 0 x (omega arith))
+    ∙ ap (λ ys. x ∷ ys) (removed_nowhere p xs (λ k d below. none (suc k) d (omega arith)))
+
+-- the element at the first such place is taken out
+pub removed_there : {A : Type 0} (p : A → Bool) (xs : List A) (i : ℕ) (d : A) → Some i ≡ position p xs → remove xs i ≡ removed p xs
+removed_there p xs i d there =
+    let at = position-Some p xs i d (sym there) in
+    sym (removed_at p xs i d at.0 at.1 at.2)
+
+pub none_removed : {A : Type 0} (p : A → Bool) (xs : List A) → None ≡ position p xs → xs ≡ removed p xs
+none_removed p xs nowhere = sym (removed_nowhere p xs (fails_everywhere p xs (sym nowhere)))

@@ -1,41 +1,47 @@
--- Acknowledging: a message leaves a subscription, whoever holds it.
+-- Acknowledging: messages leave a subscription, whoever holds them.
 use Rattle.std.specs.Prelude.{◌≡◌, ℕ, Bool, not, List, map, IsSomeAnd, if◌then◌else◌}
-use Rattle.std.specs.List.{filter, find}
+use Rattle.std.specs.List.{filter, find, list_any}
+use Rattle.std.specs.Ordering.{is_le}
 use Rattle.std.specs.FinSet as set
 use Rattle.std.specs.FinMap as map_of
 use Rattle.position_core.specs.declared.position.Position.{Position}
-use Rattle.position_core.specs.Position.{same_position}
+use Rattle.position_core.specs.declared.message.Entry.{Entry}
+use Rattle.position_core.specs.Position.{position_cmp, same_position}
 use Rattle.delivery_machine.specs.State.{State, Member, Subscription}
 use Rattle.delivery_machine.specs.Words.{changed, is_member, is_named, is_at}
 use Rattle.delivery_machine.specs.declared.delivery.Delivery.{Delivery}
 use Rattle.delivery_machine.specs.declared.reply.Reply.{Reply}
 use Rattle.delivery_machine.specs.declared.reply.Reply.TheVariants.{Done}
 
-abbrev pub is_of : Position → Delivery → Bool
-is_of position d = same_position d.message.position position
+abbrev pub is_one_of : List Position → Position → Bool
+is_one_of positions position = list_any (same_position position) positions
 
-abbrev pub without : Position → List Delivery → List Delivery
-without position out = filter (λ d. not (is_of position d)) out
+abbrev pub without : List Position → List Delivery → List Delivery
+without positions out = filter (λ d. not (is_one_of positions d.message.position)) out
 
 -- what is acknowledged is neither pending nor counted
-abbrev pub acknowledging : Position → Subscription → Subscription
-acknowledging position sub = record sub {
-  acknowledged = set.insert sub.acknowledged position;
-  pending = map_of.remove sub.pending position;
-  counts = map_of.remove sub.counts position;
+abbrev pub acknowledging : List Position → Subscription → Subscription
+acknowledging positions sub = record sub {
+  acknowledged = set.union sub.acknowledged (set.from_list positions);
+  pending = map_of.retain_keys sub.pending (λ p. not (is_one_of positions p));
+  counts = map_of.retain_keys sub.counts (λ p. not (is_one_of positions p));
 }
 
--- a member of the subscription no longer has the message among what it was sent
-abbrev pub forgetting : List ℕ → Position → Member → Member
-forgetting name position m = if is_at name m then record m { out = without position m.out } else m
+-- a member of the subscription no longer has the messages among what it was sent
+abbrev pub forgetting : List ℕ → List Position → Member → Member
+forgetting name positions m = if is_at name m then record m { out = without positions m.out } else m
 
-abbrev pub acknowledged : State → List ℕ → Position → State
-acknowledged s name position = record s {
-  subscriptions = changed (is_named name) (acknowledging position) s.subscriptions;
-  members = map (forgetting name position) s.members;
+abbrev pub acknowledged : State → List ℕ → List Position → State
+acknowledged s name positions = record s {
+  subscriptions = changed (is_named name) (acknowledging positions) s.subscriptions;
+  members = map (forgetting name positions) s.members;
 }
 
--- the message leaves the subscription of the member that acknowledges it
-abbrev pub Acks : State → ℕ → Position → Reply → State → Type 0
-Acks s consumer position reply t =
-    (reply ≡ Done) × IsSomeAnd (find (is_member consumer) s.members) (λ m. t ≡ acknowledged s m.subscription position)
+-- the messages leave the subscription of the member that acknowledges them
+abbrev pub Acks : State → ℕ → List Position → Reply → State → Type 0
+Acks s consumer positions reply t =
+    (reply ≡ Done) × IsSomeAnd (find (is_member consumer) s.members) (λ m. t ≡ acknowledged s m.subscription positions)
+
+-- the position, and each before it in the log
+abbrev pub positions_up_to : Position → List Entry → List Position
+positions_up_to position log = map (λ e. e.position) (filter (λ e. is_le (position_cmp e.position position)) log)

@@ -1,19 +1,22 @@
--- Members: joining a subscription, which the first one makes.
-use Rattle.std.specs.Prelude.{◌≡◌, ℕ, ◌+◌, List, [], ◌∷◌, ◌++◌, map, if◌then◌else◌}
-use Rattle.std.specs.List.{insert, position_or_len}
+-- Members: joining a subscription, which the first one makes, leaving it, and permits.
+use Rattle.std.specs.Prelude.{◌≡◌, ℕ, ◌+◌, ◌==◌, Bool, not, ◌&&◌, List, [], ◌∷◌, ◌++◌, Option, map, IsSomeAnd, if◌then◌else◌}
+use Rattle.std.specs.List.{find, insert, position_or_len}
+use Rattle.std.specs.Option.{option_eq}
 use Rattle.std.specs.Ordering.{is_lt}
 use Rattle.std.specs.FinSet as set
 use Rattle.std.specs.FinMap as map_of
 use Rattle.position_core.specs.declared.message.Entry.{Entry}
+use Rattle.position_core.specs.declared.kind.Kind.{Kind}
+use Rattle.position_core.specs.declared.kind.Kind.TheVariants.{Failover}
 use Rattle.position_core.specs.Position.{position_cmp}
 use Rattle.position_core.specs.Name.{name_order}
+use Rattle.position_core.specs.Flow.{granted}
 use Rattle.delivery_machine.specs.State.{State, Member, Subscription}
-use Rattle.delivery_machine.specs.Words.{changed, is_named, has_subscription}
-use Rattle.delivery_machine.specs.declared.event.Kind.{Kind}
+use Rattle.delivery_machine.specs.Words.{changed, removed, is_member, is_named, is_at, is_held_by, has_subscription, has_kind, active_at, emptied}
 use Rattle.delivery_machine.specs.declared.event.Initial.{Initial}
 use Rattle.delivery_machine.specs.declared.event.Initial.TheVariants.{Earliest, Latest}
 use Rattle.delivery_machine.specs.declared.reply.Reply.{Reply}
-use Rattle.delivery_machine.specs.declared.reply.Reply.TheVariants.{Subscribed}
+use Rattle.delivery_machine.specs.declared.reply.Reply.TheVariants.{Subscribed, Done}
 
 -- what a new subscription begins with as acknowledged
 abbrev pub acknowledged_at_first : Initial → List Entry → set.FinSet position_cmp
@@ -45,7 +48,53 @@ joined s name kind initial =
     then changed (is_named name) (of_kind kind) s.subscriptions
     else placed (new_subscription name kind initial s.log) s.subscriptions
 
+-- ---- takeover
+
+abbrev pub releasing_all : Subscription → Subscription
+releasing_all sub = record sub { pending = map_of.empty }
+
+-- everything that is pending in the subscription waits again, and nothing is left to be collected
+abbrev pub all_released : List ℕ → State → State
+all_released name s = record s {
+  subscriptions = changed (is_named name) releasing_all s.subscriptions;
+  members = map (λ m. if is_at name m then emptied m else m) s.members;
+}
+
+-- the Failover's active member is not the one of the number, which it was before
+abbrev pub is_taken_over : List ℕ → Option ℕ → State → Bool
+is_taken_over name before s = has_kind s name Failover && not (option_eq (λ a b. a == b) before (active_at s name))
+
+-- the next active member begins with the first message that is not acknowledged
+abbrev pub taken_over : List ℕ → Option ℕ → State → State
+taken_over name before s = if is_taken_over name before s then all_released name s else s
+
+-- ---- joining, leaving, permits
+
+abbrev pub with_member : State → Kind → Initial → Member → State
+with_member s kind initial m =
+    record s { subscriptions = joined s m.subscription kind initial; members = s.members ++ m ∷ []; next_consumer = s.next_consumer + 1 }
+
 abbrev pub Subscribes : State → Kind → Initial → Member → Reply → State → Type 0
 Subscribes s kind initial m reply t =
-    (reply ≡ Subscribed m.number)
-    × (t ≡ record s { subscriptions = joined s m.subscription kind initial; members = s.members ++ m ∷ []; next_consumer = s.next_consumer + 1 })
+    (reply ≡ Subscribed m.number) × (t ≡ taken_over m.subscription (active_at s m.subscription) (with_member s kind initial m))
+
+-- what is pending at the consumer waits again; no count rises
+abbrev pub releasing_at : ℕ → Subscription → Subscription
+releasing_at consumer sub = record sub { pending = map_of.retain_keys sub.pending (λ p. not (is_held_by consumer (map_of.get sub.pending p))) }
+
+abbrev pub without_member : State → ℕ → List ℕ → State
+without_member s consumer name = record s {
+  subscriptions = changed (is_named name) (releasing_at consumer) s.subscriptions;
+  members = removed (is_member consumer) s.members;
+}
+
+abbrev pub Leaves : State → ℕ → Reply → State → Type 0
+Leaves s consumer reply t =
+    (reply ≡ Done)
+    × IsSomeAnd (find (is_member consumer) s.members) (λ m. t ≡ taken_over m.subscription (active_at s m.subscription) (without_member s consumer m.subscription))
+
+abbrev pub permitted : ℕ → Member → Member
+permitted n m = record m { flow = granted n m.flow }
+
+abbrev pub Permits : State → ℕ → ℕ → Reply → State → Type 0
+Permits s consumer n reply t = (reply ≡ Done) × (t ≡ record s { members = changed (is_member consumer) (permitted n) s.members })

@@ -5,4 +5,5 @@ pub mod Producing
 pub mod Joining
 pub mod Acknowledging
 pub mod Delivering
+pub mod Ticking
 pub mod Run

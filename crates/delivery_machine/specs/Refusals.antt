@@ -1,15 +1,19 @@
 -- Why each event is refused, in the order of the tests. Want of memory comes after all of them.
 use Rattle.std.specs.Prelude.{ℕ, ◌^◌, nat_lt, nat_le, Bool, true, false, not, ◌&&◌, ◌||◌, length, List, Option, Some, None, if◌then◌else◌, ℤ, int_le}
 use Rattle.std.specs.List.{list_any, find}
+use Rattle.std.specs.Option.{option_map_or}
+use Rattle.std.specs.FinMap as map_of
 use Rattle.position_core.specs.declared.position.Position.{Position}
+use Rattle.position_core.specs.declared.kind.Kind.{Kind}
+use Rattle.position_core.specs.declared.kind.Kind.TheVariants.{Exclusive}
 use Rattle.position_core.specs.declared.fault.Fault.{Fault}
-use Rattle.position_core.specs.declared.fault.Fault.TheVariants.{ProducerBusy, NoSession, TopicFull, ConsumerBusy, TooMany, NoSuchMessage, NoSuchSubscription}
-use Rattle.delivery_machine.specs.State.{State, Producer}
-use Rattle.delivery_machine.specs.Words.{is_producer, has_member, has_subscription, is_connected, members_of, last_sequence, next_position, has_position, visible}
-use Rattle.delivery_machine.specs.declared.event.Kind.{Kind}
-use Rattle.delivery_machine.specs.declared.event.Kind.TheVariants.{Exclusive}
+use Rattle.position_core.specs.declared.fault.Fault.TheVariants.{ProducerBusy, NoSession, TopicFull, WrongKind, ConsumerBusy, TooMany, NoSuchMessage, NotCumulative, NotPending, NoSuchSubscription}
+use Rattle.position_core.specs.Kind.{same_kind, is_in_order}
+use Rattle.position_core.specs.Flow.{granting_refused}
+use Rattle.delivery_machine.specs.State.{State, Producer, Member}
+use Rattle.delivery_machine.specs.Words.{is_producer, has_member, has_subscription, has_kind, is_in_order_at, is_held_at, is_member, is_connected, members_of, last_sequence, next_position, has_position, visible}
 use Rattle.delivery_machine.specs.declared.event.Event.{Event}
-use Rattle.delivery_machine.specs.declared.event.Event.TheVariants.{AddProducer, Publish, Stored, Subscribe, Ack, Dispatch, Collect}
+use Rattle.delivery_machine.specs.declared.event.Event.TheVariants.{AddProducer, Publish, Stored, Subscribe, Leave, Permit, Ack, AckUpTo, Nack, Tick, Dispatch, Collect}
 
 -- a counter has given all its numbers, which end at 2^63-1
 abbrev pub is_spent : ℕ → Bool
@@ -39,12 +43,10 @@ publishing_refused s sequence None = Some NoSession
 publishing_refused s sequence (Some p) =
     if is_duplicate s p sequence then None else if is_full s then Some TopicFull else None
 
-abbrev pub is_exclusive : Kind → Bool
-is_exclusive Exclusive = true
-
 abbrev pub subscribing_refused : State → List ℕ → Kind → Option Fault
 subscribing_refused s name kind =
-    if nat_lt 0 (length (members_of s name)) && is_exclusive kind then Some ConsumerBusy
+    if nat_lt 0 (length (members_of s name)) && not (has_kind s name kind) then Some WrongKind
+    else if nat_lt 0 (length (members_of s name)) && same_kind kind Exclusive then Some ConsumerBusy
     else if nat_le 64 (length (members_of s name)) then Some TooMany
     else if nat_le 64 (length s.subscriptions) && not (has_subscription s name) then Some TooMany
     else if is_spent s.next_consumer then Some TooMany
@@ -56,20 +58,43 @@ acking_refused s consumer position =
     else if not (list_any (has_position position) (visible s)) then Some NoSuchMessage
     else None
 
-abbrev pub dispatching_refused : State → List ℕ → Option Fault
-dispatching_refused s name = if has_subscription s name then None else Some NoSuchSubscription
+-- messages up to one are acknowledged only where one consumer takes them in order
+abbrev pub acking_up_to_refused : State → Position → Option Member → Option Fault
+acking_up_to_refused s position None = Some NoSession
+acking_up_to_refused s position (Some m) =
+    if not (is_in_order_at s m.subscription) then Some NotCumulative
+    else if not (list_any (has_position position) (visible s)) then Some NoSuchMessage
+    else None
 
-abbrev pub collecting_refused : State → ℕ → Option Fault
-collecting_refused s consumer = if has_member s consumer then None else Some NoSession
+abbrev pub nacking_refused : State → ℕ → Position → Option Member → Option Fault
+nacking_refused s consumer position None = Some NoSession
+nacking_refused s consumer position (Some m) = if is_held_at s m.subscription consumer position then None else Some NotPending
+
+abbrev pub permitting_refused : ℕ → Option Member → Option Fault
+permitting_refused n None = Some NoSession
+permitting_refused n (Some m) = granting_refused n m.flow
+
+-- a subscription that is not there is refused, and no other
+abbrev pub absence_refused : State → List ℕ → Option Fault
+absence_refused s name = if has_subscription s name then None else Some NoSuchSubscription
+
+-- a consumer that is not there is refused, and no other
+abbrev pub session_refused : State → ℕ → Option Fault
+session_refused s consumer = if has_member s consumer then None else Some NoSession
 
 abbrev pub refusal_of : State → Event → Option Fault
 refusal_of s (AddProducer name base) = adding_refused s name
 refusal_of s (Publish producer sequence body now) = publishing_refused s sequence (find (is_producer producer) s.producers)
 refusal_of s Stored = None
 refusal_of s (Subscribe name kind level flow ack_timeout nack_delay max_redeliver dead_topic initial) = subscribing_refused s name kind
+refusal_of s (Leave consumer) = session_refused s consumer
 refusal_of s (Ack consumer position) = acking_refused s consumer position
-refusal_of s (Dispatch name now) = dispatching_refused s name
-refusal_of s (Collect consumer) = collecting_refused s consumer
+refusal_of s (Permit consumer permits) = permitting_refused permits (find (is_member consumer) s.members)
+refusal_of s (AckUpTo consumer position) = acking_up_to_refused s position (find (is_member consumer) s.members)
+refusal_of s (Nack consumer position now) = nacking_refused s consumer position (find (is_member consumer) s.members)
+refusal_of s (Tick name now) = absence_refused s name
+refusal_of s (Dispatch name now) = absence_refused s name
+refusal_of s (Collect consumer) = session_refused s consumer
 
 -- the event may meet want of memory
 abbrev pub takes_memory : Event → Bool
@@ -77,6 +102,11 @@ takes_memory (AddProducer name base) = true
 takes_memory (Publish producer sequence body now) = true
 takes_memory Stored = false
 takes_memory (Subscribe name kind level flow ack_timeout nack_delay max_redeliver dead_topic initial) = true
+takes_memory (Leave consumer) = false
 takes_memory (Ack consumer position) = true
+takes_memory (Permit consumer permits) = false
+takes_memory (AckUpTo consumer position) = true
+takes_memory (Nack consumer position now) = false
+takes_memory (Tick name now) = true
 takes_memory (Dispatch name now) = true
 takes_memory (Collect consumer) = false

@@ -2,15 +2,17 @@
 use Rattle.std.specs.Prelude.{◌≡◌, List, [], ◌∷◌, Some, None, IsTrue, IsSomeAnd}
 use Rattle.std.specs.List.{find}
 use Rattle.position_core.specs.declared.fault.Fault.TheVariants.{NoMemory}
+use Rattle.position_core.specs.Flow.{begun}
 use Rattle.delivery_machine.specs.State.{State}
 use Rattle.delivery_machine.specs.Words.{is_producer, is_named}
 use Rattle.delivery_machine.specs.Refusals.{refusal_of, takes_memory}
 use Rattle.delivery_machine.specs.Producing.{AddsProducer, Publishes, Stores}
-use Rattle.delivery_machine.specs.Joining.{Subscribes}
-use Rattle.delivery_machine.specs.Acknowledging.{Acks}
+use Rattle.delivery_machine.specs.Joining.{Subscribes, Leaves, Permits}
+use Rattle.delivery_machine.specs.Acknowledging.{Acks, positions_up_to}
 use Rattle.delivery_machine.specs.Delivering.{Dispatches, Collects}
+use Rattle.delivery_machine.specs.Ticking.{Nacks, Ticks}
 use Rattle.delivery_machine.specs.declared.event.Event.{Event}
-use Rattle.delivery_machine.specs.declared.event.Event.TheVariants.{AddProducer, Publish, Stored, Subscribe, Ack, Dispatch, Collect}
+use Rattle.delivery_machine.specs.declared.event.Event.TheVariants.{AddProducer, Publish, Stored, Subscribe, Leave, Permit, Ack, AckUpTo, Nack, Tick, Dispatch, Collect}
 use Rattle.delivery_machine.specs.declared.reply.Reply.{Reply}
 use Rattle.delivery_machine.specs.declared.reply.Reply.TheVariants.{Refused}
 
@@ -24,7 +26,7 @@ Takes s (Subscribe name kind level flow ack_timeout nack_delay max_redeliver dea
       number = s.next_consumer;
       subscription = name;
       level = level;
-      flow = flow;
+      flow = begun flow;
       ack_timeout = ack_timeout;
       nack_delay = nack_delay;
       max_redeliver = max_redeliver;
@@ -32,7 +34,12 @@ Takes s (Subscribe name kind level flow ack_timeout nack_delay max_redeliver dea
       share = [];
       out = [];
     }) r t
-Takes s (Ack consumer position) r t = Acks s consumer position r t
+Takes s (Leave consumer) r t = Leaves s consumer r t
+Takes s (Ack consumer position) r t = Acks s consumer (position ∷ []) r t
+Takes s (Permit consumer permits) r t = Permits s consumer permits r t
+Takes s (Nack consumer position now) r t = Nacks s consumer position now r t
+Takes s (Tick name now) r t = IsSomeAnd (find (is_named name) s.subscriptions) (λ sub. Ticks s name now sub r t)
+Takes s (AckUpTo consumer position) r t = Acks s consumer (positions_up_to position s.log) r t
 Takes s (Dispatch name now) r t = IsSomeAnd (find (is_named name) s.subscriptions) (λ sub. Dispatches s name now sub r t)
 Takes s (Collect consumer) r t = Collects s consumer r t
 

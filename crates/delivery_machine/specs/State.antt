@@ -1,14 +1,15 @@
 -- The state of a topic: what the machine knows, and no more.
-use Rattle.std.specs.Prelude.{ℕ, List, [], ℤ, Option}
+use Rattle.std.specs.Prelude.{ℕ, List, [], ℤ}
 use Rattle.std.specs.FinSet.{FinSet}
 use Rattle.std.specs.FinMap.{FinMap}
 use Rattle.position_core.specs.declared.position.Position.{Position}
 use Rattle.position_core.specs.declared.topic_name.TopicName.{TopicName}
 use Rattle.position_core.specs.declared.message.Entry.{Entry}
+use Rattle.position_core.specs.declared.held.Held.{Held}
+use Rattle.position_core.specs.declared.kind.Kind.{Kind}
+use Rattle.position_core.specs.declared.flow.Flow.{Flow}
 use Rattle.position_core.specs.Position.{position_cmp}
 use Rattle.delivery_machine.specs.declared.delivery.Delivery.{Delivery}
-use Rattle.delivery_machine.specs.declared.event.Kind.{Kind}
-use Rattle.delivery_machine.specs.declared.event.Flow.{Flow}
 
 -- a connected producer; `base` stands for its last sequence number where the log has none of its messages
 pub record Producer : Type 0 where
@@ -33,11 +34,6 @@ pub record Member : Type 0 where
   pub dead_topic : TopicName
   pub share : List Span
   pub out : List Delivery
-
--- at whom a message is pending, and from which moment on it may be released, if ever
-pub record Held : Type 0 where
-  pub consumer : ℕ
-  pub due : Option ℕ
 
 -- a message that was redelivered too often, and the topic that it goes to
 pub record Dead : Type 0 where

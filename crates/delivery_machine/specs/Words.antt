@@ -1,19 +1,20 @@
 -- What the rules speak of: who is there, the log, live and waiting messages, room, the active member, eligible pairs.
-use Rattle.std.specs.Prelude.{◌≡◌, ℕ, ◌+◌, ◌==◌, nat_lt, Bool, false, not, ◌&&◌, ◌||◌, List, [], ◌∷◌, map, take, ℤ, Option, Some, None, is_some, if◌then◌else◌, IsTrue}
-use Rattle.std.specs.List.{filter, count_by, list_any, find}
-use Rattle.std.specs.Option.{option_map_or, unwrap_or}
+use Rattle.std.specs.Prelude.{◌≡◌, ℕ, ◌+◌, ◌≤◌, ◌==◌, nat_lt, Bool, false, not, ◌&&◌, ◌||◌, List, [], ◌∷◌, map, take, ℤ, Option, Some, None, is_some, if◌then◌else◌, IsTrue}
+use Rattle.std.specs.List.{filter, count_by, list_any, find, All, Contains}
+use Rattle.std.specs.Option.{option_map, option_map_or, unwrap_or}
 use Rattle.std.specs.Int.{int_max}
 use Rattle.std.specs.Str.{bytes_eq}
 use Rattle.std.specs.FinSet as set
 use Rattle.std.specs.FinMap as map_of
 use Rattle.position_core.specs.declared.position.Position.{Position}
 use Rattle.position_core.specs.declared.message.Entry.{Entry}
+use Rattle.position_core.specs.declared.held.Held.{Held}
+use Rattle.position_core.specs.declared.kind.Kind.{Kind}
+use Rattle.position_core.specs.declared.kind.Kind.TheVariants.{Exclusive, Failover, Shared}
 use Rattle.position_core.specs.Position.{same_position}
-use Rattle.delivery_machine.specs.State.{State, Producer, Member, Subscription, Held}
-use Rattle.delivery_machine.specs.declared.event.Flow.{Flow}
-use Rattle.delivery_machine.specs.declared.event.Flow.TheVariants.{Window}
-use Rattle.delivery_machine.specs.declared.event.Kind.{Kind}
-use Rattle.delivery_machine.specs.declared.event.Kind.TheVariants.{Exclusive}
+use Rattle.position_core.specs.Kind.{same_kind, is_in_order}
+use Rattle.position_core.specs.Flow.{flow_has_room}
+use Rattle.delivery_machine.specs.State.{State, Producer, Member, Subscription}
 
 -- ---- lists
 
@@ -21,6 +22,11 @@ use Rattle.delivery_machine.specs.declared.event.Kind.TheVariants.{Exclusive}
 abbrev pub changed : {A : Type 0} → (A → Bool) → (A → A) → List A → List A
 changed p f [] = []
 changed p f (x ∷ xs) = if p x then f x ∷ xs else x ∷ changed p f xs
+
+-- the list without the first element that passes
+abbrev pub removed : {A : Type 0} → (A → Bool) → List A → List A
+removed p [] = []
+removed p (x ∷ xs) = if p x then xs else x ∷ removed p xs
 
 -- the one that is picked from each pair
 abbrev pub best_by : {A : Type 0} → (A → A → A) → List A → Option A
@@ -50,6 +56,18 @@ has_member s consumer = is_some (find (is_member consumer) s.members)
 
 abbrev pub has_subscription : State → List ℕ → Bool
 has_subscription s name = is_some (find (is_named name) s.subscriptions)
+
+-- the subscription of the name is there, and of the kind
+abbrev pub has_kind : State → List ℕ → Kind → Bool
+has_kind s name kind = option_map_or (λ sub. same_kind sub.kind kind) (find (is_named name) s.subscriptions) false
+
+-- one consumer of the subscription takes its messages in order
+abbrev pub is_in_order_at : State → List ℕ → Bool
+is_in_order_at s name = option_map_or (λ sub. is_in_order sub.kind) (find (is_named name) s.subscriptions) false
+
+-- the member with nothing left to collect
+abbrev pub emptied : Member → Member
+emptied m = record m { out = [] }
 
 abbrev pub is_connected : State → List ℕ → Bool
 is_connected s name = list_any (λ p. bytes_eq p.name name) s.producers
@@ -109,11 +127,13 @@ is_held_by consumer held = option_map_or (λ h. h.consumer == consumer) held fal
 abbrev pub pending_at : State → Subscription → ℕ → ℕ
 pending_at s sub consumer = count_by (λ e. is_held_by consumer (map_of.get sub.pending e.position)) s.log
 
-abbrev pub flow_has_room : Flow → ℕ → Bool
-flow_has_room (Window size) held = nat_lt held size
-
 abbrev pub has_room : State → Subscription → Member → Bool
 has_room s sub m = flow_has_room m.flow (pending_at s sub m.number)
+
+-- the message is pending at the consumer of the subscription
+abbrev pub is_held_at : State → List ℕ → ℕ → Position → Bool
+is_held_at s name consumer position =
+    option_map_or (λ sub. is_held_by consumer (map_of.get sub.pending position)) (find (is_named name) s.subscriptions) false
 
 -- ---- who is served
 
@@ -128,10 +148,32 @@ earlier a b = if comes_before b a then b else a
 abbrev pub active_of : List Member → Option Member
 active_of members = best_by earlier members
 
+-- the number of the active member
+abbrev pub active_at : State → List ℕ → Option ℕ
+active_at s name = option_map (λ m. m.number) (active_of (members_of s name))
+
+-- the next message in topic order, and the active member
+abbrev pub IsNextInOrder : State → Subscription → Entry → Member → Type 0
+IsNextInOrder s sub e m = (first_waiting s sub ≡ Some e) × (active_of (members_of s sub.name) ≡ Some m)
+
+-- the members of the subscription that have room
+abbrev pub with_room : State → Subscription → List Member
+with_room s sub = filter (λ m. is_at sub.name m && has_room s sub m) s.members
+
+-- the next message in topic order, and a member of the best level among those with room
+abbrev pub IsNextAtBestLevel : State → Subscription → Entry → Member → Type 0
+IsNextAtBestLevel s sub e m =
+    (first_waiting s sub ≡ Some e) × Contains (with_room s sub) m × All (λ other. m.level ≤ other.level) (with_room s sub)
+
 -- by the subscription's kind, the message may go to the member
 abbrev pub ChoosesBy : Kind → State → Subscription → Entry → Member → Type 0
-ChoosesBy Exclusive s sub e m = (first_waiting s sub ≡ Some e) × (active_of (members_of s sub.name) ≡ Some m)
+ChoosesBy Exclusive s sub e m = IsNextInOrder s sub e m
+ChoosesBy Failover s sub e m = IsNextInOrder s sub e m
+ChoosesBy Shared s sub e m = IsNextAtBestLevel s sub e m
 
 -- the message may be sent to the member
 abbrev pub IsEligible : State → Subscription → Entry → Member → Type 0
 IsEligible s sub e m = IsTrue (has_room s sub m) × ChoosesBy sub.kind s sub e m
+
+abbrev pub NoneEligible : State → Subscription → Type 0
+NoneEligible s sub = (e : Entry) (m : Member) → IsEligible s sub e m → ⊥

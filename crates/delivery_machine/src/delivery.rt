@@ -1,6 +1,6 @@
 // Messages on their way to a consumer.
 ghost use Rattle.std.specs.Prelude.{◌≡◌, ◌-◌, [], ◌∷◌, ◌++◌, OnOk, OnErr, length, take};
-ghost use Rattle.delivery_machine.specs.Acknowledging.{is_of, without};
+ghost use Rattle.delivery_machine.specs.Acknowledging.{is_one_of, without};
 
 use position_core::{Message, Position};
 use std::alloc::{AllocError, Global};
@@ -13,16 +13,17 @@ pub struct Delivery {
     pub count: u32,
 }
 
-fn is_of(delivery: &Delivery, position: Position) -> bool
-    ensures { result ≡ is_of position delivery.now }
+/// Whether the position is one of these.
+pub fn is_one_of(positions: &[Position], position: Position) -> bool
+    ensures { result ≡ is_one_of positions.now position }
 {
-    delivery.message.position().is(position)
+    positions.iter().any(|other| position.is(*other))
 }
 
-fn leave_out(items: &mut Vec<Delivery>, position: Position)
-    ensures { items.new.items ≡ without position items.old.items }
+fn leave_out(items: &mut Vec<Delivery>, positions: &[Position])
+    ensures { items.new.items ≡ without positions.now items.old.items }
 {
-    items.retain(|delivery| !is_of(delivery, position));
+    items.retain(|delivery| !is_one_of(positions, delivery.message.position()));
 }
 
 /// Messages for a consumer, in the order in which they were sent.
@@ -70,11 +71,17 @@ impl Deliveries {
         self.items.pop();
     }
 
-    /// Leaves out the copies of one message.
-    pub fn leave_out(&mut self, position: Position)
-        ensures { self.new ≡ without position self.old }
+    pub fn clear(&mut self)
+        ensures { self.new ≡ [] }
     {
-        leave_out(&mut self.items, position);
+        self.items.clear();
+    }
+
+    /// Leaves out the copies of the messages.
+    pub fn leave_out(&mut self, positions: &[Position])
+        ensures { self.new ≡ without positions.now self.old }
+    {
+        leave_out(&mut self.items, positions);
     }
 }
 

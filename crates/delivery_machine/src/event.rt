@@ -1,22 +1,8 @@
 // What may be asked of a topic.
 use position_core::{
-    Base, Body, Level, Millis, Moment, Position, ProducerName, RedeliverLimit, SubscriptionName,
-    TopicName, WindowSize,
+    Base, Body, Flow, Kind, Level, Millis, Moment, Permits, Position, ProducerName, RedeliverLimit,
+    SubscriptionName, TopicName,
 };
-
-/// How a subscription hands out its messages.
-#[derive(Clone, Copy, Debug, PartialEq, Eq)]
-pub enum Kind {
-    /// One consumer takes all of them.
-    Exclusive,
-}
-
-/// How many messages a consumer takes.
-#[derive(Clone, Copy, Debug, PartialEq, Eq)]
-pub enum Flow {
-    /// At most this many pending at it.
-    Window(WindowSize),
-}
 
 /// What a new subscription begins with.
 #[derive(Clone, Copy, Debug, PartialEq, Eq)]
@@ -56,10 +42,35 @@ pub enum Event {
         dead_topic: TopicName,
         initial: Initial,
     },
+    /// The consumer leaves its subscription.
+    Leave {
+        consumer: u64,
+    },
+    /// Lets the consumer be sent so many further messages.
+    Permit {
+        consumer: u64,
+        permits: Permits,
+    },
     /// The consumer has done with the message.
     Ack {
         consumer: u64,
         position: Position,
+    },
+    /// The consumer has done with the message and all before it.
+    AckUpTo {
+        consumer: u64,
+        position: Position,
+    },
+    /// The consumer wants the message again, after its delay.
+    Nack {
+        consumer: u64,
+        position: Position,
+        now: Moment,
+    },
+    /// Releases what is due by now.
+    Tick {
+        subscription: SubscriptionName,
+        now: Moment,
     },
     /// Sends one message of the subscription, where one may be sent.
     Dispatch {

@@ -9,9 +9,9 @@ mod runs;
 mod tests;
 mod topic;
 
-pub use delivery::{Deliveries, Delivery};
-pub use event::{Event, Flow, Initial, Kind};
-pub use position_core::Fault;
+pub use delivery::{Deliveries, Delivery, is_one_of};
+pub use event::{Event, Initial};
+pub use position_core::{Fault, Flow, Kind};
 pub use reply::Reply;
 pub use runs::run;
 pub use topic::Topic;

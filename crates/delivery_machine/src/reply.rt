@@ -36,6 +36,16 @@ pub enum Reply {
     /// No message may be sent.
     Idle,
     Copies(Deliveries),
+    /// The message waits again.
+    Released {
+        position: Position,
+    },
+    /// All messages that were pending wait again: so many.
+    Rewound {
+        count: u64,
+    },
+    /// Nothing is due.
+    Quiet,
     /// The event changed nothing.
     Refused(Fault),
 }

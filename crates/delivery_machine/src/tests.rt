@@ -33,10 +33,10 @@ fn a_clone_has_all_copies(rt: HostRuntime) -> Result<(), Fail> {
     for entry in 0..3 {
         deliveries.push(delivery(alloc, entry)?)?;
     }
-    deliveries.leave_out(Position {
+    deliveries.leave_out(&[Position {
         ledger: 0,
         entry: 1,
-    });
+    }]);
     let copies = deliveries.clone()?;
     deliveries.drop_last();
     assert_eq!(rt; deliveries.as_slice().len(), 1);

@@ -1,5 +1,5 @@
 pub mod Greatest
-pub mod Tables
 pub mod Active
 pub mod Undone
 pub mod Free
+pub mod Turns

@@ -1,27 +1,17 @@
 -- Codes of the values that hold sets and maps, as their models want them.
 use Rattle.std.specs.Prelude.{ℕ, List, Option, ◌≡◌}
-use Rattle.std.proofs.Common.{refl}
+use Rattle.std.proofs.Common.{refl, suc, zero}
 use Rattle.std.specs.Coded.{Coded, code_by, coded×, coded_ℕ, coded_list, coded_option}
 use Rattle.std.specs.FinSet as set
 use Rattle.std.specs.FinMap as map_of
 use Rattle.position_core.specs.declared.position.Position.{Position}
 use Rattle.position_core.specs.declared.topic_name.TopicName.{TopicName}
 use Rattle.position_core.specs.Position.{position_cmp, coded_position}
-use Rattle.delivery_machine.specs.State.{Held, Dead, Subscription}
-use Rattle.delivery_machine.specs.declared.event.Kind.{Kind}
-use Rattle.delivery_machine.specs.declared.event.Kind.TheVariants.{Exclusive}
-
-abbrev pub coded_held : Coded Held
-coded_held = code_by (ℕ × Option ℕ) (coded× coded_ℕ (coded_option coded_ℕ)) (λ h. (h.consumer, h.due)) (λ p. record { consumer = p.0; due = p.1 }) (λ _. refl)
-
-abbrev pub coded_positions : Coded (set.FinSet position_cmp)
-coded_positions = set.code coded_position
-
-abbrev pub coded_pending : Coded (map_of.FinMap position_cmp Held)
-coded_pending = map_of.code coded_position coded_held
-
-abbrev pub coded_counts : Coded (map_of.FinMap position_cmp ℕ)
-coded_counts = map_of.code coded_position coded_ℕ
+use Rattle.position_core.specs.declared.held.Held.{Held}
+use Rattle.position_core.specs.declared.kind.Kind.{Kind}
+use Rattle.position_core.specs.declared.kind.Kind.TheVariants.{Exclusive, Failover, Shared}
+use Rattle.delivery_machine.specs.State.{Dead, Subscription}
+use Rattle.plain_tables.specs.Codes.{coded_positions, coded_pending, coded_counts}
 
 abbrev pub coded_text : Coded (List ℕ)
 coded_text = coded_list coded_ℕ
@@ -34,12 +24,18 @@ coded_dead = code_by ((Position × TopicName) × ℕ) (coded× (coded× coded_po
 
 abbrev pub kind_number : Kind → ℕ
 kind_number Exclusive = 0
+kind_number Failover = 1
+kind_number Shared = 2
 
 abbrev pub kind_at : ℕ → Kind
-kind_at n = Exclusive
+kind_at zero = Exclusive
+kind_at (suc zero) = Failover
+kind_at (suc (suc n)) = Shared
 
 pub kind_at-kind_number : (k : Kind) → kind_at (kind_number k) ≡ k
 kind_at-kind_number Exclusive = refl
+kind_at-kind_number Failover = refl
+kind_at-kind_number Shared = refl
 
 abbrev pub coded_kind : Coded Kind
 coded_kind = code_by ℕ coded_ℕ kind_number kind_at kind_at-kind_number

@@ -1,4 +1,6 @@
 pub mod Codes
 pub mod Raised
 pub mod Members
+pub mod Due
+pub mod Turn
 pub mod Auto

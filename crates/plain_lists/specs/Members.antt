@@ -1,8 +1,9 @@
 -- A member as it joins, the one of two that is served, and what a member was sent.
-use Rattle.std.specs.Prelude.{ℕ, ◌-◌, List, [], Option, take, length}
+use Rattle.std.specs.Prelude.{ℕ, ◌-◌, List, [], ◌∷◌, ◌++◌, Option, take, length}
 use Rattle.std.specs.List.{find}
 use Rattle.std.specs.Option.{option_map_or}
 use Rattle.position_core.specs.declared.topic_name.TopicName.{TopicName}
+use Rattle.position_core.specs.Flow.{begun, spent}
 use Rattle.delivery_machine.specs.State.{Member}
 use Rattle.delivery_machine.specs.Words.{earlier, is_member}
 use Rattle.delivery_machine.specs.declared.delivery.Delivery.{Delivery}
@@ -13,7 +14,7 @@ joining number name terms dead_topic = record {
   number = number;
   subscription = name;
   level = terms.level;
-  flow = terms.flow;
+  flow = begun terms.flow;
   ack_timeout = terms.ack_timeout;
   nack_delay = terms.nack_delay;
   max_redeliver = terms.max_redeliver;
@@ -29,6 +30,14 @@ sooner best m = option_map_or (λ b. earlier b m) best m
 -- what the consumer was sent and has not collected
 abbrev pub out_in : List Member → ℕ → List Delivery
 out_in members consumer = option_map_or (λ m. m.out) (find (is_member consumer) members) []
+
+-- with one message more to collect
+abbrev pub pushed : Delivery → Member → Member
+pushed d m = record m { out = m.out ++ d ∷ [] }
+
+-- with a credit of one less
+abbrev pub spending : Member → Member
+spending m = record m { flow = spent m.flow }
 
 -- without what it was given last
 abbrev pub shortened : Member → Member

@@ -3,11 +3,13 @@ ghost use Rattle.std.specs.Prelude.{◌≡◌, ◌==◌};
 ghost use Rattle.std.specs.List.{count_by, find};
 ghost use Rattle.std.specs.Option.{option_copied};
 ghost use Rattle.std.specs.FinMap as map_of;
+ghost use Rattle.position_core.specs.Flow.{flow_has_room};
 ghost use Rattle.delivery_machine.specs.Words.{is_by, is_held_by, is_waiting, last_sequence};
 ghost use Rattle.plain_lists.specs.Raised.{raised};
 
+use crate::member::Member;
 use crate::subscription::Subscription;
-use position_core::{Message, ProducerName};
+use position_core::{Flow, Message, ProducerName};
 
 fn is_by(message: &Message, name: &ProducerName) -> bool
     ensures { result ≡ is_by name.now message.now }
@@ -65,4 +67,23 @@ pub fn pending_at(log: &[Message], subscription: &Subscription, consumer: u64) -
     log.iter()
         .filter(|message| subscription.holds_at(consumer, message))
         .count()
+}
+
+fn flow_has_room(flow: Flow, held: usize) -> bool
+    ensures { result ≡ flow_has_room flow held }
+{
+    match flow {
+        Flow::Window(size) => held < size.get() as usize,
+        Flow::Credit(left) => left.get() > 0,
+    }
+}
+
+/// Whether the member may be sent a further message.
+pub fn has_room(log: &[Message], subscription: &Subscription, member: &Member) -> bool
+    ensures { result ≡ flow_has_room member.now.flow (count_by (λ e. is_held_by member.now.number (map_of.get subscription.now.pending e.position)) log.now) }
+{
+    flow_has_room(
+        member.flow(),
+        pending_at(log, subscription, member.number()),
+    )
 }

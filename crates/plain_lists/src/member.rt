@@ -1,14 +1,20 @@
 // The consumers of the subscriptions.
-ghost use Rattle.std.specs.Prelude.{◌≡◌, ◌+◌, ◌-◌, ◌==◌, [], ◌∷◌, ◌++◌, OnOk, OnErr, IfOk, IfSome, IfNone, is_some, map, length};
+ghost use Rattle.std.specs.Prelude.{◌≡◌, ◌+◌, ◌-◌, ◌==◌, [], ◌∷◌, ◌++◌, OnOk, OnErr, IfOk, IfErr, IfSome, IfNone, Some, None, is_some, map, length, if◌then◌else◌};
 ghost use Rattle.std.specs.List.{filter, find, position};
 ghost use Rattle.std.specs.Option.{option_copied};
-ghost use Rattle.delivery_machine.specs.Words.{is_member, is_at, active_of, comes_before, changed};
+ghost use Rattle.delivery_machine.specs.Words.{is_member, is_at, active_of, comes_before, changed, removed, emptied};
+ghost use Rattle.position_core.specs.Flow.{granting_refused};
+ghost use Rattle.delivery_machine.specs.Refusals.{permitting_refused};
+ghost use Rattle.delivery_machine.specs.Joining.{permitted};
 ghost use Rattle.delivery_machine.specs.Acknowledging.{forgetting};
-ghost use Rattle.delivery_machine.specs.Delivering.{due_after, emptied, given};
-ghost use Rattle.plain_lists.specs.Members.{joining, out_in, shortened, sooner};
+ghost use Rattle.delivery_machine.specs.Delivering.{due_after};
+ghost use Rattle.plain_lists.specs.Members.{joining, out_in, pushed, shortened, sooner, spending};
 
-use delivery_machine::{Deliveries, Delivery, Flow};
-use position_core::{Level, Millis, Moment, Position, RedeliverLimit, SubscriptionName, TopicName};
+use delivery_machine::{Deliveries, Delivery};
+use position_core::{
+    Fault, Flow, Level, Millis, Moment, Permits, Position, RedeliverLimit, SubscriptionName,
+    TopicName,
+};
 use std::alloc::{AllocError, Global};
 use std::marker::Model;
 
@@ -70,7 +76,7 @@ impl Member {
             number,
             subscription,
             level: terms.level,
-            flow: terms.flow,
+            flow: terms.flow.begun(),
             ack_timeout: terms.ack_timeout,
             nack_delay: terms.nack_delay,
             max_redeliver: terms.max_redeliver,
@@ -103,6 +109,12 @@ impl Member {
         self.subscription.is(name)
     }
 
+    pub fn level(&self) -> Level
+        ensures { result ≡ self.now.level }
+    {
+        self.level
+    }
+
     pub fn flow(&self) -> Flow
         ensures { result ≡ self.now.flow }
     {
@@ -116,6 +128,13 @@ impl Member {
         let level = self.level.get();
         let their_level = other.level.get();
         level < their_level || (level == their_level && self.number < other.number)
+    }
+
+    /// How long after a negative acknowledgement a message is sent again.
+    pub fn nack_delay(&self) -> Millis
+        ensures { result ≡ self.now.nack_delay }
+    {
+        self.nack_delay
     }
 
     /// From when on a message sent now may be released.
@@ -144,7 +163,7 @@ impl Member {
     }
 
     fn give(&mut self, delivery: Delivery) -> Result<(), AllocError>
-        ensures ok { OnOk result (self.new ≡ given delivery self.old) }
+        ensures ok { OnOk result (self.new ≡ pushed delivery self.old) }
         ensures err { OnErr result (self.new ≡ self.old) }
     {
         self.out.push(delivery)
@@ -157,12 +176,38 @@ impl Member {
         self.out.drop_last();
     }
 
-    /// Leaves out the copies of one message, where it is at the subscription.
-    fn forget(&mut self, name: &SubscriptionName, position: Position)
-        ensures { self.new ≡ forgetting name.now position self.old }
+    /// Takes the credit for one message, where it pulls.
+    fn spend(&mut self)
+        ensures { self.new ≡ spending self.old }
+    {
+        self.flow = self.flow.spent();
+    }
+
+    fn permit(&mut self, permits: Permits) -> Result<(), Fault>
+        ensures ok { OnOk result (self.new ≡ permitted permits self.old) }
+        ensures allowed { OnOk result (granting_refused permits self.old.flow ≡ None) }
+        ensures refused { IfErr result (λ fault. granting_refused permits self.old.flow ≡ Some fault) }
+        ensures same { OnErr result (self.new ≡ self.old) }
+    {
+        self.flow = self.flow.granted(permits)?;
+        Ok(())
+    }
+
+    /// Leaves out the copies of the messages, where it is at the subscription.
+    fn forget(&mut self, name: &SubscriptionName, positions: &[Position])
+        ensures { self.new ≡ forgetting name.now positions.now self.old }
     {
         if self.subscription.is(name) {
-            self.out.leave_out(position);
+            self.out.leave_out(positions);
+        }
+    }
+
+    /// Leaves nothing to be collected, where it is at the subscription.
+    fn forget_all(&mut self, name: &SubscriptionName)
+        ensures { self.new ≡ (if is_at name.now self.old then emptied self.old else self.old) }
+    {
+        if self.subscription.is(name) {
+            self.out.clear();
         }
     }
 }
@@ -173,7 +218,7 @@ pub fn member_at(members: &[Member], number: u64) -> Option<&Member>
     members.iter().find(|m| m.is_number(number))
 }
 
-fn place_of_member(members: &[Member], number: u64) -> Option<usize>
+pub fn place_of_member(members: &[Member], number: u64) -> Option<usize>
     ensures { result ≡ position (is_member number) members.now }
 {
     members.iter().position(|m| m.is_number(number))
@@ -211,12 +256,33 @@ pub fn active_at<'a>(members: &'a [Member], name: &SubscriptionName) -> Option<&
     best
 }
 
-/// Leaves the copies of one message out of what the members of the subscription were sent.
-pub fn leave_out_at(members: &mut [Member], name: &SubscriptionName, position: Position)
-    ensures { members.new ≡ map (forgetting name.now position) members.old }
+/// Leaves the copies of the messages out of what the members of the subscription were sent.
+pub fn leave_out_at(members: &mut [Member], name: &SubscriptionName, positions: &[Position])
+    ensures { members.new ≡ map (forgetting name.now positions.now) members.old }
 {
     for member in members.iter_mut() {
-        member.forget(name, position);
+        member.forget(name, positions);
+    }
+}
+
+/// Leaves the members of the subscription nothing to collect.
+pub fn empty_at(members: &mut [Member], name: &SubscriptionName)
+    ensures { members.new ≡ map (λ m. if is_at name.now m then emptied m else m) members.old }
+{
+    for member in members.iter_mut() {
+        member.forget_all(name);
+    }
+}
+
+/// Takes the consumer out of the members.
+pub fn take_member(members: &mut Vec<Member>, number: u64) -> Option<Member>
+    ensures taken { result ≡ find (is_member number) members.old.items }
+    ensures left { members.new.items ≡ removed (is_member number) members.old.items }
+    ensures none { IfNone result (members.new.items ≡ members.old.items) }
+{
+    match place_of_member(members, number) {
+        Some(place) => Some(members.remove(place)),
+        None => None,
     }
 }
 
@@ -235,7 +301,7 @@ pub fn take_out_of(members: &mut [Member], alloc: Global, number: u64) -> Option
 
 /// Gives the consumer a message. Nothing changes where there is no memory.
 pub fn give_to(members: &mut [Member], number: u64, delivery: Delivery) -> Result<(), AllocError>
-    ensures ok { OnOk result (members.new ≡ changed (is_member number) (given delivery) members.old) }
+    ensures ok { OnOk result (members.new ≡ changed (is_member number) (pushed delivery) members.old) }
     ensures err { OnErr result (members.new ≡ members.old) }
 {
     match place_of_member(members, number) {
@@ -251,5 +317,28 @@ pub fn take_back_from(members: &mut [Member], number: u64)
     match place_of_member(members, number) {
         Some(place) => members[place].take_back(),
         None => {}
+    }
+}
+
+/// Takes the consumer's credit for one message, where it pulls.
+pub fn spend_at(members: &mut [Member], number: u64)
+    ensures { members.new ≡ changed (is_member number) spending members.old }
+{
+    match place_of_member(members, number) {
+        Some(place) => members[place].spend(),
+        None => {}
+    }
+}
+
+/// Lets the consumer be sent so many further messages. Nothing changes where it is refused.
+pub fn permit_to(members: &mut [Member], number: u64, permits: Permits) -> Result<(), Fault>
+    ensures ok { OnOk result (members.new ≡ changed (is_member number) (permitted permits) members.old) }
+    ensures allowed { OnOk result (permitting_refused permits (find (is_member number) members.old) ≡ None) }
+    ensures refused { IfErr result (λ fault. permitting_refused permits (find (is_member number) members.old) ≡ Some fault) }
+    ensures same { OnErr result (members.new ≡ members.old) }
+{
+    match place_of_member(members, number) {
+        Some(place) => members[place].permit(permits),
+        None => Err(Fault::NoSession),
     }
 }

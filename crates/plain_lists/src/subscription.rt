@@ -1,30 +1,33 @@
 // The subscriptions of a topic.
-ghost use Rattle.std.specs.Prelude.{◌≡◌, ◌≤◌, OnOk, OnErr, is_some, length};
+ghost use Rattle.std.specs.Prelude.{◌≡◌, ◌≤◌, OnOk, OnErr, Some, false, is_some, length};
 ghost use Rattle.std.specs.List.{find, position, position_or_len};
-ghost use Rattle.std.specs.Bool.{OnFalse};
-ghost use Rattle.std.specs.Option.{option_copied};
+ghost use Rattle.std.specs.Bool.{OnFalse, OnTrue};
+ghost use Rattle.std.specs.Option.{option_and_then, option_copied, option_map, option_map_or};
 ghost use Rattle.std.specs.Ordering.{is_lt};
 ghost use Rattle.std.specs.FinMap as map_of;
 ghost use Rattle.position_core.specs.Name.{name_order};
 ghost use Rattle.delivery_machine.specs.Words.{changed, count_of, is_named, is_held_by, is_waiting};
-ghost use Rattle.delivery_machine.specs.Joining.{of_kind};
+ghost use Rattle.delivery_machine.specs.Joining.{of_kind, releasing_all, releasing_at};
+ghost use Rattle.position_core.specs.Kind.{is_in_order, same_kind};
 ghost use Rattle.delivery_machine.specs.Acknowledging.{acknowledging};
 ghost use Rattle.delivery_machine.specs.Delivering.{holding};
+ghost use Rattle.delivery_machine.specs.Ticking.{redelivering};
 
-use crate::pending::{Hold, PendingTable};
-use crate::positions::PositionSet;
-use delivery_machine::Kind;
-use position_core::{Message, Position, SubscriptionName};
+use plain_tables::{CountTable, PendingTable, PositionSet};
+use position_core::{Held, Kind, Message, Position, SubscriptionName};
 use std::alloc::{AllocError, Global};
 use std::marker::Model;
 
-/// A subscription. Nothing is redelivered or dies yet, so it has no counts and no dead letters.
+/// A subscription. Nothing dies yet, so it has no dead letters.
 #[derive(Drop)]
 pub struct Subscription {
     name: SubscriptionName,
     kind: Kind,
     acknowledged: PositionSet,
     pending: PendingTable,
+    counts: CountTable,
+    /// The consumer that was sent a message last; 0 where there is none.
+    last_served: u64,
 }
 
 impl Model for Subscription {
@@ -42,7 +45,7 @@ impl Model for Subscription {
       kind = s.kind;
       acknowledged = s.acknowledged;
       pending = s.pending;
-      counts = map_of.empty;
+      counts = s.counts;
       dead = [];
       safe = 0;
     } };
@@ -60,6 +63,8 @@ impl Subscription {
             kind,
             acknowledged,
             pending: PendingTable::new(alloc),
+            counts: CountTable::new(alloc),
+            last_served: 0,
         }
     }
 
@@ -87,20 +92,30 @@ impl Subscription {
         self.kind = kind;
     }
 
-    /// How often the message was redelivered: nothing is yet.
+    /// How often the message was redelivered.
     pub fn count_of(&self, position: Position) -> u32
         ensures { result ≡ count_of self.now position }
     {
-        let _ = &self.pending;
-        let _ = position;
-        0
+        self.counts.get(position)
     }
 
-    pub(crate) fn is_waiting(&self, message: &Message) -> bool
+    /// The consumer that was sent a message last; 0 where there is none.
+    pub(crate) fn last_served(&self) -> u64 {
+        self.last_served
+    }
+
+    pub fn is_waiting(&self, message: &Message) -> bool
         ensures { result ≡ is_waiting self.now message.now }
     {
         let position = message.position();
         !self.acknowledged.contains(position) && !self.pending.contains(position)
+    }
+
+    /// The consumer at which the message is pending.
+    pub fn holder(&self, position: Position) -> Option<u64>
+        ensures { result ≡ option_map (λ h. h.consumer) (map_of.get self.now.pending position) }
+    {
+        self.pending.holder(position)
     }
 
     pub(crate) fn holds_at(&self, consumer: u64, message: &Message) -> bool
@@ -109,20 +124,77 @@ impl Subscription {
         self.pending.is_held_by(message.position(), consumer)
     }
 
-    fn hold(&mut self, position: Position, hold: Hold) -> Result<(), AllocError>
-        ensures ok { OnOk result (self.new ≡ holding position hold self.old) }
+    fn hold(&mut self, position: Position, held: Held) -> Result<(), AllocError>
+        ensures ok { OnOk result (self.new ≡ holding position held self.old) }
         ensures err { OnErr result (self.new ≡ self.old) }
     {
-        self.pending.insert(position, hold)
+        self.pending.insert(position, held)?;
+        self.last_served = held.consumer;
+        Ok(())
     }
 
-    fn acknowledge(&mut self, position: Position) -> Result<(), AllocError>
-        ensures ok { OnOk result (self.new ≡ acknowledging position self.old) }
+    /// From when on the message may be released.
+    pub(crate) fn due(&self, message: &Message) -> Option<u64>
+        ensures { result ≡ option_and_then (λ h. h.due) (map_of.get self.now.pending message.now.position) }
+    {
+        self.pending.due(message.position())
+    }
+
+    pub(crate) fn is_pending(&self, message: &Message) -> bool
+        ensures { result ≡ map_of.contains_key self.now.pending message.now.position }
+    {
+        self.pending.contains(message.position())
+    }
+
+    /// Makes the message due, and answers whether it is pending at the consumer; else nothing
+    /// changes.
+    fn set_due(&mut self, consumer: u64, position: Position, due: u64) -> bool
+        ensures known { result ≡ is_held_by consumer (map_of.get self.old.pending position) }
+        ensures held { OnTrue result (self.new ≡ holding position (record { consumer = consumer; due = Some due }) self.old) }
+        ensures none { OnFalse result (self.new ≡ self.old) }
+    {
+        if !self.pending.is_held_by(position, consumer) {
+            return false;
+        }
+        self.pending.rehold(
+            position,
+            Held {
+                consumer,
+                due: Some(due),
+            },
+        );
+        true
+    }
+
+    fn redeliver(&mut self, alloc: Global, positions: &[Position]) -> Result<(), AllocError>
+        ensures ok { OnOk result (self.new ≡ redelivering positions.now self.old) }
         ensures err { OnErr result (self.new ≡ self.old) }
     {
-        self.acknowledged.insert(position)?;
-        self.pending.remove(position);
+        self.counts.count_again(alloc, positions)?;
+        self.pending.leave_out(positions);
         Ok(())
+    }
+
+    fn acknowledge(&mut self, positions: &[Position]) -> Result<(), AllocError>
+        ensures ok { OnOk result (self.new ≡ acknowledging positions.now self.old) }
+        ensures err { OnErr result (self.new ≡ self.old) }
+    {
+        self.acknowledged.add(positions)?;
+        self.pending.leave_out(positions);
+        self.counts.leave_out(positions);
+        Ok(())
+    }
+
+    fn release_held_by(&mut self, consumer: u64)
+        ensures { self.new ≡ releasing_at consumer self.old }
+    {
+        self.pending.release_held_by(consumer);
+    }
+
+    fn release_all(&mut self)
+        ensures { self.new ≡ releasing_all self.old }
+    {
+        self.pending.clear();
     }
 }
 
@@ -136,6 +208,16 @@ pub fn subscription_at<'a>(
     subscriptions
         .iter()
         .find(|subscription| subscription.is_named(name))
+}
+
+/// Whether there is a subscription of the name, and it is of the kind.
+pub fn has_kind(subscriptions: &[Subscription], name: &SubscriptionName, kind: Kind) -> bool
+    ensures { result ≡ option_map_or (λ sub. same_kind sub.kind kind) (find (is_named name.now) subscriptions.now) false }
+{
+    match subscription_at(subscriptions, name) {
+        Some(subscription) => subscription.kind().is(kind),
+        None => false,
+    }
 }
 
 fn place_of_subscription(subscriptions: &[Subscription], name: &SubscriptionName) -> Option<usize>
@@ -185,28 +267,93 @@ pub fn hold_at(
     subscriptions: &mut [Subscription],
     name: &SubscriptionName,
     position: Position,
-    hold: Hold,
+    held: Held,
 ) -> Result<(), AllocError>
-    ensures ok { OnOk result (subscriptions.new ≡ changed (is_named name.now) (holding position hold) subscriptions.old) }
+    ensures ok { OnOk result (subscriptions.new ≡ changed (is_named name.now) (holding position held) subscriptions.old) }
     ensures err { OnErr result (subscriptions.new ≡ subscriptions.old) }
 {
     match place_of_subscription(subscriptions, name) {
-        Some(place) => subscriptions[place].hold(position, hold),
+        Some(place) => subscriptions[place].hold(position, held),
         None => Ok(()),
     }
 }
 
-/// Acknowledges the message in the subscription. Nothing changes where there is no memory.
+/// Acknowledges the messages in the subscription. Nothing changes where there is no memory.
 pub fn acknowledge_at(
     subscriptions: &mut [Subscription],
     name: &SubscriptionName,
-    position: Position,
+    positions: &[Position],
 ) -> Result<(), AllocError>
-    ensures ok { OnOk result (subscriptions.new ≡ changed (is_named name.now) (acknowledging position) subscriptions.old) }
+    ensures ok { OnOk result (subscriptions.new ≡ changed (is_named name.now) (acknowledging positions.now) subscriptions.old) }
     ensures err { OnErr result (subscriptions.new ≡ subscriptions.old) }
 {
     match place_of_subscription(subscriptions, name) {
-        Some(place) => subscriptions[place].acknowledge(position),
+        Some(place) => subscriptions[place].acknowledge(positions),
         None => Ok(()),
+    }
+}
+
+/// Makes the message due, and answers whether it is pending at the consumer of the subscription;
+/// else nothing changes.
+pub fn set_due_at(
+    subscriptions: &mut [Subscription],
+    name: &SubscriptionName,
+    consumer: u64,
+    position: Position,
+    due: u64,
+) -> bool
+    ensures known { result ≡ option_map_or (λ sub. is_held_by consumer (map_of.get sub.pending position)) (find (is_named name.now) subscriptions.old) false }
+    ensures held { OnTrue result (subscriptions.new ≡ changed (is_named name.now) (holding position (record { consumer = consumer; due = Some due })) subscriptions.old) }
+    ensures none { OnFalse result (subscriptions.new ≡ subscriptions.old) }
+{
+    match place_of_subscription(subscriptions, name) {
+        Some(place) => subscriptions[place].set_due(consumer, position, due),
+        None => false,
+    }
+}
+
+/// Counts the messages once more and lets them wait again. Nothing changes where there is no memory.
+pub fn redeliver_at(
+    subscriptions: &mut [Subscription],
+    alloc: Global,
+    name: &SubscriptionName,
+    positions: &[Position],
+) -> Result<(), AllocError>
+    ensures ok { OnOk result (subscriptions.new ≡ changed (is_named name.now) (redelivering positions.now) subscriptions.old) }
+    ensures err { OnErr result (subscriptions.new ≡ subscriptions.old) }
+{
+    match place_of_subscription(subscriptions, name) {
+        Some(place) => subscriptions[place].redeliver(alloc, positions),
+        None => Ok(()),
+    }
+}
+
+/// Whether one consumer of the subscription takes its messages in order.
+pub fn is_in_order_at(subscriptions: &[Subscription], name: &SubscriptionName) -> bool
+    ensures { result ≡ option_map_or (λ sub. is_in_order sub.kind) (find (is_named name.now) subscriptions.now) false }
+{
+    match subscription_at(subscriptions, name) {
+        Some(subscription) => subscription.kind().is_in_order(),
+        None => false,
+    }
+}
+
+/// Releases what is pending at the consumer.
+pub fn release_held_by(subscriptions: &mut [Subscription], name: &SubscriptionName, consumer: u64)
+    ensures { subscriptions.new ≡ changed (is_named name.now) (releasing_at consumer) subscriptions.old }
+{
+    match place_of_subscription(subscriptions, name) {
+        Some(place) => subscriptions[place].release_held_by(consumer),
+        None => {}
+    }
+}
+
+/// Releases all that is pending in the subscription.
+pub fn release_all_at(subscriptions: &mut [Subscription], name: &SubscriptionName)
+    ensures { subscriptions.new ≡ changed (is_named name.now) releasing_all subscriptions.old }
+{
+    match place_of_subscription(subscriptions, name) {
+        Some(place) => subscriptions[place].release_all(),
+        None => {}
     }
 }

@@ -1,3 +1,2 @@
 pub mod StateOf
 pub mod Names
-pub mod Chosen

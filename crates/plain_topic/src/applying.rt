@@ -42,7 +42,16 @@ impl Topic for PlainTopic {
                 dead_topic,
                 *initial,
             ),
+            Event::Leave { consumer } => self.leave(*consumer),
             Event::Ack { consumer, position } => self.ack(*consumer, *position),
+            Event::AckUpTo { consumer, position } => self.ack_up_to(*consumer, *position),
+            Event::Permit { consumer, permits } => self.permit(*consumer, *permits),
+            Event::Nack {
+                consumer,
+                position,
+                now,
+            } => self.nack(*consumer, *position, *now),
+            Event::Tick { subscription, now } => self.tick(subscription, *now),
             Event::Dispatch { subscription, now } => self.dispatch(subscription, *now),
             Event::Collect { consumer } => self.collect(*consumer),
         }

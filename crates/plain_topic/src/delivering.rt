@@ -4,12 +4,12 @@ ghost use Rattle.delivery_machine.specs.Words.{changed, is_member, is_named};
 ghost use Rattle.delivery_machine.specs.Delivering.{given, holding};
 
 use crate::plain::PlainTopic;
-use delivery_machine::{Deliveries, Delivery, Flow, Kind, Reply};
+use delivery_machine::{Deliveries, Delivery, Kind, Reply};
 use plain_lists::{
-    Hold, Member, Subscription, active_at, first_waiting, give_to, hold_at, member_at, pending_at,
-    subscription_at, take_back_from, take_out_of,
+    Member, Subscription, active_at, first_waiting, give_to, has_room, hold_at, member_at,
+    next_in_turn, spend_at, subscription_at, take_back_from, take_out_of,
 };
-use position_core::{Fault, Message, Moment, Position, SubscriptionName};
+use position_core::{Fault, Held, Message, Moment, Position, SubscriptionName};
 use std::alloc::AllocError;
 
 /// Gives a message to the consumer that holds it from now on. Nothing changes where there is no
@@ -20,17 +20,20 @@ fn hand_over(
     name: &SubscriptionName,
     position: Position,
     consumer: u64,
-    hold: Hold,
+    held: Held,
     delivery: Delivery,
 ) -> Result<(), AllocError>
     ensures given { OnOk result (members.new.items ≡ changed (is_member consumer) (given delivery) members.old.items) }
-    ensures held { OnOk result (subscriptions.new.items ≡ changed (is_named name.now) (holding position hold) subscriptions.old.items) }
+    ensures held { OnOk result (subscriptions.new.items ≡ changed (is_named name.now) (holding position held) subscriptions.old.items) }
     ensures members_same { OnErr result (members.new.items ≡ members.old.items) }
     ensures subscriptions_same { OnErr result (subscriptions.new.items ≡ subscriptions.old.items) }
 {
     give_to(members, consumer, delivery)?;
-    match hold_at(subscriptions, name, position, hold) {
-        Ok(()) => Ok(()),
+    match hold_at(subscriptions, name, position, held) {
+        Ok(()) => {
+            spend_at(members, consumer);
+            Ok(())
+        }
         Err(error) => {
             take_back_from(members, consumer);
             Err(error)
@@ -42,19 +45,15 @@ impl PlainTopic {
     ghost use Rattle.std.specs.Prelude.{◌≡◌, IfSome, IfNone, IfOk, IfErr};
     ghost use Rattle.position_core.specs.declared.fault.Fault.TheVariants.{NoMemory};
     ghost use Rattle.delivery_machine.specs.Run.{Answers};
-    ghost use Rattle.delivery_machine.specs.Words.{IsEligible, has_room};
+    ghost use Rattle.delivery_machine.specs.Words.{IsEligible, NoneEligible, has_room};
     ghost use Rattle.delivery_machine.specs.Delivering.{out_of};
     ghost use Rattle.delivery_machine.specs.declared.event.Event.TheVariants.{Collect, Dispatch};
     ghost use Rattle.plain_topic.specs.StateOf.{state_of};
-    ghost use Rattle.plain_topic.specs.Chosen.{NoneEligible};
 
     fn has_room(&self, subscription: &Subscription, member: &Member) -> bool
         ensures { result ≡ has_room (state_of self.now) subscription.now member.now }
     {
-        match member.flow() {
-            Flow::Window(size) => pending_at(&self.log, subscription, member.number())
-                < size.get() as usize,
-        }
+        has_room(&self.log, subscription, member)
     }
 
     /// A message and a member that it may be sent to.
@@ -64,7 +63,11 @@ impl PlainTopic {
     {
         let message = first_waiting(self.visible(), subscription)?;
         match subscription.kind() {
-            Kind::Exclusive => {
+            Kind::Shared => {
+                let member = next_in_turn(&self.members, &self.log, subscription)?;
+                Some((message, member))
+            }
+            Kind::Exclusive | Kind::Failover => {
                 let member = active_at(&self.members, subscription.name())?;
                 if self.has_room(subscription, member) {
                     Some((message, member))
@@ -87,7 +90,10 @@ impl PlainTopic {
         let position = message.position();
         let consumer = member.number();
         let count = subscription.count_of(position);
-        let hold = Hold::new(consumer, member.due_after(now));
+        let held = Held {
+            consumer,
+            due: member.due_after(now),
+        };
         let Ok(message) = message.clone() else {
             return Reply::Refused(Fault::NoMemory);
         };
@@ -98,7 +104,7 @@ impl PlainTopic {
             name,
             position,
             consumer,
-            hold,
+            held,
             delivery,
         )
         .is_err()

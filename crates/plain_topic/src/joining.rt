@@ -1,10 +1,11 @@
 // Joining a subscription.
 use crate::plain::PlainTopic;
-use delivery_machine::{Initial, Kind, Reply};
+use delivery_machine::{Initial, Reply};
 use plain_lists::{
-    Member, PositionSet, Subscription, Terms, count_at, place_for, set_kind_of, subscription_at,
+    Member, Subscription, Terms, count_at, has_kind, place_for, set_kind_of, subscription_at,
 };
-use position_core::{Fault, SubscriptionName, TopicName};
+use plain_tables::PositionSet;
+use position_core::{Fault, Kind, SubscriptionName, TopicName};
 use std::alloc::AllocError;
 
 impl PlainTopic {
@@ -20,7 +21,10 @@ impl PlainTopic {
         ensures { result ≡ subscribing_refused (state_of self.now) name.now kind }
     {
         let members = count_at(&self.members, name);
-        if members > 0 && kind == Kind::Exclusive {
+        if members > 0 && !has_kind(&self.subscriptions, name, kind) {
+            return Some(Fault::WrongKind);
+        }
+        if members > 0 && kind.is(Kind::Exclusive) {
             return Some(Fault::ConsumerBusy);
         }
         if members >= 64 {
@@ -89,12 +93,14 @@ impl PlainTopic {
         if self.members.reserve(1).is_err() {
             return Reply::Refused(Fault::NoMemory);
         }
+        let active = self.active_at(name);
         if self.enter(name, kind, initial).is_err() {
             return Reply::Refused(Fault::NoMemory);
         }
         self.members
             .push_reserved(Member::new(self.alloc, number, at, terms, dead_topic));
         self.next_consumer = number + 1;
+        self.take_over(name, active);
         Reply::Subscribed { consumer: number }
     }
 }

@@ -5,9 +5,13 @@ mod acknowledging;
 mod applying;
 mod delivering;
 mod joining;
+mod leaving;
+mod permitting;
 mod plain;
 mod producing;
+mod taking_over;
 #[cfg(test)]
 mod tests;
+mod ticking;
 
 pub use plain::PlainTopic;

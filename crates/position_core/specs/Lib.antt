@@ -1,4 +1,6 @@
 pub mod Fault
+pub mod Kind
+pub mod Flow
 pub mod Position
 pub mod Id
 pub mod Name

@@ -28,6 +28,12 @@ pub type Millis = Bounded<0, 2_147_483_647>;
 /// How many messages may be pending at a consumer that is pushed to.
 pub type WindowSize = Bounded<1, 100_000>;
 
+/// How many further messages a consumer that pulls may be sent.
+pub type Credit = Bounded<0, 2_147_483_647>;
+
+/// How many messages one permit is for.
+pub type Permits = Bounded<1, 2_147_483_647>;
+
 /// After how many redeliveries a message dies: 0 for never.
 pub type RedeliverLimit = Bounded<0, 1_000_000>;
 

@@ -4,7 +4,10 @@
 mod body;
 mod bounded;
 mod fault;
+mod flow;
+mod held;
 mod id;
+mod kind;
 mod message;
 mod moment;
 mod name;
@@ -17,8 +20,13 @@ mod text;
 mod topic_name;
 
 pub use body::{Body, Content};
-pub use bounded::{Bounded, LedgerSize, Level, Millis, RedeliverLimit, WindowSize};
+pub use bounded::{
+    Bounded, Credit, LedgerSize, Level, Millis, Permits, RedeliverLimit, WindowSize,
+};
 pub use fault::Fault;
+pub use flow::Flow;
+pub use held::Held;
+pub use kind::Kind;
 pub use message::{Entry, Message};
 pub use moment::{Base, Moment};
 pub use name::{Name, SubscriptionName};

@@ -1,9 +1,3 @@
-pub mod Decimals
-pub mod Findings
-pub mod Partings
-pub mod BaseLemmas
-pub mod Writings
-pub mod Commands
 pub mod Written
 pub mod LinesLemmas
 pub mod Steps

@@ -5,8 +5,8 @@ use Rattle.std.specs.List.{list_all}
 use Rattle.std.proofs.Math.Seq.{drop-append_seam}
 use Rattle.std.proofs.lemmas.List.Sums.{sum_by-cons}
 use Rattle.position_core.specs.declared.topic_name.TopicName.{TopicName}
-use Rattle.replay_core.specs.Lines.{lines_of, onto_line, longest_line, ends_in}
-use Rattle.replay_core.specs.Grammar.{IsBadLine}
+use Rattle.replay_lines.specs.Grammar.{IsBadLine, longest_line}
+use Rattle.replay_core.specs.Lines.{lines_of, onto_line, ends_in}
 use Rattle.replay_core.specs.Replay.{Answer, AreAnswered, IsAnswered, IsBadFirst}
 use Rattle.replay_core.specs.Progress.{has_end, joined, IsBadWhatever}
 

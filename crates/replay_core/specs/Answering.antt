@@ -1,7 +1,7 @@
 -- How one line is answered.
 use Rattle.std.specs.Prelude.{◌≡◌, List, ℕ, ⊤}
 use Rattle.position_core.specs.declared.topic_name.TopicName.{TopicName}
-use Rattle.replay_core.specs.Grammar.{IsBadLine}
+use Rattle.replay_lines.specs.Grammar.{IsBadLine}
 use Rattle.replay_core.specs.declared.stop.Stop.{Stop}
 use Rattle.replay_core.specs.declared.stop.Stop.TheVariants as stop
 use Rattle.delivery_machine.specs.State.{State}

@@ -1,6 +1,6 @@
 -- The arguments of the program.
 use Rattle.std.specs.Prelude.{◌≡◌, ℕ, List, [], ◌∷◌}
-use Rattle.replay_core.specs.Numbers.{IsBetween}
+use Rattle.replay_lines.specs.Numbers.{IsBetween}
 
 -- the arguments ask for ledgers of so many entries: 50,000 where there is none
 abbrev pub AskFor : List (List ℕ) → ℕ → Type 0

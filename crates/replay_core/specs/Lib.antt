@@ -1,13 +1,7 @@
-pub mod Parting
-pub mod Reads
-pub mod Numbers
-pub mod Names
-pub mod Payloads
 pub mod Lines
 pub mod Arguments
 pub mod Printing
 pub mod Stops
-pub mod Grammar
 pub mod Replay
 pub mod Answering
 pub mod Output

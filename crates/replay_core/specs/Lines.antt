@@ -1,10 +1,6 @@
--- The lines of an input, and how long one may be.
+-- The lines of an input.
 use Rattle.std.specs.Prelude.{ℕ, ◌==◌, List, [], ◌∷◌, if◌then◌else◌}
 use Rattle.std.specs.List.{count_by}
-
--- how many bytes a line may have
-abbrev pub longest_line : ℕ
-longest_line = 1500000
 
 -- the byte goes onto the first of the lines, which it makes where there is none
 abbrev pub onto_line : ℕ → List (List ℕ) → List (List ℕ)

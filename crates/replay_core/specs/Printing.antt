@@ -10,8 +10,8 @@ use Rattle.delivery_machine.specs.declared.delivery.Delivery.{Delivery}
 use Rattle.delivery_machine.specs.declared.event.Event.{Event}
 use Rattle.delivery_machine.specs.declared.event.Event.TheVariants.{AddProducer}
 use Rattle.delivery_machine.specs.declared.reply.Reply.{Reply}
-use Rattle.delivery_machine.specs.declared.reply.Reply.TheVariants.{ProducerAdded, Published, Duplicate, Durable, Subscribed, Done, Sent, Idle, Copies, Refused}
-use Rattle.replay_core.specs.Payloads.{payload_text}
+use Rattle.delivery_machine.specs.declared.reply.Reply.TheVariants.{ProducerAdded, Published, Duplicate, Durable, Subscribed, Done, Sent, Idle, Copies, Released, Rewound, Quiet, Refused}
+use Rattle.replay_lines.specs.Payloads.{payload_text}
 
 -- ---- names
 
@@ -60,4 +60,7 @@ reply_text event (Sent consumer position count) =
     codes "sent " ++ decimal consumer ++ codes " " ++ text_of position ++ codes " " ++ decimal count
 reply_text event Idle = codes "idle"
 reply_text event (Copies copies) = codes "copies " ++ decimal (length copies) ++ flat_map copy_text copies
+reply_text event (Released position) = codes "released " ++ text_of position
+reply_text event (Rewound count) = codes "rewound " ++ decimal count
+reply_text event Quiet = codes "quiet"
 reply_text event (Refused fault) = refused_text fault

@@ -11,9 +11,9 @@ use Rattle.delivery_machine.specs.Run.{Run}
 use Rattle.delivery_machine.specs.declared.event.Event.{Event}
 use Rattle.delivery_machine.specs.declared.reply.Reply.{Reply}
 use Rattle.replay_core.specs.Lines.{lines_of, ends_in}
-use Rattle.replay_core.specs.Grammar.{IsLine, IsBadLine}
+use Rattle.replay_lines.specs.Grammar.{IsLine, IsBadLine}
 use Rattle.replay_core.specs.Printing.{reply_text, refused_text}
-use Rattle.replay_core.specs.declared.reading.Line.TheVariants as lines
+use Rattle.replay_lines.specs.declared.reading.Line.TheVariants as lines
 use Rattle.replay_core.specs.declared.stop.Stop.{Stop}
 use Rattle.replay_core.specs.declared.stop.Stop.TheVariants.{BadLine, Read, Write, Memory}
 

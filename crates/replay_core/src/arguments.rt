@@ -1,10 +1,10 @@
 // The arguments of the program.
 ghost use Rattle.std.specs.Prelude.{map, string_bytes};
-ghost use Rattle.replay_core.specs.Reads.{Finds};
+ghost use Rattle.replay_lines.specs.Reads.{Finds};
 ghost use Rattle.replay_core.specs.Arguments.{AskFor};
 
-use crate::numbers::read_bounded;
 use position_core::LedgerSize;
+use replay_lines::read_bounded;
 
 /// How many entries a ledger has where no argument says so.
 const USUAL_LEDGER_SIZE: u32 = 50_000;

@@ -3,28 +3,22 @@ ghost use Rattle.std.specs.Prelude.{◌≡◌, ◌+◌, ◌<◌, ◌≤◌, ◌^
 ghost use Rattle.std.specs.Io.KnownBytes.{Appends, Consumes, IsAtEnd};
 ghost use Rattle.delivery_machine.specs.Run.{Answers};
 ghost use Rattle.delivery_machine.specs.declared.reply.Reply.{Reply};
-ghost use Rattle.replay_core.specs.Grammar.{IsBadLine, IsLine};
-ghost use Rattle.replay_core.specs.Reads.{Reads};
+ghost use Rattle.replay_lines.specs.Grammar.{IsBadLine};
 ghost use Rattle.replay_core.specs.Printing.{reply_text};
 ghost use Rattle.replay_core.specs.Replay.{Answer, IsAnswered, IsReplay, answer_text, bad_id};
 ghost use Rattle.replay_core.specs.Answering.{IsStepOf, StopsAt};
 ghost use Rattle.replay_core.specs.Outcomes.{bad_line_in, failed_writing};
-ghost use Rattle.replay_core.specs.declared.words.Unread.TheVariants.{BadLine};
+ghost use Rattle.replay_lines.specs.declared.words.Unread.TheVariants.{BadLine};
 
 use crate::output::Output;
-use crate::parting::split;
 use crate::printing::{append_refused, append_reply};
-use crate::reading::{Line, read_line};
 use crate::stop::Stop;
-use crate::words::Unread;
 use delivery_machine::{Event, Topic};
 use position_core::{Fault, TopicName};
+use replay_lines::{LONGEST_LINE, Line, Unread, read_line, split};
 use std::alloc::{AllocError, Global};
 use std::io::{Read, Write};
 use std::mem;
-
-/// How long a line may be. No line of an event needs more.
-const LONGEST_LINE: usize = 1_500_000;
 
 /// How often the reader is asked before it counts as one that does not end.
 const MOST_READS: u64 = 4_294_967_296;
@@ -67,16 +61,6 @@ fn append_bad_id(out: &mut String) -> Result<(), AllocError>
     out.push_str("\n")
 }
 
-/// Reads a line that is not too long.
-fn read_short_line(alloc: Global, name: &TopicName, line: &[u8]) -> Result<Line, Unread>
-    ensures { Reads (IsLine name.now line.now) result }
-{
-    if line.len() > LONGEST_LINE {
-        return Err(Unread::BadLine);
-    }
-    read_line(alloc, name, line)
-}
-
 /// Appends what the line is answered, with its end.
 fn append_answer<T: Topic>(
     alloc: Global,
@@ -88,7 +72,7 @@ fn append_answer<T: Topic>(
     ensures ok { OnOk result ((answer : Answer) × IsAnswered name.now line.now answer × IsStepOf (T.state topic.old) answer (T.state topic.new) × (string_bytes out.new ≡ string_bytes out.old ++ answer_text answer)) }
     ensures bad { result ≡ Err BadLine → IsBadLine name.now line.now }
 {
-    match read_short_line(alloc, name, line) {
+    match read_line(alloc, name, line) {
         Ok(Line::Event(event)) => {
             append_event_answer(topic, &event, out)?;
             Ok(())

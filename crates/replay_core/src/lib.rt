@@ -5,18 +5,12 @@ mod arguments;
 #[cfg(test)]
 mod doubles;
 mod engine;
-mod names;
-mod numbers;
 mod output;
-mod parting;
-mod payloads;
 mod plain;
 mod printing;
-mod reading;
 mod stop;
 #[cfg(test)]
 mod tests;
-mod words;
 
 pub use arguments::read_ledger_size;
 pub use engine::replay_over;

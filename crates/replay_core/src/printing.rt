@@ -4,10 +4,10 @@ ghost use Rattle.std.specs.Fmt.{decimal, signed_decimal};
 ghost use Rattle.position_core.specs.Id.{text_of};
 ghost use Rattle.replay_core.specs.Printing.{is_within, is_plain, escaped_byte, escaped, name_text, producer_name, copy_text, refused_text, reply_text};
 
-use crate::payloads::append_payload;
 use delivery_machine::{Delivery, Event, Reply};
 use percent_encoding::percent_encode_byte;
 use position_core::{Fault, Position};
+use replay_lines::append_payload;
 use std::alloc::AllocError;
 
 fn is_within(least: u8, most: u8, byte: u8) -> bool
@@ -160,6 +160,13 @@ fn append_published(out: &mut String, position: Position, index: u64) -> Result<
     append_counted(out, " ", index)
 }
 
+fn append_released(out: &mut String, position: Position) -> Result<(), AllocError>
+    ensures { OnOk result (string_bytes out.new ≡ string_bytes out.old ++ (codes "released " ++ text_of position)) }
+{
+    out.push_str("released ")?;
+    append_id(out, position)
+}
+
 fn append_sent(
     out: &mut String,
     consumer: u64,
@@ -212,6 +219,9 @@ pub fn append_reply(out: &mut String, event: &Event, reply: &Reply) -> Result<()
         } => append_sent(out, *consumer, *position, *count),
         Reply::Idle => out.push_str("idle"),
         Reply::Copies(copies) => append_collected(out, copies.as_slice()),
+        Reply::Released { position } => append_released(out, *position),
+        Reply::Rewound { count } => append_counted(out, "rewound ", *count),
+        Reply::Quiet => out.push_str("quiet"),
         Reply::Refused(fault) => append_refused(out, *fault),
     }
 }

@@ -1,5 +1,8 @@
-// Worked rows, lines that are no events, and readers and writers that fail.
+// Worked rows, and readers and writers that fail.
 ghost use Rattle.std.specs.Prelude.{◌≤◌};
+
+mod failover;
+mod shared;
 
 use crate::doubles::{ByByte, Narrow};
 use crate::plain::replay;
@@ -47,19 +50,6 @@ fn check_read<R: Abort + AllocGlobal, I: Read>(rt: &R, input: &mut I, output: &[
 fn check<R: Abort + AllocGlobal>(rt: &R, input: &[u8], output: &[u8], ended: Ended) {
     let mut reader = input;
     check_read(rt, &mut reader, output, ended);
-}
-
-/// A bad third line after two good ones.
-fn check_bad<R: Abort + AllocGlobal>(rt: &R, line: &[u8]) {
-    let mut input = b"stored\nstored\n"
-        .to_vec(rt.alloc())
-        .expect(rt, "no memory");
-    input.extend_from_slice(line).expect(rt, "no memory");
-    input
-        .extend_from_slice(b"\nstored\n")
-        .expect(rt, "no memory");
-    let output = b"durable 0\ndurable 0\nbad line 3\n";
-    check(rt, input.as_slice(), output, Err(Stop::BadLine(3)));
 }
 
 #[test]
@@ -138,71 +128,13 @@ fn last_line_without_its_end(rt: HostRuntime) {
 }
 
 #[test]
-fn bad_lines(rt: HostRuntime) {
-    let lines: [&[u8]; 36] = [
-        b"",
-        b" ",
-        b"stored ",
-        b" stored",
-        b"stored  ",
-        b"stored\r",
-        b"Stored",
-        b"restart",
-        b"stored 1",
-        b"producer p",
-        b"producer p - ",
-        b"producer  p -",
-        b"producer %FF -",
-        b"producer p 01",
-        b"producer p -1",
-        b"producer p 4611686018427387905",
-        b"publish 1 9223372036854775808 - - 0",
-        b"publish 18446744073709551616 0 - - 0",
-        b"publish 1 0 - aGk 0",
-        b"publish 1 0 - aGl= 0",
-        b"publish 1 0 - - 253402300800000",
-        b"publish - 0 - - 0",
-        b"publish 1 0 - - 00",
-        b"publish 1 +1 - - 0",
-        b"ack 1",
-        b"ack 01 CAAQAA==",
-        b"ack 01 x",
-        b"ack 1 x ",
-        b"ack 1 ",
-        b"dispatch - 0",
-        b"dispatch a%2Fb 0",
-        b"collect -",
-        b"collect 99999999999999999999999",
-        b"tick s 0",
-        b"leave 1",
-        b"stats s",
-    ];
-    for line in lines {
-        check_bad(&rt, line);
-    }
-}
-
-#[test]
-fn bad_subscribes(rt: HostRuntime) {
-    let lines: [&[u8]; 14] = [
-        b"subscribe s Shared 0 push:1000 0 60000 0 - Earliest",
-        b"subscribe s Exclusive 2147483648 push:1000 0 60000 0 - Earliest",
-        b"subscribe s Exclusive 0 push:0 0 60000 0 - Earliest",
-        b"subscribe s Exclusive 0 push:100001 0 60000 0 - Earliest",
-        b"subscribe s Exclusive 0 push: 0 60000 0 - Earliest",
-        b"subscribe s Exclusive 0 push:01 0 60000 0 - Earliest",
-        b"subscribe s Exclusive 0 pull 0 60000 0 - Earliest",
-        b"subscribe s Exclusive 0 push:1 0 60000 1 - Earliest",
-        b"subscribe s Exclusive 0 push:1 0 60000 - - Earliest",
-        b"subscribe s Exclusive 0 push:1 0 60000 0 t Earliest",
-        b"subscribe s Exclusive 0 push:1 0 60000 0 - earliest",
-        b"subscribe s Exclusive 0 push:1 0 60000 0 -",
-        b"subscribe - Exclusive 0 push:1 0 60000 0 - Latest",
-        b"subscribe s Exclusive 0 push:1 0 60000 0 - Latest 0-1",
-    ];
-    for line in lines {
-        check_bad(&rt, line);
-    }
+fn bad_line(rt: HostRuntime) {
+    check(
+        &rt,
+        b"stored\nstored\nrestart\nstored\n",
+        b"durable 0\ndurable 0\nbad line 3\n",
+        Err(Stop::BadLine(3)),
+    );
 }
 
 /// A line of the most bytes has an id that is none; with a byte more it is no line.

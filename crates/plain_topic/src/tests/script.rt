@@ -2,8 +2,8 @@
 use crate::PlainTopic;
 use delivery_machine::{Event, Flow, Initial, Kind, Reply, run};
 use position_core::{
-    Base, Body, Content, LedgerSize, Level, Millis, Moment, Name, Payload, Position, ProducerName,
-    Properties, RedeliverLimit, TopicName, WindowSize,
+    Base, Body, Content, Credit, LedgerSize, Level, Millis, Moment, Name, Payload, Permits,
+    Position, ProducerName, Properties, RedeliverLimit, TopicName, WindowSize,
 };
 use std::alloc::Global;
 use std::process::Abort;
@@ -22,6 +22,12 @@ pub(super) const SECOND: Position = Position {
     entry: 1,
 };
 
+/// The position whose text is `CAAQAg==`.
+pub(super) const THIRD: Position = Position {
+    ledger: 0,
+    entry: 2,
+};
+
 #[derive(Clone, Copy)]
 pub(super) enum Ask {
     /// A producer's name, and the sequence number that it begins after.
@@ -30,9 +36,21 @@ pub(super) enum Ask {
     /// A producer, a sequence number and a payload.
     Publish(u64, i64, &'static str),
     Store,
-    /// A subscription, and how many messages may be pending at the consumer.
+    /// An Exclusive subscription, and how many messages may be pending at the consumer.
     Subscribe(&'static str, u32, Initial),
+    /// A subscription from the earliest message on, its kind, and the consumer's level.
+    Join(&'static str, Kind, u32),
+    /// A Shared subscription, and a consumer that pulls.
+    Pull(&'static str),
+    /// A consumer, and how many further messages it takes.
+    Permit(u64, u32),
+    Leave(u64),
     Acknowledge(u64, Position),
+    AcknowledgeUpTo(u64, Position),
+    /// A consumer, a message and the moment.
+    Refuse(u64, Position, u64),
+    /// A subscription and the moment.
+    Tick(&'static str, u64),
     Send(&'static str),
     Collect(u64),
 }
@@ -48,6 +66,9 @@ pub(super) enum Answer {
     Done,
     Sent(u64, Position, u32),
     Idle,
+    Released(Position),
+    Rewound(u64),
+    Quiet,
     /// The one copy: its position, and how often it was redelivered.
     Copy(Position, u32),
     NoCopies,
@@ -95,17 +116,23 @@ fn publishing(alloc: Global, producer: u64, sequence: i64, payload: &str) -> Res
     })
 }
 
+fn window_of(size: u32) -> Result<Flow, Fail> {
+    Ok(Flow::Window(WindowSize::new(size).ok_or("no window")?))
+}
+
 fn subscribing(
     alloc: Global,
     subscription: &str,
-    window: u32,
+    kind: Kind,
+    level: u32,
+    flow: Flow,
     initial: Initial,
 ) -> Result<Event, Fail> {
     Ok(Event::Subscribe {
         subscription: name(alloc, subscription)?,
-        kind: Kind::Exclusive,
-        level: Level::new(0).ok_or("no level")?,
-        flow: Flow::Window(WindowSize::new(window).ok_or("no window")?),
+        kind,
+        level: Level::new(level).ok_or("no level")?,
+        flow,
         ack_timeout: Millis::new(0).ok_or("no timeout")?,
         nack_delay: Millis::new(60_000).ok_or("no delay")?,
         max_redeliver: RedeliverLimit::new(0).ok_or("no limit")?,
@@ -125,8 +152,32 @@ fn event_of(alloc: Global, ask: Ask) -> Result<Event, Fail> {
             publishing(alloc, producer, sequence, payload)?
         }
         Ask::Store => Event::Stored,
-        Ask::Subscribe(name, window, initial) => subscribing(alloc, name, window, initial)?,
+        Ask::Subscribe(name, window, initial) => {
+            subscribing(alloc, name, Kind::Exclusive, 0, window_of(window)?, initial)?
+        }
+        Ask::Join(name, kind, level) => {
+            subscribing(alloc, name, kind, level, window_of(10)?, Initial::Earliest)?
+        }
+        Ask::Pull(name) => {
+            let flow = Flow::Credit(Credit::new(7).ok_or("no credit")?);
+            subscribing(alloc, name, Kind::Shared, 0, flow, Initial::Earliest)?
+        }
+        Ask::Permit(consumer, permits) => Event::Permit {
+            consumer,
+            permits: Permits::new(permits).ok_or("no permits")?,
+        },
+        Ask::Leave(consumer) => Event::Leave { consumer },
         Ask::Acknowledge(consumer, position) => Event::Ack { consumer, position },
+        Ask::AcknowledgeUpTo(consumer, position) => Event::AckUpTo { consumer, position },
+        Ask::Refuse(consumer, position, now) => Event::Nack {
+            consumer,
+            position,
+            now: Moment::new(now).ok_or("no moment")?,
+        },
+        Ask::Tick(subscription, now) => Event::Tick {
+            subscription: name(alloc, subscription)?,
+            now: Moment::new(now).ok_or("no moment")?,
+        },
         Ask::Send(subscription) => Event::Dispatch {
             subscription: name(alloc, subscription)?,
             now: Moment::new(1000).ok_or("no moment")?,
@@ -153,6 +204,9 @@ fn answer_of(reply: &Reply) -> Answer {
             count,
         } => Answer::Sent(*consumer, *position, *count),
         Reply::Idle => Answer::Idle,
+        Reply::Released { position } => Answer::Released(*position),
+        Reply::Rewound { count } => Answer::Rewound(*count),
+        Reply::Quiet => Answer::Quiet,
         Reply::Copies(copies) => match copies.as_slice() {
             [] => Answer::NoCopies,
             [copy] => Answer::Copy(copy.message.position(), copy.count),
@@ -184,4 +238,16 @@ pub(super) fn expect(
         assert_eq!(rt; answer_of(reply), step.1);
     }
     Ok(())
+}
+
+/// Publishes three messages and stores them.
+pub(super) fn publish_three(rt: &impl Abort, topic: &mut PlainTopic) -> Result<(), Fail> {
+    let steps = [
+        (Ask::Connect("p", -1), Answer::Added(1, None, -1)),
+        (Ask::Publish(1, 0, "hi"), Answer::Published(FIRST, 1)),
+        (Ask::Publish(1, 1, "hi"), Answer::Published(SECOND, 2)),
+        (Ask::Publish(1, 2, "hi"), Answer::Published(THIRD, 3)),
+        (Ask::Store, Answer::Durable(3)),
+    ];
+    expect(rt, topic, &steps)
 }

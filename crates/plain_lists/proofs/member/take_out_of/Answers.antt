@@ -2,8 +2,7 @@ use Rattle.std.proofs.Common.{ap, ◌∙◌, sym, Option, []}
 use Rattle.std.specs.Prelude.{is_some}
 use Rattle.std.specs.Option.{option_map_or}
 use Rattle.delivery_machine.specs.State.{Member}
-use Rattle.delivery_machine.specs.Words.{is_member}
-use Rattle.delivery_machine.specs.Delivering.{emptied}
+use Rattle.delivery_machine.specs.Words.{is_member, emptied}
 use Rattle.delivery_machine.proofs.Places.{changed_there, unchanged, found_there, found_nothing}
 use Rattle.plain_lists.proofs.member.take_out_of.Goals as goal
 

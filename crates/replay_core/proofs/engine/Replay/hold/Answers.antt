@@ -1,5 +1,5 @@
 use Rattle.std.proofs.Common.{◌<◌, ◌+◌, ◌++◌, length, refl, arith, length-append}
-use Rattle.replay_core.specs.Lines.{longest_line}
+use Rattle.replay_lines.specs.Grammar.{longest_line}
 use Rattle.replay_core.specs.declared.stop.Stop.TheVariants.{BadLine}
 use Rattle.replay_core.proofs.LinesLemmas.{long_is_bad}
 use Rattle.replay_core.proofs.Steps.{Stopped-at, no_end}

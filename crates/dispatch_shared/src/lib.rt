@@ -1,0 +1,9 @@
+//! The dispatcher of Shared subscriptions: messages in topic order, to the members in turn.
+#![tactic(auto)]
+
+mod shared;
+#[cfg(test)]
+mod tests;
+mod turn;
+
+pub use shared::Shared;

@@ -1,0 +1,57 @@
+// Which member is sent the next message, found by going through all of them.
+ghost use Rattle.std.specs.Prelude.{◌≡◌};
+ghost use Rattle.delivery_machine.specs.Words.{members_of};
+ghost use Rattle.plain_lists.specs.Turn.{is_sooner};
+ghost use Rattle.dispatch_shared.specs.Turn.{goes_first, in_turn, roomy, IsFirst};
+
+use dispatch_core::{Seen, View};
+
+/// Of two consumers' numbers, whether the first is sooner in turn: the least above the one last
+/// served, else the least.
+fn is_sooner(last: u64, number: u64, other: u64) -> bool
+    ensures { result ≡ is_sooner last number other }
+{
+    if number > last {
+        other <= last || number < other
+    } else {
+        other <= last && number < other
+    }
+}
+
+/// By level, and then in turn.
+fn goes_first(last: u64, seen: &Seen, other: &Seen) -> bool
+    ensures { result ≡ goes_first last seen.now other.now }
+{
+    let level = seen.level.get();
+    let their_level = other.level.get();
+    level < their_level || (level == their_level && is_sooner(last, seen.consumer, other.consumer))
+}
+
+fn in_turn(last: u64, best: Option<Seen>, seen: Seen) -> Seen
+    ensures { result ≡ in_turn last best seen }
+{
+    match best {
+        Some(best) => if goes_first(last, &seen, &best) {
+            seen
+        } else {
+            best
+        },
+        None => seen,
+    }
+}
+
+/// Of the members with room, one of the best level: the one with the least number above that last
+/// served, else with the least number.
+pub(crate) fn first_in_turn<V: View>(view: &V, last: u64) -> Option<Seen>
+    ensures { IsFirst last (roomy (V.state view.now) (V.subscription view.now) (members_of (V.state view.now) (V.subscription view.now).name)) result }
+{
+    let mut best = None;
+    let mut place = 0;
+    while let Some(seen) = view.member(place) {
+        if seen.room {
+            best = Some(in_turn(last, best, seen));
+        }
+        place += 1;
+    }
+    best
+}

@@ -1,0 +1,56 @@
+// The dispatcher of the kinds that have one active member.
+use crate::active::active;
+use dispatch_core::{Dispatcher, Offer, Seen, View};
+use position_core::Fault;
+use std::alloc::Global;
+
+/// Offers the first waiting message to the active member. It keeps no tables.
+#[derive(Drop)]
+pub struct Single;
+
+impl Dispatcher for Single {
+    ghost use Rattle.std.specs.Prelude.{IsTrue};
+    ghost use Rattle.position_core.specs.Kind.{is_in_order};
+
+    ghost serves = { is_in_order };
+
+    ghost agrees = { λ _ s sub. IsTrue (is_in_order sub.kind) };
+
+    fn begin<V: View>(_alloc: Global, _view: &V) -> Result<Self, Fault> {
+        Ok(Single)
+    }
+
+    fn offer<V: View>(&self, view: &V) -> Option<Offer> {
+        let index = view.next_waiting(0)?;
+        let Seen { consumer, room, .. } = active(view)?;
+        room.then_some(Offer { index, consumer })
+    }
+
+    fn on_append<V: View>(&mut self, _view: &V) -> Result<(), Fault> {
+        Ok(())
+    }
+
+    fn undo_append<V: View>(&mut self, _view: &V) {}
+
+    fn on_join<V: View>(&mut self, _view: &V, _consumer: u64) -> Result<(), Fault> {
+        Ok(())
+    }
+
+    fn on_leave<V: View>(&mut self, _view: &V, _consumer: u64) {}
+
+    fn on_sent<V: View>(&mut self, _view: &V, _index: u64, _consumer: u64) -> Result<(), Fault> {
+        Ok(())
+    }
+
+    fn on_gone<V: View>(&mut self, _view: &V, _index: u64) {}
+
+    fn on_released<V: View>(&mut self, _view: &V, _index: u64) {}
+
+    fn on_reset<V: View>(&mut self, _view: &V) -> Result<(), Fault> {
+        Ok(())
+    }
+
+    ghost use Rattle.std.proofs.Common.{ap, ◌∙◌};
+
+    ghost kept = { λ _ _ _ agreed _ _ change. ap is_in_order change.kind ∙ agreed };
+}

@@ -1,0 +1,62 @@
+// That calls with memory succeed, and that the first is the least of a plain list's.
+use super::*;
+use position_core::Position;
+use std::test::Fail;
+
+fn slot(number: u64) -> Slot {
+    let position = Position {
+        ledger: 0,
+        entry: number % 89,
+    };
+    let moment = number.wrapping_mul(2_654_435_761) % 53;
+    let due = if moment < 13 { None } else { Some(moment) };
+    Slot { position, due }
+}
+
+fn due_of(slot: &Slot) -> Option<Due> {
+    let position = slot.position;
+    slot.due.map(|moment| Due { moment, position })
+}
+
+#[test]
+fn first_is_the_least(rt: HostRuntime) -> Result<(), Fail> {
+    let mut tree = DueTree::new(rt.alloc());
+    let mut list = Vec::new(rt.alloc());
+    for step in 0..400u64 {
+        let slot = slot(step);
+        let at = (step % 17) as usize;
+        match step % 4 {
+            0 if at < tree.len() && at < list.len() => {
+                tree.set(at, slot);
+                list[at] = slot;
+            }
+            1 if at < tree.len() && at < list.len() => {
+                assert_eq!(rt; tree.swap_remove(at), list.swap_remove(at));
+            }
+            _ => {
+                tree.push(slot)?;
+                list.push(slot)?;
+            }
+        }
+        assert_eq!(rt;
+            tree.first(),
+            list.iter().filter_map(due_of).min(),
+            "after {step}"
+        );
+        assert_eq!(rt; tree.get(at), list.get(at).copied(), "after {step}");
+    }
+    assert_eq!(rt; tree.len(), list.len());
+    tree.clear();
+    assert_eq!(rt; tree.first(), None);
+    Ok(())
+}
+
+#[test]
+fn pushes_where_there_is_memory(rt: HostRuntime) -> Result<(), Fail> {
+    let mut tree = DueTree::new(rt.alloc());
+    for number in 0..5_000u64 {
+        tree.push(slot(number))?;
+    }
+    assert_eq!(rt; tree.len(), 5_000);
+    Ok(())
+}

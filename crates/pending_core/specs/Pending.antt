@@ -1,0 +1,54 @@
+-- What is pending in a subscription, and how often it was redelivered.
+use Rattle.std.specs.Prelude.{◌≡◌, ℕ, ◌+◌, min, Option, Some, None, if◌then◌else◌}
+use Rattle.std.specs.Option.{option_map_or, option_and_then, unwrap_or}
+use Rattle.std.specs.FinMap as map_of
+use Rattle.std.specs.BTreeMap.Range.{IsLeBy}
+use Rattle.position_core.specs.Position.{position_cmp}
+use Rattle.position_core.specs.declared.position.Position.{Position}
+use Rattle.position_core.specs.declared.held.Held.{Held}
+use Rattle.due_tree.specs.declared.due.Due.{Due}
+use Rattle.due_tree.specs.Due.{due_cmp}
+
+-- the pending messages, and the counts of those that were redelivered
+pub record Pending : Type 0 where
+  pub pending : map_of.FinMap position_cmp Held
+  pub counts : map_of.FinMap position_cmp ℕ
+
+abbrev pub nothing_pending : Pending
+nothing_pending = record { pending = map_of.empty; counts = map_of.empty }
+
+abbrev pub count_at : Pending → Position → ℕ
+count_at s position = unwrap_or (map_of.get s.counts position) 0
+
+-- a count goes no further
+abbrev pub most_count : ℕ
+most_count = 2147483647
+
+-- pending at a consumer, with the count that it had
+abbrev pub holding : Position → Held → Pending → Pending
+holding position held s = record s { pending = map_of.insert s.pending position held }
+
+-- neither pending nor counted
+abbrev pub without : Position → Pending → Pending
+without position s = record { pending = map_of.remove s.pending position; counts = map_of.remove s.counts position }
+
+-- no longer pending
+abbrev pub released : Position → Pending → Pending
+released position s = record s { pending = map_of.remove s.pending position }
+
+-- where it is pending, it is due at this moment
+abbrev pub due_again : Position → ℕ → Pending → Pending
+due_again position due s = option_map_or (λ held. holding position (record held { due = Some due }) s) (map_of.get s.pending position) s
+
+-- where it is pending, it was redelivered once more
+abbrev pub redelivered : Position → Pending → Pending
+redelivered position s = if map_of.contains_key s.pending position then record s { counts = map_of.insert s.counts position (min (count_at s position + 1) most_count) } else s
+
+-- a pending message that has a due moment
+abbrev pub IsDue : Pending → Due → Type 0
+IsDue s due = option_and_then (λ held. held.due) (map_of.get s.pending due.position) ≡ Some due.moment
+
+-- one that has a due moment, and no other's is before it; or none has one
+abbrev pub IsFirstDue : Pending → Option Due → Type 0
+IsFirstDue s None = (due : Due) → IsDue s due → ⊥
+IsFirstDue s (Some first) = IsDue s first × ((other : Due) → IsDue s other → IsLeBy due_cmp first other)

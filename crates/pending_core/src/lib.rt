@@ -1,0 +1,11 @@
+//! The pending messages of a subscription, with their redelivery counts.
+#![tactic(auto)]
+
+mod kept;
+mod pending_map;
+mod table;
+#[cfg(test)]
+mod tests;
+
+pub use due_tree::Due;
+pub use pending_map::PendingMap;

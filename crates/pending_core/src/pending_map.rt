@@ -1,0 +1,129 @@
+// The pending messages of a subscription.
+ghost use Rattle.std.specs.Prelude.{◌≡◌, ◌↔◌, ◌<◌, ◌≤◌, IsTrue, OnOk, OnErr};
+ghost use Rattle.std.specs.Option.{option_map};
+ghost use Rattle.std.specs.FinMap as map_of;
+ghost use Rattle.pending_core.specs.Pending.{nothing_pending, holding, without, released, due_again, redelivered, count_at, most_count, IsFirstDue};
+
+use crate::kept::Kept;
+use crate::table;
+use due_tree::{Due, DueTree};
+use position_core::{Held, Position};
+use std::alloc::{AllocError, Global};
+use std::collections::BTreeMap;
+use std::marker::Model;
+
+/// The pending messages of a subscription, by their positions, and how often each message was
+/// redelivered. A position has a slot from the first `put` until it is removed. A call takes at most
+/// the logarithm of the number of slots, but for `clear` and for a growth, and only `put` takes memory.
+#[derive(Drop)]
+pub struct PendingMap {
+    kept: BTreeMap<Position, Kept>,
+    slots: DueTree,
+}
+
+impl Model for PendingMap {
+    ghost use Rattle.pending_core.specs.Pending.{Pending};
+    ghost use Rattle.pending_core.specs.Codes.{coded_pending};
+    ghost use Rattle.pending_core.specs.Kept.{pending_in, AreTied};
+
+    ghost Value = { Pending };
+
+    ghost coded = { coded_pending };
+
+    ghost view = { λ m. pending_in m.kept.entries };
+
+    ghost invariant = { λ m. AreTied m.kept.entries m.slots };
+}
+
+impl PendingMap {
+    /// Nothing is pending.
+    pub fn new(alloc: Global) -> Self
+        ensures { result ≡ nothing_pending }
+    {
+        PendingMap {
+            kept: BTreeMap::new(alloc),
+            slots: DueTree::new(alloc),
+        }
+    }
+
+    /// Makes a message pending, in place of what was pending at its position. Its count stays.
+    pub fn put(&mut self, position: Position, held: Held) -> Result<(), AllocError>
+        ensures ok { OnOk result (self.new ≡ holding position held self.old) }
+        ensures err { OnErr result (self.new ≡ self.old) }
+    {
+        table::hold(&mut self.kept, &mut self.slots, position, held)
+    }
+
+    /// Forgets a message, with its count: it was acknowledged, or died.
+    pub fn remove(&mut self, position: Position)
+        ensures { self.new ≡ without position self.old }
+    {
+        table::remove(&mut self.kept, &mut self.slots, position);
+    }
+
+    /// Gives a pending message another due moment. Where it is not pending, nothing changes.
+    pub fn set_due(&mut self, position: Position, due: u64)
+        ensures { self.new ≡ due_again position due self.old }
+    {
+        table::set_due(&mut self.kept, &mut self.slots, position, due);
+    }
+
+    /// Takes a message back. Its count stays.
+    pub fn release(&mut self, position: Position)
+        ensures { self.new ≡ released position self.old }
+    {
+        table::release(&mut self.kept, &mut self.slots, position);
+    }
+
+    /// Counts one more redelivery of a pending message, up to 2^31 - 1. Where it is not pending, nothing
+    /// changes.
+    pub fn count_redelivery(&mut self, position: Position)
+        ensures { self.new ≡ redelivered position self.old }
+    {
+        table::count(&mut self.kept, position);
+    }
+
+    pub fn get(&self, position: Position) -> Option<Held>
+        ensures { result ≡ map_of.get self.now.pending position }
+    {
+        match table::find(&self.kept, position) {
+            Some(kept) => kept.held,
+            None => None,
+        }
+    }
+
+    /// The consumer at which a message is pending.
+    pub fn held_by(&self, position: Position) -> Option<u64>
+        ensures { result ≡ option_map (λ held. held.consumer) (map_of.get self.now.pending position) }
+    {
+        self.get(position).map(|held| held.consumer)
+    }
+
+    /// How often a message was redelivered.
+    pub fn count_of(&self, position: Position) -> u32
+        ensures value { result ≡ count_at self.now position }
+        ensures within { result ≤ most_count }
+        ensures counted { IsTrue (map_of.contains_key self.now.counts position) ↔ (0 < result) }
+    {
+        match table::find(&self.kept, position) {
+            Some(kept) => kept.count,
+            None => 0,
+        }
+    }
+
+    /// The pending message that is due first, at once: by the due moments, and by the positions where
+    /// these are the same.
+    pub fn due_first(&self) -> Option<Due>
+        ensures { IsFirstDue self.now result }
+    {
+        self.slots.first()
+    }
+
+    /// Forgets all messages and counts.
+    pub fn clear(&mut self)
+        ensures { self.new ≡ nothing_pending }
+    {
+        self.kept.clear();
+        self.slots.clear();
+    }
+}

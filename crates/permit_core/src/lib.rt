@@ -1,0 +1,8 @@
+//! A consumer's room while it runs: a window with what is pending in it, or the credit that is left.
+#![tactic(auto)]
+
+mod flow;
+#[cfg(test)]
+mod tests;
+
+pub use flow::Flow;

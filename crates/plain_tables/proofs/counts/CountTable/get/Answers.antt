@@ -1,0 +1,11 @@
+use Rattle.std.proofs.Common.{ap, ◌∙◌, sym}
+use Rattle.std.specs.Option.{unwrap_or}
+use Rattle.std.specs.FinMap as map_of
+use Rattle.plain_tables.specs.Counted.{count_in}
+use Rattle.plain_tables.proofs.Tables.{get-entries}
+use Rattle.plain_tables.proofs.counts.CountTable.get.Goals as goal
+
+pub returns : goal.returns
+returns c =
+    let got = get-entries c.self.inside.entries.items c.args.position in
+    cc (c.count_in.ensures, c.deref.ensures.value, c.self.view_is, got)

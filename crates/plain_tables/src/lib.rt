@@ -1,0 +1,13 @@
+//! Sets and tables of positions, kept as lists: the parts of the plain topic's subscriptions.
+#![tactic(auto)]
+
+mod counts;
+mod pending;
+mod positions;
+mod table;
+#[cfg(test)]
+mod tests;
+
+pub use counts::CountTable;
+pub use pending::PendingTable;
+pub use positions::{PositionSet, positions_up_to};

@@ -1,0 +1,87 @@
+// A set of positions.
+ghost use Rattle.std.specs.Prelude.{◌≡◌, ◌++◌, OnOk, OnErr, IfOk, map};
+ghost use Rattle.std.specs.FinSet as set;
+ghost use Rattle.delivery_machine.specs.Acknowledging.{is_one_of, positions_up_to};
+
+use delivery_machine::is_one_of;
+use position_core::{Message, Position};
+use std::alloc::{AllocError, Global};
+use std::marker::Model;
+
+/// A set of positions: a list, which may have repeats.
+#[derive(Drop)]
+pub struct PositionSet {
+    items: Vec<Position>,
+}
+
+impl Model for PositionSet {
+    ghost use Rattle.std.specs.FinSet as set;
+    ghost use Rattle.position_core.specs.Position.{position_cmp};
+    ghost use Rattle.plain_tables.specs.Codes.{coded_positions};
+
+    ghost Value = { set.FinSet position_cmp };
+
+    ghost coded = { coded_positions };
+
+    ghost view = { λ s. set.from_list s.items.items };
+}
+
+impl PositionSet {
+    pub fn new(alloc: Global) -> Self
+        ensures { result ≡ set.empty }
+    {
+        PositionSet {
+            items: Vec::new(alloc),
+        }
+    }
+
+    /// The positions of the whole log.
+    pub fn all_of(alloc: Global, log: &[Message]) -> Result<Self, AllocError>
+        ensures { IfOk result (λ s. s ≡ set.from_list (map (λ e. e.position) log.now)) }
+    {
+        Ok(PositionSet {
+            items: positions_of(alloc, log)?,
+        })
+    }
+
+    pub fn contains(&self, position: Position) -> bool
+        ensures { result ≡ set.contains self.now position }
+    {
+        is_one_of(&self.items, position)
+    }
+
+    pub fn add(&mut self, positions: &[Position]) -> Result<(), AllocError>
+        ensures ok { OnOk result (self.new ≡ set.union self.old (set.from_list positions.now)) }
+        ensures err { OnErr result (self.new ≡ self.old) }
+    {
+        self.items.extend_from_slice(positions)?;
+        Ok(())
+    }
+}
+
+fn positions_of(alloc: Global, log: &[Message]) -> Result<Vec<Position>, AllocError>
+    ensures { IfOk result (λ ps. ps.items ≡ map (λ e. e.position) log.now) }
+{
+    let mut positions = Vec::new(alloc);
+    for message in log {
+        positions.push(message.position())?;
+    }
+    Ok(positions)
+}
+
+/// The positions of the log up to the given one.
+pub fn positions_up_to(
+    alloc: Global,
+    log: &[Message],
+    position: Position,
+) -> Result<Vec<Position>, AllocError>
+    ensures { IfOk result (λ ps. ps.items ≡ positions_up_to position log.now) }
+{
+    let mut positions = Vec::new(alloc);
+    for message in log {
+        if message.position() <= position {
+            positions.push(message.position())?;
+        }
+    }
+    Ok(positions)
+}

@@ -1,0 +1,19 @@
+use Rattle.std.proofs.Common.{List, Some, ap, ◌∙◌, sym, subst}
+use Rattle.std.specs.List.{find}
+use Rattle.position_core.specs.declared.message.Entry.{Entry}
+use Rattle.delivery_machine.specs.State.{Member}
+use Rattle.delivery_machine.specs.Words.{is_waiting}
+use Rattle.plain_lists.specs.Turn.{IsBestLevel, roomy}
+use Rattle.plain_topic.specs.StateOf.{state_of}
+use Rattle.plain_topic.proofs.Chosen.{shared_pair}
+use Rattle.plain_topic.proofs.plain.PlainTopic.choose.Goals as goal
+
+pub returns-in_ok-member-in-Shared-clause-pair : goal.returns-in_ok-member-in-Shared-clause-pair
+returns-in_ok-member-in-Shared-clause-pair c =
+    let sub = c.args.subscription.now in
+    let m = c.in_ok-member-in-Shared.member.now in
+    shared_pair (state_of c.args.self.now) sub c.in_ok-message.message.now m
+    (sym c.kind.ensures ∙ c.in-Shared.is)
+    (ap (find (is_waiting sub)) (sym c.visible.ensures) ∙ sym c.in_ok-message.ensures)
+    (subst (λ (log : List Entry). IsBestLevel (roomy log sub c.args.self.now.members.items) (Some m)) c.deref-in-Shared.ensures.value
+    (subst (λ (members : List Member). IsBestLevel (roomy c.deref-in-Shared.result.now sub members) (Some m)) c.deref.ensures.value c.in_ok-member-in-Shared.ensures))

@@ -1,0 +1,72 @@
+// Negative acknowledgements, and ticks, which release what is due.
+use crate::plain::PlainTopic;
+use delivery_machine::Reply;
+use plain_lists::{
+    first_due, leave_out_at, member_at, pending_positions, redeliver_at, set_due_at,
+    subscription_at,
+};
+use position_core::{Fault, Moment, Position, SubscriptionName};
+use std::alloc::AllocError;
+
+impl PlainTopic {
+    ghost use Rattle.std.specs.Prelude.{◌≡◌, OnOk, OnErr};
+    ghost use Rattle.delivery_machine.specs.Run.{Answers};
+    ghost use Rattle.delivery_machine.specs.Ticking.{redelivered};
+    ghost use Rattle.delivery_machine.specs.declared.event.Event.TheVariants.{Nack, Tick};
+    ghost use Rattle.plain_topic.specs.StateOf.{state_of};
+
+    pub(crate) fn nack(&mut self, consumer: u64, position: Position, now: Moment) -> Reply
+        ensures { Answers (state_of self.old) (Nack consumer position now) result (state_of self.new) }
+    {
+        let Some(member) = member_at(&self.members, consumer) else {
+            return Reply::Refused(Fault::NoSession);
+        };
+        let due = now.millis() + u64::from(member.nack_delay().get());
+        let name = member.subscription();
+        if set_due_at(&mut self.subscriptions, name, consumer, position, due) {
+            Reply::Done
+        } else {
+            Reply::Refused(Fault::NotPending)
+        }
+    }
+
+    /// Counts the messages once more and lets them wait again. Nothing changes where there is no
+    /// memory.
+    fn redeliver(
+        &mut self,
+        name: &SubscriptionName,
+        positions: &[Position],
+    ) -> Result<(), AllocError>
+        ensures ok { OnOk result (state_of self.new ≡ redelivered (state_of self.old) name.now positions.now) }
+        ensures err { OnErr result (state_of self.new ≡ state_of self.old) }
+    {
+        redeliver_at(&mut self.subscriptions, self.alloc, name, positions)?;
+        leave_out_at(&mut self.members, name, positions);
+        Ok(())
+    }
+
+    pub(crate) fn tick(&mut self, name: &SubscriptionName, now: Moment) -> Reply
+        ensures { Answers (state_of self.old) (Tick name.now now) result (state_of self.new) }
+    {
+        let Some(subscription) = subscription_at(&self.subscriptions, name) else {
+            return Reply::Refused(Fault::NoSuchSubscription);
+        };
+        let Some(position) = first_due(&self.log, subscription, now) else {
+            return Reply::Quiet;
+        };
+        if !subscription.kind().is_in_order() {
+            return match self.redeliver(name, &[position]) {
+                Ok(()) => Reply::Released { position },
+                Err(_) => Reply::Refused(Fault::NoMemory),
+            };
+        }
+        let Ok(positions) = pending_positions(self.alloc, &self.log, subscription) else {
+            return Reply::Refused(Fault::NoMemory);
+        };
+        let count = positions.len() as u64;
+        match self.redeliver(name, &positions) {
+            Ok(()) => Reply::Rewound { count },
+            Err(_) => Reply::Refused(Fault::NoMemory),
+        }
+    }
+}

@@ -1,0 +1,9 @@
+// At whom a message is pending.
+
+/// At whom a message is pending, and from when on it may be released: in milliseconds since 1970,
+/// possibly past the last moment; none for never.
+#[derive(Clone, Copy, Debug, PartialEq, Eq)]
+pub struct Held {
+    pub consumer: u64,
+    pub due: Option<u64>,
+}

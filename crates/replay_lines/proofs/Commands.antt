@@ -1,0 +1,20 @@
+-- The list of all commands.
+use Rattle.std.proofs.Common.{◌≡◌, ℕ, ◌<◌, length, get_or, lit<, refl}
+use Rattle.replay_lines.specs.declared.command.Command.{Command}
+use Rattle.replay_lines.specs.declared.command.Command.TheVariants as commands
+use Rattle.replay_lines.specs.declared.command.TheConstants.{ALL}
+
+-- each command stands in the list
+pub stands : (command d : Command) → (k : ℕ) × (k < length ALL) × (get_or ALL k d ≡ command)
+stands commands.Producer d = (0, lit< tt, refl)
+stands commands.Publish d = (1, lit< tt, refl)
+stands commands.Stored d = (2, lit< tt, refl)
+stands commands.Subscribe d = (3, lit< tt, refl)
+stands commands.Leave d = (4, lit< tt, refl)
+stands commands.Permit d = (5, lit< tt, refl)
+stands commands.Ack d = (6, lit< tt, refl)
+stands commands.AckUpTo d = (7, lit< tt, refl)
+stands commands.Nack d = (8, lit< tt, refl)
+stands commands.Tick d = (9, lit< tt, refl)
+stands commands.Dispatch d = (10, lit< tt, refl)
+stands commands.Collect d = (11, lit< tt, refl)

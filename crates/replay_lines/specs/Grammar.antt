@@ -1,0 +1,129 @@
+-- What each line stands for.
+use Rattle.std.specs.Prelude.{◌≡◌, ℕ, ℤ, List, [], ◌∷◌, ◌++◌, ◌<◌, ◌≤◌, ◌^◌, length, codes, Option}
+use Rattle.position_core.specs.declared.topic_name.TopicName.{TopicName}
+use Rattle.position_core.specs.declared.position.Position.{Position}
+use Rattle.position_core.specs.declared.body.Content.{Content}
+use Rattle.position_core.specs.Id.{text_of}
+use Rattle.delivery_machine.specs.declared.event.Event.{Event}
+use Rattle.delivery_machine.specs.declared.event.Event.TheVariants.{AddProducer, Publish, Stored, Subscribe, Leave, Permit, Ack, AckUpTo, Nack, Tick, Dispatch, Collect}
+use Rattle.position_core.specs.declared.kind.Kind.{Kind}
+use Rattle.position_core.specs.declared.kind.Kind.TheVariants.{Exclusive, Failover, Shared}
+use Rattle.position_core.specs.declared.flow.Flow.{Flow}
+use Rattle.position_core.specs.declared.flow.Flow.TheVariants.{Window, Credit}
+use Rattle.delivery_machine.specs.declared.event.Initial.{Initial}
+use Rattle.delivery_machine.specs.declared.event.Initial.TheVariants.{Earliest, Latest}
+use Rattle.replay_lines.specs.declared.command.Command.{Command}
+use Rattle.replay_lines.specs.declared.command.Command.TheVariants as commands
+use Rattle.replay_lines.specs.declared.reading.Line.{Line}
+use Rattle.replay_lines.specs.declared.reading.Line.TheVariants as lines
+use Rattle.replay_lines.specs.Parting.{NoneEmpty, words_of}
+use Rattle.replay_lines.specs.Numbers.{IsNumber, IsSequence, IsBase, IsMoment, IsBetween}
+use Rattle.replay_lines.specs.Names.{IsNameWord, IsProducerWord, IsKeyWord, IsTopicWord}
+use Rattle.replay_lines.specs.Payloads.{IsPayload}
+
+-- how many bytes a line may have
+abbrev pub longest_line : ℕ
+longest_line = 1500000
+
+-- ---- words of a few values
+
+abbrev pub command_text : Command → List ℕ
+command_text commands.Producer = codes "producer"
+command_text commands.Publish = codes "publish"
+command_text commands.Stored = codes "stored"
+command_text commands.Subscribe = codes "subscribe"
+command_text commands.Leave = codes "leave"
+command_text commands.Permit = codes "permit"
+command_text commands.Ack = codes "ack"
+command_text commands.AckUpTo = codes "ackupto"
+command_text commands.Nack = codes "nack"
+command_text commands.Tick = codes "tick"
+command_text commands.Dispatch = codes "dispatch"
+command_text commands.Collect = codes "collect"
+
+abbrev pub IsKind : List ℕ → Kind → Type 0
+IsKind word Exclusive = word ≡ codes "Exclusive"
+IsKind word Failover = word ≡ codes "Failover"
+IsKind word Shared = word ≡ codes "Shared"
+
+abbrev pub IsFlow : List ℕ → Flow → Type 0
+IsFlow word (Window size) = (number : List ℕ) × (word ≡ codes "push:" ++ number) × IsBetween 1 100000 number size
+IsFlow word (Credit left) = (word ≡ codes "pull") × (left ≡ 0)
+
+abbrev pub IsInitial : List ℕ → Initial → Type 0
+IsInitial word Earliest = word ≡ codes "Earliest"
+IsInitial word Latest = word ≡ codes "Latest"
+
+-- the words are those of the body's key and payload
+abbrev pub IsBody : List ℕ → List ℕ → Content → Type 0
+IsBody key payload body = IsKeyWord key body.key × (body.properties ≡ []) × IsPayload payload body.payload
+
+-- ---- lines
+
+-- the line stands for the event of the id's position, or the id is that of no position
+abbrev pub IsById : (Position → Event) → List ℕ → Line → Type 0
+IsById event_at id (lines.Event event) = (position : Position) × (id ≡ text_of position) × (event ≡ event_at position)
+IsById event_at id lines.BadId = (position : Position) → position.ledger < 2 ^ 64 → position.entry < 2 ^ 64 → id ≡ text_of position → ⊥
+
+-- what a line of the command stands for by its further words
+abbrev pub IsLineOf : TopicName → Command → List (List ℕ) → Line → Type 0
+IsLineOf this commands.Producer words line =
+    (n b : List ℕ) × (name : Option (List ℕ)) × (base : ℤ) × (words ≡ n ∷ b ∷ [])
+    × IsProducerWord n name × IsBase b base
+    × (line ≡ lines.Event (AddProducer name base))
+IsLineOf this commands.Publish words line =
+    (p s k b n : List ℕ) × (producer : ℕ) × (sequence : ℤ) × (body : Content) × (now : ℕ) × (words ≡ p ∷ s ∷ k ∷ b ∷ n ∷ [])
+    × IsNumber p producer × IsSequence s sequence × IsBody k b body × IsMoment n now
+    × (line ≡ lines.Event (Publish producer sequence body now))
+IsLineOf this commands.Stored words line = (words ≡ []) × (line ≡ lines.Event Stored)
+IsLineOf this commands.Subscribe words line =
+    (s k l f a n d i : List ℕ) × (name : List ℕ) × (kind : Kind) × (level : ℕ) × (flow : Flow) × (ack_timeout nack_delay : ℕ) × (dead_topic : TopicName) × (initial : Initial)
+    × (words ≡ s ∷ k ∷ l ∷ f ∷ a ∷ n ∷ codes "0" ∷ d ∷ i ∷ [])
+    × IsNameWord s name × IsKind k kind × IsBetween 0 2147483647 l level × IsFlow f flow
+    × IsBetween 0 2147483647 a ack_timeout × IsBetween 0 2147483647 n nack_delay × IsTopicWord this d dead_topic × IsInitial i initial
+    × (line ≡ lines.Event (Subscribe name kind level flow ack_timeout nack_delay 0 dead_topic initial))
+IsLineOf this commands.Leave words line =
+    (c : List ℕ) × (consumer : ℕ) × (words ≡ c ∷ [])
+    × IsNumber c consumer
+    × (line ≡ lines.Event (Leave consumer))
+IsLineOf this commands.Permit words line =
+    (c n : List ℕ) × (consumer permits : ℕ) × (words ≡ c ∷ n ∷ [])
+    × IsNumber c consumer × IsBetween 1 2147483647 n permits
+    × (line ≡ lines.Event (Permit consumer permits))
+IsLineOf this commands.Nack words line =
+    (c id n : List ℕ) × (consumer now : ℕ) × (words ≡ c ∷ id ∷ n ∷ [])
+    × IsNumber c consumer × IsMoment n now × IsById (λ position. Nack consumer position now) id line
+IsLineOf this commands.Tick words line =
+    (s n : List ℕ) × (name : List ℕ) × (now : ℕ) × (words ≡ s ∷ n ∷ [])
+    × IsNameWord s name × IsMoment n now
+    × (line ≡ lines.Event (Tick name now))
+IsLineOf this commands.AckUpTo words line =
+    (c id : List ℕ) × (consumer : ℕ) × (words ≡ c ∷ id ∷ [])
+    × IsNumber c consumer × IsById (λ position. AckUpTo consumer position) id line
+IsLineOf this commands.Ack words line =
+    (c id : List ℕ) × (consumer : ℕ) × (words ≡ c ∷ id ∷ [])
+    × IsNumber c consumer × IsById (λ position. Ack consumer position) id line
+IsLineOf this commands.Dispatch words line =
+    (s n : List ℕ) × (name : List ℕ) × (now : ℕ) × (words ≡ s ∷ n ∷ [])
+    × IsNameWord s name × IsMoment n now
+    × (line ≡ lines.Event (Dispatch name now))
+IsLineOf this commands.Collect words line =
+    (c : List ℕ) × (consumer : ℕ) × (words ≡ c ∷ [])
+    × IsNumber c consumer
+    × (line ≡ lines.Event (Collect consumer))
+
+-- none of the words is empty, and with the command they stand for the line
+abbrev pub Complete : TopicName → Command → List (List ℕ) → Line → Type 0
+Complete this command words line = NoneEmpty words × IsLineOf this command words line
+
+-- the first of the words is a command, and the others complete it
+abbrev pub StandFor : TopicName → List (List ℕ) → Line → Type 0
+StandFor this words line =
+    (command : Command) × (rest : List (List ℕ)) × (words ≡ command_text command ∷ rest) × Complete this command rest line
+
+-- the line is not too long, and stands for what its words do
+abbrev pub IsLine : TopicName → List ℕ → Line → Type 0
+IsLine this line read = (length line ≤ longest_line) × StandFor this (words_of line) read
+
+abbrev pub IsBadLine : TopicName → List ℕ → Type 0
+IsBadLine this line = (read : Line) → IsLine this line read → ⊥

@@ -1,0 +1,6 @@
+pub mod Parting
+pub mod Reads
+pub mod Numbers
+pub mod Names
+pub mod Payloads
+pub mod Grammar

@@ -1,0 +1,100 @@
+// The lines of consumers who join and leave.
+ghost use Rattle.std.specs.Prelude.{◌≡◌, codes};
+ghost use Rattle.replay_lines.specs.Reads.{Reads, ReadsAtOnce};
+ghost use Rattle.replay_lines.specs.Grammar.{Complete, IsFlow, IsInitial, IsKind};
+
+use crate::command::Command;
+use crate::names::{read_name, read_topic};
+use crate::numbers::{read_bounded, read_number};
+use crate::reading::Line;
+use crate::words::{Unread, Words};
+use delivery_machine::{Event, Flow, Initial, Kind};
+use position_core::{Credit, RedeliverLimit, TopicName};
+use std::alloc::Global;
+
+fn read_kind(word: &[u8]) -> Result<Kind, Unread>
+    ensures { ReadsAtOnce (IsKind word.now) result }
+{
+    if word == b"Exclusive".as_slice() {
+        Ok(Kind::Exclusive)
+    } else if word == b"Failover".as_slice() {
+        Ok(Kind::Failover)
+    } else if word == b"Shared".as_slice() {
+        Ok(Kind::Shared)
+    } else {
+        Err(Unread::BadLine)
+    }
+}
+
+fn read_flow(word: &[u8]) -> Result<Flow, Unread>
+    ensures { ReadsAtOnce (IsFlow word.now) result }
+{
+    if word == b"pull".as_slice() {
+        return match Credit::new(0) {
+            Some(none) => Ok(Flow::Credit(none)),
+            None => unreachable!(),
+        };
+    }
+    match word.strip_prefix(b"push:") {
+        Some(number) => Ok(Flow::Window(read_bounded(number)?)),
+        None => Err(Unread::BadLine),
+    }
+}
+
+/// No message dies as yet.
+fn read_limit(word: &[u8]) -> Result<RedeliverLimit, Unread>
+    ensures { ReadsAtOnce (λ limit. (word.now ≡ codes "0") × (limit ≡ 0)) result }
+{
+    match word {
+        b"0" => RedeliverLimit::new(0).ok_or(Unread::BadLine),
+        _ => Err(Unread::BadLine),
+    }
+}
+
+fn read_initial(word: &[u8]) -> Result<Initial, Unread>
+    ensures { ReadsAtOnce (IsInitial word.now) result }
+{
+    if word == b"Earliest".as_slice() {
+        Ok(Initial::Earliest)
+    } else if word == b"Latest".as_slice() {
+        Ok(Initial::Latest)
+    } else {
+        Err(Unread::BadLine)
+    }
+}
+
+pub fn read_leave(words: Words<'_>) -> Result<Line, Unread>
+    ensures { (this : TopicName) → Reads (Complete this Command.Leave words.entry) result }
+{
+    let consumer = read_number(words.one()?)?;
+    Ok(Line::Event(Event::Leave { consumer }))
+}
+
+pub fn read_permit(words: Words<'_>) -> Result<Line, Unread>
+    ensures { (this : TopicName) → Reads (Complete this Command.Permit words.entry) result }
+{
+    let (consumer, permits) = words.two()?;
+    Ok(Line::Event(Event::Permit {
+        consumer: read_number(consumer)?,
+        permits: read_bounded(permits)?,
+    }))
+}
+
+pub fn read_subscribe(alloc: Global, this: &TopicName, mut words: Words<'_>) -> Result<Line, Unread>
+    ensures { Reads (Complete this.now Command.Subscribe words.entry) result }
+{
+    let (subscription, kind, level) = words.take_three()?;
+    let (flow, ack_timeout, nack_delay) = words.take_three()?;
+    let (max_redeliver, dead_topic, initial) = words.three()?;
+    Ok(Line::Event(Event::Subscribe {
+        kind: read_kind(kind)?,
+        level: read_bounded(level)?,
+        flow: read_flow(flow)?,
+        ack_timeout: read_bounded(ack_timeout)?,
+        nack_delay: read_bounded(nack_delay)?,
+        max_redeliver: read_limit(max_redeliver)?,
+        initial: read_initial(initial)?,
+        subscription: read_name(alloc, subscription)?,
+        dead_topic: read_topic(alloc, dead_topic, this)?,
+    }))
+}

@@ -1,0 +1,21 @@
+//! What the lines of a replay stand for: one event a line, read word by word.
+#![tactic(auto)]
+
+mod command;
+mod delivering;
+mod joining;
+mod names;
+mod numbers;
+mod parting;
+mod payloads;
+mod producing;
+mod reading;
+#[cfg(test)]
+mod tests;
+mod words;
+
+pub use numbers::read_bounded;
+pub use parting::split;
+pub use payloads::append_payload;
+pub use reading::{LONGEST_LINE, Line, read_line};
+pub use words::Unread;

@@ -1,0 +1,56 @@
+// The lines of producers and of the store.
+ghost use Rattle.position_core.specs.declared.topic_name.TopicName.{TopicName};
+ghost use Rattle.replay_lines.specs.Reads.{Reads};
+ghost use Rattle.replay_lines.specs.Grammar.{Complete, IsBody};
+
+use crate::command::Command;
+use crate::names::{read_key, read_producer_name};
+use crate::numbers::{read_base, read_moment, read_number, read_sequence};
+use crate::payloads::read_payload;
+use crate::reading::Line;
+use crate::words::{Unread, Words};
+use delivery_machine::Event;
+use position_core::{Body, Content, Properties};
+use std::alloc::Global;
+
+pub fn read_producer(alloc: Global, words: Words<'_>) -> Result<Line, Unread>
+    ensures { (this : TopicName) → Reads (Complete this Command.Producer words.entry) result }
+{
+    let (name, base) = words.two()?;
+    Ok(Line::Event(Event::AddProducer {
+        name: read_producer_name(alloc, name)?,
+        base: read_base(base)?,
+    }))
+}
+
+/// Reads the words of a key and of a payload.
+fn read_body(alloc: Global, key: &[u8], payload: &[u8]) -> Result<Body, Unread>
+    ensures { Reads (IsBody key.now payload.now) result }
+{
+    let content = Content {
+        key: read_key(alloc, key)?,
+        properties: Properties::none(alloc),
+        payload: read_payload(alloc, payload)?,
+    };
+    Ok(Body::new(alloc, content)?)
+}
+
+pub fn read_publish(alloc: Global, mut words: Words<'_>) -> Result<Line, Unread>
+    ensures { (this : TopicName) → Reads (Complete this Command.Publish words.entry) result }
+{
+    let (producer, sequence) = words.take_two()?;
+    let (key, payload, now) = words.three()?;
+    Ok(Line::Event(Event::Publish {
+        producer: read_number(producer)?,
+        sequence: read_sequence(sequence)?,
+        body: read_body(alloc, key, payload)?,
+        now: read_moment(now)?,
+    }))
+}
+
+pub fn read_stored(words: Words<'_>) -> Result<Line, Unread>
+    ensures { (this : TopicName) → Reads (Complete this Command.Stored words.entry) result }
+{
+    words.end()?;
+    Ok(Line::Event(Event::Stored))
+}
