@@ -12,6 +12,7 @@ use Rattle.position_core.specs.Position.{position_cmp}
 use Rattle.position_core.specs.Name.{name_order}
 use Rattle.position_core.specs.Flow.{granted}
 use Rattle.delivery_machine.specs.State.{State, Member, Subscription}
+use Rattle.delivery_machine.specs.Shares.{shares_with, given_back}
 use Rattle.delivery_machine.specs.Words.{changed, removed, is_member, is_named, is_at, is_held_by, has_subscription, has_kind, active_at, emptied}
 use Rattle.delivery_machine.specs.declared.event.Initial.{Initial}
 use Rattle.delivery_machine.specs.declared.event.Initial.TheVariants.{Earliest, Latest}
@@ -23,13 +24,14 @@ abbrev pub acknowledged_at_first : Initial → List Entry → set.FinSet positio
 acknowledged_at_first Earliest log = set.empty
 acknowledged_at_first Latest log = set.from_list (map (λ e. e.position) log)
 
-abbrev pub new_subscription : List ℕ → Kind → Initial → List Entry → Subscription
-new_subscription name kind initial log = record {
+abbrev pub new_subscription : List ℕ → Kind → ℕ → Initial → List Entry → Subscription
+new_subscription name kind consumer initial log = record {
   name = name;
   kind = kind;
   acknowledged = acknowledged_at_first initial log;
   pending = map_of.empty;
   counts = map_of.empty;
+  shares = shares_with kind consumer [];
   dead = [];
   safe = 0;
 }
@@ -38,15 +40,15 @@ new_subscription name kind initial log = record {
 abbrev pub placed : Subscription → List Subscription → List Subscription
 placed sub subs = insert subs (position_or_len (λ other. is_lt (name_order sub.name other.name)) subs) sub
 
--- the subscription takes the kind of the new member
-abbrev pub of_kind : Kind → Subscription → Subscription
-of_kind kind sub = record sub { kind = kind }
+-- the subscription takes the kind of the new member, which gets its share
+abbrev pub joining : Kind → ℕ → Subscription → Subscription
+joining kind consumer sub = record sub { kind = kind; shares = shares_with kind consumer sub.shares }
 
-abbrev pub joined : State → List ℕ → Kind → Initial → List Subscription
-joined s name kind initial =
+abbrev pub joined : State → List ℕ → Kind → ℕ → Initial → List Subscription
+joined s name kind consumer initial =
     if has_subscription s name
-    then changed (is_named name) (of_kind kind) s.subscriptions
-    else placed (new_subscription name kind initial s.log) s.subscriptions
+    then changed (is_named name) (joining kind consumer) s.subscriptions
+    else placed (new_subscription name kind consumer initial s.log) s.subscriptions
 
 -- ---- takeover
 
@@ -72,19 +74,22 @@ taken_over name before s = if is_taken_over name before s then all_released name
 
 abbrev pub with_member : State → Kind → Initial → Member → State
 with_member s kind initial m =
-    record s { subscriptions = joined s m.subscription kind initial; members = s.members ++ m ∷ []; next_consumer = s.next_consumer + 1 }
+    record s { subscriptions = joined s m.subscription kind m.number initial; members = s.members ++ m ∷ []; next_consumer = s.next_consumer + 1 }
 
 abbrev pub Subscribes : State → Kind → Initial → Member → Reply → State → Type 0
 Subscribes s kind initial m reply t =
     (reply ≡ Subscribed m.number) × (t ≡ taken_over m.subscription (active_at s m.subscription) (with_member s kind initial m))
 
--- what is pending at the consumer waits again; no count rises
-abbrev pub releasing_at : ℕ → Subscription → Subscription
-releasing_at consumer sub = record sub { pending = map_of.retain_keys sub.pending (λ p. not (is_held_by consumer (map_of.get sub.pending p))) }
+-- what is pending at the consumer waits again, and its share goes to another; no count rises
+abbrev pub leaving : ℕ → Subscription → Subscription
+leaving consumer sub = record sub {
+  pending = map_of.retain_keys sub.pending (λ p. not (is_held_by consumer (map_of.get sub.pending p)));
+  shares = given_back consumer sub.shares;
+}
 
 abbrev pub without_member : State → ℕ → List ℕ → State
 without_member s consumer name = record s {
-  subscriptions = changed (is_named name) (releasing_at consumer) s.subscriptions;
+  subscriptions = changed (is_named name) (leaving consumer) s.subscriptions;
   members = removed (is_member consumer) s.members;
 }
 

@@ -1,4 +1,5 @@
 pub mod State
+pub mod Shares
 pub mod Words
 pub mod Refusals
 pub mod Producing
@@ -7,3 +8,4 @@ pub mod Acknowledging
 pub mod Delivering
 pub mod Ticking
 pub mod Run
+pub mod Snapshot

@@ -1,14 +1,12 @@
 -- Why each event is refused, in the order of the tests. Want of memory comes after all of them.
 use Rattle.std.specs.Prelude.{ℕ, ◌^◌, nat_lt, nat_le, Bool, true, false, not, ◌&&◌, ◌||◌, length, List, Option, Some, None, if◌then◌else◌, ℤ, int_le}
 use Rattle.std.specs.List.{list_any, find}
-use Rattle.std.specs.Option.{option_map_or}
-use Rattle.std.specs.FinMap as map_of
 use Rattle.position_core.specs.declared.position.Position.{Position}
 use Rattle.position_core.specs.declared.kind.Kind.{Kind}
 use Rattle.position_core.specs.declared.kind.Kind.TheVariants.{Exclusive}
 use Rattle.position_core.specs.declared.fault.Fault.{Fault}
 use Rattle.position_core.specs.declared.fault.Fault.TheVariants.{ProducerBusy, NoSession, TopicFull, WrongKind, ConsumerBusy, TooMany, NoSuchMessage, NotCumulative, NotPending, NoSuchSubscription}
-use Rattle.position_core.specs.Kind.{same_kind, is_in_order}
+use Rattle.position_core.specs.Kind.{same_kind}
 use Rattle.position_core.specs.Flow.{granting_refused}
 use Rattle.delivery_machine.specs.State.{State, Producer, Member}
 use Rattle.delivery_machine.specs.Words.{is_producer, has_member, has_subscription, has_kind, is_in_order_at, is_held_at, is_member, is_connected, members_of, last_sequence, next_position, has_position, visible}

@@ -31,7 +31,6 @@ Takes s (Subscribe name kind level flow ack_timeout nack_delay max_redeliver dea
       nack_delay = nack_delay;
       max_redeliver = max_redeliver;
       dead_topic = dead_topic;
-      share = [];
       out = [];
     }) r t
 Takes s (Leave consumer) r t = Leaves s consumer r t

@@ -5,6 +5,7 @@ use Rattle.std.specs.FinMap.{FinMap}
 use Rattle.position_core.specs.declared.position.Position.{Position}
 use Rattle.position_core.specs.declared.topic_name.TopicName.{TopicName}
 use Rattle.position_core.specs.declared.message.Entry.{Entry}
+use Rattle.position_core.specs.declared.block.Block.{Block}
 use Rattle.position_core.specs.declared.held.Held.{Held}
 use Rattle.position_core.specs.declared.kind.Kind.{Kind}
 use Rattle.position_core.specs.declared.flow.Flow.{Flow}
@@ -17,11 +18,6 @@ pub record Producer : Type 0 where
   pub name : List ℕ
   pub base : ℤ
 
--- a run of hashes: `size` of them, `from` on
-pub record Span : Type 0 where
-  pub from : ℕ
-  pub size : ℕ
-
 -- a consumer of a subscription; `out` is what it was sent and has not collected
 pub record Member : Type 0 where
   pub number : ℕ
@@ -32,7 +28,6 @@ pub record Member : Type 0 where
   pub nack_delay : ℕ
   pub max_redeliver : ℕ
   pub dead_topic : TopicName
-  pub share : List Span
   pub out : List Delivery
 
 -- a message that was redelivered too often, and the topic that it goes to
@@ -41,13 +36,15 @@ pub record Dead : Type 0 where
   pub target : TopicName
   pub ordinal : ℕ
 
--- `counts` has the messages that were redelivered; the first `safe` dead letters are stored
+-- `counts` has the messages that were redelivered; `shares` has the hashes of a Key_Shared subscription in their order,
+-- each block with the consumer in whose share it is; the first `safe` dead letters are stored
 pub record Subscription : Type 0 where
   pub name : List ℕ
   pub kind : Kind
   pub acknowledged : FinSet position_cmp
   pub pending : FinMap position_cmp Held
   pub counts : FinMap position_cmp ℕ
+  pub shares : List Block
   pub dead : List Dead
   pub safe : ℕ
 

@@ -1,7 +1,7 @@
--- What the rules speak of: who is there, the log, live and waiting messages, room, the active member, eligible pairs.
+-- What the rules speak of: who is there, the log, live and waiting messages, room, hashes, the active member, eligible pairs.
 use Rattle.std.specs.Prelude.{◌≡◌, ℕ, ◌+◌, ◌≤◌, ◌==◌, nat_lt, Bool, false, not, ◌&&◌, ◌||◌, List, [], ◌∷◌, map, take, ℤ, Option, Some, None, is_some, if◌then◌else◌, IsTrue}
 use Rattle.std.specs.List.{filter, count_by, list_any, find, All, Contains}
-use Rattle.std.specs.Option.{option_map, option_map_or, unwrap_or}
+use Rattle.std.specs.Option.{option_map, option_map_or, option_and_then, unwrap_or}
 use Rattle.std.specs.Int.{int_max}
 use Rattle.std.specs.Str.{bytes_eq}
 use Rattle.std.specs.FinSet as set
@@ -10,11 +10,13 @@ use Rattle.position_core.specs.declared.position.Position.{Position}
 use Rattle.position_core.specs.declared.message.Entry.{Entry}
 use Rattle.position_core.specs.declared.held.Held.{Held}
 use Rattle.position_core.specs.declared.kind.Kind.{Kind}
-use Rattle.position_core.specs.declared.kind.Kind.TheVariants.{Exclusive, Failover, Shared}
+use Rattle.position_core.specs.declared.kind.Kind.TheVariants.{Exclusive, Failover, Shared, KeyShared}
 use Rattle.position_core.specs.Position.{same_position}
 use Rattle.position_core.specs.Kind.{same_kind, is_in_order}
 use Rattle.position_core.specs.Flow.{flow_has_room}
+use Rattle.murmur_core.specs.Sticky.{sticky_hash}
 use Rattle.delivery_machine.specs.State.{State, Producer, Member, Subscription}
+use Rattle.delivery_machine.specs.Shares.{owner_of}
 
 -- ---- lists
 
@@ -135,6 +137,27 @@ abbrev pub is_held_at : State → List ℕ → ℕ → Position → Bool
 is_held_at s name consumer position =
     option_map_or (λ sub. is_held_by consumer (map_of.get sub.pending position)) (find (is_named name) s.subscriptions) false
 
+-- ---- hashes
+
+-- the hash of the message's key
+abbrev pub hash_of : Entry → ℕ
+hash_of e = sticky_hash e.body.key
+
+abbrev pub waits_with_hash : Subscription → ℕ → Entry → Bool
+waits_with_hash sub hash e = is_waiting sub e && hash_of e == hash
+
+-- the member in whose share the hash is
+abbrev pub owner_at : State → Subscription → ℕ → Option Member
+owner_at s sub hash = option_and_then (λ number. find (λ m. is_at sub.name m && is_member number m) s.members) (owner_of sub.shares hash)
+
+-- the message is pending at another consumer
+abbrev pub is_held_beside : ℕ → Option Held → Bool
+is_held_beside consumer held = option_map_or (λ h. not (h.consumer == consumer)) held false
+
+-- a message of the hash is pending at another consumer than the owner: the hash drains
+abbrev pub is_draining : State → Subscription → ℕ → ℕ → Bool
+is_draining s sub hash owner = list_any (λ e. hash_of e == hash && is_held_beside owner (map_of.get sub.pending e.position)) s.log
+
 -- ---- who is served
 
 -- the first stands before the second by level, and then by number
@@ -165,11 +188,19 @@ abbrev pub IsNextAtBestLevel : State → Subscription → Entry → Member → T
 IsNextAtBestLevel s sub e m =
     (first_waiting s sub ≡ Some e) × Contains (with_room s sub) m × All (λ other. m.level ≤ other.level) (with_room s sub)
 
+-- the next message of its hash in topic order, and the member in whose share the hash is, which does not drain
+abbrev pub IsNextOfItsHash : State → Subscription → Entry → Member → Type 0
+IsNextOfItsHash s sub e m =
+    (find (waits_with_hash sub (hash_of e)) (visible s) ≡ Some e)
+    × (owner_at s sub (hash_of e) ≡ Some m)
+    × (is_draining s sub (hash_of e) m.number ≡ false)
+
 -- by the subscription's kind, the message may go to the member
 abbrev pub ChoosesBy : Kind → State → Subscription → Entry → Member → Type 0
 ChoosesBy Exclusive s sub e m = IsNextInOrder s sub e m
 ChoosesBy Failover s sub e m = IsNextInOrder s sub e m
 ChoosesBy Shared s sub e m = IsNextAtBestLevel s sub e m
+ChoosesBy KeyShared s sub e m = IsNextOfItsHash s sub e m
 
 -- the message may be sent to the member
 abbrev pub IsEligible : State → Subscription → Entry → Member → Type 0

@@ -11,6 +11,8 @@ pub enum Kind {
     Failover,
     /// Each message goes to any one consumer of the best level.
     Shared,
+    /// Each message goes to the consumer that has the hash of its key (PIP-379).
+    KeyShared,
 }
 
 impl Kind {
@@ -20,7 +22,7 @@ impl Kind {
     {
         match self {
             Kind::Exclusive | Kind::Failover => true,
-            Kind::Shared => false,
+            Kind::Shared | Kind::KeyShared => false,
         }
     }
 
@@ -32,6 +34,7 @@ impl Kind {
             Kind::Exclusive => matches!(other, Kind::Exclusive),
             Kind::Failover => matches!(other, Kind::Failover),
             Kind::Shared => matches!(other, Kind::Shared),
+            Kind::KeyShared => matches!(other, Kind::KeyShared),
         }
     }
 }

@@ -1,6 +1,7 @@
 //! The values of a topic: positions and their texts, names, moments, bodies, messages and refusals.
 #![tactic(auto)]
 
+mod block;
 mod body;
 mod bounded;
 mod fault;
@@ -19,6 +20,7 @@ mod tests;
 mod text;
 mod topic_name;
 
+pub use block::Block;
 pub use body::{Body, Content};
 pub use bounded::{
     Bounded, Credit, LedgerSize, Level, Millis, Permits, RedeliverLimit, WindowSize,

@@ -1,0 +1,2 @@
+pub mod Murmur
+pub mod Sticky
