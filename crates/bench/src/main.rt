@@ -5,14 +5,17 @@
 ghost use Rattle.std.specs.Prelude.{◌≡◌, ◌↔◌, IsNone};
 
 mod mode;
+mod murmur;
 mod pending;
 mod report;
+mod table;
 mod timing;
 
 use mode::Mode;
 use report::Report;
 use std::process::ExitCode;
 use std::{env, io};
+use table::Table;
 
 /// What the arguments ask for: none where they are wrong.
 fn asked(rt: &HostRuntime) -> Option<Mode> {
@@ -23,9 +26,21 @@ fn asked(rt: &HostRuntime) -> Option<Mode> {
 }
 
 /// The cases of each crate.
-fn cases(report: &Report<'_>) -> io::Result<()> {
-    report.head()?;
-    pending::cases(report)
+fn cases(rt: &HostRuntime, mode: Mode) -> io::Result<()> {
+    let slots = Report {
+        rt,
+        mode,
+        table: Table::Slots,
+    };
+    slots.head()?;
+    pending::cases(&slots)?;
+    let keys = Report {
+        rt,
+        mode,
+        table: Table::Keys,
+    };
+    keys.head()?;
+    murmur::cases(&keys)
 }
 
 /// Runs the cases, and answers the status to end with.
@@ -36,7 +51,7 @@ fn run(rt: &HostRuntime, mode: Option<Mode>) -> u8
         let _ = eprintln!(rt; "usage: bench [times]");
         return 2;
     };
-    match cases(&Report { rt, mode }) {
+    match cases(rt, mode) {
         Ok(()) => 0,
         Err(error) => {
             let _ = eprintln!(rt; "bench: {error}");

@@ -1,33 +1,32 @@
 // What is printed of the cases.
 use crate::mode::Mode;
-use crate::timing::{Case, nanos};
+use crate::table::Table;
+use crate::timing::{Case, tenths};
 use std::io;
-
-/// How many slots a case has when it is checked.
-const SMALL: u64 = 1_000;
-
-/// How many it has when it is timed.
-const SIZES: [u64; 4] = [1_000, 10_000, 100_000, 1_000_000];
 
 /// Prints a row a case.
 #[derive(Drop)]
 pub(crate) struct Report<'a> {
     pub(crate) rt: &'a HostRuntime,
     pub(crate) mode: Mode,
+    pub(crate) table: Table,
 }
 
 impl Report<'_> {
     pub(crate) fn head(&self) -> io::Result<()> {
         match self.mode {
             Mode::Checks => Ok(()),
-            Mode::Times => {
-                print!(self.rt; "{:<32}", "nanoseconds a call")?;
-                for size in SIZES {
-                    print!(self.rt; "{size:>10}")?;
-                }
-                println!(self.rt)
-            }
+            Mode::Times => self.columns(),
         }
+    }
+
+    fn columns(&self) -> io::Result<()> {
+        let unit = self.table.name();
+        print!(self.rt; "nanoseconds a call, by {unit:<9}")?;
+        for size in self.table.sizes() {
+            print!(self.rt; "{size:>10}")?;
+        }
+        println!(self.rt)
     }
 
     pub(crate) fn case(&self, name: &str, case: Case) -> io::Result<()>
@@ -42,18 +41,21 @@ impl Report<'_> {
     fn check(&self, name: &str, case: Case) -> io::Result<()>
         requires { IsAlwaysCallable case }
     {
-        let right = case(self.rt, SMALL)?.right;
+        let size = self.table.small();
+        let right = case(self.rt, size)?.right;
         let word = if right { "ok" } else { "wrong" };
-        println!(self.rt; "{name} {SMALL} {word}")
+        println!(self.rt; "{name} {size} {word}")
     }
 
     fn time(&self, name: &str, case: Case) -> io::Result<()>
         requires { IsAlwaysCallable case }
     {
         print!(self.rt; "{name:<32}")?;
-        for size in SIZES {
-            let nanos = nanos(self.rt, size, case)?;
-            print!(self.rt; "{nanos:>10}")?;
+        for size in self.table.sizes() {
+            let tenths = tenths(self.rt, *size, self.table.calls(*size), case)?;
+            let nanos = tenths / 10;
+            let tenth = tenths % 10;
+            print!(self.rt; "{nanos:>8}.{tenth}")?;
         }
         println!(self.rt)
     }

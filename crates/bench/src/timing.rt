@@ -11,30 +11,31 @@ pub(crate) struct Run {
     pub(crate) right: bool,
 }
 
-/// A case: it makes one call for each of so many slots.
+/// A case at one of the sizes of its table.
 pub(crate) type Case = fn(&HostRuntime, u64) -> io::Result<Run>;
 
 /// How many calls are timed at least.
 const CALLS: u64 = 1_000_000;
 
-/// How often a case is run.
-fn rounds(size: u64) -> u64
-    requires { 0 < size }
+/// How often a case of so many calls is run.
+fn rounds(calls: u64) -> u64
+    requires { 0 < calls }
     ensures some { 0 < result }
-    ensures enough { CALLS < (result + 1) * size }
+    ensures enough { CALLS < (result + 1) * calls }
 {
-    (CALLS / size).max(1)
+    (CALLS / calls).max(1)
 }
 
-/// Nanoseconds a call.
-pub(crate) fn nanos(rt: &HostRuntime, size: u64, case: Case) -> io::Result<u128>
+/// Tenths of a nanosecond that each of the calls of a case takes.
+pub(crate) fn tenths(rt: &HostRuntime, size: u64, calls: u64, case: Case) -> io::Result<u128>
     requires callable { IsAlwaysCallable case }
-    requires some { 0 < size }
+    requires some { 0 < calls }
 {
-    let rounds = rounds(size);
+    let rounds = rounds(calls);
     let mut time = Duration::ZERO;
     for _ in 0..rounds {
         time = time.saturating_add(case(rt, size)?.time);
     }
-    Ok(time.as_nanos() / u128::from(rounds) / u128::from(size))
+    let nanos = time.as_nanos().saturating_mul(10);
+    Ok(nanos / u128::from(rounds) / u128::from(calls))
 }

@@ -2,3 +2,10 @@ pub mod RunSteps
 pub mod Places
 pub mod Best
 pub mod Passes
+pub mod Firsts
+pub mod Rising
+pub mod Tended
+pub mod Tending
+pub mod Sending
+pub mod Kept
+pub mod Reached

@@ -9,3 +9,4 @@ pub mod Delivering
 pub mod Ticking
 pub mod Run
 pub mod Snapshot
+pub mod Laws

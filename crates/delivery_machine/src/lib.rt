@@ -3,6 +3,7 @@
 
 mod delivery;
 mod event;
+pub mod laws;
 mod reply;
 mod runs;
 #[cfg(test)]

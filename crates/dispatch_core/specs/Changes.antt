@@ -1,9 +1,11 @@
--- What happens to a topic, as one of its subscriptions sees it: by places of the log, and by the line of its members.
+-- What happens to a topic, as one of its subscriptions sees it: by places of the log, by the line of its members and by
+-- their shares.
 use Rattle.std.specs.Prelude.{◌≡◌, ◌≢◌, ℕ, ◌==◌, ◌<◌, ◌≤◌, true, false, not, [], ◌∷◌, ◌++◌, length, Some, None, IsSome}
 use Rattle.std.specs.List.{filter, list_any}
 use Rattle.position_core.specs.declared.message.Entry.{Entry}
 use Rattle.delivery_machine.specs.State.{State, Subscription}
 use Rattle.delivery_machine.specs.Words.{visible}
+use Rattle.delivery_machine.specs.Shares.{shares_with, given_back}
 use Rattle.dispatch_core.specs.Places.{waits_at, holder_at, line_of}
 
 -- ---- what stays
@@ -18,7 +20,7 @@ pub record LogStays (s : State) (sub : Subscription) (t : State) (new : Subscrip
   pub log : t.log ≡ s.log
   pub durable : t.durable ≡ s.durable
 
--- nothing changes but the line
+-- nothing changes but the line and the shares
 pub record OnlyLineChanges (s : State) (sub : Subscription) (t : State) (new : Subscription) : Type 0 where
   pub log : LogStays s sub t new
   pub places : (i : ℕ) → StaysAt i s sub t new
@@ -27,6 +29,7 @@ pub record OnlyLineChanges (s : State) (sub : Subscription) (t : State) (new : S
 pub record OnlyChangesAt (index : ℕ) (s : State) (sub : Subscription) (t : State) (new : Subscription) : Type 0 where
   pub log : LogStays s sub t new
   pub line : line_of t new ≡ line_of s sub
+  pub shares : new.shares ≡ sub.shares
   pub others : (i : ℕ) → i ≢ index → StaysAt i s sub t new
 
 -- ---- the log
@@ -38,6 +41,7 @@ pub record Appended (s : State) (sub : Subscription) (t : State) (new : Subscrip
   pub log : t.log ≡ s.log ++ message ∷ []
   pub durable : t.durable ≡ s.durable
   pub line : line_of t new ≡ line_of s sub
+  pub shares : new.shares ≡ sub.shares
   pub others : (i : ℕ) → i < length s.log → StaysAt i s sub t new
   pub waits : waits_at t new (length s.log) ≡ true
   pub holder : holder_at t new (length s.log) ≡ None
@@ -49,18 +53,20 @@ pub record TakenBack (s : State) (sub : Subscription) (t : State) (new : Subscri
 
 -- ---- the line
 
--- the consumer joined, as the last in line
+-- the consumer joined, as the last in line, and got its share where hashes are shared out
 pub record Joined (consumer : ℕ) (s : State) (sub : Subscription) (t : State) (new : Subscription) : Type 0 where
   pub stays : OnlyLineChanges s sub t new
   pub level : ℕ
   pub line : line_of t new ≡ line_of s sub ++ (consumer, level) ∷ []
+  pub shares : new.shares ≡ shares_with sub.kind consumer sub.shares
   pub absent : list_any (λ m. m.0 == consumer) (line_of s sub) ≡ false
   pub few : length (line_of s sub) < 64
 
--- the consumer left, with nothing pending at it
+-- the consumer left, with nothing pending at it, and its share went to another
 pub record Left (consumer : ℕ) (s : State) (sub : Subscription) (t : State) (new : Subscription) : Type 0 where
   pub stays : OnlyLineChanges s sub t new
   pub line : line_of t new ≡ filter (λ m. not (m.0 == consumer)) (line_of s sub)
+  pub shares : new.shares ≡ given_back consumer sub.shares
   pub idle : (i : ℕ) → holder_at s sub i ≢ Some consumer
 
 -- ---- a message
@@ -92,6 +98,7 @@ pub record Released (index : ℕ) (s : State) (sub : Subscription) (t : State) (
 pub record Reset (s : State) (sub : Subscription) (t : State) (new : Subscription) : Type 0 where
   pub log : LogStays s sub t new
   pub line : line_of t new ≡ line_of s sub
+  pub shares : new.shares ≡ sub.shares
   pub idle : (i : ℕ) → holder_at t new i ≡ None
 
 -- more of the log may be seen, and members may have gained or lost room
@@ -100,6 +107,7 @@ pub record Kept (s : State) (sub : Subscription) (t : State) (new : Subscription
   pub log : t.log ≡ s.log
   pub durable : s.durable ≤ t.durable
   pub line : line_of t new ≡ line_of s sub
+  pub shares : new.shares ≡ sub.shares
   pub places : (i : ℕ) → StaysAt i s sub t new
 
 -- ---- agreement

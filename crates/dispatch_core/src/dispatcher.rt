@@ -37,6 +37,7 @@ pub trait Dispatcher {
     fn begin<V: View>(alloc: Global, view: &V) -> Result<Self, Fault>
         requires kind { IsTrue (serves (V.subscription view.now).kind) }
         requires empty { members_of (V.state view.now) (V.subscription view.now).name ≡ [] }
+        requires unshared { (V.subscription view.now).shares ≡ [] }
         ensures ok { IfOk result (λ d. agrees d (V.state view.now) (V.subscription view.now)) }
         ensures err { IfErr result (λ fault. fault ≡ NoMemory) };
 

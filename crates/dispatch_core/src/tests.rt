@@ -48,7 +48,7 @@ fn new_subscription(alloc: Global) -> Result<Subscription, Fail> {
     let name = Name::from_text(alloc, "s")?.ok_or("no name")?;
     let positions = PositionSet::new(alloc);
     let mut subscriptions = vec![in alloc;
-        Subscription::new(alloc, name.clone()?, Kind::Failover, positions),
+        Subscription::new(alloc, name.clone()?, Kind::Failover, 4, positions)?,
     ]?;
     let held = Held {
         consumer: 4,

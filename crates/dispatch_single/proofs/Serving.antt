@@ -8,7 +8,7 @@ use Rattle.std.proofs.lemmas.List.{take_more}
 use Rattle.std.proofs.Math.Seq.{take-length}
 use Rattle.std.proofs.lemmas.Option.{slice_get_cases, slice_get-get_or, same_Some, none-some}
 use Rattle.position_core.specs.declared.kind.Kind.{Kind}
-use Rattle.position_core.specs.declared.kind.Kind.TheVariants.{Exclusive, Failover, Shared}
+use Rattle.position_core.specs.declared.kind.Kind.TheVariants.{Exclusive, Failover, Shared, KeyShared}
 use Rattle.position_core.specs.Kind.{is_in_order}
 use Rattle.position_core.specs.declared.message.Entry.{Entry}
 use Rattle.delivery_machine.specs.State.{State, Subscription, Member}
@@ -67,11 +67,13 @@ ChoosesBy-in_order : (kind : Kind) (s : State) (sub : Subscription) (e : Entry) 
 ChoosesBy-in_order Exclusive s sub e m served next = next
 ChoosesBy-in_order Failover s sub e m served next = next
 ChoosesBy-in_order Shared s sub e m served next = absurd (false≢true served)
+ChoosesBy-in_order KeyShared s sub e m served next = absurd (false≢true served)
 
 next_in_order : (kind : Kind) (s : State) (sub : Subscription) (e : Entry) (m : Member) → IsTrue (is_in_order kind) → ChoosesBy kind s sub e m → IsNextInOrder s sub e m
 next_in_order Exclusive s sub e m served chosen = chosen
 next_in_order Failover s sub e m served chosen = chosen
 next_in_order Shared s sub e m served chosen = absurd (false≢true served)
+next_in_order KeyShared s sub e m served chosen = absurd (false≢true served)
 
 pub none_without_message : (s : State) (sub : Subscription) → IsTrue (is_in_order sub.kind) → NoneReady s sub 0 → NoneEligible s sub
 none_without_message s sub served none e m pair =

@@ -1,4 +1,4 @@
-//! The hash of a message's key: Murmur3 for machines of 32 bits, and the 16 bits of it that a subscription
+//! The hash of a message's key: Murmur3 (x86, 32 bits), and the 16 bits of it that a subscription
 //! divides among its consumers.
 #![tactic(auto)]
 

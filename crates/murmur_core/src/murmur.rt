@@ -1,4 +1,4 @@
-// Murmur3 for machines of 32 bits.
+// Murmur3 (x86, 32 bits).
 ghost use Rattle.std.specs.Prelude.{◌≡◌, ◌<◌, length};
 ghost use Rattle.murmur_core.specs.Murmur.{finished, murmur3, scrambled, with_block, with_tail};
 
@@ -48,7 +48,7 @@ fn finish(mut hash: u32) -> u32
     hash ^ hash >> 16
 }
 
-/// Murmur3 (x86, 32 bits) of some bytes. It is no protection against somebody who picks the bytes.
+/// Murmur3 (x86, 32 bits) of some bytes. Whoever picks the bytes can pick their hash.
 pub fn murmur3_32(bytes: &[u8], start: u32) -> u32
     ensures { result ≡ murmur3 bytes.now start }
 {

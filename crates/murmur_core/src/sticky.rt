@@ -8,7 +8,7 @@ use crate::murmur::murmur3_32;
 /// What is hashed of a message without a key.
 const NO_KEY: &str = "NONE_KEY";
 
-/// The hash of a message's key. An empty key hashes to 0.
+/// The hash of a message's key. A message without a key has a hash too, and an empty key hashes to 0.
 pub fn sticky_hash(key: Option<&str>) -> u16
     ensures { result ≡ sticky_hash (option_copied key.entry) }
 {

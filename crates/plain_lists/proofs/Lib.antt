@@ -3,3 +3,4 @@ pub mod Active
 pub mod Undone
 pub mod Free
 pub mod Turns
+pub mod Hashes

@@ -9,8 +9,10 @@ use Rattle.position_core.specs.declared.topic_name.TopicName.{TopicName}
 use Rattle.position_core.specs.Position.{position_cmp, coded_position}
 use Rattle.position_core.specs.declared.held.Held.{Held}
 use Rattle.position_core.specs.declared.kind.Kind.{Kind}
-use Rattle.position_core.specs.declared.kind.Kind.TheVariants.{Exclusive, Failover, Shared}
+use Rattle.position_core.specs.declared.kind.Kind.TheVariants.{Exclusive, Failover, Shared, KeyShared}
 use Rattle.delivery_machine.specs.State.{Dead, Subscription}
+use Rattle.position_core.specs.declared.block.Block.{Block}
+use Rattle.hash_ranges.specs.Codes.{coded_shares}
 use Rattle.plain_tables.specs.Codes.{coded_positions, coded_pending, coded_counts}
 
 abbrev pub coded_text : Coded (List ℕ)
@@ -26,24 +28,27 @@ abbrev pub kind_number : Kind → ℕ
 kind_number Exclusive = 0
 kind_number Failover = 1
 kind_number Shared = 2
+kind_number KeyShared = 3
 
 abbrev pub kind_at : ℕ → Kind
 kind_at zero = Exclusive
 kind_at (suc zero) = Failover
-kind_at (suc (suc n)) = Shared
+kind_at (suc (suc zero)) = Shared
+kind_at (suc (suc (suc n))) = KeyShared
 
 pub kind_at-kind_number : (k : Kind) → kind_at (kind_number k) ≡ k
 kind_at-kind_number Exclusive = refl
 kind_at-kind_number Failover = refl
 kind_at-kind_number Shared = refl
+kind_at-kind_number KeyShared = refl
 
 abbrev pub coded_kind : Coded Kind
 coded_kind = code_by ℕ coded_ℕ kind_number kind_at kind_at-kind_number
 
 abbrev pub coded_subscription : Coded Subscription
 coded_subscription =
-    code_by ((((((List ℕ × Kind) × set.FinSet position_cmp) × map_of.FinMap position_cmp Held) × map_of.FinMap position_cmp ℕ) × List Dead) × ℕ)
-    (coded× (coded× (coded× (coded× (coded× (coded× coded_text coded_kind) coded_positions) coded_pending) coded_counts) (coded_list coded_dead)) coded_ℕ)
-    (λ s. ((((((s.name, s.kind), s.acknowledged), s.pending), s.counts), s.dead), s.safe))
-    (λ p. record { name = p.0.0.0.0.0.0; kind = p.0.0.0.0.0.1; acknowledged = p.0.0.0.0.1; pending = p.0.0.0.1; counts = p.0.0.1; dead = p.0.1; safe = p.1 })
+    code_by (((((((List ℕ × Kind) × set.FinSet position_cmp) × map_of.FinMap position_cmp Held) × map_of.FinMap position_cmp ℕ) × List Block) × List Dead) × ℕ)
+    (coded× (coded× (coded× (coded× (coded× (coded× (coded× coded_text coded_kind) coded_positions) coded_pending) coded_counts) coded_shares) (coded_list coded_dead)) coded_ℕ)
+    (λ s. (((((((s.name, s.kind), s.acknowledged), s.pending), s.counts), s.shares), s.dead), s.safe))
+    (λ p. record { name = p.0.0.0.0.0.0.0; kind = p.0.0.0.0.0.0.1; acknowledged = p.0.0.0.0.0.1; pending = p.0.0.0.0.1; counts = p.0.0.0.1; shares = p.0.0.1; dead = p.0.1; safe = p.1 })
     (λ _. refl)

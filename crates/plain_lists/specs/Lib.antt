@@ -4,3 +4,4 @@ pub mod Members
 pub mod Due
 pub mod Turn
 pub mod Auto
+pub mod Keyed

@@ -19,7 +19,6 @@ joining number name terms dead_topic = record {
   nack_delay = terms.nack_delay;
   max_redeliver = terms.max_redeliver;
   dead_topic = dead_topic;
-  share = [];
   out = [];
 }
 

@@ -47,7 +47,6 @@ impl Model for Member {
       nack_delay = m.nack_delay;
       max_redeliver = m.max_redeliver;
       dead_topic = m.dead_topic;
-      share = [];
       out = m.out;
     } };
 }

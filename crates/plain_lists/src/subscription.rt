@@ -1,18 +1,20 @@
 // The subscriptions of a topic.
-ghost use Rattle.std.specs.Prelude.{◌≡◌, ◌≤◌, OnOk, OnErr, Some, false, is_some, length};
+ghost use Rattle.std.specs.Prelude.{◌≡◌, ◌≤◌, OnOk, OnErr, IfOk, Some, false, is_some, length};
 ghost use Rattle.std.specs.List.{find, position, position_or_len};
 ghost use Rattle.std.specs.Bool.{OnFalse, OnTrue};
 ghost use Rattle.std.specs.Option.{option_and_then, option_copied, option_map, option_map_or};
 ghost use Rattle.std.specs.Ordering.{is_lt};
 ghost use Rattle.std.specs.FinMap as map_of;
 ghost use Rattle.position_core.specs.Name.{name_order};
-ghost use Rattle.delivery_machine.specs.Words.{changed, count_of, is_named, is_held_by, is_waiting};
-ghost use Rattle.delivery_machine.specs.Joining.{of_kind, releasing_all, releasing_at};
+ghost use Rattle.delivery_machine.specs.Words.{changed, count_of, is_named, is_held_by, is_held_beside, is_waiting};
+ghost use Rattle.delivery_machine.specs.Joining.{joining, leaving, releasing_all};
+ghost use Rattle.delivery_machine.specs.Shares.{owner_of, shares_with};
 ghost use Rattle.position_core.specs.Kind.{is_in_order, same_kind};
 ghost use Rattle.delivery_machine.specs.Acknowledging.{acknowledging};
 ghost use Rattle.delivery_machine.specs.Delivering.{holding};
 ghost use Rattle.delivery_machine.specs.Ticking.{redelivering};
 
+use hash_ranges::SplitTable;
 use plain_tables::{CountTable, PendingTable, PositionSet};
 use position_core::{Held, Kind, Message, Position, SubscriptionName};
 use std::alloc::{AllocError, Global};
@@ -26,6 +28,7 @@ pub struct Subscription {
     acknowledged: PositionSet,
     pending: PendingTable,
     counts: CountTable,
+    shares: SplitTable,
     /// The consumer that was sent a message last; 0 where there is none.
     last_served: u64,
 }
@@ -46,26 +49,47 @@ impl Model for Subscription {
       acknowledged = s.acknowledged;
       pending = s.pending;
       counts = s.counts;
+      shares = s.shares;
       dead = [];
       safe = 0;
     } };
 }
 
-impl Subscription {
-    ghost use Rattle.std.specs.Prelude.{◌≡◌, [], OnOk, OnErr};
+/// Gives the consumer its share, where hashes are shared out.
+fn share_out(shares: &mut SplitTable, kind: Kind, consumer: u64) -> Result<(), AllocError>
+    ensures ok { OnOk result (shares.new ≡ shares_with kind consumer shares.old) }
+    ensures err { OnErr result (shares.new ≡ shares.old) }
+{
+    match kind {
+        Kind::KeyShared => shares.join(consumer),
+        Kind::Exclusive | Kind::Failover | Kind::Shared => Ok(()),
+    }
+}
 
-    /// A subscription with nothing pending.
-    pub fn new(alloc: Global, name: SubscriptionName, kind: Kind, acknowledged: PositionSet) -> Self
-        ensures { result ≡ record { name = name; kind = kind; acknowledged = acknowledged; pending = map_of.empty; counts = map_of.empty; dead = []; safe = 0 } }
+impl Subscription {
+    ghost use Rattle.std.specs.Prelude.{◌≡◌, [], OnOk, OnErr, IfOk};
+
+    /// A subscription with nothing pending, as its first consumer makes it.
+    pub fn new(
+        alloc: Global,
+        name: SubscriptionName,
+        kind: Kind,
+        consumer: u64,
+        acknowledged: PositionSet,
+    ) -> Result<Self, AllocError>
+        ensures { IfOk result (λ sub. sub ≡ record { name = name; kind = kind; acknowledged = acknowledged; pending = map_of.empty; counts = map_of.empty; shares = shares_with kind consumer []; dead = []; safe = 0 }) }
     {
-        Subscription {
+        let mut shares = SplitTable::new(alloc);
+        share_out(&mut shares, kind, consumer)?;
+        Ok(Subscription {
             name,
             kind,
             acknowledged,
             pending: PendingTable::new(alloc),
             counts: CountTable::new(alloc),
+            shares,
             last_served: 0,
-        }
+        })
     }
 
     pub fn kind(&self) -> Kind
@@ -86,10 +110,20 @@ impl Subscription {
         self.name.is(name)
     }
 
-    fn set_kind(&mut self, kind: Kind)
-        ensures { self.new ≡ of_kind kind self.old }
+    fn join(&mut self, kind: Kind, consumer: u64) -> Result<(), AllocError>
+        ensures ok { OnOk result (self.new ≡ joining kind consumer self.old) }
+        ensures err { OnErr result (self.new ≡ self.old) }
     {
+        share_out(&mut self.shares, kind, consumer)?;
         self.kind = kind;
+        Ok(())
+    }
+
+    /// The consumer in whose share the hash is.
+    pub fn owner(&self, hash: u16) -> Option<u64>
+        ensures { result ≡ owner_of self.now.shares hash }
+    {
+        self.shares.owner(hash)
     }
 
     /// How often the message was redelivered.
@@ -122,6 +156,16 @@ impl Subscription {
         ensures { result ≡ is_held_by consumer (map_of.get self.now.pending message.now.position) }
     {
         self.pending.is_held_by(message.position(), consumer)
+    }
+
+    /// Whether the message is pending at another consumer.
+    pub(crate) fn holds_beside(&self, consumer: u64, message: &Message) -> bool
+        ensures { result ≡ is_held_beside consumer (map_of.get self.now.pending message.now.position) }
+    {
+        match self.holder(message.position()) {
+            Some(holder) => holder != consumer,
+            None => false,
+        }
     }
 
     fn hold(&mut self, position: Position, held: Held) -> Result<(), AllocError>
@@ -185,10 +229,11 @@ impl Subscription {
         Ok(())
     }
 
-    fn release_held_by(&mut self, consumer: u64)
-        ensures { self.new ≡ releasing_at consumer self.old }
+    fn leave(&mut self, consumer: u64)
+        ensures { self.new ≡ leaving consumer self.old }
     {
         self.pending.release_held_by(consumer);
+        self.shares.leave(consumer);
     }
 
     fn release_all(&mut self)
@@ -247,18 +292,25 @@ pub fn place_for(subscriptions: &[Subscription], name: &SubscriptionName) -> usi
     }
 }
 
-/// Makes the subscription's kind this one, and answers whether there is such a subscription.
-pub fn set_kind_of(subscriptions: &mut [Subscription], name: &SubscriptionName, kind: Kind) -> bool
-    ensures known { result ≡ is_some (find (is_named name.now) subscriptions.old) }
-    ensures update { subscriptions.new ≡ changed (is_named name.now) (of_kind kind) subscriptions.old }
-    ensures none { OnFalse result (subscriptions.new ≡ subscriptions.old) }
+/// Lets the consumer into the subscription, which takes its kind, and answers whether there is such
+/// a subscription. Nothing changes where there is no memory.
+pub fn join_at(
+    subscriptions: &mut [Subscription],
+    name: &SubscriptionName,
+    kind: Kind,
+    consumer: u64,
+) -> Result<bool, AllocError>
+    ensures known { IfOk result (λ known. known ≡ is_some (find (is_named name.now) subscriptions.old)) }
+    ensures update { OnOk result (subscriptions.new ≡ changed (is_named name.now) (joining kind consumer) subscriptions.old) }
+    ensures none { IfOk result (λ known. OnFalse known (subscriptions.new ≡ subscriptions.old)) }
+    ensures err { OnErr result (subscriptions.new ≡ subscriptions.old) }
 {
     match place_of_subscription(subscriptions, name) {
         Some(place) => {
-            subscriptions[place].set_kind(kind);
-            true
+            subscriptions[place].join(kind, consumer)?;
+            Ok(true)
         }
-        None => false,
+        None => Ok(false),
     }
 }
 
@@ -338,12 +390,13 @@ pub fn is_in_order_at(subscriptions: &[Subscription], name: &SubscriptionName) -
     }
 }
 
-/// Releases what is pending at the consumer.
-pub fn release_held_by(subscriptions: &mut [Subscription], name: &SubscriptionName, consumer: u64)
-    ensures { subscriptions.new ≡ changed (is_named name.now) (releasing_at consumer) subscriptions.old }
+/// Lets the consumer out of the subscription: what is pending at it waits again, and its share goes
+/// to another.
+pub fn leave_at(subscriptions: &mut [Subscription], name: &SubscriptionName, consumer: u64)
+    ensures { subscriptions.new ≡ changed (is_named name.now) (leaving consumer) subscriptions.old }
 {
     match place_of_subscription(subscriptions, name) {
-        Some(place) => subscriptions[place].release_held_by(consumer),
+        Some(place) => subscriptions[place].leave(consumer),
         None => {}
     }
 }

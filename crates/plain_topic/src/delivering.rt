@@ -7,7 +7,7 @@ use crate::plain::PlainTopic;
 use delivery_machine::{Deliveries, Delivery, Kind, Reply};
 use plain_lists::{
     Member, Subscription, active_at, first_waiting, give_to, has_room, hold_at, member_at,
-    next_in_turn, spend_at, subscription_at, take_back_from, take_out_of,
+    next_in_turn, next_of_any_hash, spend_at, subscription_at, take_back_from, take_out_of,
 };
 use position_core::{Fault, Held, Message, Moment, Position, SubscriptionName};
 use std::alloc::AllocError;
@@ -45,7 +45,8 @@ impl PlainTopic {
     ghost use Rattle.std.specs.Prelude.{◌≡◌, IfSome, IfNone, IfOk, IfErr};
     ghost use Rattle.position_core.specs.declared.fault.Fault.TheVariants.{NoMemory};
     ghost use Rattle.delivery_machine.specs.Run.{Answers};
-    ghost use Rattle.delivery_machine.specs.Words.{IsEligible, NoneEligible, has_room};
+    ghost use Rattle.std.specs.Option.{option_copied};
+    ghost use Rattle.delivery_machine.specs.Words.{IsEligible, NoneEligible, first_waiting, has_room};
     ghost use Rattle.delivery_machine.specs.Delivering.{out_of};
     ghost use Rattle.delivery_machine.specs.declared.event.Event.TheVariants.{Collect, Dispatch};
     ghost use Rattle.plain_topic.specs.StateOf.{state_of};
@@ -56,18 +57,29 @@ impl PlainTopic {
         has_room(&self.log, subscription, member)
     }
 
+    /// The first message that waits.
+    fn next_waiting<'a>(&'a self, subscription: &Subscription) -> Option<&'a Message>
+        ensures { option_copied result ≡ first_waiting (state_of self.entry.now) subscription.now }
+    {
+        first_waiting(self.visible(), subscription)
+    }
+
     /// A message and a member that it may be sent to.
     fn choose<'a>(&'a self, subscription: &Subscription) -> Option<(&'a Message, &'a Member)>
         ensures pair { IfSome result (λ p. IsEligible (state_of self.entry.now) subscription.now p.0.now p.1.now) }
         ensures none { IfNone result (NoneEligible (state_of self.entry.now) subscription.now) }
     {
-        let message = first_waiting(self.visible(), subscription)?;
         match subscription.kind() {
+            Kind::KeyShared => {
+                next_of_any_hash(&self.log, self.visible(), &self.members, subscription)
+            }
             Kind::Shared => {
+                let message = self.next_waiting(subscription)?;
                 let member = next_in_turn(&self.members, &self.log, subscription)?;
                 Some((message, member))
             }
             Kind::Exclusive | Kind::Failover => {
+                let message = self.next_waiting(subscription)?;
                 let member = active_at(&self.members, subscription.name())?;
                 if self.has_room(subscription, member) {
                     Some((message, member))

@@ -2,7 +2,7 @@
 use crate::plain::PlainTopic;
 use delivery_machine::{Initial, Reply};
 use plain_lists::{
-    Member, Subscription, Terms, count_at, has_kind, place_for, set_kind_of, subscription_at,
+    Member, Subscription, Terms, count_at, has_kind, join_at, place_for, subscription_at,
 };
 use plain_tables::PositionSet;
 use position_core::{Fault, Kind, SubscriptionName, TopicName};
@@ -49,22 +49,23 @@ impl PlainTopic {
         }
     }
 
-    /// Makes the subscription, or gives it the kind. Nothing changes where there is no memory.
+    /// Makes the subscription, or lets the consumer into it. Nothing changes where there is no memory.
     fn enter(
         &mut self,
         name: &SubscriptionName,
         kind: Kind,
+        consumer: u64,
         initial: Initial,
     ) -> Result<(), AllocError>
-        ensures ok { OnOk result (state_of self.new ≡ record (state_of self.old) { subscriptions = joined (state_of self.old) name.now kind initial }) }
+        ensures ok { OnOk result (state_of self.new ≡ record (state_of self.old) { subscriptions = joined (state_of self.old) name.now kind consumer initial }) }
         ensures err { OnErr result (state_of self.new ≡ state_of self.old) }
         ensures room { vec_capacity self.new.members ≡ vec_capacity self.old.members }
     {
-        if set_kind_of(&mut self.subscriptions, name, kind) {
+        if join_at(&mut self.subscriptions, name, kind, consumer)? {
             return Ok(());
         }
         let acknowledged = self.first_acknowledged(initial)?;
-        let made = Subscription::new(self.alloc, name.clone()?, kind, acknowledged);
+        let made = Subscription::new(self.alloc, name.clone()?, kind, consumer, acknowledged)?;
         let place = place_for(&self.subscriptions, name);
         self.subscriptions.insert(place, made)?;
         Ok(())
@@ -94,7 +95,7 @@ impl PlainTopic {
             return Reply::Refused(Fault::NoMemory);
         }
         let active = self.active_at(name);
-        if self.enter(name, kind, initial).is_err() {
+        if self.enter(name, kind, number, initial).is_err() {
             return Reply::Refused(Fault::NoMemory);
         }
         self.members

@@ -1,7 +1,7 @@
 // Leaving a subscription.
 use crate::plain::PlainTopic;
 use delivery_machine::Reply;
-use plain_lists::{member_at, release_held_by, take_member};
+use plain_lists::{leave_at, member_at, take_member};
 use position_core::Fault;
 
 impl PlainTopic {
@@ -30,7 +30,7 @@ impl PlainTopic {
         let Some(member) = take_member(&mut self.members, consumer) else {
             return Reply::Refused(Fault::NoSession);
         };
-        release_held_by(&mut self.subscriptions, member.subscription(), consumer);
+        leave_at(&mut self.subscriptions, member.subscription(), consumer);
         self.take_over(member.subscription(), active);
         Reply::Done
     }

@@ -2,6 +2,7 @@
 ghost use Rattle.std.specs.Prelude.{◌≤◌};
 
 mod failover;
+mod keyed;
 mod shared;
 
 use crate::doubles::{ByByte, Narrow};
@@ -50,6 +51,12 @@ fn check_read<R: Abort + AllocGlobal, I: Read>(rt: &R, input: &mut I, output: &[
 fn check<R: Abort + AllocGlobal>(rt: &R, input: &[u8], output: &[u8], ended: Ended) {
     let mut reader = input;
     check_read(rt, &mut reader, output, ended);
+}
+
+fn after<R: Abort + AllocGlobal>(rt: &R, first: &[u8], then: &[u8]) -> Vec<u8> {
+    let mut text = first.to_vec(rt.alloc()).expect(rt, "no memory");
+    text.extend_from_slice(then).expect(rt, "no memory");
+    text
 }
 
 #[test]

@@ -7,7 +7,7 @@ use Rattle.position_core.specs.Id.{text_of}
 use Rattle.delivery_machine.specs.declared.event.Event.{Event}
 use Rattle.delivery_machine.specs.declared.event.Event.TheVariants.{AddProducer, Publish, Stored, Subscribe, Leave, Permit, Ack, AckUpTo, Nack, Tick, Dispatch, Collect}
 use Rattle.position_core.specs.declared.kind.Kind.{Kind}
-use Rattle.position_core.specs.declared.kind.Kind.TheVariants.{Exclusive, Failover, Shared}
+use Rattle.position_core.specs.declared.kind.Kind.TheVariants.{Exclusive, Failover, Shared, KeyShared}
 use Rattle.position_core.specs.declared.flow.Flow.{Flow}
 use Rattle.position_core.specs.declared.flow.Flow.TheVariants.{Window, Credit}
 use Rattle.delivery_machine.specs.declared.event.Initial.{Initial}
@@ -45,6 +45,7 @@ abbrev pub IsKind : List ℕ → Kind → Type 0
 IsKind word Exclusive = word ≡ codes "Exclusive"
 IsKind word Failover = word ≡ codes "Failover"
 IsKind word Shared = word ≡ codes "Shared"
+IsKind word KeyShared = word ≡ codes "Key_Shared"
 
 abbrev pub IsFlow : List ℕ → Flow → Type 0
 IsFlow word (Window size) = (number : List ℕ) × (word ≡ codes "push:" ++ number) × IsBetween 1 100000 number size

@@ -21,6 +21,8 @@ fn read_kind(word: &[u8]) -> Result<Kind, Unread>
         Ok(Kind::Failover)
     } else if word == b"Shared".as_slice() {
         Ok(Kind::Shared)
+    } else if word == b"Key_Shared".as_slice() {
+        Ok(Kind::KeyShared)
     } else {
         Err(Unread::BadLine)
     }

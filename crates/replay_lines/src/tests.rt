@@ -22,7 +22,7 @@ fn check_bad<R: Abort + AllocGlobal>(rt: &R, lines: &[&[u8]]) {
 #[test]
 fn good_lines(rt: HostRuntime) {
     let this = this_topic(&rt);
-    let lines: [&[u8]; 16] = [
+    let lines: [&[u8]; 17] = [
         b"producer - -",
         b"producer a%20b 4611686018427387904",
         b"publish 1 9223372036854775807 k aGk= 253402300799999",
@@ -31,6 +31,7 @@ fn good_lines(rt: HostRuntime) {
         b"subscribe s Exclusive 2147483647 push:100000 0 60000 0 persistent://a/b/c Latest",
         b"ack 1 CAAQAA==",
         b"subscribe s Shared 0 push:1 0 0 0 - Earliest",
+        b"subscribe s Key_Shared 0 pull 0 0 0 - Latest",
         b"subscribe s Failover 0 pull 0 0 0 - Earliest",
         b"leave 1",
         b"permit 1 2147483647",
@@ -96,7 +97,8 @@ fn bad_lines(rt: HostRuntime) {
 
 #[test]
 fn bad_subscribes(rt: HostRuntime) {
-    let lines: [&[u8]; 15] = [
+    let lines: [&[u8]; 16] = [
+        b"subscribe s KeyShared 0 push:1000 0 60000 0 - Earliest",
         b"subscribe s shared 0 push:1000 0 60000 0 - Earliest",
         b"subscribe s Exclusive 2147483648 push:1000 0 60000 0 - Earliest",
         b"subscribe s Exclusive 0 push:0 0 60000 0 - Earliest",

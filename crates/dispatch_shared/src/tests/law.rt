@@ -16,6 +16,7 @@ fn first_offer<D: Dispatcher + Drop, V: View>(
 ) -> Result<Option<Offer>, Fault>
     requires kind { IsTrue (D.serves (V.subscription empty.now).kind) }
     requires nobody { members_of (V.state empty.now) (V.subscription empty.now).name ≡ [] }
+    requires unshared { (V.subscription empty.now).shares ≡ [] }
 {
     Ok(D::begin(alloc, empty)?.offer(empty))
 }

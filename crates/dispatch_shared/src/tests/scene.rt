@@ -1,5 +1,5 @@
 // A topic of three messages with a Shared subscription and its dispatcher, and what happens to it.
-ghost use Rattle.std.specs.Prelude.{◌≡◌, IfOk, codes};
+ghost use Rattle.std.specs.Prelude.{◌≡◌, [], IfOk, codes};
 
 use crate::Shared;
 use dispatch_core::{Dispatcher, ListView, Offer};
@@ -93,9 +93,9 @@ pub(super) fn log_of_three(alloc: Global) -> Result<Vec<Message>, Fail> {
 }
 
 pub(super) fn new_subscription(alloc: Global) -> Result<Subscription, Fail>
-    ensures { IfOk result (λ sub. sub.kind ≡ Kind.Shared) }
+    ensures { IfOk result (λ sub. (sub.kind ≡ Kind.Shared) × (sub.shares ≡ [])) }
 {
-    Ok(Subscription::new(alloc, name(alloc)?, Kind::Shared, PositionSet::new(alloc)))
+    Ok(Subscription::new(alloc, name(alloc)?, Kind::Shared, 1, PositionSet::new(alloc))?)
 }
 
 fn flow(takes: Takes) -> Result<Flow, Fail> {
@@ -158,6 +158,7 @@ fn offer_of(dispatcher: &Shared, view: &ListView<'_>) -> Option<Offer> {
         Kind::Exclusive => None,
         Kind::Failover => None,
         Kind::Shared => dispatcher.offer(view),
+        Kind::KeyShared => None,
     }
 }
 

@@ -20,6 +20,7 @@ fn offers<D: Dispatcher + Drop, V: View>(
 ) -> Result<(Option<Offer>, Option<Offer>), Fault>
     requires kind { IsTrue (D.serves (V.subscription empty.now).kind) }
     requires nobody { members_of (V.state empty.now) (V.subscription empty.now).name ≡ [] }
+    requires unshared { (V.subscription empty.now).shares ≡ [] }
     requires joins { Joined consumer (V.state empty.now) (V.subscription empty.now) (V.state joined.now) (V.subscription joined.now) }
     requires stores { Kept (V.state joined.now) (V.subscription joined.now) (V.state stored.now) (V.subscription stored.now) }
 {

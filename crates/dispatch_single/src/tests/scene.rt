@@ -1,5 +1,6 @@
 // A scene: a log of three messages, a subscription and its members.
-ghost use Rattle.std.specs.Prelude.{◌≡◌, IfOk, codes};
+ghost use Rattle.std.specs.Prelude.{◌≡◌, [], IfOk, codes};
+ghost use Rattle.delivery_machine.specs.Shares.{shares_with};
 
 use crate::Single;
 use dispatch_core::{Dispatcher, ListView, Offer};
@@ -66,9 +67,9 @@ pub(super) fn log_of_three(alloc: Global) -> Result<Vec<Message>, Fail> {
 }
 
 pub(super) fn new_subscription(alloc: Global, kind: Kind) -> Result<Subscription, Fail>
-    ensures { IfOk result (λ sub. (sub.name ≡ codes "s") × (sub.kind ≡ kind)) }
+    ensures { IfOk result (λ sub. (sub.name ≡ codes "s") × (sub.kind ≡ kind) × (sub.shares ≡ shares_with kind 1 [])) }
 {
-    Ok(Subscription::new(alloc, name(alloc)?, kind, PositionSet::new(alloc)))
+    Ok(Subscription::new(alloc, name(alloc)?, kind, 1, PositionSet::new(alloc))?)
 }
 
 fn subscription_in(alloc: Global, kind: Kind, scene: Scene) -> Result<Subscription, Fail> {
@@ -116,7 +117,7 @@ fn offer_of(view: &ListView<'_>) -> Option<Offer> {
     match view.subscription.kind() {
         Kind::Exclusive => Single.offer(view),
         Kind::Failover => Single.offer(view),
-        Kind::Shared => None,
+        Kind::Shared | Kind::KeyShared => None,
     }
 }
 

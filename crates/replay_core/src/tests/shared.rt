@@ -1,5 +1,5 @@
 // Shared in lines: levels, turns, permits, negative acknowledgements and ticks.
-use super::{Ended, check};
+use super::{Ended, after, check};
 use std::process::Abort;
 
 const THREE: &[u8] = b"producer p -
@@ -15,12 +15,6 @@ published CAAQAQ== 2
 published CAAQAg== 3
 durable 3
 ";
-
-fn after<R: Abort + AllocGlobal>(rt: &R, first: &[u8], then: &[u8]) -> Vec<u8> {
-    let mut text = first.to_vec(rt.alloc()).expect(rt, "no memory");
-    text.extend_from_slice(then).expect(rt, "no memory");
-    text
-}
 
 /// Replays the input on a topic with three messages.
 fn check_three<R: Abort + AllocGlobal>(rt: &R, input: &[u8], output: &[u8]) {

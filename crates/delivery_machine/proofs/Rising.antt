@@ -1,0 +1,167 @@
+-- The log's positions rise, and the next one is above them all.
+use Rattle.std.proofs.Common.{◌≡◌, ℕ, ◌+◌, ◌<◌, ◌≤◌, ◌^◌, min, List, [], ◌∷◌, ◌++◌, map, length, suc, zero, Bool, true, false, cond, get_or, refl, ap, ◌∙◌, sym, subst, arith, All, Contains, count_by, nat_lt, nat_eq}
+use Rattle.std.specs.Prelude.{◌&&◌, ◌||◌, ◌==◌}
+use Rattle.std.specs.List.{AllByRecursion}
+use Rattle.std.specs.List.Sorted.{IsStrictlySortedBy}
+use Rattle.std.specs.Cmp.{tied_itself}
+use Rattle.std.specs.declared.cmp.Ordering.{Ordering}
+use Rattle.std.specs.declared.cmp.Ordering.TheVariants.{Less, Equal}
+use Rattle.std.proofs.lemmas.Bool.Decides.{nat_tests}
+use Rattle.std.proofs.lemmas.List.Elements.{All-nil, All-weaker, All-push, recursion_from_All, All-from_recursion, All-contains}
+use Rattle.std.proofs.lemmas.List.Sums.{sum_by_push}
+use Rattle.position_core.specs.declared.position.Position.{Position}
+use Rattle.position_core.specs.declared.message.Entry.{Entry}
+use Rattle.position_core.specs.Position.{position_cmp, positions_total}
+use Rattle.delivery_machine.specs.State.{State}
+use Rattle.delivery_machine.specs.Words.{next_position}
+use Rattle.delivery_machine.specs.Snapshot.{Snapshot}
+use Rattle.delivery_machine.specs.Laws.{IsSound}
+
+-- ---- keys that rise
+
+sorted_push : {A K : Type 0} (c : K → K → Ordering) (f : A → K) (xs : List A) (y : A) → IsStrictlySortedBy c (map f xs) → AllByRecursion (λ x. c (f x) (f y) ≡ Less) xs → IsStrictlySortedBy c (map f (xs ++ y ∷ []))
+unfolding IsStrictlySortedBy
+sorted_push c f [] y rising below = (tt, tt)
+sorted_push {A} c f (x ∷ xs) y rising below = (above xs rising.0, sorted_push c f xs y rising.1 below.1)
+  where
+    above : (zs : List A) → AllByRecursion (λ k. c (f x) k ≡ Less) (map f zs) → AllByRecursion (λ k. c (f x) k ≡ Less) (map f (zs ++ y ∷ []))
+    above [] h = (below.0, tt)
+    above (z ∷ zs) h = (h.0, above zs h.1)
+
+keys_above : {A K : Type 0} (c : K → K → Ordering) (f : A → K) (k : K) (xs : List A) (x : A) → AllByRecursion (λ q. c k q ≡ Less) (map f xs) → Contains xs x → c k (f x) ≡ Less
+keys_above {A} c f k xs x above at = All-contains (λ y. c k (f y) ≡ Less) xs x (All-from_recursion (λ y. c k (f y) ≡ Less) xs (of_keys xs above)) at
+  where
+    of_keys : (ys : List A) → AllByRecursion (λ q. c k q ≡ Less) (map f ys) → AllByRecursion (λ y. c k (f y) ≡ Less) ys
+    of_keys [] h = tt
+    of_keys (y ∷ ys) h = (h.0, of_keys ys h.1)
+
+-- two elements of one key are one
+one_of_each : {A K : Type 0} (c : K → K → Ordering) → ((k : K) → c k k ≡ Less → ⊥) → (f : A → K) (xs : List A) → IsStrictlySortedBy c (map f xs) → (x y : A) → Contains xs x → Contains xs y → f x ≡ f y → x ≡ y
+unfolding IsStrictlySortedBy
+one_of_each c never f [] rising x y at bt same = let below = at.1 in absurd (omega arith)
+one_of_each {A} c never f (z ∷ zs) rising x y at bt same =
+    by at.0 at.1 at.2 bt.0 bt.1 bt.2 (λ a b. one_of_each c never f zs rising.1 x y a b same)
+  where
+    apart : (u v : A) → z ≡ u → Contains zs v → f u ≡ f v → ⊥
+    apart u v is there e = never (f z) (ap (c (f z)) (ap f is ∙ e) ∙ keys_above c f (f z) zs v rising.0 there)
+
+    by : (i : ℕ) → i < length (z ∷ zs) → get_or (z ∷ zs) i x ≡ x → (j : ℕ) → j < length (z ∷ zs) → get_or (z ∷ zs) j y ≡ y → (Contains zs x → Contains zs y → x ≡ y) → x ≡ y
+    by zero low is zero low' is' rest = sym is ∙ is'
+    by zero low is (suc j) low' is' rest = absurd (apart x y is (j, omega arith, is') same)
+    by (suc i) low is zero low' is' rest = absurd (apart y x is' (i, omega arith, is) (sym same))
+    by (suc i) low is (suc j) low' is' rest = rest (i, omega arith, is) (j, omega arith, is')
+
+-- ---- the log
+
+-- how many messages of the log are in the ledger
+abbrev pub used_in : ℕ → List Entry → ℕ
+used_in ledger log = count_by (λ e. e.position.ledger == ledger) log
+
+-- the position is in an earlier ledger, or among the first entries of this one
+abbrev pub is_below : ℕ → ℕ → Position → Bool
+is_below ledger used p = nat_lt p.ledger ledger || (p.ledger == ledger && nat_lt p.entry used)
+
+-- no position stands above the ledger, nor above the messages in it
+pub record IsRising (log : List Entry) (ledger : ℕ) : Type 0 where
+  pub sorted : IsStrictlySortedBy position_cmp (map (λ e. e.position) log)
+  pub below : All (λ e. is_below ledger (used_in ledger log) e.position ≡ true) log
+
+abbrev next_of : ℕ → ℕ → ℕ → Position
+next_of ledger used size = cond (nat_lt used size) (record { ledger = ledger; entry = used }) (record { ledger = ledger + 1; entry = 0 })
+
+before_next : (ledger used size : ℕ) (p : Position) → is_below ledger used p ≡ true → position_cmp p (next_of ledger used size) ≡ Less
+before_next ledger used size p low = by (nat_lt used size)
+  where
+    by : (b : Bool) → position_cmp p (cond b (record { ledger = ledger; entry = used }) (record { ledger = ledger + 1; entry = 0 })) ≡ Less
+    by true = grind (arith, nat_tests)
+    by false = grind (arith, nat_tests)
+
+not_below_itself : (p : Position) → position_cmp p p ≡ Less → ⊥
+not_below_itself p e = let same = tied_itself positions_total p in cc
+
+pub one_of_position : (log : List Entry) (ledger : ℕ) → IsRising log ledger → (x y : Entry) → Contains log x → Contains log y → x.position ≡ y.position → x ≡ y
+one_of_position log ledger rising = one_of_each position_cmp not_below_itself (λ e. e.position) log rising.sorted
+
+-- every position of the log is below the next
+pub all_before_next : (s : State) → IsRising s.log s.ledger → All (λ e. position_cmp e.position (next_position s) ≡ Less) s.log
+all_before_next s rising =
+    All-weaker (λ e. is_below s.ledger (used_in s.ledger s.log) e.position ≡ true) (λ e. position_cmp e.position (next_position s) ≡ Less)
+      (λ e low. before_next s.ledger (used_in s.ledger s.log) s.ledger_size e.position low) s.log rising.below
+
+pub next_is_new : (s : State) → IsRising s.log s.ledger → (x : Entry) → Contains s.log x → x.position ≡ next_position s → ⊥
+next_is_new s rising x at is =
+    let lower : position_cmp x.position (next_position s) ≡ Less = All-contains (λ e. position_cmp e.position (next_position s) ≡ Less) s.log x (all_before_next s rising) at in
+    not_below_itself (next_position s) (ap (λ (p : Position). position_cmp p (next_position s)) (sym is) ∙ lower)
+
+-- so many are in the ledger of the next message, with that message
+abbrev IsMore : ℕ → ℕ → ℕ → ℕ → Type 0
+IsMore ledger used next more = (1 ≤ more) × (next ≡ ledger → more ≡ used + 1)
+
+next_itself_below : (ledger used size more : ℕ) (q : Position) → q ≡ next_of ledger used size → IsMore ledger used q.ledger more → is_below q.ledger more q ≡ true
+next_itself_below ledger used size more q is longer = by (nat_lt used size) is
+  where
+    by : (b : Bool) → q ≡ cond b (record { ledger = ledger; entry = used }) (record { ledger = ledger + 1; entry = 0 }) → is_below q.ledger more q ≡ true
+    by true e =
+        let l : q.ledger ≡ ledger = ap (λ p. p.ledger) e in
+        let n : q.entry ≡ used = ap (λ p. p.entry) e in
+        let m = longer.1 l in
+        grind (arith, nat_tests)
+    by false e =
+        let n : q.entry ≡ 0 = ap (λ p. p.entry) e in
+        let m = longer.0 in
+        grind (arith, nat_tests)
+
+still_below : (ledger used size more : ℕ) (q p : Position) → q ≡ next_of ledger used size → IsMore ledger used q.ledger more → is_below ledger used p ≡ true → is_below q.ledger more p ≡ true
+still_below ledger used size more q p is longer low = by (nat_lt used size) is
+  where
+    by : (b : Bool) → q ≡ cond b (record { ledger = ledger; entry = used }) (record { ledger = ledger + 1; entry = 0 }) → is_below q.ledger more p ≡ true
+    by true e =
+        let l : q.ledger ≡ ledger = ap (λ p. p.ledger) e in
+        let m = longer.1 l in
+        grind (arith, nat_tests)
+    by false e =
+        let l : q.ledger ≡ ledger + 1 = ap (λ p. p.ledger) e in
+        grind (arith, nat_tests)
+
+used_push : (ledger : ℕ) (log : List Entry) (e : Entry) → IsMore ledger (used_in ledger log) e.position.ledger (used_in e.position.ledger (log ++ e ∷ []))
+used_push ledger log e =
+    let one : cond {A = ℕ} (e.position.ledger == e.position.ledger) 1 0 ≡ 1 = grind (arith, nat_tests) in
+    let counted : used_in e.position.ledger (log ++ e ∷ []) ≡ used_in e.position.ledger log + 1 =
+    sum_by_push (λ x. cond {A = ℕ} (x.position.ledger == e.position.ledger) 1 0) log e ∙ ap (λ n. used_in e.position.ledger log + n) one in
+    (omega arith, λ same. counted ∙ ap (λ n. used_in n log + 1) same)
+
+-- the next message of the log keeps it so
+pub rising_push : (s : State) (e : Entry) → e.position ≡ next_position s → IsRising s.log s.ledger → IsRising (s.log ++ e ∷ []) e.position.ledger
+rising_push s e is rising =
+    let more : ℕ = used_in e.position.ledger (s.log ++ e ∷ []) in
+    let longer = used_push s.ledger s.log e in
+    let Q : Entry → Type 0 = λ x. is_below e.position.ledger more x.position ≡ true in
+    record {
+      sorted = sorted_push position_cmp (λ x. x.position) s.log e rising.sorted
+          (recursion_from_All (λ x. position_cmp x.position e.position ≡ Less) s.log
+            (subst (λ (p : Position). All (λ x. position_cmp x.position p ≡ Less) s.log) (sym is) (all_before_next s rising)));
+      below = All-push Q s.log e
+          (All-weaker (λ x. is_below s.ledger (used_in s.ledger s.log) x.position ≡ true) Q
+            (λ x low. still_below s.ledger (used_in s.ledger s.log) s.ledger_size more e.position x.position is longer low) s.log rising.below)
+          (next_itself_below s.ledger (used_in s.ledger s.log) s.ledger_size more e.position is longer);
+    }
+
+-- ---- where a run begins
+
+pub rising_fresh : IsRising [] 0
+unfolding IsStrictlySortedBy
+rising_fresh = record { sorted = tt; below = All-nil (λ e. is_below 0 (used_in 0 []) e.position ≡ true) }
+
+below_restarted : (ledger kept used : ℕ) (p : Position) → (p.ledger ≤ kept) × (p.ledger ≤ 2 ^ 62) → ledger ≡ min (kept + 1) (2 ^ 62 + 1) → is_below ledger used p ≡ true
+below_restarted ledger kept used p low is =
+    let a = low.0 in
+    let b = low.1 in
+    let c : p.ledger < ledger = omega arith in
+    grind (arith, nat_tests)
+
+pub rising_restarted : (kept : Snapshot) → IsSound kept → IsRising kept.log (min (kept.ledger + 1) (2 ^ 62 + 1))
+rising_restarted kept sound = record {
+  sorted = sound.rising;
+  below = All-weaker (λ e. (e.position.ledger ≤ kept.ledger) × (e.position.ledger ≤ 2 ^ 62)) (λ e. is_below (min (kept.ledger + 1) (2 ^ 62 + 1)) (used_in (min (kept.ledger + 1) (2 ^ 62 + 1)) kept.log) e.position ≡ true)
+      (λ e low. below_restarted _ kept.ledger _ e.position low refl) kept.log sound.ledgers;
+}

@@ -1,0 +1,128 @@
+-- All subscriptions' pending messages are tended, whichever subscription is changed.
+use Rattle.std.proofs.Common.{◌≡◌, ℕ, List, [], ◌∷◌, ◌++◌, map, Some, None, Bool, true, false, cond, refl, ap, ◌∙◌, sym, subst, ◌⊎◌, inl, inr, arith, Contains, Option, subst₂}
+use Rattle.std.specs.Prelude.{not, ◌==◌, ◌&&◌, is_some}
+use Rattle.std.specs.List.{find, list_any}
+use Rattle.std.specs.Str.{bytes_eq}
+use Rattle.std.specs.FinMap as map_of
+use Rattle.std.specs.declared.cmp.Ordering.TheVariants.{Equal}
+use Rattle.std.proofs.lemmas.Bool.Decides.{nat_tests}
+use Rattle.std.proofs.lemmas.Slice.Eq.{bytes_eq-Decides}
+use Rattle.position_core.specs.declared.position.Position.{Position}
+use Rattle.position_core.specs.declared.message.Entry.{Entry}
+use Rattle.position_core.specs.declared.held.Held.{Held}
+use Rattle.position_core.specs.declared.kind.Kind.{Kind}
+use Rattle.position_core.specs.Position.{position_cmp, exact_positions}
+use Rattle.delivery_machine.specs.State.{Member, Subscription}
+use Rattle.delivery_machine.specs.Words.{changed, is_named, is_at, is_member, is_held_by}
+use Rattle.delivery_machine.specs.Joining.{placed}
+use Rattle.delivery_machine.proofs.Firsts.{found_changed, found_inserted, any_changed, any_mapped, any_pushed}
+use Rattle.delivery_machine.proofs.Tended.{IsTended, IsPartOf, KeepsSeats, is_seat, tended_part, tended_seats, got_inserted}
+
+-- ---- parts of what is pending
+
+-- what is kept passes the test, and was pending
+pub got_retained : (pending : map_of.FinMap position_cmp Held) (keeps : Position → Bool) (p : Position) (h : Held) → map_of.get (map_of.retain_keys pending keeps) p ≡ Some h → (keeps p ≡ true) × (map_of.get pending p ≡ Some h)
+got_retained pending keeps p h is =
+    by (keeps p) refl (sym (map_of.get-retain_keys pending keeps p (λ x t. ap keeps (sym (exact_positions p x t)))) ∙ is)
+  where
+    by : (b : Bool) → keeps p ≡ b → cond b (map_of.get pending p) None ≡ Some h → (keeps p ≡ true) × (map_of.get pending p ≡ Some h)
+    by true t e = (t, e)
+    by false f e = cc
+
+pub part_retained : (pending : map_of.FinMap position_cmp Held) (keeps : Position → Bool) → IsPartOf (map_of.retain_keys pending keeps) pending
+part_retained pending keeps p h is = (h, (got_retained pending keeps p h is).1, refl)
+
+pub none_pending : (p : Position) (h : Held) → map_of.get (map_of.empty {X = Held} {R = position_cmp}) p ≡ Some h → ⊥
+none_pending p h is = let none = map_of.get-empty {X = Held} position_cmp p in cc
+
+pub part_empty : (pending : map_of.FinMap position_cmp Held) → IsPartOf map_of.empty pending
+part_empty pending p h is = absurd (none_pending p h is)
+
+-- a message that is pending at the consumer falls due at another moment
+pub part_held_again : (pending : map_of.FinMap position_cmp Held) (p : Position) (held : Held) → is_held_by held.consumer (map_of.get pending p) ≡ true → IsPartOf (map_of.insert pending p held) pending
+part_held_again pending p held was q h is = elim (got_inserted pending p held q h is) [
+  | inl new ↦ by (map_of.get pending p) refl was new.0 new.1
+  | inr old ↦ (h, old, refl)
+]
+  where
+    number : (a b : ℕ) → (a == b) ≡ true → a ≡ b
+    number a b e = grind (arith, nat_tests)
+
+    by : (o : Option Held) → map_of.get pending p ≡ o → is_held_by held.consumer o ≡ true → q ≡ p → h ≡ held → (k : Held) × (map_of.get pending q ≡ Some k) × (k.consumer ≡ h.consumer)
+    by None e t place same = cc
+    by (Some k) e t place same = (k, ap (map_of.get pending) place ∙ e, number k.consumer held.consumer t ∙ sym (ap (λ (z : Held). z.consumer) same))
+
+-- ---- members that stay
+
+pub same_seat_if : (b : Bool) (name : List ℕ) (number : ℕ) (m n : Member) → is_seat name number n ≡ is_seat name number m → is_seat name number (cond b n m) ≡ is_seat name number m
+same_seat_if true name number m n same = same
+same_seat_if false name number m n same = refl
+
+pub seats_changed : (q : Member → Bool) (f : Member → Member) → ((name : List ℕ) (number : ℕ) (m : Member) → is_seat name number (f m) ≡ is_seat name number m) → (members : List Member) → KeepsSeats members (changed q f members)
+seats_changed q f same members name number t = any_changed (is_seat name number) q f (same name number) members ∙ t
+
+pub seats_mapped : (f : Member → Member) → ((name : List ℕ) (number : ℕ) (m : Member) → is_seat name number (f m) ≡ is_seat name number m) → (members : List Member) → KeepsSeats members (map f members)
+seats_mapped f same members name number t = any_mapped (is_seat name number) f (same name number) members ∙ t
+
+pub seats_pushed : (members : List Member) (m : Member) → KeepsSeats members (members ++ m ∷ [])
+seats_pushed members m name number t = any_pushed (is_seat name number) members m t
+
+-- ---- all subscriptions
+
+abbrev pub IsTendedIn : List Entry → List Member → Subscription → Type 0
+IsTendedIn log members sub = IsTended log members sub.name sub.kind sub.pending
+
+abbrev pub AllTended : List Entry → List Member → List Subscription → Type 0
+AllTended log members subs = (name : List ℕ) (sub : Subscription) → find (is_named name) subs ≡ Some sub → IsTendedIn log members sub
+
+pub same_name : (a b : List ℕ) → bytes_eq a b ≡ true → a ≡ b
+same_name a b e = (bytes_eq-Decides a b).0 e
+
+pub names_differ : (a b : List ℕ) → bytes_eq a b ≡ false → bytes_eq b a ≡ false
+names_differ a b differ = by (bytes_eq b a) refl
+  where
+    by : (c : Bool) → bytes_eq b a ≡ c → c ≡ false
+    by false f = refl
+    by true t = sym ((bytes_eq-Decides a b).1 (sym (same_name b a t))) ∙ differ
+
+names_apart : (name n : List ℕ) (x y : Subscription) → is_named n x ≡ true → is_named name x ≡ false → is_named name y ≡ true → is_named n y ≡ false
+names_apart name n x y xn xname yname = by (is_named n y) refl
+  where
+    by : (b : Bool) → is_named n y ≡ b → b ≡ false
+    by false f = refl
+    by true t =
+        let same : x.name ≡ name = same_name x.name n xn ∙ sym (same_name y.name n t) ∙ same_name y.name name yname in
+        sym ((bytes_eq-Decides x.name name).1 same) ∙ xname
+
+pub tended_changed : (log log' : List Entry) (members members' : List Member) (n : List ℕ) (f : Subscription → Subscription) (subs : List Subscription)
+    → ((sub : Subscription) → (f sub).name ≡ sub.name)
+    → ((sub : Subscription) → is_named n sub ≡ false → IsTendedIn log members sub → IsTendedIn log' members' sub)
+    → ((sub : Subscription) → find (is_named n) subs ≡ Some sub → IsTendedIn log members sub → IsTendedIn log' members' (f sub))
+    → AllTended log members subs → AllTended log' members' (changed (is_named n) f subs)
+tended_changed log log' members members' n f subs same others there all name sub found =
+    elim (found_changed (is_named name) (is_named n) f (λ x. ap (λ (m : List ℕ). bytes_eq m name) (same x)) (names_apart name n) subs sub found) [
+      | inl a ↦ others sub a.1 (all name sub a.0)
+      | inr b ↦ subst (IsTendedIn log' members') (sym b.3) (there b.0 b.2 (all name b.0 b.1))
+    ]
+
+-- where a subscription only loses what is pending, and the members stay
+pub tended_taken : (log : List Entry) (members members' : List Member) (n : List ℕ) (f : Subscription → Subscription) (subs : List Subscription)
+    → ((sub : Subscription) → (f sub).name ≡ sub.name) → ((sub : Subscription) → (f sub).kind ≡ sub.kind)
+    → ((sub : Subscription) → find (is_named n) subs ≡ Some sub → IsPartOf (f sub).pending sub.pending)
+    → KeepsSeats members members' → AllTended log members subs → AllTended log members' (changed (is_named n) f subs)
+tended_taken log members members' n f subs name_stays kind_stays part stay =
+    tended_changed log log members members' n f subs name_stays
+      (λ sub _ t. tended_seats log members members' sub.name sub.kind sub.pending stay t)
+      (λ sub found t. subst₂ (λ (m : List ℕ) (k : Kind). IsTended log members' m k (f sub).pending) (sym (name_stays sub)) (sym (kind_stays sub))
+        (tended_seats log members members' sub.name sub.kind (f sub).pending stay (tended_part log members sub.name sub.kind sub.pending (f sub).pending (part sub found) t)))
+
+pub tended_stay : (log : List Entry) (members members' : List Member) (subs : List Subscription) → KeepsSeats members members' → AllTended log members subs → AllTended log members' subs
+tended_stay log members members' subs stay all name sub found = tended_seats log members members' sub.name sub.kind sub.pending stay (all name sub found)
+
+-- where a further subscription comes
+pub tended_placed : (log : List Entry) (members members' : List Member) (new : Subscription) (subs : List Subscription) → IsTendedIn log members' new → KeepsSeats members members' → AllTended log members subs → AllTended log members' (placed new subs)
+tended_placed log members members' new subs one stay all name sub found =
+    elim (found_inserted (is_named name) subs _ new sub found) [
+      | inl a ↦ subst (IsTendedIn log members') (sym a) one
+      | inr b ↦ tended_stay log members members' subs stay all name sub b
+    ]

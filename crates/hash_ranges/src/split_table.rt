@@ -1,0 +1,68 @@
+// The shares of a subscription's consumers.
+ghost use Rattle.std.specs.Prelude.{◌≡◌, [], OnOk, OnErr, IfNone};
+ghost use Rattle.delivery_machine.specs.Shares.{owner_of, shared_out, given_back};
+ghost use Rattle.hash_ranges.specs.Parted.{PartAllHashes};
+
+use crate::places;
+use crate::row;
+use position_core::Block;
+use std::alloc::{AllocError, Global};
+use std::marker::Model;
+
+/// The shares of the hashes that the consumers have, in the order of hashes: a list, so each call
+/// takes time by their number. Only `join` takes memory.
+#[derive(Drop)]
+pub struct SplitTable {
+    shares: Vec<Block>,
+}
+
+impl Model for SplitTable {
+    ghost use Rattle.std.specs.Prelude.{List};
+    ghost use Rattle.position_core.specs.declared.block.Block.{Block};
+    ghost use Rattle.hash_ranges.specs.Codes.{coded_shares};
+    ghost use Rattle.hash_ranges.specs.Parted.{PartAllHashes};
+
+    ghost Value = { List Block };
+
+    ghost coded = { coded_shares };
+
+    ghost view = { λ t. t.shares.items };
+
+    ghost invariant = { λ t. PartAllHashes t.shares.items };
+}
+
+impl SplitTable {
+    /// Nobody has a hash.
+    pub fn new(alloc: Global) -> Self
+        ensures { result ≡ [] }
+    {
+        SplitTable {
+            shares: Vec::new(alloc),
+        }
+    }
+
+    /// A consumer joins, and takes the lower half of the largest share, or all hashes where it is alone.
+    pub fn join(&mut self, consumer: u64) -> Result<(), AllocError>
+        ensures ok { OnOk result (self.new ≡ shared_out consumer self.old) }
+        ensures err { OnErr result (self.new ≡ self.old) }
+    {
+        row::share_out(&mut self.shares, consumer)
+    }
+
+    /// A consumer leaves, and the share beside its own has its hashes then. Where it has no share,
+    /// nothing changes.
+    pub fn leave(&mut self, consumer: u64)
+        ensures { self.new ≡ given_back consumer self.old }
+    {
+        row::give_back(&mut self.shares, consumer);
+    }
+
+    /// The consumer that has the hash: there is one as long as any has joined.
+    pub fn owner(&self, hash: u16) -> Option<u64>
+        ensures value { result ≡ owner_of self.now hash }
+        ensures whole { IfNone result (self.now ≡ []) }
+        ensures parted { PartAllHashes self.now }
+    {
+        places::owner_of(&self.shares, hash)
+    }
+}
