@@ -14,7 +14,7 @@ use Rattle.position_core.specs.declared.held.Held.{Held}
 use Rattle.position_core.specs.declared.flow.Flow.TheVariants.{Window}
 use Rattle.position_core.specs.declared.kind.Kind.TheVariants.{KeyShared}
 use Rattle.position_core.specs.Position.{position_cmp, positions_total}
-use Rattle.murmur_core.proofs.Bounds.{sticky_hash-lt}
+use Rattle.murmur_core.proofs.Keys.{sticky_hash-lt}
 use Rattle.delivery_machine.specs.State.{State, Subscription, Member, Producer, fresh}
 use Rattle.delivery_machine.specs.Shares.{has_hash, all_hashes}
 use Rattle.delivery_machine.specs.Words.{hash_of, count_of, is_at, is_member, is_held_by, is_held_beside, waits_with_hash, owner_at, IsEligible}
