@@ -292,25 +292,20 @@ pub fn place_for(subscriptions: &[Subscription], name: &SubscriptionName) -> usi
     }
 }
 
-/// Lets the consumer into the subscription, which takes its kind, and answers whether there is such
-/// a subscription. Nothing changes where there is no memory.
+/// Lets the consumer into the subscription, which takes its kind. Nothing changes where there is no
+/// memory.
 pub fn join_at(
     subscriptions: &mut [Subscription],
     name: &SubscriptionName,
     kind: Kind,
     consumer: u64,
-) -> Result<bool, AllocError>
-    ensures known { IfOk result (λ known. known ≡ is_some (find (is_named name.now) subscriptions.old)) }
-    ensures update { OnOk result (subscriptions.new ≡ changed (is_named name.now) (joining kind consumer) subscriptions.old) }
-    ensures none { IfOk result (λ known. OnFalse known (subscriptions.new ≡ subscriptions.old)) }
+) -> Result<(), AllocError>
+    ensures ok { OnOk result (subscriptions.new ≡ changed (is_named name.now) (joining kind consumer) subscriptions.old) }
     ensures err { OnErr result (subscriptions.new ≡ subscriptions.old) }
 {
     match place_of_subscription(subscriptions, name) {
-        Some(place) => {
-            subscriptions[place].join(kind, consumer)?;
-            Ok(true)
-        }
-        None => Ok(false),
+        Some(place) => subscriptions[place].join(kind, consumer),
+        None => Ok(()),
     }
 }
 

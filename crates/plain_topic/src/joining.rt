@@ -61,8 +61,8 @@ impl PlainTopic {
         ensures err { OnErr result (state_of self.new ≡ state_of self.old) }
         ensures room { vec_capacity self.new.members ≡ vec_capacity self.old.members }
     {
-        if join_at(&mut self.subscriptions, name, kind, consumer)? {
-            return Ok(());
+        if subscription_at(&self.subscriptions, name).is_some() {
+            return join_at(&mut self.subscriptions, name, kind, consumer);
         }
         let acknowledged = self.first_acknowledged(initial)?;
         let made = Subscription::new(self.alloc, name.clone()?, kind, consumer, acknowledged)?;

@@ -1,8 +1,6 @@
-use Rattle.std.proofs.Common.{List, Some, ap, ◌∙◌, sym, subst}
-use Rattle.std.specs.List.{find}
+use Rattle.std.proofs.Common.{List, Some, ◌∙◌, sym, subst}
 use Rattle.position_core.specs.declared.message.Entry.{Entry}
 use Rattle.delivery_machine.specs.State.{Member}
-use Rattle.delivery_machine.specs.Words.{is_waiting}
 use Rattle.plain_lists.specs.Turn.{IsBestLevel, roomy}
 use Rattle.plain_topic.specs.StateOf.{state_of}
 use Rattle.plain_topic.proofs.Chosen.{shared_pair}
@@ -12,8 +10,8 @@ pub returns-in_ok-member-in-Shared-clause-pair : goal.returns-in_ok-member-in-Sh
 returns-in_ok-member-in-Shared-clause-pair c =
     let sub = c.args.subscription.now in
     let m = c.in_ok-member-in-Shared.member.now in
-    shared_pair (state_of c.args.self.now) sub c.in_ok-message.message.now m
+    shared_pair (state_of c.args.self.now) sub c.in_ok-message-in-Shared.message.now m
     (sym c.kind.ensures ∙ c.in-Shared.is)
-    (ap (find (is_waiting sub)) (sym c.visible.ensures) ∙ sym c.in_ok-message.ensures)
-    (subst (λ (log : List Entry). IsBestLevel (roomy log sub c.args.self.now.members.items) (Some m)) c.deref-in-Shared.ensures.value
-    (subst (λ (members : List Member). IsBestLevel (roomy c.deref-in-Shared.result.now sub members) (Some m)) c.deref.ensures.value c.in_ok-member-in-Shared.ensures))
+    (sym c.in_ok-message-in-Shared.ensures)
+    (subst (λ (log : List Entry). IsBestLevel (roomy log sub c.args.self.now.members.items) (Some m)) c.deref-in-Shared-2.ensures.value
+    (subst (λ (members : List Member). IsBestLevel (roomy c.deref-in-Shared-2.result.now sub members) (Some m)) c.deref-in-Shared.ensures.value c.in_ok-member-in-Shared.ensures))
