@@ -1,5 +1,4 @@
 // The tables of the report.
-ghost use Rattle.std.specs.Prelude.{◌<◌};
 
 /// A table: a row a case, and a column a size.
 #[derive(Clone, Copy)]
@@ -14,6 +13,9 @@ pub(crate) enum Table {
 pub(crate) const CALLS_A_KEY: u64 = 1_000_000;
 
 impl Table {
+    ghost use Rattle.std.specs.Prelude.{◌≡◌, ◌<◌};
+    ghost use Rattle.bench.specs.Table.{calls_of};
+
     /// What the sizes count.
     pub(crate) fn name(self) -> &'static str {
         match self {
@@ -40,7 +42,8 @@ impl Table {
 
     /// How many calls a case makes.
     pub(crate) fn calls(self, size: u64) -> u64
-        ensures { 0 < result }
+        ensures number { result ≡ calls_of self size }
+        ensures some { 0 < result }
     {
         match self {
             Table::Slots => size.max(1),

@@ -1,5 +1,5 @@
 -- That the shares part all hashes, as consumers join and leave.
-use Rattle.std.proofs.Common.{◌≡◌, ℕ, ◌+◌, ◌-◌, ◌<◌, ◌≤◌, zero, suc, Bool, true, false, cond, eqb, ltb, leb, List, [], ◌∷◌, length, get_or, Option, Some, None, Result, Ok, Err, OnOk, OnErr, IfNone, ⊎_elim, refl, sym, ap, ◌∙◌, subst, arith}
+use Rattle.std.proofs.Common.{◌≡◌, ℕ, ◌+◌, ◌-◌, ◌<◌, ◌≤◌, zero, suc, Bool, true, false, cond, eqb, List, [], ◌∷◌, length, get_or, Option, Some, None, Result, Ok, Err, OnOk, OnErr, IfNone, ⊎_elim, refl, sym, ap, ◌∙◌, subst, arith}
 use Rattle.std.specs.Prelude.{◌&&◌}
 use Rattle.std.specs.List.{find}
 use Rattle.std.specs.Option.{option_map}
@@ -85,12 +85,12 @@ found : (h hash : ℕ) (bs : List Block) → h ≤ hash → hash < 65536 → IsR
 found h hash [] above below row none = omega arith
 found h hash (b ∷ bs) above below row none =
     ⊎_elim (λ (lt : hash < h + b.size).
-      let here : has_hash hash b ≡ true = grind (arith, nat_tests, row.0) in
-      let some : Some b ≡ None = sym (ap (λ t. cond t (Some b) (find (has_hash hash) bs)) here) ∙ none in
-      cc)
+    let here : has_hash hash b ≡ true = grind (arith, nat_tests, row.0) in
+    let some : Some b ≡ None = sym (ap (λ t. cond t (Some b) (find (has_hash hash) bs)) here) ∙ none in
+    cc)
     (λ (le : h + b.size ≤ hash).
-      let past : has_hash hash b ≡ false = grind (arith, nat_tests, row.0) in
-      found (h + b.size) hash bs le below row.1 (sym (ap (λ t. cond t (Some b) (find (has_hash hash) bs)) past) ∙ none))
+    let past : has_hash hash b ≡ false = grind (arith, nat_tests, row.0) in
+    found (h + b.size) hash bs le below row.1 (sym (ap (λ t. cond t (Some b) (find (has_hash hash) bs)) past) ∙ none))
     (cases_lt hash (h + b.size))
 
 nothing_owned : (o : Option Block) → option_map (λ b. b.consumer) o ≡ None → o ≡ None

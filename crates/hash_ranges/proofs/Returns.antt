@@ -1,5 +1,5 @@
 -- A consumer leaves: what is written beside its place is what the shares are then.
-use Rattle.std.proofs.Common.{◌≡◌, ℕ, ◌+◌, ◌-◌, ◌<◌, ◌≤◌, zero, suc, Bool, true, false, cond, eqb, List, [], ◌∷◌, ◌++◌, length, get_or, set, Some, None, refl, sym, ap, ◌∙◌, arith}
+use Rattle.std.proofs.Common.{◌≡◌, ℕ, ◌+◌, ◌-◌, ◌^◌, ◌<◌, ◌≤◌, zero, suc, true, false, cond, eqb, List, [], ◌∷◌, length, get_or, set, Some, None, refl, sym, ap, ◌∙◌, arith}
 use Rattle.std.specs.Prelude.{◌&&◌}
 use Rattle.std.specs.List.{remove, position}
 use Rattle.std.proofs.lemmas.Bool.Decides.{nat_tests}
@@ -59,12 +59,6 @@ given_to_one_before consumer bs (suc k) d e there last some =
     ap (λ n. set (remove bs (suc k)) n (with_upper (get_or bs (suc k) d) (get_or (remove bs (suc k)) n e))) before
     ∙ to_one_before consumer bs k d e (omega arith) at.1 at.2
 
-pub given_to_nobody : (consumer : ℕ) (bs : List Block) (d : Block) → Some 0 ≡ position (is_share_of consumer) bs → length bs ≡ 1 → remove bs 0 ≡ given_back consumer bs
-given_to_nobody consumer [] d there one = absurd (omega arith)
-given_to_nobody consumer (a ∷ b ∷ bs) d there one = absurd (omega arith)
-given_to_nobody consumer (a ∷ []) d there one =
-    sym (ap (λ t. cond t [] (a ∷ [])) (position-Some (is_share_of consumer) (a ∷ []) 0 d (sym there)).1)
-
 pub nothing_given : (consumer : ℕ) (bs : List Block) → None ≡ position (is_share_of consumer) bs → bs ≡ given_back consumer bs
 nothing_given consumer bs nowhere = kept consumer bs (fails_everywhere (is_share_of consumer) bs (sym nowhere))
 
@@ -76,13 +70,13 @@ module _ (consumer : ℕ) (bs left : List Block) (k : ℕ) (gone : Block) (there
   fewer : length left + 1 ≡ length bs
   fewer = omega (arith, ap length taken, length-remove bs k within)
 
-  pub next_fits : (next : Block) → k < length left → PartAllHashes bs → next ≡ get_or left k next → gone.size + next.size < 4294967296
+  pub next_fits : (next : Block) → k < length left → PartAllHashes bs → next ≡ get_or left k next → gone.size + next.size < 2 ^ 32
   next_fits next more parts is =
       let one = ends bs k gone within parts was in
       let other = ends bs (k + 1) next (omega (arith, fewer)) parts (is ∙ ap (λ (xs : List Block). get_or xs k next) taken ∙ get_or-remove_above bs k next k (omega arith) within) in
       omega arith
 
-  pub one_before_fits : (before : Block) → 0 < k → PartAllHashes bs → before ≡ get_or left (k - 1) before → before.size + gone.size < 4294967296
+  pub one_before_fits : (before : Block) → 0 < k → PartAllHashes bs → before ≡ get_or left (k - 1) before → before.size + gone.size < 2 ^ 32
   one_before_fits before some parts is =
       let one = ends bs k gone within parts was in
       let other = ends bs (k - 1) before (omega (arith, within)) parts (is ∙ ap (λ (xs : List Block). get_or xs (k - 1) before) taken ∙ get_or-remove_below bs k before (k - 1) (omega arith) within) in

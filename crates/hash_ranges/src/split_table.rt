@@ -3,8 +3,7 @@ ghost use Rattle.std.specs.Prelude.{◌≡◌, [], OnOk, OnErr, IfNone};
 ghost use Rattle.delivery_machine.specs.Shares.{owner_of, shared_out, given_back};
 ghost use Rattle.hash_ranges.specs.Parted.{PartAllHashes};
 
-use crate::places;
-use crate::row;
+use crate::{places, row};
 use position_core::Block;
 use std::alloc::{AllocError, Global};
 use std::marker::Model;
@@ -41,7 +40,8 @@ impl SplitTable {
         }
     }
 
-    /// A consumer joins, and takes the lower half of the largest share, or all hashes where it is alone.
+    /// A consumer that is not there joins, and takes the lower half of the largest share, or all hashes
+    /// where it is alone.
     pub fn join(&mut self, consumer: u64) -> Result<(), AllocError>
         ensures ok { OnOk result (self.new ≡ shared_out consumer self.old) }
         ensures err { OnErr result (self.new ≡ self.old) }
@@ -57,7 +57,7 @@ impl SplitTable {
         row::give_back(&mut self.shares, consumer);
     }
 
-    /// The consumer that has the hash: there is one as long as any has joined.
+    /// The consumer that has the hash: there is one as long as any consumer is there.
     pub fn owner(&self, hash: u16) -> Option<u64>
         ensures value { result ≡ owner_of self.now hash }
         ensures whole { IfNone result (self.now ≡ []) }

@@ -1,4 +1,4 @@
-use Rattle.std.proofs.Common.{ap, ◌∙◌, subst, sym}
+use Rattle.std.proofs.Common.{ap, ◌∙◌}
 use Rattle.delivery_machine.specs.Shares.{owner_of}
 use Rattle.hash_ranges.proofs.Parts.{owned}
 use Rattle.hash_ranges.proofs.split_table.SplitTable.owner.Goals as goal
