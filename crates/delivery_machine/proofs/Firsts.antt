@@ -1,6 +1,6 @@
 -- What is found, or stands anywhere, in a list after a change of it.
-use Rattle.std.proofs.Common.{◌≡◌, ℕ, ◌<◌, List, [], ◌∷◌, ◌++◌, map, length, suc, zero, Some, None, Option, Bool, true, false, cond, get_or, refl, ap, ◌∙◌, sym, arith, ◌⊎◌, inl, inr, ⊎_elim}
-use Rattle.std.specs.Prelude.{◌||◌, nat_lt}
+use Rattle.std.proofs.Common.{◌≡◌, ℕ, ◌<◌, List, [], ◌∷◌, ◌++◌, map, length, suc, zero, Some, None, Option, Bool, true, false, cond, get_or, refl, ap, ◌∙◌, sym, arith, ◌⊎◌, inl, inr}
+use Rattle.std.specs.Prelude.{◌||◌, nat_lt, IsSomeAnd}
 use Rattle.std.specs.List.{find, filter, insert, list_any, Contains}
 use Rattle.std.proofs.lemmas.Bool.Decides.{nat_tests}
 use Rattle.delivery_machine.specs.Words.{changed, removed}
@@ -77,7 +77,12 @@ module _ {A : Type 0} where
       here true h rest = inr h
       here false h rest = rest h
 
--- ---- what passes anywhere
+  -- where there is one, and something holds of it
+  pub some_elim : (o : Option A) (P : A → Type 0) (Q : Type 0) → IsSomeAnd o P → ((x : A) → o ≡ Some x → P x → Q) → Q
+  some_elim None P Q h k = absurd h
+  some_elim (Some x) P Q h k = k x refl h
+
+  -- ---- what passes anywhere
 
   pub any_contained : (p : A → Bool) (xs : List A) (x : A) → Contains xs x → p x ≡ true → list_any p xs ≡ true
   any_contained p [] x at t = let below = at.1 in absurd (omega arith)

@@ -3,6 +3,7 @@ pub mod Places
 pub mod Best
 pub mod Passes
 pub mod Firsts
+pub mod Behind
 pub mod Rising
 pub mod Tended
 pub mod Tending

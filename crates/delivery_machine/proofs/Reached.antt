@@ -1,56 +1,44 @@
 -- Each step keeps what every reached state keeps, and so does each run.
-use Rattle.std.proofs.Common.{◌≡◌, ℕ, List, [], ◌∷◌, ◌++◌, map, Some, None, Option, Bool, true, false, refl, ap, ◌∙◌, sym, subst, ◌⊎◌, inl, inr, cond, ◌+◌}
-use Rattle.std.specs.Prelude.{IsSomeAnd, length, if◌then◌else◌}
-use Rattle.std.specs.List.{find}
-use Rattle.std.specs.FinMap as map_of
+use Rattle.std.proofs.Common.{◌≡◌, ℕ, List, [], ◌∷◌, map, Some, None, Bool, true, false, refl, ap, ◌∙◌, sym, subst, inl, inr, cond, ◌+◌}
+use Rattle.std.specs.Prelude.{if◌then◌else◌}
+use Rattle.std.specs.List.{AllByRecursion, find}
+use Rattle.std.specs.List.Sorted.{IsStrictlySortedBy}
 use Rattle.position_core.specs.declared.position.Position.{Position}
 use Rattle.position_core.specs.declared.topic_name.TopicName.{TopicName}
 use Rattle.position_core.specs.declared.message.Entry.{Entry}
-use Rattle.position_core.specs.declared.fault.Fault.TheVariants.{NoMemory}
-use Rattle.delivery_machine.specs.State.{State, Subscription, Member, fresh}
+use Rattle.position_core.specs.declared.fault.Fault.TheVariants.{TopicFull}
+use Rattle.position_core.specs.Position.{position_cmp}
+use Rattle.delivery_machine.specs.State.{State, Subscription, fresh}
 use Rattle.delivery_machine.specs.Words.{is_named, is_member, is_producer, emptied, active_at, next_position}
-use Rattle.delivery_machine.specs.Refusals.{refusal_of, nacking_refused, is_duplicate}
+use Rattle.delivery_machine.specs.Refusals.{refusal_of, nacking_refused, publishing_refused, is_full, is_duplicate}
 use Rattle.delivery_machine.specs.Producing.{with_message, message_of}
-use Rattle.delivery_machine.specs.Joining.{permitted, with_member, without_member}
-use Rattle.delivery_machine.specs.Acknowledging.{Acks, acknowledged, positions_up_to}
+use Rattle.delivery_machine.specs.Joining.{permitted, without_member}
+use Rattle.delivery_machine.specs.Acknowledging.{Acks, positions_up_to}
 use Rattle.delivery_machine.specs.Delivering.{Dispatches}
 use Rattle.delivery_machine.specs.Ticking.{Ticks, pending_positions}
 use Rattle.delivery_machine.specs.Run.{Run, Answers, Takes}
-use Rattle.delivery_machine.specs.Snapshot.{Snapshot, Place, restarted, subscription_from}
+use Rattle.delivery_machine.specs.Snapshot.{Snapshot, Place, snapshot_of, restarted, subscription_from}
 use Rattle.delivery_machine.specs.Laws.{IsSound, IsBeginning}
 use Rattle.delivery_machine.specs.declared.event.Event.{Event}
 use Rattle.delivery_machine.specs.declared.event.Event.TheVariants.{AddProducer, Publish, Stored, Subscribe, Leave, Permit, Ack, AckUpTo, Nack, Tick, Dispatch, Collect}
 use Rattle.delivery_machine.specs.declared.reply.Reply.{Reply}
-use Rattle.delivery_machine.specs.declared.reply.Reply.TheVariants.{Refused, Sent, Idle, Quiet, Rewound, Released}
-use Rattle.delivery_machine.proofs.Rising.{rising_fresh, rising_restarted}
+use Rattle.delivery_machine.specs.declared.reply.Reply.TheVariants.{Sent, Idle, Quiet, Rewound, Released}
+use Rattle.delivery_machine.proofs.RunSteps.{split, Run-keeps}
+use Rattle.delivery_machine.proofs.Firsts.{some_elim}
+use Rattle.delivery_machine.proofs.Rising.{rising_fresh, rising_restarted, sound_snapshot}
+use Rattle.delivery_machine.proofs.Behind.{IsIdle, IsBehindIdle, AllBehindIdle}
 use Rattle.delivery_machine.proofs.Tended.{tended_empty}
-use Rattle.delivery_machine.proofs.Tending.{AllTended, IsTendedIn, none_pending}
-use Rattle.delivery_machine.proofs.Kept.{IsKept, kept_message, kept_acknowledged, kept_redelivered, kept_taken_over, kept_nacked, kept_members, kept_joined, kept_left, kept_sent}
-
--- an event was refused, or it was taken
-pub split : (s : State) (event : Event) (reply : Reply) (t : State) → Answers s event reply t → (t ≡ s) ⊎ ((refusal_of s event ≡ None) × Takes s event reply t)
-split s event (Refused NoMemory) t h = inl h.2
-split s event (Refused fault) t h = inl h.1
-split s event reply t h = inr h
-
--- what each step keeps, each run keeps
-pub Run-keeps : (P : State → Type 0) → ((s : State) (event : Event) (reply : Reply) (t : State) → Answers s event reply t → P s → P t) → (s : State) (events : List Event) (replies : List Reply) (t : State) → Run s events replies t → P s → P t
-Run-keeps P step s [] [] t run p = subst P (sym run) p
-Run-keeps P step s (e ∷ events) (r ∷ replies) t run p = Run-keeps P step run.0 events replies t run.2 (step s e r run.0 run.1 p)
-Run-keeps P step s [] (r ∷ replies) t run p = absurd run
-Run-keeps P step s (e ∷ events) [] t run p = absurd run
-
-pub some_elim : {A : Type 0} (o : Option A) (P : A → Type 0) (Q : Type 0) → IsSomeAnd o P → ((x : A) → o ≡ Some x → P x → Q) → Q
-some_elim None P Q h k = absurd h
-some_elim (Some x) P Q h k = k x refl h
+use Rattle.delivery_machine.proofs.Tending.{none_pending}
+use Rattle.delivery_machine.proofs.Kept.{IsKept, not_refused, kept_message, kept_acknowledged, kept_redelivered, kept_taken_over, kept_nacked, kept_members, kept_joined, kept_left, kept_sent}
 
 -- the new state is known
 settled : (t u : State) → t ≡ u → IsKept u → IsKept t
 settled t u is kept = subst IsKept (sym is) kept
 
-publish_keeps : (s u t : State) (duplicate : Bool) → t ≡ (if duplicate then s else u) → IsKept s → IsKept u → IsKept t
-publish_keeps s u t true is kept more = settled t s is kept
-publish_keeps s u t false is kept more = settled t u is more
+publish_keeps : (s : State) (e : Entry) (t : State) (duplicate : Bool) → (if duplicate then None else if is_full s then Some TopicFull else None) ≡ None → e.position ≡ next_position s
+    → t ≡ (if duplicate then s else with_message s e) → IsKept s → IsKept t
+publish_keeps s e t true allowed at is kept = settled t s is kept
+publish_keeps s e t false allowed at is kept = settled t (with_message s e) is (kept_message s e at (not_refused (is_full s) TopicFull None allowed) kept)
 
 acks_keeps : (s : State) (consumer : ℕ) (positions : List Position) (reply : Reply) (t : State) → Acks s consumer positions reply t → IsKept s → IsKept t
 acks_keeps s consumer positions reply t h kept =
@@ -71,20 +59,20 @@ takes_keeps : (s : State) (event : Event) (reply : Reply) (t : State) → refusa
 takes_keeps s (AddProducer name base) reply t allowed h kept = settled t _ h.3.1 (record { rising = kept.rising; tended = kept.tended })
 takes_keeps s (Publish producer sequence body now) reply t allowed h kept =
     some_elim (find (is_producer producer) s.producers) _ (IsKept t) h (λ p found h.
-      let e = message_of s p sequence body now in
-      publish_keeps s (with_message s e) t (is_duplicate s p sequence) h.1 kept (kept_message s e refl kept))
+    publish_keeps s (message_of s p sequence body now) t (is_duplicate s p sequence)
+    (sym (ap (publishing_refused s sequence) found) ∙ allowed) refl h.1 kept)
 takes_keeps s Stored reply t allowed h kept = settled t _ h.1 (record { rising = kept.rising; tended = kept.tended })
 takes_keeps s (Subscribe name kind level flow ack_timeout nack_delay max_redeliver dead_topic initial) reply t allowed h kept =
     settled t _ h.1 (kept_taken_over _ name (active_at s name) (kept_joined s kind initial _ allowed kept))
 takes_keeps s (Leave consumer) reply t allowed h kept =
     some_elim (find (is_member consumer) s.members) _ (IsKept t) h.1 (λ m found is.
-      settled t _ is (kept_taken_over (without_member s consumer m.subscription) m.subscription (active_at s m.subscription) (kept_left s consumer m found kept)))
+    settled t _ is (kept_taken_over (without_member s consumer m.subscription) m.subscription (active_at s m.subscription) (kept_left s consumer m found kept)))
 takes_keeps s (Permit consumer permits) reply t allowed h kept = settled t _ h.1 (kept_members s (is_member consumer) (permitted permits) (λ _ _ _. refl) kept)
 takes_keeps s (Ack consumer position) reply t allowed h kept = acks_keeps s consumer (position ∷ []) reply t h kept
 takes_keeps s (AckUpTo consumer position) reply t allowed h kept = acks_keeps s consumer (positions_up_to position s.log) reply t h kept
 takes_keeps s (Nack consumer position now) reply t allowed h kept =
     some_elim (find (is_member consumer) s.members) _ (IsKept t) h.1 (λ m found is.
-      settled t _ is (kept_nacked s m consumer position (Some (now + m.nack_delay)) (sym (ap (nacking_refused s consumer position) found) ∙ allowed) kept))
+    settled t _ is (kept_nacked s m consumer position (Some (now + m.nack_delay)) (sym (ap (nacking_refused s consumer position) found) ∙ allowed) kept))
 takes_keeps s (Tick name now) reply t allowed h kept =
     some_elim (find (is_named name) s.subscriptions) _ (IsKept t) h (λ sub found h. tick_keeps s name now sub reply t h kept)
 takes_keeps s (Dispatch name now) reply t allowed h kept =
@@ -100,21 +88,30 @@ step_keeps s event reply t h kept =
 
 -- ---- where a run begins
 
-found_nothing_pending : (members : List Member) (log : List Entry) (places : List Place) → AllTended log members (map subscription_from places)
-found_nothing_pending members log [] name sub found = cc
-found_nothing_pending members log (place ∷ places) name sub found = by (is_named name (subscription_from place)) found (found_nothing_pending members log places name sub)
+-- what a snapshot keeps of subscriptions is idle
+found_idle : (places : List Place) (name : List ℕ) (sub : Subscription) → find (is_named name) (map subscription_from places) ≡ Some sub → IsIdle sub
+found_idle [] name sub found = cc
+found_idle (place ∷ places) name sub found = by (is_named name (subscription_from place)) found (found_idle places name sub)
   where
-    by : (b : Bool) → cond b (Some (subscription_from place)) (find (is_named name) (map subscription_from places)) ≡ Some sub → (find (is_named name) (map subscription_from places) ≡ Some sub → IsTendedIn log members sub) → IsTendedIn log members sub
+    by : (b : Bool) → cond b (Some (subscription_from place)) (find (is_named name) (map subscription_from places)) ≡ Some sub → (find (is_named name) (map subscription_from places) ≡ Some sub → IsIdle sub) → IsIdle sub
     by true is rest =
         let same : subscription_from place ≡ sub = cc in
-        subst (IsTendedIn log members) same (tended_empty log members place.name place.kind map_of.empty none_pending)
+        subst IsIdle same none_pending
     by false is rest = rest is
 
+all_idle : (places : List Place) → AllBehindIdle (map subscription_from places)
+all_idle [] = tt
+all_idle (place ∷ places) = (each places, all_idle places)
+  where
+    each : (others : List Place) → AllByRecursion (IsBehindIdle (subscription_from place)) (map subscription_from others)
+    each [] = tt
+    each (other ∷ others) = (λ _. none_pending, each others)
+
 kept_fresh : (name : TopicName) (ledger_size : ℕ) → IsKept (fresh name ledger_size)
-kept_fresh name ledger_size = record { rising = rising_fresh; tended = λ name sub found. cc }
+kept_fresh name ledger_size = record { rising = rising_fresh; tended = record { first = λ name sub found. cc; behind = tt } }
 
 kept_restarted : (kept : Snapshot) → IsSound kept → IsKept (restarted kept)
-kept_restarted kept sound = record { rising = rising_restarted kept sound; tended = found_nothing_pending [] kept.log kept.subscriptions }
+kept_restarted kept sound = record { rising = rising_restarted kept sound; tended = record { first = λ name sub found. tended_empty kept.log [] sub.name sub.kind sub.pending (found_idle kept.subscriptions name sub found); behind = all_idle kept.subscriptions } }
 
 pub beginning_kept : (s : State) → IsBeginning s → IsKept s
 beginning_kept s begins = elim begins [
@@ -125,3 +122,11 @@ beginning_kept s begins = elim begins [
 -- every reached state keeps it
 pub reached_kept : (s : State) (events : List Event) (replies : List Reply) (t : State) → IsBeginning s → Run s events replies t → IsKept t
 reached_kept s events replies t begins run = Run-keeps IsKept step_keeps s events replies t run (beginning_kept s begins)
+
+-- positions rise in every reached state
+pub rises : (s : State) (events : List Event) (replies : List Reply) (t : State) → IsBeginning s → Run s events replies t → IsStrictlySortedBy position_cmp (map (λ e. e.position) t.log)
+rises s events replies t begins run = (reached_kept s events replies t begins run).rising.sorted
+
+-- a snapshot of every reached state is sound, so that a run may begin from it
+pub reached_sound : (s : State) (events : List Event) (replies : List Reply) (t : State) → IsBeginning s → Run s events replies t → IsSound (snapshot_of t)
+reached_sound s events replies t begins run = sound_snapshot t (reached_kept s events replies t begins run).rising

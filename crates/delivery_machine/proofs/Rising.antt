@@ -1,11 +1,11 @@
 -- The log's positions rise, and the next one is above them all.
-use Rattle.std.proofs.Common.{◌≡◌, ℕ, ◌+◌, ◌<◌, ◌≤◌, ◌^◌, min, List, [], ◌∷◌, ◌++◌, map, length, suc, zero, Bool, true, false, cond, get_or, refl, ap, ◌∙◌, sym, subst, arith, All, Contains, count_by, nat_lt, nat_eq}
+use Rattle.std.proofs.Common.{◌≡◌, ℕ, ◌+◌, ◌<◌, ◌≤◌, ◌^◌, min, List, [], ◌∷◌, ◌++◌, map, length, suc, zero, Bool, true, false, cond, get_or, refl, ap, ◌∙◌, sym, subst, arith, All, Contains, count_by, nat_lt}
 use Rattle.std.specs.Prelude.{◌&&◌, ◌||◌, ◌==◌}
 use Rattle.std.specs.List.{AllByRecursion}
 use Rattle.std.specs.List.Sorted.{IsStrictlySortedBy}
 use Rattle.std.specs.Cmp.{tied_itself}
 use Rattle.std.specs.declared.cmp.Ordering.{Ordering}
-use Rattle.std.specs.declared.cmp.Ordering.TheVariants.{Less, Equal}
+use Rattle.std.specs.declared.cmp.Ordering.TheVariants.{Less}
 use Rattle.std.proofs.lemmas.Bool.Decides.{nat_tests}
 use Rattle.std.proofs.lemmas.List.Elements.{All-nil, All-weaker, All-push, recursion_from_All, All-from_recursion, All-contains}
 use Rattle.std.proofs.lemmas.List.Sums.{sum_by_push}
@@ -14,7 +14,7 @@ use Rattle.position_core.specs.declared.message.Entry.{Entry}
 use Rattle.position_core.specs.Position.{position_cmp, positions_total}
 use Rattle.delivery_machine.specs.State.{State}
 use Rattle.delivery_machine.specs.Words.{next_position}
-use Rattle.delivery_machine.specs.Snapshot.{Snapshot}
+use Rattle.delivery_machine.specs.Snapshot.{Snapshot, snapshot_of}
 use Rattle.delivery_machine.specs.Laws.{IsSound}
 
 -- ---- keys that rise
@@ -61,10 +61,11 @@ used_in ledger log = count_by (λ e. e.position.ledger == ledger) log
 abbrev pub is_below : ℕ → ℕ → Position → Bool
 is_below ledger used p = nat_lt p.ledger ledger || (p.ledger == ledger && nat_lt p.entry used)
 
--- no position stands above the ledger, nor above the messages in it
+-- positions rise, none stands above the ledger or the messages in it, and no ledger is above 2^62
 pub record IsRising (log : List Entry) (ledger : ℕ) : Type 0 where
   pub sorted : IsStrictlySortedBy position_cmp (map (λ e. e.position) log)
   pub below : All (λ e. is_below ledger (used_in ledger log) e.position ≡ true) log
+  pub bounded : All (λ e. e.position.ledger ≤ 2 ^ 62) log
 
 abbrev next_of : ℕ → ℕ → ℕ → Position
 next_of ledger used size = cond (nat_lt used size) (record { ledger = ledger; entry = used }) (record { ledger = ledger + 1; entry = 0 })
@@ -86,7 +87,7 @@ one_of_position log ledger rising = one_of_each position_cmp not_below_itself (�
 pub all_before_next : (s : State) → IsRising s.log s.ledger → All (λ e. position_cmp e.position (next_position s) ≡ Less) s.log
 all_before_next s rising =
     All-weaker (λ e. is_below s.ledger (used_in s.ledger s.log) e.position ≡ true) (λ e. position_cmp e.position (next_position s) ≡ Less)
-      (λ e low. before_next s.ledger (used_in s.ledger s.log) s.ledger_size e.position low) s.log rising.below
+    (λ e low. before_next s.ledger (used_in s.ledger s.log) s.ledger_size e.position low) s.log rising.below
 
 pub next_is_new : (s : State) → IsRising s.log s.ledger → (x : Entry) → Contains s.log x → x.position ≡ next_position s → ⊥
 next_is_new s rising x at is =
@@ -131,26 +132,30 @@ used_push ledger log e =
     (omega arith, λ same. counted ∙ ap (λ n. used_in n log + 1) same)
 
 -- the next message of the log keeps it so
-pub rising_push : (s : State) (e : Entry) → e.position ≡ next_position s → IsRising s.log s.ledger → IsRising (s.log ++ e ∷ []) e.position.ledger
-rising_push s e is rising =
+pub rising_push : (s : State) (e : Entry) → e.position ≡ next_position s → nat_lt (2 ^ 62) (next_position s).ledger ≡ false → IsRising s.log s.ledger → IsRising (s.log ++ e ∷ []) e.position.ledger
+rising_push s e is room rising =
     let more : ℕ = used_in e.position.ledger (s.log ++ e ∷ []) in
     let longer = used_push s.ledger s.log e in
     let Q : Entry → Type 0 = λ x. is_below e.position.ledger more x.position ≡ true in
     record {
       sorted = sorted_push position_cmp (λ x. x.position) s.log e rising.sorted
           (recursion_from_All (λ x. position_cmp x.position e.position ≡ Less) s.log
-            (subst (λ (p : Position). All (λ x. position_cmp x.position p ≡ Less) s.log) (sym is) (all_before_next s rising)));
+          (subst (λ (p : Position). All (λ x. position_cmp x.position p ≡ Less) s.log) (sym is) (all_before_next s rising)));
       below = All-push Q s.log e
           (All-weaker (λ x. is_below s.ledger (used_in s.ledger s.log) x.position ≡ true) Q
-            (λ x low. still_below s.ledger (used_in s.ledger s.log) s.ledger_size more e.position x.position is longer low) s.log rising.below)
+          (λ x low. still_below s.ledger (used_in s.ledger s.log) s.ledger_size more e.position x.position is longer low) s.log rising.below)
           (next_itself_below s.ledger (used_in s.ledger s.log) s.ledger_size more e.position is longer);
+      bounded = All-push (λ x. x.position.ledger ≤ 2 ^ 62) s.log e rising.bounded (within e.position.ledger (ap (λ (p : Position). nat_lt (2 ^ 62) p.ledger) is ∙ room));
     }
+  where
+    within : (n : ℕ) → nat_lt (2 ^ 62) n ≡ false → n ≤ 2 ^ 62
+    within n e = grind (arith, nat_tests)
 
 -- ---- where a run begins
 
 pub rising_fresh : IsRising [] 0
 unfolding IsStrictlySortedBy
-rising_fresh = record { sorted = tt; below = All-nil (λ e. is_below 0 (used_in 0 []) e.position ≡ true) }
+rising_fresh = record { sorted = tt; below = All-nil (λ e. is_below 0 (used_in 0 []) e.position ≡ true); bounded = All-nil (λ e. e.position.ledger ≤ 2 ^ 62) }
 
 below_restarted : (ledger kept used : ℕ) (p : Position) → (p.ledger ≤ kept) × (p.ledger ≤ 2 ^ 62) → ledger ≡ min (kept + 1) (2 ^ 62 + 1) → is_below ledger used p ≡ true
 below_restarted ledger kept used p low is =
@@ -164,4 +169,17 @@ rising_restarted kept sound = record {
   sorted = sound.rising;
   below = All-weaker (λ e. (e.position.ledger ≤ kept.ledger) × (e.position.ledger ≤ 2 ^ 62)) (λ e. is_below (min (kept.ledger + 1) (2 ^ 62 + 1)) (used_in (min (kept.ledger + 1) (2 ^ 62 + 1)) kept.log) e.position ≡ true)
       (λ e low. below_restarted _ kept.ledger _ e.position low refl) kept.log sound.ledgers;
+  bounded = All-weaker (λ e. (e.position.ledger ≤ kept.ledger) × (e.position.ledger ≤ 2 ^ 62)) (λ e. e.position.ledger ≤ 2 ^ 62) (λ e low. low.1) kept.log sound.ledgers;
+}
+
+-- ---- what a snapshot keeps
+
+ledgers_below : (ledger used : ℕ) (p : Position) → is_below ledger used p ≡ true → p.ledger ≤ ledger
+ledgers_below ledger used p low = grind (arith, nat_tests)
+
+-- a snapshot of such a log is sound
+pub sound_snapshot : (s : State) → IsRising s.log s.ledger → IsSound (snapshot_of s)
+sound_snapshot s rising = record {
+  rising = rising.sorted;
+  ledgers = λ k d low. (ledgers_below s.ledger (used_in s.ledger s.log) (get_or s.log k d).position (rising.below k d low), rising.bounded k d low);
 }

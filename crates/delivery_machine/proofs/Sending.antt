@@ -1,9 +1,8 @@
 -- Who may be sent a message: a member of the subscription, and in Key_Shared one beside whom its hash is at nobody.
-use Rattle.std.proofs.Common.{◌≡◌, ℕ, List, [], ◌∷◌, Some, None, Option, Bool, true, false, cond, refl, ap, ◌∙◌, sym, subst, ◌⊎◌, inl, inr, arith, Contains, take, suc}
-use Rattle.std.specs.Prelude.{◌&&◌, ◌==◌, ◌<◌, length, IsTrue}
-use Rattle.std.specs.List.{find, filter, list_any}
+use Rattle.std.proofs.Common.{◌≡◌, ℕ, List, [], ◌∷◌, Some, None, Option, Bool, true, false, cond, refl, ap, ◌∙◌, subst, arith, Contains, take, suc}
+use Rattle.std.specs.Prelude.{◌&&◌, ◌==◌}
+use Rattle.std.specs.List.{find}
 use Rattle.std.specs.Option.{option_map_or, option_and_then}
-use Rattle.std.specs.Str.{bytes_eq}
 use Rattle.std.proofs.lemmas.Bool.Decides.{nat_tests}
 use Rattle.std.proofs.lemmas.List.Elements.{All-contains, All-take, All-contains_itself}
 use Rattle.position_core.specs.declared.message.Entry.{Entry}
@@ -11,7 +10,7 @@ use Rattle.position_core.specs.declared.kind.Kind.{Kind}
 use Rattle.position_core.specs.declared.kind.Kind.TheVariants.{Exclusive, Failover, Shared, KeyShared}
 use Rattle.delivery_machine.specs.State.{State, Member, Subscription}
 use Rattle.delivery_machine.specs.Shares.{owner_of}
-use Rattle.delivery_machine.specs.Words.{best_by, earlier, comes_before, active_of, members_of, is_at, is_member, has_room, is_waiting, waits_with_hash, hash_of, visible, owner_at, ChoosesBy}
+use Rattle.delivery_machine.specs.Words.{earlier, comes_before, active_of, members_of, is_at, is_member, has_room, is_waiting, waits_with_hash, hash_of, visible, owner_at, ChoosesBy}
 use Rattle.delivery_machine.proofs.Firsts.{found_contained, found_passes, any_contained, filter_contained}
 use Rattle.delivery_machine.proofs.Passes.{passes}
 use Rattle.delivery_machine.proofs.Tended.{is_seat, is_seated, NoneBeside}
@@ -66,7 +65,7 @@ owner_seated s sub hash m is = by (owner_of sub.shares hash) is
     by None is = cc
     by (Some number) is =
         seated_at s.members sub.name m (found_contained (is_seat sub.name number) s.members m is)
-          (and_first (is_at sub.name m) (is_member number m) (found_passes (is_seat sub.name number) s.members m is))
+        (and_first (is_at sub.name m) (is_member number m) (found_passes (is_seat sub.name number) s.members m is))
 
 pub record IsChosen (s : State) (sub : Subscription) (kind : Kind) (e : Entry) (m : Member) : Type 0 where
   pub in_log : Contains s.log e

@@ -1,10 +1,9 @@
 -- What is pending in a subscription: it is in the log, at members, and in Key_Shared each hash at one member.
-use Rattle.std.proofs.Common.{◌≡◌, ℕ, List, [], ◌∷◌, ◌++◌, map, Some, None, Option, Bool, true, false, cond, refl, ap, ◌∙◌, sym, subst, ◌⊎◌, inl, inr, ⊎_elim, arith, Contains, take, true≢false}
-use Rattle.std.specs.Prelude.{◌&&◌, not, nat_lt, length, ◌==◌}
-use Rattle.std.specs.List.{list_any, filter}
+use Rattle.std.proofs.Common.{◌≡◌, ℕ, List, [], ◌∷◌, ◌++◌, Some, Option, Bool, true, false, cond, refl, ap, ◌∙◌, sym, subst, ◌⊎◌, inl, inr, arith, Contains}
+use Rattle.std.specs.Prelude.{◌&&◌, not, ◌==◌}
+use Rattle.std.specs.List.{list_any}
 use Rattle.std.specs.Cmp.{Equal-is, tied_itself}
 use Rattle.std.specs.FinMap as map_of
-use Rattle.std.specs.declared.cmp.Ordering.TheVariants.{Equal}
 use Rattle.std.proofs.lemmas.Bool.Decides.{nat_tests}
 use Rattle.std.proofs.lemmas.List.Elements.{Contains-push_cases}
 use Rattle.std.proofs.lemmas.List.Folds.{Any-from_list_any}
@@ -15,8 +14,8 @@ use Rattle.position_core.specs.declared.kind.Kind.{Kind}
 use Rattle.position_core.specs.declared.kind.Kind.TheVariants.{KeyShared}
 use Rattle.position_core.specs.Position.{position_cmp, same_position, positions_total, exact_positions}
 use Rattle.delivery_machine.specs.State.{Member}
-use Rattle.delivery_machine.specs.Words.{is_at, is_member, has_position, hash_of, is_held_by, is_held_beside}
-use Rattle.delivery_machine.proofs.Firsts.{any_pushed, any_contained, none_contained, some_kept}
+use Rattle.delivery_machine.specs.Words.{is_at, is_member, has_position, hash_of, is_held_beside}
+use Rattle.delivery_machine.proofs.Firsts.{any_pushed, any_contained, none_contained}
 
 -- the member of the number is at the subscription of the name
 abbrev pub is_seat : List ℕ → ℕ → Member → Bool
@@ -112,8 +111,8 @@ NoneBeside log pending hash consumer = list_any (λ x. hash_of x == hash && is_h
 beside_nobody : (log : List Entry) (pending : map_of.FinMap position_cmp Held) (hash consumer : ℕ) (y : Entry) (k : Held) → NoneBeside log pending hash consumer → Contains log y → hash_of y ≡ hash → map_of.get pending y.position ≡ Some k → k.consumer ≡ consumer
 beside_nobody log pending hash consumer y k none at same is =
     told (hash_of y) hash (k.consumer) consumer same
-      (sym (ap (λ o. hash_of y == hash && is_held_beside consumer o) is)
-        ∙ none_contained (λ x. hash_of x == hash && is_held_beside consumer (map_of.get pending x.position)) log y none at)
+    (sym (ap (λ o. hash_of y == hash && is_held_beside consumer o) is)
+    ∙ none_contained (λ x. hash_of x == hash && is_held_beside consumer (map_of.get pending x.position)) log y none at)
   where
     told : (a b m n : ℕ) → a ≡ b → (a == b && not (m == n)) ≡ false → m ≡ n
     told a b m n e f = grind (arith, nat_tests)

@@ -1,22 +1,21 @@
 -- All subscriptions' pending messages are tended, whichever subscription is changed.
-use Rattle.std.proofs.Common.{◌≡◌, ℕ, List, [], ◌∷◌, ◌++◌, map, Some, None, Bool, true, false, cond, refl, ap, ◌∙◌, sym, subst, ◌⊎◌, inl, inr, arith, Contains, Option, subst₂}
-use Rattle.std.specs.Prelude.{not, ◌==◌, ◌&&◌, is_some}
-use Rattle.std.specs.List.{find, list_any}
+use Rattle.std.proofs.Common.{◌≡◌, ℕ, List, [], ◌∷◌, ◌++◌, map, Some, None, Bool, true, false, cond, refl, ap, ◌∙◌, sym, subst, inl, inr, arith, Option, subst₂}
+use Rattle.std.specs.Prelude.{◌==◌}
+use Rattle.std.specs.List.{find}
 use Rattle.std.specs.Str.{bytes_eq}
 use Rattle.std.specs.FinMap as map_of
-use Rattle.std.specs.declared.cmp.Ordering.TheVariants.{Equal}
 use Rattle.std.proofs.lemmas.Bool.Decides.{nat_tests}
-use Rattle.std.proofs.lemmas.Slice.Eq.{bytes_eq-Decides}
 use Rattle.position_core.specs.declared.position.Position.{Position}
 use Rattle.position_core.specs.declared.message.Entry.{Entry}
 use Rattle.position_core.specs.declared.held.Held.{Held}
 use Rattle.position_core.specs.declared.kind.Kind.{Kind}
 use Rattle.position_core.specs.Position.{position_cmp, exact_positions}
 use Rattle.delivery_machine.specs.State.{Member, Subscription}
-use Rattle.delivery_machine.specs.Words.{changed, is_named, is_at, is_member, is_held_by}
+use Rattle.delivery_machine.specs.Words.{changed, removed, is_named, is_held_by}
 use Rattle.delivery_machine.specs.Joining.{placed}
 use Rattle.delivery_machine.proofs.Firsts.{found_changed, found_inserted, any_changed, any_mapped, any_pushed}
-use Rattle.delivery_machine.proofs.Tended.{IsTended, IsPartOf, KeepsSeats, is_seat, tended_part, tended_seats, got_inserted}
+use Rattle.delivery_machine.proofs.Behind.{IsIdle, AllBehindIdle, same_name, is_same_name, behind_changed, behind_placed, behind_removed, found_removed}
+use Rattle.delivery_machine.proofs.Tended.{tended_empty, IsTended, IsPartOf, KeepsSeats, is_seat, tended_part, tended_seats, got_inserted}
 
 -- ---- parts of what is pending
 
@@ -72,18 +71,10 @@ seats_pushed members m name number t = any_pushed (is_seat name number) members 
 abbrev pub IsTendedIn : List Entry → List Member → Subscription → Type 0
 IsTendedIn log members sub = IsTended log members sub.name sub.kind sub.pending
 
-abbrev pub AllTended : List Entry → List Member → List Subscription → Type 0
-AllTended log members subs = (name : List ℕ) (sub : Subscription) → find (is_named name) subs ≡ Some sub → IsTendedIn log members sub
-
-pub same_name : (a b : List ℕ) → bytes_eq a b ≡ true → a ≡ b
-same_name a b e = (bytes_eq-Decides a b).0 e
-
-pub names_differ : (a b : List ℕ) → bytes_eq a b ≡ false → bytes_eq b a ≡ false
-names_differ a b differ = by (bytes_eq b a) refl
-  where
-    by : (c : Bool) → bytes_eq b a ≡ c → c ≡ false
-    by false f = refl
-    by true t = sym ((bytes_eq-Decides a b).1 (sym (same_name b a t))) ∙ differ
+-- the first of each name is tended, and those behind them are idle
+pub record AllTended (log : List Entry) (members : List Member) (subs : List Subscription) : Type 0 where
+  pub first : (name : List ℕ) (sub : Subscription) → find (is_named name) subs ≡ Some sub → IsTendedIn log members sub
+  pub behind : AllBehindIdle subs
 
 names_apart : (name n : List ℕ) (x y : Subscription) → is_named n x ≡ true → is_named name x ≡ false → is_named name y ≡ true → is_named n y ≡ false
 names_apart name n x y xn xname yname = by (is_named n y) refl
@@ -92,18 +83,21 @@ names_apart name n x y xn xname yname = by (is_named n y) refl
     by false f = refl
     by true t =
         let same : x.name ≡ name = same_name x.name n xn ∙ sym (same_name y.name n t) ∙ same_name y.name name yname in
-        sym ((bytes_eq-Decides x.name name).1 same) ∙ xname
+        sym (is_same_name x.name name same) ∙ xname
 
 pub tended_changed : (log log' : List Entry) (members members' : List Member) (n : List ℕ) (f : Subscription → Subscription) (subs : List Subscription)
     → ((sub : Subscription) → (f sub).name ≡ sub.name)
     → ((sub : Subscription) → is_named n sub ≡ false → IsTendedIn log members sub → IsTendedIn log' members' sub)
     → ((sub : Subscription) → find (is_named n) subs ≡ Some sub → IsTendedIn log members sub → IsTendedIn log' members' (f sub))
     → AllTended log members subs → AllTended log' members' (changed (is_named n) f subs)
-tended_changed log log' members members' n f subs same others there all name sub found =
-    elim (found_changed (is_named name) (is_named n) f (λ x. ap (λ (m : List ℕ). bytes_eq m name) (same x)) (names_apart name n) subs sub found) [
-      | inl a ↦ others sub a.1 (all name sub a.0)
-      | inr b ↦ subst (IsTendedIn log' members') (sym b.3) (there b.0 b.2 (all name b.0 b.1))
-    ]
+tended_changed log log' members members' n f subs same others there all = record {
+  first = λ name sub found.
+      elim (found_changed (is_named name) (is_named n) f (λ x. ap (λ (m : List ℕ). bytes_eq m name) (same x)) (names_apart name n) subs sub found) [
+        | inl a ↦ others sub a.1 (all.first name sub a.0)
+        | inr b ↦ subst (IsTendedIn log' members') (sym b.3) (there b.0 b.2 (all.first name b.0 b.1))
+      ];
+  behind = behind_changed n f subs same all.behind;
+}
 
 -- where a subscription only loses what is pending, and the members stay
 pub tended_taken : (log : List Entry) (members members' : List Member) (n : List ℕ) (f : Subscription → Subscription) (subs : List Subscription)
@@ -112,17 +106,34 @@ pub tended_taken : (log : List Entry) (members members' : List Member) (n : List
     → KeepsSeats members members' → AllTended log members subs → AllTended log members' (changed (is_named n) f subs)
 tended_taken log members members' n f subs name_stays kind_stays part stay =
     tended_changed log log members members' n f subs name_stays
-      (λ sub _ t. tended_seats log members members' sub.name sub.kind sub.pending stay t)
-      (λ sub found t. subst₂ (λ (m : List ℕ) (k : Kind). IsTended log members' m k (f sub).pending) (sym (name_stays sub)) (sym (kind_stays sub))
-        (tended_seats log members members' sub.name sub.kind (f sub).pending stay (tended_part log members sub.name sub.kind sub.pending (f sub).pending (part sub found) t)))
+    (λ sub _ t. tended_seats log members members' sub.name sub.kind sub.pending stay t)
+    (λ sub found t. subst₂ (λ (m : List ℕ) (k : Kind). IsTended log members' m k (f sub).pending) (sym (name_stays sub)) (sym (kind_stays sub))
+    (tended_seats log members members' sub.name sub.kind (f sub).pending stay (tended_part log members sub.name sub.kind sub.pending (f sub).pending (part sub found) t)))
 
 pub tended_stay : (log : List Entry) (members members' : List Member) (subs : List Subscription) → KeepsSeats members members' → AllTended log members subs → AllTended log members' subs
-tended_stay log members members' subs stay all name sub found = tended_seats log members members' sub.name sub.kind sub.pending stay (all name sub found)
+tended_stay log members members' subs stay all = record {
+  first = λ name sub found. tended_seats log members members' sub.name sub.kind sub.pending stay (all.first name sub found);
+  behind = all.behind;
+}
 
 -- where a further subscription comes
-pub tended_placed : (log : List Entry) (members members' : List Member) (new : Subscription) (subs : List Subscription) → IsTendedIn log members' new → KeepsSeats members members' → AllTended log members subs → AllTended log members' (placed new subs)
-tended_placed log members members' new subs one stay all name sub found =
-    elim (found_inserted (is_named name) subs _ new sub found) [
-      | inl a ↦ subst (IsTendedIn log members') (sym a) one
-      | inr b ↦ tended_stay log members members' subs stay all name sub b
-    ]
+pub tended_placed : (log : List Entry) (members members' : List Member) (new : Subscription) (subs : List Subscription) → IsIdle new → find (is_named new.name) subs ≡ None → KeepsSeats members members' → AllTended log members subs → AllTended log members' (placed new subs)
+tended_placed log members members' new subs idle none stay all = record {
+  first = λ name sub found.
+      elim (found_inserted (is_named name) subs _ new sub found) [
+        | inl a ↦ subst (IsTendedIn log members') (sym a) (tended_empty log members' new.name new.kind new.pending idle)
+        | inr b ↦ tended_seats log members members' sub.name sub.kind sub.pending stay (all.first name sub b)
+      ];
+  behind = behind_placed subs _ new idle none all.behind;
+}
+
+-- where a subscription goes
+pub tended_removed : (log : List Entry) (members : List Member) (n : List ℕ) (subs : List Subscription) → AllTended log members subs → AllTended log members (removed (is_named n) subs)
+tended_removed log members n subs all = record {
+  first = λ name sub found.
+      elim (found_removed name n subs sub all.behind found) [
+        | inl a ↦ all.first name sub a
+        | inr idle ↦ tended_empty log members sub.name sub.kind sub.pending idle
+      ];
+  behind = behind_removed (is_named n) subs all.behind;
+}

@@ -28,16 +28,10 @@ fn first_of_hash<'a>(
 ) -> Option<&'a Message>
     ensures { option_copied result ≡ find (waits_with_hash subscription.now hash) visible.now }
 {
-    visible
-        .iter()
-        .find(|message| subscription.is_waiting(message) && hash_of(message) == hash)
+    visible.iter().find(|message| subscription.is_waiting(message) && hash_of(message) == hash)
 }
 
-fn member_of<'a>(
-    members: &'a [Member],
-    name: &SubscriptionName,
-    number: u64,
-) -> Option<&'a Member>
+fn member_of<'a>(members: &'a [Member], name: &SubscriptionName, number: u64) -> Option<&'a Member>
     ensures { option_copied result ≡ find (λ m. is_at name.now m && is_member number m) members.now }
 {
     members
@@ -46,11 +40,7 @@ fn member_of<'a>(
 }
 
 /// The member in whose share the hash is.
-fn owner_of<'a>(
-    members: &'a [Member],
-    subscription: &Subscription,
-    hash: u16,
-) -> Option<&'a Member>
+fn owner_of<'a>(members: &'a [Member], subscription: &Subscription, hash: u16) -> Option<&'a Member>
     ensures { option_copied result ≡ owner_in members.now subscription.now hash }
 {
     match subscription.owner(hash) {
@@ -63,8 +53,7 @@ fn owner_of<'a>(
 fn is_draining(log: &[Message], subscription: &Subscription, hash: u16, owner: u64) -> bool
     ensures { result ≡ is_draining_in log.now subscription.now hash owner }
 {
-    log.iter()
-        .any(|message| hash_of(message) == hash && subscription.holds_beside(owner, message))
+    log.iter().any(|message| hash_of(message) == hash && subscription.holds_beside(owner, message))
 }
 
 /// The first message of the hash that waits, and the owner of the hash, if it may be sent to it.
@@ -82,11 +71,7 @@ fn next_of_hash<'a>(
     let member = owner_of(members, subscription, hash)?;
     let free = has_room(log, subscription, member)
         && !is_draining(log, subscription, hash, member.number());
-    if free {
-        Some((message, member))
-    } else {
-        None
-    }
+    if free { Some((message, member)) } else { None }
 }
 
 /// The first message in topic order that may be sent as the next of its hash, and to whom.

@@ -95,7 +95,13 @@ pub(super) fn log_of_three(alloc: Global) -> Result<Vec<Message>, Fail> {
 pub(super) fn new_subscription(alloc: Global) -> Result<Subscription, Fail>
     ensures { IfOk result (λ sub. (sub.kind ≡ Kind.Shared) × (sub.shares ≡ [])) }
 {
-    Ok(Subscription::new(alloc, name(alloc)?, Kind::Shared, 1, PositionSet::new(alloc))?)
+    Ok(Subscription::new(
+        alloc,
+        name(alloc)?,
+        Kind::Shared,
+        1,
+        PositionSet::new(alloc),
+    )?)
 }
 
 fn flow(takes: Takes) -> Result<Flow, Fail> {

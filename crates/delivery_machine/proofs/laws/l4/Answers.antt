@@ -1,4 +1,4 @@
-use Rattle.std.proofs.Common.{◌≡◌, ℕ, List, Some, Option, refl, ap, sym, subst}
+use Rattle.std.proofs.Common.{◌≡◌, ℕ, List, Some, Option, sym, subst}
 use Rattle.std.specs.Prelude.{IsSomeAnd}
 use Rattle.std.specs.List.{find}
 use Rattle.position_core.specs.declared.kind.Kind.{Kind}
@@ -19,4 +19,4 @@ sends_first t name sub found is now consumer count position u answer =
 
 pub returns : goal.returns
 returns c s events replies t begins run name sub found is =
-    (((reached_kept s events replies t begins run).tended name sub found).one_hash is, sends_first t name sub found is)
+    (((reached_kept s events replies t begins run).tended.first name sub found).one_hash is, sends_first t name sub found is)

@@ -1,5 +1,5 @@
-use Rattle.std.proofs.Common.{◌≡◌, ℕ, List, [], ◌∷◌, Some, None, Option, refl, ap, sym, subst, pos, Contains, Bool, true, false, arith, ◌∙◌, ap₂}
-use Rattle.std.specs.Prelude.{codes, IsTrue, is_some, not, nat_lt, cond, ◌==◌, ◌+◌, ◌&&◌, ◌||◌}
+use Rattle.std.proofs.Common.{◌≡◌, ℕ, List, [], ◌∷◌, Some, None, Option, refl, ap, sym, pos, Bool, true, false, arith, ◌∙◌, ap₂}
+use Rattle.std.specs.Prelude.{codes, is_some, not, nat_lt, cond, ◌==◌, ◌+◌, ◌&&◌, ◌||◌}
 use Rattle.std.specs.Option.{option_map, option_and_then, unwrap_or}
 use Rattle.std.proofs.lemmas.Bool.Decides.{nat_tests}
 use Rattle.position_core.specs.declared.block.Block.{Block}
@@ -15,14 +15,14 @@ use Rattle.position_core.specs.declared.flow.Flow.TheVariants.{Window}
 use Rattle.position_core.specs.declared.kind.Kind.TheVariants.{KeyShared}
 use Rattle.position_core.specs.Position.{position_cmp, positions_total}
 use Rattle.murmur_core.proofs.Keys.{sticky_hash-lt}
-use Rattle.delivery_machine.specs.State.{State, Subscription, Member, Producer, fresh}
+use Rattle.delivery_machine.specs.State.{State, Subscription, Member, fresh}
 use Rattle.delivery_machine.specs.Shares.{has_hash, all_hashes}
 use Rattle.delivery_machine.specs.Words.{hash_of, count_of, is_at, is_member, is_held_by, is_held_beside, waits_with_hash, owner_at, IsEligible}
 use Rattle.delivery_machine.specs.Laws.{IsPendingInKeyShared}
 use Rattle.delivery_machine.specs.Producing.{with_producer, with_message}
 use Rattle.delivery_machine.specs.Joining.{with_member, new_subscription}
 use Rattle.delivery_machine.specs.Delivering.{sent, holding}
-use Rattle.delivery_machine.specs.Run.{Run, Answers}
+use Rattle.delivery_machine.specs.Run.{Run}
 use Rattle.delivery_machine.specs.declared.event.Event.{Event}
 use Rattle.delivery_machine.specs.declared.event.Event.TheVariants.{AddProducer, Publish, Stored, Subscribe, Dispatch}
 use Rattle.delivery_machine.specs.declared.event.Initial.TheVariants.{Earliest}
@@ -75,11 +75,14 @@ module _ (name : TopicName) (body : Content) where
   owned = ap (λ b. option_and_then (λ number. find (λ m. is_at (codes "s") m && is_member number m) (member ∷ [])) (option_map (λ (b : Block). b.consumer) (cond b (Some (all_hashes 1)) None))) in_share
 
   eligible : IsEligible joined subscription message member
-  eligible =
-      ( ap (λ o. nat_lt (0 + cond {A = ℕ} (is_held_by 1 o) 1 0) 1) nothing
-      , ( ap (λ b. cond b (Some message) None) waits
-        , owned
-        , ap₂ (λ (b : Bool) (o : Option Held). (b && is_held_beside 1 o) || false) same_hash nothing))
+  eligible = (
+    ap (λ o. nat_lt (0 + cond {A = ℕ} (is_held_by 1 o) 1 0) 1) nothing,
+    (
+      ap (λ b. cond b (Some message) None) waits,
+      owned,
+      ap₂ (λ (b : Bool) (o : Option Held). (b && is_held_beside 1 o) || false) same_hash nothing,
+    ),
+  )
 
   abbrev done : State
   done = sent joined (codes "s") subscription message member 0
@@ -95,12 +98,23 @@ module _ (name : TopicName) (body : Content) where
   uncounted = sym (ap (λ (o : Option ℕ). unwrap_or o 0) (map_of.get-empty position_cmp first))
 
   run : Run (fresh name 1) events replies done
-  run =
-      ( connected, (refl, (codes "p", None, (refl, refl), (refl, refl)))
-      , ( published, (refl, (refl, refl))
-        , ( stored, (refl, (refl, refl))
-          , ( joined, (refl, (refl, refl))
-            , (done, (refl, (message, member, eligible, refl, refl, uncounted, refl)), refl)))))
+  run = (
+    connected,
+    (refl, (codes "p", None, (refl, refl), (refl, refl))),
+    (
+      published,
+      (refl, (refl, refl)),
+      (
+        stored,
+        (refl, (refl, refl)),
+        (
+          joined,
+          (refl, (refl, refl)),
+          (done, (refl, (message, member, eligible, refl, refl, uncounted, refl)), refl),
+        ),
+      ),
+    ),
+  )
 
   abbrev holder : Held
   holder = record { consumer = 1; due = None }
@@ -109,9 +123,13 @@ module _ (name : TopicName) (body : Content) where
   pending = map_of.get-insert positions_total map_of.empty first holder first
 
   comes : (events : List Event) × (replies : List Reply) × (t : State) × Run (fresh name 1) events replies t × IsPendingInKeyShared t body
-  comes =
-      ( events, replies, done, run
-      , (codes "s", holding first holder subscription, message, holder, refl, refl, (0, omega arith, refl), refl, pending))
+  comes = (
+    events,
+    replies,
+    done,
+    run,
+    (codes "s", holding first holder subscription, message, holder, refl, refl, (0, omega arith, refl), refl, pending),
+  )
 
 pub returns : goal.returns
 returns c name body = comes name body

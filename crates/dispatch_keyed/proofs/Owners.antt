@@ -1,0 +1,168 @@
+-- The owner of a hash, as the members and the log are gone through.
+use Rattle.std.proofs.Common.{◌≡◌, ℕ, ◌+◌, ◌<◌, ◌≤◌, ◌∙◌, List, [], ◌∷◌, Bool, true, false, Option, Some, None, take, get_or, length, refl, sym, ap, subst, arith, inl, inr}
+use Rattle.std.specs.Prelude.{◌==◌, ◌&&◌, ◌||◌, not, slice_get}
+use Rattle.std.specs.List.{find, list_any}
+use Rattle.std.specs.Option.{option_map, option_map_or, option_and_then}
+use Rattle.std.specs.FinMap as map_of
+use Rattle.std.proofs.Math.Seq.{take-length}
+use Rattle.std.proofs.lemmas.Bool.{cases_lt, eq-eqb, ne_eqb, eqb-true}
+use Rattle.std.proofs.lemmas.List.{get_or-take, length-take}
+use Rattle.std.proofs.lemmas.List.Folds.{list_any_more, list_any_at}
+use Rattle.std.proofs.lemmas.List.Recursion.{found_at, found_nowhere}
+use Rattle.std.proofs.lemmas.Option.{slice_get_cases, slice_get-get_or, get_or_from_slice_get, same_Some, none-some}
+use Rattle.position_core.specs.declared.message.Entry.{Entry}
+use Rattle.position_core.specs.declared.held.Held.{Held}
+use Rattle.murmur_core.specs.Sticky.{sticky_hash}
+use Rattle.delivery_machine.specs.State.{State, Subscription, Member}
+use Rattle.delivery_machine.specs.Shares.{owner_of}
+use Rattle.delivery_machine.specs.Words.{is_at, is_member, members_of, owner_at, hash_of, visible, is_held_beside, is_draining}
+use Rattle.dispatch_core.specs.Places.{key_at, holder_at, holder_of}
+use Rattle.dispatch_core.specs.Offers.{seen_of}
+use Rattle.dispatch_core.specs.declared.view.Seen.{Seen}
+use Rattle.dispatch_keyed.specs.Hashes.{hash_at, drains_at, IsFreeFor, NoneFree}
+use Rattle.dispatch_keyed.proofs.Finding.{found_somewhere, find-filter}
+
+-- ---- hashes at places
+
+hash_at-log : (s : State) (i : ℕ) (d : Entry) → i < length s.log → hash_at s i ≡ hash_of (get_or s.log i d)
+unfolding key_at
+hash_at-log s i d within =
+    ap (λ (o : Option Entry). sticky_hash (option_and_then (λ e. e.body.key) o)) (slice_get-get_or s.log i d within)
+
+pub hash_at-visible : (s : State) (i : ℕ) (d : Entry) → i < length (visible s) → hash_at s i ≡ hash_of (get_or (visible s) i d)
+hash_at-visible s i d seen =
+    let within : (i < s.durable) × (i < length s.log) =
+    let l = length-take s.durable s.log in (omega arith, omega arith) in
+    hash_at-log s i d within.1 ∙ ap hash_of (sym (get_or-take s.durable s.log i d within.0))
+
+-- ---- draining
+
+-- the message has the hash, and is pending at another consumer
+abbrev pub drains : Subscription → ℕ → ℕ → Entry → Bool
+drains sub hash owner e = hash_of e == hash && is_held_beside owner (map_of.get sub.pending e.position)
+
+held_beside : (owner : ℕ) (held : Option Held) → option_map_or (λ holder. not (holder == owner)) (option_map (λ h. h.consumer) held) false ≡ is_held_beside owner held
+held_beside owner None = refl
+held_beside owner (Some h) = refl
+
+drains_at-log : (s : State) (sub : Subscription) (hash owner i : ℕ) (d : Entry) → i < length s.log → drains_at s sub hash owner i ≡ drains sub hash owner (get_or s.log i d)
+unfolding holder_at
+drains_at-log s sub hash owner i d within =
+    ap (λ (h : ℕ). h == hash && option_map_or (λ holder. not (holder == owner)) (holder_at s sub i) false) (hash_at-log s i d within)
+    ∙ ap (λ (o : Option Entry). hash_of (get_or s.log i d) == hash && option_map_or (λ holder. not (holder == owner)) (option_and_then (holder_of sub) o) false) (slice_get-get_or s.log i d within)
+    ∙ ap (λ (b : Bool). hash_of (get_or s.log i d) == hash && b) (held_beside owner (map_of.get sub.pending (get_or s.log i d).position))
+
+pub drains_more : (s : State) (sub : Subscription) (hash owner i : ℕ) → i < length s.log → drains_at s sub hash owner i ≡ false → list_any (drains sub hash owner) (take i s.log) ≡ false → list_any (drains sub hash owner) (take (i + 1) s.log) ≡ false
+drains_more s sub hash owner i within here before =
+    elim (slice_get_cases s.log i).1 [
+      | inl at ↦
+          list_any_more (drains sub hash owner) s.log i at.0 within
+          ∙ ap (λ (b : Bool). b || drains sub hash owner (get_or s.log i at.0)) before
+          ∙ sym (drains_at-log s sub hash owner i at.0 within)
+          ∙ here
+      | inr past ↦ absurd (omega (arith, past.0, within))
+    ]
+
+pub drains_here : (s : State) (sub : Subscription) (hash owner i : ℕ) → i < length s.log → drains_at s sub hash owner i ≡ true → is_draining s sub hash owner ≡ true
+drains_here s sub hash owner i within here =
+    elim (slice_get_cases s.log i).1 [
+      | inl at ↦ list_any_at (drains sub hash owner) s.log i at.0 within (sym (drains_at-log s sub hash owner i at.0 within) ∙ here)
+      | inr past ↦ absurd (omega (arith, past.0, within))
+    ]
+
+pub drains_nowhere : (s : State) (sub : Subscription) (hash owner i : ℕ) → length s.log ≤ i → i ≤ length s.log → list_any (drains sub hash owner) (take i s.log) ≡ false → is_draining s sub hash owner ≡ false
+drains_nowhere s sub hash owner i past within none =
+    let all : length s.log ≡ i = omega arith in
+    ap (list_any (drains sub hash owner)) (sym (take-length s.log) ∙ ap (λ (n : ℕ). take n s.log) all) ∙ none
+
+-- ---- the member of a number
+
+-- none of the first members has the number
+abbrev pub NoneOf : ℕ → List Member → ℕ → Type 0
+NoneOf number ms i = (k : ℕ) (d : Member) → k < i → is_member number (get_or ms k d) ≡ false
+
+-- the one at the place is seen, and has the number
+pub member_found : (s : State) (sub : Subscription) (ms : List Member) (number i : ℕ) (seen : Seen) → NoneOf number ms i → Some seen ≡ option_map (seen_of s sub) (slice_get ms i) → seen.consumer ≡ number → Some seen ≡ option_map (seen_of s sub) (find (is_member number) ms)
+member_found s sub ms number i seen none there same =
+    elim (slice_get_cases ms i).1 [
+      | inl at ↦
+          let is : seen ≡ seen_of s sub at.0 = same_Some _ _ (there ∙ ap (option_map (seen_of s sub)) at.2) in
+          let passes : is_member number at.0 ≡ true = eq-eqb at.0.number number (ap (λ (x : Seen). x.consumer) (sym is) ∙ same) in
+          let found : find (is_member number) ms ≡ Some (get_or ms i at.0) =
+          found_at (find (is_member number)) (is_member number) Some None refl (λ _ _. refl) ms i at.0 at.1 (λ k below. none k at.0 below) (ap (is_member number) at.3 ∙ passes) in
+          ap Some is ∙ ap (λ (m : Member). Some (seen_of s sub m)) (sym at.3) ∙ ap (option_map (seen_of s sub)) (sym found)
+      | inr past ↦ absurd (none-some seen (sym (there ∙ ap (option_map (seen_of s sub)) past.1)))
+    ]
+
+-- it has another number
+pub member_passed : (s : State) (sub : Subscription) (ms : List Member) (number i : ℕ) (seen : Seen) → NoneOf number ms i → Some seen ≡ option_map (seen_of s sub) (slice_get ms i) → (seen.consumer ≡ number → ⊥) → (i + 1 ≤ length ms) × NoneOf number ms (i + 1)
+member_passed s sub ms number i seen none there other =
+    elim (slice_get_cases ms i).1 [
+      | inl at ↦
+          let is : seen ≡ seen_of s sub at.0 = same_Some _ _ (there ∙ ap (option_map (seen_of s sub)) at.2) in (
+            omega (arith, at.1),
+            λ k d below.
+                elim (cases_lt k i) [
+                  | inl before ↦ none k d before
+                  | inr not_before ↦
+                      let last : k ≡ i = omega arith in
+                      let here : get_or ms k d ≡ at.0 = ap (λ (j : ℕ). get_or ms j d) last ∙ get_or_from_slice_get ms i at.0 d at.2 in
+                      ap (is_member number) here ∙ ne_eqb at.0.number number (λ same. other (ap (λ (x : Seen). x.consumer) is ∙ same))
+                ],
+          )
+      | inr past ↦ absurd (none-some seen (sym (there ∙ ap (option_map (seen_of s sub)) past.1)))
+    ]
+
+nobody : (number : ℕ) (ms : List Member) → NoneOf number ms (length ms) → find (is_member number) ms ≡ None
+nobody number [] none = refl
+nobody number (m ∷ ms) none =
+    found_nowhere (find (is_member number)) (is_member number) Some None refl (λ _ _. refl) (m ∷ ms) m (λ k below. none k m below)
+
+-- no member is left
+pub member_missing : (s : State) (sub : Subscription) (ms : List Member) (number i : ℕ) (found : Option Seen) → i ≤ length ms → NoneOf number ms i → found ≡ option_map (seen_of s sub) (slice_get ms i) → found ≡ None → None ≡ option_map (seen_of s sub) (find (is_member number) ms)
+member_missing s sub ms number i found within none there nothing =
+    elim (slice_get_cases ms i).1 [
+      | inl at ↦ absurd (none-some (seen_of s sub at.0) (sym nothing ∙ there ∙ ap (option_map (seen_of s sub)) at.2))
+      | inr past ↦
+          let all : i ≡ length ms = omega (arith, past.0) in
+          sym (ap (option_map (seen_of s sub)) (nobody number ms (subst (NoneOf number ms) all none)))
+    ]
+
+-- ---- the owner
+
+owner_is : (s : State) (sub : Subscription) (hash owner : ℕ) → Some owner ≡ owner_of sub.shares hash → owner_at s sub hash ≡ find (is_member owner) (members_of s sub.name)
+owner_is s sub hash owner owned =
+    ap (option_and_then (λ (number : ℕ). find (λ m. is_at sub.name m && is_member number m) s.members)) (sym owned)
+    ∙ find-filter (is_at sub.name) (is_member owner) s.members
+
+number_of_found : (s : State) (sub : Subscription) (owner : ℕ) (m : Member) → find (is_member owner) (members_of s sub.name) ≡ Some m → m.number ≡ owner
+number_of_found s sub owner m found =
+    eqb-true m.number owner (found_somewhere (is_member owner) (members_of s sub.name) m found).3
+
+-- the owner has room, and the hash does not drain
+pub free_for : (s : State) (sub : Subscription) (hash owner : ℕ) (seen : Seen) → Some owner ≡ owner_of sub.shares hash → Some seen ≡ option_map (seen_of s sub) (find (is_member owner) (members_of s sub.name)) → seen.room ≡ true → is_draining s sub hash owner ≡ false → IsFreeFor s sub hash owner
+free_for s sub hash owner seen owned there room still = by_case (find (is_member owner) (members_of s sub.name)) refl there
+  where
+    by_case : (o : Option Member) → find (is_member owner) (members_of s sub.name) ≡ o → Some seen ≡ option_map (seen_of s sub) o → IsFreeFor s sub hash owner
+    by_case None found e = absurd (none-some seen (sym e))
+    by_case (Some m) found e =
+        let number = number_of_found s sub owner m found in (
+          m,
+          number,
+          record {
+            owner = owner_is s sub hash owner owned ∙ found;
+            room = ap (λ (x : Seen). x.room) (sym (same_Some _ _ e)) ∙ room;
+            still = ap (is_draining s sub hash) number ∙ still;
+          },
+        )
+
+pub owner_is_away : (s : State) (sub : Subscription) (hash owner : ℕ) → Some owner ≡ owner_of sub.shares hash → None ≡ option_map (seen_of s sub) (find (is_member owner) (members_of s sub.name)) → NoneFree s sub hash
+owner_is_away s sub hash owner owned away m take =
+    none-some (seen_of s sub m) (away ∙ ap (option_map (seen_of s sub)) (sym (owner_is s sub hash owner owned) ∙ take.owner))
+
+-- the owner has no room, or the hash drains
+pub owner_must_wait : (s : State) (sub : Subscription) (hash owner : ℕ) (seen : Seen) → Some owner ≡ owner_of sub.shares hash → Some seen ≡ option_map (seen_of s sub) (find (is_member owner) (members_of s sub.name)) → (seen.room ≡ true → is_draining s sub hash owner ≡ false → ⊥) → NoneFree s sub hash
+owner_must_wait s sub hash owner seen owned there waits m take =
+    let found : find (is_member owner) (members_of s sub.name) ≡ Some m = sym (owner_is s sub hash owner owned) ∙ take.owner in
+    let is : seen ≡ seen_of s sub m = same_Some _ _ (there ∙ ap (option_map (seen_of s sub)) found) in
+    waits (ap (λ (x : Seen). x.room) is ∙ take.room) (ap (is_draining s sub hash) (sym (number_of_found s sub owner m found)) ∙ take.still)

@@ -1,0 +1,29 @@
+-- The hashes of messages by their places in the log, and whether the next message of a hash may be sent.
+use Rattle.std.specs.Prelude.{◌≡◌, ℕ, ◌==◌, Bool, false, not, ◌&&◌, Some, IsTrue}
+use Rattle.std.specs.Option.{option_map_or}
+use Rattle.murmur_core.specs.Sticky.{sticky_hash}
+use Rattle.delivery_machine.specs.State.{State, Subscription, Member}
+use Rattle.delivery_machine.specs.Words.{has_room, is_draining, owner_at}
+use Rattle.dispatch_core.specs.Places.{holder_at, key_at}
+
+-- the hash of the message at the place; past the end that of no key
+abbrev pub hash_at : State → ℕ → ℕ
+hash_at s i = sticky_hash (key_at s i)
+
+-- the message at the place has the hash, and is pending at another consumer
+abbrev pub drains_at : State → Subscription → ℕ → ℕ → ℕ → Bool
+drains_at s sub hash owner i = hash_at s i == hash && option_map_or (λ holder. not (holder == owner)) (holder_at s sub i) false
+
+-- the member owns the hash, which does not drain, and has room
+pub record MayTake (s : State) (sub : Subscription) (hash : ℕ) (m : Member) : Type 0 where
+  pub owner : owner_at s sub hash ≡ Some m
+  pub room : IsTrue (has_room s sub m)
+  pub still : is_draining s sub hash m.number ≡ false
+
+-- the consumer may be sent the next message of the hash
+abbrev pub IsFreeFor : State → Subscription → ℕ → ℕ → Type 0
+IsFreeFor s sub hash consumer = (m : Member) × (m.number ≡ consumer) × MayTake s sub hash m
+
+-- nobody may be sent a message of the hash
+abbrev pub NoneFree : State → Subscription → ℕ → Type 0
+NoneFree s sub hash = (m : Member) → MayTake s sub hash m → ⊥

@@ -1,0 +1,90 @@
+// Which hash may be served, and the first message that waits for that.
+ghost use Rattle.std.specs.Prelude.{◌≡◌, IfSome, IfNone};
+ghost use Rattle.std.specs.List.{find};
+ghost use Rattle.std.specs.Option.{option_map};
+ghost use Rattle.position_core.specs.declared.kind.Kind.TheVariants.{KeyShared};
+ghost use Rattle.delivery_machine.specs.Words.{is_draining, is_member, members_of, NoneEligible};
+ghost use Rattle.dispatch_core.specs.Offers.{seen_of, IsGoodOffer};
+ghost use Rattle.dispatch_keyed.specs.Hashes.{hash_at, drains_at, IsFreeFor, NoneFree};
+
+use dispatch_core::{Offer, Seen, View};
+use hash_ranges::SplitTable;
+use murmur_core::sticky_hash;
+
+/// The hash of the key of the message at the place.
+fn hash_at<V: View>(view: &V, index: u64) -> u16
+    ensures { result ≡ hash_at (V.state view.now) index }
+{
+    sticky_hash(view.key(index))
+}
+
+/// The member of the number.
+fn member_of<V: View>(view: &V, consumer: u64) -> Option<Seen>
+    ensures { result ≡ option_map (seen_of (V.state view.now) (V.subscription view.now)) (find (is_member consumer) (members_of (V.state view.now) (V.subscription view.now).name)) }
+{
+    let mut place = 0;
+    while let Some(seen) = view.member(place) {
+        if seen.consumer == consumer {
+            return Some(seen);
+        }
+        place += 1;
+    }
+    None
+}
+
+/// Whether the message at the place has the hash, and is pending at another consumer.
+fn drains_at<V: View>(view: &V, index: u64, hash: u16, owner: u64) -> bool
+    ensures { result ≡ drains_at (V.state view.now) (V.subscription view.now) hash owner index }
+{
+    match view.holder(index) {
+        Some(holder) => holder != owner && hash_at(view, index) == hash,
+        None => false,
+    }
+}
+
+/// Whether a message of the hash is pending at another consumer than its owner (PIP-379).
+fn is_draining<V: View>(view: &V, hash: u16, owner: u64) -> bool
+    ensures { result ≡ is_draining (V.state view.now) (V.subscription view.now) hash owner }
+{
+    for index in 0..view.length() {
+        if drains_at(view, index, hash, owner) {
+            return true;
+        }
+    }
+    false
+}
+
+/// The owner of the hash, if it may be sent the next message of it.
+fn free_owner<V: View>(view: &V, shares: &SplitTable, hash: u16) -> Option<u64>
+    requires { shares.now ≡ (V.subscription view.now).shares }
+    ensures some { IfSome result (IsFreeFor (V.state view.now) (V.subscription view.now) hash) }
+    ensures none { IfNone result (NoneFree (V.state view.now) (V.subscription view.now) hash) }
+{
+    let owner = shares.owner(hash)?;
+    let seen = member_of(view, owner)?;
+    if seen.room && !is_draining(view, hash, owner) {
+        Some(owner)
+    } else {
+        None
+    }
+}
+
+/// The first waiting message that the owner of its hash may be sent. It is the first of its hash,
+/// since an earlier one would have been offered.
+pub(crate) fn first_free<V: View>(view: &V, shares: &SplitTable) -> Option<Offer>
+    requires kind { (V.subscription view.now).kind ≡ KeyShared }
+    requires agree { shares.now ≡ (V.subscription view.now).shares }
+    ensures some { IfSome result (IsGoodOffer (V.state view.now) (V.subscription view.now)) }
+    ensures none { IfNone result (NoneEligible (V.state view.now) (V.subscription view.now)) }
+{
+    let visible = view.visible();
+    let mut from = 0;
+    while from < visible {
+        let index = view.next_waiting(from)?;
+        if let Some(consumer) = free_owner(view, shares, hash_at(view, index)) {
+            return Some(Offer { index, consumer });
+        }
+        from = index + 1;
+    }
+    None
+}

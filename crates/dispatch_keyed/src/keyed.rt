@@ -1,0 +1,75 @@
+// The dispatcher of the kind in which each hash has its owner.
+use crate::hashes::first_free;
+use dispatch_core::{Dispatcher, Offer, View};
+use hash_ranges::SplitTable;
+use position_core::Fault;
+use std::alloc::Global;
+
+/// Offers, of the messages that may be sent to the owners of their hashes, the first in topic order.
+/// It keeps the members' shares of the hashes, which only joining and leaving change. An offer goes
+/// over the whole log and all members for each message that waits before it.
+#[derive(Drop)]
+pub struct Keyed {
+    shares: SplitTable,
+}
+
+impl Dispatcher for Keyed {
+    ghost use Rattle.std.specs.Prelude.{◌≡◌, OnOk, OnErr, IfErr};
+    ghost use Rattle.position_core.specs.declared.fault.Fault.TheVariants.{NoMemory};
+    ghost use Rattle.position_core.specs.Kind.{same_kind};
+    ghost use Rattle.position_core.specs.declared.kind.Kind.TheVariants.{KeyShared};
+    ghost use Rattle.delivery_machine.specs.Shares.{shared_out, given_back};
+
+    ghost serves = { λ kind. same_kind kind KeyShared };
+
+    ghost agrees = { λ d _ sub. (sub.kind ≡ KeyShared) × (d.shares ≡ sub.shares) };
+
+    fn begin<V: View>(alloc: Global, _view: &V) -> Result<Self, Fault> {
+        Ok(Keyed {
+            shares: SplitTable::new(alloc),
+        })
+    }
+
+    fn offer<V: View>(&self, view: &V) -> Option<Offer> {
+        first_free(view, &self.shares)
+    }
+
+    fn on_append<V: View>(&mut self, _view: &V) -> Result<(), Fault> {
+        Ok(())
+    }
+
+    fn undo_append<V: View>(&mut self, _view: &V) {}
+
+    fn on_join<V: View>(&mut self, _view: &V, consumer: u64) -> Result<(), Fault>
+        ensures ok { OnOk result (self.new.shares ≡ shared_out consumer self.old.shares) }
+        ensures err { IfErr result (λ fault. fault ≡ NoMemory) }
+        ensures unchanged { OnErr result (self.new ≡ self.old) }
+    {
+        match self.shares.join(consumer) {
+            Ok(()) => Ok(()),
+            Err(_) => Err(Fault::NoMemory),
+        }
+    }
+
+    fn on_leave<V: View>(&mut self, _view: &V, consumer: u64)
+        ensures { self.new.shares ≡ given_back consumer self.old.shares }
+    {
+        self.shares.leave(consumer);
+    }
+
+    fn on_sent<V: View>(&mut self, _view: &V, _index: u64, _consumer: u64) -> Result<(), Fault> {
+        Ok(())
+    }
+
+    fn on_gone<V: View>(&mut self, _view: &V, _index: u64) {}
+
+    fn on_released<V: View>(&mut self, _view: &V, _index: u64) {}
+
+    fn on_reset<V: View>(&mut self, _view: &V) -> Result<(), Fault> {
+        Ok(())
+    }
+
+    ghost use Rattle.std.proofs.Common.{◌∙◌, sym};
+
+    ghost kept = { λ _ _ _ agreed _ _ change. (change.kind ∙ agreed.0, agreed.1 ∙ sym change.shares) };
+}
