@@ -6,7 +6,7 @@ use Rattle.dispatch_keyed.proofs.hashes.first_free.Goals as goal
 pub returns-in_err-index-clause-none : goal.returns-in_err-index-clause-none
 returns-in_err-index-clause-none g c =
     rw c.from_residual.ensures
-        (none_eligible (g.V.View.state c.args.view.now) (g.V.View.subscription c.args.view.now) c.loop-from.from c.requires.kind c.in_err-index.ensures.none c.loop-from.invariant)
+    (none_eligible (g.V.View.state c.args.view.now) (g.V.View.subscription c.args.view.now) c.loop-from.from c.requires.kind c.in_err-index.ensures.none c.loop-from.invariant)
 
 pub returns-in-Some-clause-some : goal.returns-in-Some-clause-some
 returns-in-Some-clause-some g c =

@@ -8,7 +8,7 @@ use Rattle.dispatch_keyed.proofs.hashes.free_owner.Goals.{else-seen-via-then-see
 pub returns-in_err-seen-clause-none : goal.returns-in_err-seen-clause-none
 returns-in_err-seen-clause-none g c =
     rw c.from_residual-in_err-seen.ensures
-        (owner_is_away (g.V.View.state c.args.view.now) (g.V.View.subscription c.args.view.now) c.args.hash c.in_ok-owner.owner (c.in_ok-owner.ensures.value ∙ ap (λ bs. owner_of bs c.args.hash) c.requires) c.in_err-seen.ensures)
+    (owner_is_away (g.V.View.state c.args.view.now) (g.V.View.subscription c.args.view.now) c.args.hash c.in_ok-owner.owner (c.in_ok-owner.ensures.value ∙ ap (λ bs. owner_of bs c.args.hash) c.requires) c.in_err-seen.ensures)
 
 pub returns-then-not-is_draining-clause-some : goal.returns-then-not-is_draining-clause-some
 returns-then-not-is_draining-clause-some g c =
