@@ -4,6 +4,8 @@
 
 ghost use Rattle.std.specs.Prelude.{◌≡◌, ◌↔◌, IsNone};
 
+mod dead;
+mod dedup;
 mod mode;
 mod murmur;
 mod pending;
@@ -34,6 +36,8 @@ fn cases(rt: &HostRuntime, mode: Mode) -> io::Result<()> {
     };
     slots.head()?;
     pending::cases(&slots)?;
+    dead::cases(&slots)?;
+    dedup::cases(&slots)?;
     let keys = Report {
         rt,
         mode,

@@ -3,5 +3,7 @@
 
 mod hashes;
 mod keyed;
+#[cfg(test)]
+mod tests;
 
 pub use keyed::Keyed;

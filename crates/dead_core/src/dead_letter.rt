@@ -1,0 +1,23 @@
+// A message that was redelivered too often.
+use position_core::{Position, TopicName};
+use std::marker::Model;
+
+/// A message that was redelivered too often, and the topic that it goes to. The ordinal is the number of
+/// its death in the topic.
+#[derive(Drop)]
+pub struct DeadLetter {
+    pub position: Position,
+    pub target: TopicName,
+    pub ordinal: u64,
+}
+
+impl Model for DeadLetter {
+    ghost use Rattle.delivery_machine.specs.State.{Dead};
+    ghost use Rattle.dead_core.specs.Codes.{coded_dead};
+
+    ghost Value = { Dead };
+
+    ghost coded = { coded_dead };
+
+    ghost view = { λ d. record { position = d.position; target = d.target; ordinal = d.ordinal } };
+}

@@ -1,0 +1,98 @@
+// The dead letters of a subscription, in the order of dying.
+ghost use Rattle.std.specs.Prelude.{◌≡◌, length, None, OnOk, OnErr, if◌then◌else◌};
+ghost use Rattle.std.specs.Option.{option_copied};
+ghost use Rattle.dead_core.specs.Letters.{none_dead, ending_with, all_safe, next_safe, is_next, without_first};
+
+use crate::dead_letter::DeadLetter;
+use std::alloc::{AllocError, Global};
+use std::collections::VecDeque;
+use std::marker::Model;
+
+/// The dead letters of a subscription, in the order of dying. The first of them are safe: their deaths are
+/// stored, so that they may be published. A call takes constant time, but for a growth, and only `push`
+/// takes memory.
+#[derive(Drop)]
+pub struct DeadQueue {
+    letters: VecDeque<DeadLetter>,
+    safe: usize,
+}
+
+impl Model for DeadQueue {
+    ghost use Rattle.std.specs.Prelude.{◌≤◌, length};
+    ghost use Rattle.dead_core.specs.Letters.{Letters};
+    ghost use Rattle.dead_core.specs.Codes.{coded_letters};
+
+    ghost Value = { Letters };
+
+    ghost coded = { coded_letters };
+
+    ghost view = { λ q. record { dead = q.letters.items; safe = q.safe } };
+
+    ghost invariant = { λ q. q.safe ≤ length q.letters.items };
+}
+
+impl DeadQueue {
+    /// Nothing died.
+    pub fn new(alloc: Global) -> Self
+        ensures { result ≡ none_dead }
+    {
+        DeadQueue {
+            letters: VecDeque::new(alloc),
+            safe: 0,
+        }
+    }
+
+    /// A message dies: its letter is the last one, and not safe yet.
+    pub fn push(&mut self, letter: DeadLetter) -> Result<(), AllocError>
+        ensures ok { OnOk result (self.new ≡ ending_with letter self.old) }
+        ensures err { OnErr result (self.new ≡ self.old) }
+    {
+        self.letters.push_back(letter)?;
+        Ok(())
+    }
+
+    /// All deaths so far are stored.
+    pub fn mark_safe(&mut self)
+        ensures { self.new ≡ all_safe self.old }
+    {
+        self.safe = self.count();
+    }
+
+    /// The letter that is published next: the first one, where it is safe.
+    pub fn next_safe(&self) -> Option<&DeadLetter>
+        ensures { option_copied result ≡ next_safe self.now }
+    {
+        if self.safe == 0 {
+            return None;
+        }
+        self.letters.front()
+    }
+
+    fn is_next(&self, ordinal: u64) -> bool
+        ensures { result ≡ is_next ordinal self.now }
+    {
+        match self.next_safe() {
+            Some(letter) => letter.ordinal == ordinal,
+            None => false,
+        }
+    }
+
+    /// Takes the first letter out where it is safe and of this ordinal: it was published. Else nothing
+    /// changes.
+    pub fn done(&mut self, ordinal: u64) -> Option<DeadLetter>
+        ensures letter { result ≡ (if is_next ordinal self.old then next_safe self.old else None) }
+        ensures others { self.new ≡ (if is_next ordinal self.old then without_first self.old else self.old) }
+    {
+        if !self.is_next(ordinal) {
+            return None;
+        }
+        self.safe -= 1;
+        self.letters.pop_front()
+    }
+
+    pub fn count(&self) -> usize
+        ensures { result ≡ length self.now.dead }
+    {
+        self.letters.len()
+    }
+}

@@ -1,0 +1,10 @@
+//! The last sequence number of each producer's name, by which duplicates are told.
+#![tactic(auto)]
+
+mod name_key;
+mod sequences;
+mod table;
+#[cfg(test)]
+mod tests;
+
+pub use sequences::Sequences;
