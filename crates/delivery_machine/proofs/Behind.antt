@@ -1,5 +1,5 @@
 -- A subscription that stands behind another of its name has nothing pending: it may be found once the first is gone.
-use Rattle.std.proofs.Common.{◌≡◌, ℕ, List, [], ◌∷◌, Some, None, suc, zero, Bool, true, false, cond, refl, ◌∙◌, sym, subst, ◌⊎◌, inl, inr, true≢false}
+use Rattle.std.proofs.Common.{◌≡◌, ℕ, List, [], ◌∷◌, Some, None, suc, zero, Bool, true, false, cond, map, refl, ap, ◌∙◌, sym, subst, subst₂, ◌⊎◌, inl, inr, true≢false}
 use Rattle.std.specs.Prelude.{⊤}
 use Rattle.std.specs.List.{AllByRecursion, find, insert}
 use Rattle.std.specs.Str.{bytes_eq}
@@ -98,6 +98,17 @@ behind_changed n f (x ∷ xs) same behind = by (is_named n x) refl (behind_chang
           absurd (true≢false (sym (is_same_name x.name n is) ∙ t)))
           behind.0,
       rest,
+    )
+
+pub behind_mapped : (f : Subscription → Subscription) (subs : List Subscription) → ((sub : Subscription) → (f sub).name ≡ sub.name) → ((sub : Subscription) → (f sub).pending ≡ sub.pending) → AllBehindIdle subs → AllBehindIdle (map f subs)
+behind_mapped f [] names same behind = tt
+behind_mapped f (x ∷ xs) names same behind = (each xs behind.0, behind_mapped f xs names same behind.1)
+  where
+    each : (ys : List Subscription) → AllByRecursion (IsBehindIdle x) ys → AllByRecursion (IsBehindIdle (f x)) (map f ys)
+    each [] all = tt
+    each (y ∷ ys) all = (
+      λ alike p h is. all.0 (subst₂ (λ (m n : List ℕ). bytes_eq n m ≡ true) (names x) (names y) alike) p h (sym (ap (λ pending. map_of.get pending p) (same y)) ∙ is),
+      each ys all.1,
     )
 
 pub behind_placed : (subs : List Subscription) (i : ℕ) (new : Subscription) → IsIdle new → find (is_named new.name) subs ≡ None → AllBehindIdle subs → AllBehindIdle (insert subs i new)

@@ -60,6 +60,19 @@ module _ {A : Type 0} where
             | inr a ↦ inr (a.0, skips ∙ a.1, first_of_failing (q x) x (find q xs) qf ∙ a.2, a.3)
           ]
 
+  -- what is found in a list after each is changed
+  pub found_mapped : (p : A → Bool) (f : A → A) → ((x : A) → p (f x) ≡ p x) → (xs : List A) (y : A) → find p (map f xs) ≡ Some y → (x : A) × (find p xs ≡ Some x) × (y ≡ f x)
+  found_mapped p f same [] y h = cc
+  found_mapped p f same (x ∷ xs) y h = by (p x) refl h (found_mapped p f same xs y)
+    where
+      by : (b : Bool) → p x ≡ b → find p (map f (x ∷ xs)) ≡ Some y → (find p (map f xs) ≡ Some y → (z : A) × (find p xs ≡ Some z) × (y ≡ f z)) → (z : A) × (find p (x ∷ xs) ≡ Some z) × (y ≡ f z)
+      by true t h rest =
+          let is : Some y ≡ Some (f x) = sym h ∙ first_of_passing (p (f x)) (f x) (find p (map f xs)) (same x ∙ t) in
+          (x, first_of_passing (p x) x (find p xs) t, cc)
+      by false e h rest =
+          let later = rest (sym (first_of_failing (p (f x)) (f x) (find p (map f xs)) (same x ∙ e)) ∙ h) in
+          (later.0, first_of_failing (p x) x (find p xs) e ∙ later.1, later.2)
+
   pub found_inserted : (p : A → Bool) (xs : List A) (i : ℕ) (z y : A) → find p (insert xs i z) ≡ Some y → (y ≡ z) ⊎ (find p xs ≡ Some y)
   found_inserted p xs zero z y h = here (p z) h
     where

@@ -1,11 +1,12 @@
 -- What every reached state keeps: positions that rise, and pending messages that are tended.
-use Rattle.std.proofs.Common.{◌≡◌, ℕ, List, [], ◌∷◌, ◌++◌, map, Some, None, Option, Bool, true, false, refl, ap, ◌∙◌, sym, subst, arith, true≢false, ap₂}
+use Rattle.std.proofs.Common.{◌≡◌, ℕ, List, [], ◌∷◌, ◌++◌, map, Some, None, Option, Bool, true, false, take, refl, ap, ◌∙◌, sym, subst, arith, true≢false, ap₂}
 use Rattle.std.specs.Prelude.{not, ◌==◌, ◌&&◌, ◌||◌, ◌^◌, nat_le, is_some, nat_lt, length, if◌then◌else◌}
 use Rattle.std.specs.List.{find}
 use Rattle.std.specs.Option.{option_map_or}
 use Rattle.std.specs.FinMap as map_of
 use Rattle.std.proofs.lemmas.Bool.Decides.{nat_tests}
 use Rattle.position_core.specs.declared.position.Position.{Position}
+use Rattle.position_core.specs.declared.topic_name.TopicName.{TopicName}
 use Rattle.position_core.specs.declared.message.Entry.{Entry}
 use Rattle.position_core.specs.declared.held.Held.{Held}
 use Rattle.position_core.specs.declared.kind.Kind.{Kind}
@@ -14,19 +15,22 @@ use Rattle.position_core.specs.declared.fault.Fault.{Fault}
 use Rattle.position_core.specs.Kind.{same_kind}
 use Rattle.position_core.specs.Position.{position_cmp}
 use Rattle.delivery_machine.specs.State.{State, Member, Subscription}
-use Rattle.delivery_machine.specs.Words.{changed, removed, is_named, is_at, is_member, is_held_by, is_held_at, members_of, has_kind, next_position, emptied, count_of, IsEligible}
+use Rattle.delivery_machine.specs.State as state
+use Rattle.delivery_machine.specs.Words.{changed, removed, is_named, is_at, is_member, is_held_by, is_held_at, members_of, has_kind, next_position, emptied, emptied_at, count_of, IsEligible}
 use Rattle.delivery_machine.specs.Refusals.{is_full, subscribing_refused, nacking_refused}
-use Rattle.delivery_machine.specs.Producing.{with_message}
+use Rattle.delivery_machine.specs.Producing.{with_message, storing, stored}
 use Rattle.delivery_machine.specs.Joining.{releasing_all, all_released, is_taken_over, taken_over, joining, new_subscription, placed, with_member, leaving, without_member}
 use Rattle.delivery_machine.specs.Acknowledging.{acknowledging, acknowledged, forgetting, without, is_one_of}
 use Rattle.delivery_machine.specs.Delivering.{holding, given, sent, due_after}
 use Rattle.delivery_machine.specs.Ticking.{redelivering, redelivered}
+use Rattle.delivery_machine.specs.Seeking.{seeking, sought}
+use Rattle.delivery_machine.specs.Dying.{burying, letter_of, died, moving, moved}
 use Rattle.delivery_machine.specs.declared.event.Initial.{Initial}
 use Rattle.delivery_machine.proofs.Firsts.{found_passes, any_removed, some_kept}
 use Rattle.delivery_machine.proofs.Rising.{IsRising, rising_push, one_of_position, next_is_new}
 use Rattle.delivery_machine.proofs.Behind.{same_name, names_differ}
 use Rattle.delivery_machine.proofs.Tended.{IsTended, IsPartOf, is_seat, is_seated, some_is, tended_empty, tended_part, tended_members, tended_seats, tended_push, tended_sent}
-use Rattle.delivery_machine.proofs.Tending.{IsTendedIn, AllTended, got_retained, part_retained, none_pending, part_empty, part_held_again, same_seat_if, seats_changed, seats_mapped, seats_pushed, tended_changed, tended_taken, tended_stay, tended_placed, tended_removed}
+use Rattle.delivery_machine.proofs.Tending.{IsTendedIn, AllTended, got_retained, part_retained, none_pending, part_empty, part_held_again, same_seat_if, tended_mapped, seats_changed, seats_mapped, seats_pushed, tended_changed, tended_taken, tended_stay, tended_placed, tended_removed}
 use Rattle.delivery_machine.proofs.Sending.{chosen}
 
 pub record IsKept (s : State) : Type 0 where
@@ -80,10 +84,34 @@ kept_redelivered s name positions kept =
     kept_taking s name (redelivering positions) (forgetting name positions) (λ _. refl) (λ _. refl)
     (λ sub. part_retained sub.pending (λ p. not (is_one_of positions p))) (forgotten_seats name positions) kept
 
+-- a dead message is pending no longer
+pub kept_died : (s : State) (name : List ℕ) (position : Position) (m : Member) → IsKept s → IsKept (died s name position m)
+kept_died s name position m kept =
+    let taken = kept_taking s name (burying (letter_of s position m)) (forgetting name (position ∷ [])) (λ _. refl) (λ _. refl)
+    (λ sub. part_retained sub.pending (λ p. not (is_one_of (position ∷ []) p))) (forgotten_seats name (position ∷ [])) kept in
+    record { rising = taken.rising; tended = taken.tended }
+
+pub kept_moved : (s : State) (name : List ℕ) (letter : state.Dead) → IsKept s → IsKept (moved s name letter)
+kept_moved s name letter kept =
+    kept_taking s name (moving letter) (forgetting name (letter.position ∷ [])) (λ _. refl) (λ _. refl)
+    (λ sub. part_retained sub.pending (λ p. not (is_one_of (letter.position ∷ []) p))) (forgotten_seats name (letter.position ∷ [])) kept
+
+emptied_seats : (n name : List ℕ) (number : ℕ) (m : Member) → is_seat name number (emptied_at n m) ≡ is_seat name number m
+emptied_seats n name number m = same_seat_if (is_at n m) name number m (emptied m) refl
+
+pub kept_sought : (s : State) (name : List ℕ) (count : ℕ) → IsKept s → IsKept (sought s name count)
+kept_sought s name count kept =
+    kept_taking s name (seeking (take count s.log)) (emptied_at name) (λ _. refl) (λ _. refl) (λ sub. part_empty sub.pending) (emptied_seats name) kept
+
+pub kept_stored : (s : State) → IsKept s → IsKept (stored s)
+kept_stored s kept = record {
+  rising = kept.rising;
+  tended = tended_mapped s.log s.members storing s.subscriptions (λ _. refl) (λ _. refl) (λ _. refl) kept.tended;
+}
+
 pub kept_all_released : (s : State) (name : List ℕ) → IsKept s → IsKept (all_released name s)
 kept_all_released s name kept =
-    kept_taking s name releasing_all (λ m. if is_at name m then emptied m else m) (λ _. refl) (λ _. refl) (λ sub. part_empty sub.pending)
-    (λ at number m. same_seat_if (is_at name m) at number m (emptied m) refl) kept
+    kept_taking s name releasing_all (emptied_at name) (λ _. refl) (λ _. refl) (λ sub. part_empty sub.pending) (emptied_seats name) kept
 
 pub kept_taken_over : (s : State) (name : List ℕ) (before : Option ℕ) → IsKept s → IsKept (taken_over name before s)
 kept_taken_over s name before kept = by (is_taken_over name before s)
@@ -122,7 +150,7 @@ kept_members s q f same kept = record {
   tended = tended_stay s.log s.members (changed q f s.members) s.subscriptions (seats_changed q f same s.members) kept.tended;
 }
 
-kinds_agree : (a b : Kind) → same_kind a b ≡ true → a ≡ b
+pub kinds_agree : (a b : Kind) → same_kind a b ≡ true → a ≡ b
 kinds_agree Exclusive Exclusive e = refl
 kinds_agree Failover Failover e = refl
 kinds_agree Shared Shared e = refl
@@ -130,9 +158,9 @@ kinds_agree KeyShared KeyShared e = refl
 kinds_agree a b e = absurd (true≢false (sym e))
 
 -- where another kind may join, nobody is there, so that nothing is pending
-nothing_pending : (s : State) (kind : Kind) (sub : Subscription) (name : List ℕ) → find (is_named name) s.subscriptions ≡ Some sub → same_kind sub.kind kind ≡ false → subscribing_refused s name kind ≡ None → IsTendedIn s.log s.members sub
+pub nothing_pending : (s : State) (kind : Kind) (sub : Subscription) (name : List ℕ) (max_redeliver : ℕ) (dead_topic : TopicName) → find (is_named name) s.subscriptions ≡ Some sub → same_kind sub.kind kind ≡ false → subscribing_refused s name kind max_redeliver dead_topic ≡ None → IsTendedIn s.log s.members sub
     → (p : Position) (h : Held) → map_of.get sub.pending p ≡ Some h → ⊥
-nothing_pending s kind sub name there other allowed tended p h is =
+nothing_pending s kind sub name max_redeliver dead_topic there other allowed tended p h is =
     let named : sub.name ≡ name = same_name sub.name name (found_passes (is_named name) s.subscriptions sub there) in
     let some : nat_lt 0 (length (members_of s name)) ≡ true =
     some_kept (is_seat name h.consumer) (is_at name) s.members (λ m. first (is_at name m) (is_member h.consumer m))
@@ -144,7 +172,7 @@ nothing_pending s kind sub name there other allowed tended p h is =
     first true b e = refl
     first false b e = e
 
-tended_joining : (s : State) (kind : Kind) (m : Member) (sub : Subscription) → subscribing_refused s m.subscription kind ≡ None → find (is_named m.subscription) s.subscriptions ≡ Some sub → IsTendedIn s.log s.members sub → IsTendedIn s.log (s.members ++ m ∷ []) (joining kind m.number sub)
+tended_joining : (s : State) (kind : Kind) (m : Member) (sub : Subscription) → subscribing_refused s m.subscription kind m.max_redeliver m.dead_topic ≡ None → find (is_named m.subscription) s.subscriptions ≡ Some sub → IsTendedIn s.log s.members sub → IsTendedIn s.log (s.members ++ m ∷ []) (joining kind m.number sub)
 tended_joining s kind m sub allowed there tended = by (same_kind sub.kind kind) refl
   where
     by : (b : Bool) → same_kind sub.kind kind ≡ b → IsTended s.log (s.members ++ m ∷ []) sub.name kind sub.pending
@@ -152,9 +180,9 @@ tended_joining s kind m sub allowed there tended = by (same_kind sub.kind kind) 
         subst (λ (k : Kind). IsTended s.log (s.members ++ m ∷ []) sub.name k sub.pending) (kinds_agree sub.kind kind same)
         (tended_seats s.log s.members (s.members ++ m ∷ []) sub.name sub.kind sub.pending (seats_pushed s.members m) tended)
     by false other =
-        tended_empty s.log (s.members ++ m ∷ []) sub.name kind sub.pending (nothing_pending s kind sub m.subscription there other allowed tended)
+        tended_empty s.log (s.members ++ m ∷ []) sub.name kind sub.pending (nothing_pending s kind sub m.subscription m.max_redeliver m.dead_topic there other allowed tended)
 
-pub kept_joined : (s : State) (kind : Kind) (initial : Initial) (m : Member) → subscribing_refused s m.subscription kind ≡ None → IsKept s → IsKept (with_member s kind initial m)
+pub kept_joined : (s : State) (kind : Kind) (initial : Initial) (m : Member) → subscribing_refused s m.subscription kind m.max_redeliver m.dead_topic ≡ None → IsKept s → IsKept (with_member s kind initial m)
 kept_joined s kind initial m allowed kept = record { rising = kept.rising; tended = by (find (is_named m.subscription) s.subscriptions) refl }
   where
     by : (o : Option Subscription) → find (is_named m.subscription) s.subscriptions ≡ o → AllTended s.log (s.members ++ m ∷ []) (if is_some o then changed (is_named m.subscription) (joining kind m.number) s.subscriptions else placed (new_subscription m.subscription kind m.number initial s.log) s.subscriptions)
@@ -176,7 +204,7 @@ other_number consumer number name m is differs = by (is_at name m)
     by true = apart m.number consumer number is differs
     by false = refl
 
-tended_leaving : (s : State) (consumer : ℕ) (m : Member) (sub : Subscription) → find (is_member consumer) s.members ≡ Some m → IsTendedIn s.log s.members sub → IsTendedIn s.log (removed (is_member consumer) s.members) (leaving consumer sub)
+pub tended_leaving : (s : State) (consumer : ℕ) (m : Member) (sub : Subscription) → find (is_member consumer) s.members ≡ Some m → IsTendedIn s.log s.members sub → IsTendedIn s.log (removed (is_member consumer) s.members) (leaving consumer sub)
 tended_leaving s consumer m sub there tended =
     let keeps : Position → Bool = λ p. not (is_held_by consumer (map_of.get sub.pending p)) in
     let left : map_of.FinMap position_cmp Held = map_of.retain_keys sub.pending keeps in

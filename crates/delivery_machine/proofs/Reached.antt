@@ -16,20 +16,22 @@ use Rattle.delivery_machine.specs.Joining.{permitted, without_member}
 use Rattle.delivery_machine.specs.Acknowledging.{Acks, positions_up_to}
 use Rattle.delivery_machine.specs.Delivering.{Dispatches}
 use Rattle.delivery_machine.specs.Ticking.{Ticks, pending_positions}
+use Rattle.delivery_machine.specs.Seeking.{length_before, length_before_time, first_live}
+use Rattle.delivery_machine.specs.Dying.{dying_at, first_safe}
 use Rattle.delivery_machine.specs.Run.{Run, Answers, Takes}
 use Rattle.delivery_machine.specs.Snapshot.{Snapshot, Place, snapshot_of, restarted, subscription_from}
 use Rattle.delivery_machine.specs.Laws.{IsSound, IsBeginning}
 use Rattle.delivery_machine.specs.declared.event.Event.{Event}
-use Rattle.delivery_machine.specs.declared.event.Event.TheVariants.{AddProducer, Publish, Stored, Subscribe, Leave, Permit, Ack, AckUpTo, Nack, Tick, Dispatch, Collect}
+use Rattle.delivery_machine.specs.declared.event.Event.TheVariants.{AddProducer, DropProducer, Publish, Stored, Progress, Subscribe, Leave, Permit, Ack, AckUpTo, Nack, Tick, Seek, SeekTime, Skip, DropSubscription, Stats, Dispatch, Collect, DeadNext, DeadDone}
 use Rattle.delivery_machine.specs.declared.reply.Reply.{Reply}
-use Rattle.delivery_machine.specs.declared.reply.Reply.TheVariants.{Sent, Idle, Quiet, Rewound, Released}
+use Rattle.delivery_machine.specs.declared.reply.Reply.TheVariants.{Sent, Idle, Quiet, Rewound, Released, Died}
 use Rattle.delivery_machine.proofs.RunSteps.{split, Run-keeps}
 use Rattle.delivery_machine.proofs.Firsts.{some_elim}
 use Rattle.delivery_machine.proofs.Rising.{rising_fresh, rising_restarted, sound_snapshot}
 use Rattle.delivery_machine.proofs.Behind.{IsIdle, IsBehindIdle, AllBehindIdle}
 use Rattle.delivery_machine.proofs.Tended.{tended_empty}
 use Rattle.delivery_machine.proofs.Tending.{none_pending}
-use Rattle.delivery_machine.proofs.Kept.{IsKept, not_refused, kept_message, kept_acknowledged, kept_redelivered, kept_taken_over, kept_nacked, kept_members, kept_joined, kept_left, kept_sent}
+use Rattle.delivery_machine.proofs.Kept.{IsKept, not_refused, kept_message, kept_acknowledged, kept_redelivered, kept_taken_over, kept_nacked, kept_members, kept_joined, kept_left, kept_sent, kept_died, kept_moved, kept_sought, kept_stored, kept_dropped}
 
 -- the new state is known
 settled : (t u : State) → t ≡ u → IsKept u → IsKept t
@@ -47,7 +49,9 @@ acks_keeps s consumer positions reply t h kept =
 tick_keeps : (s : State) (name : List ℕ) (now : ℕ) (sub : Subscription) (reply : Reply) (t : State) → Ticks s name now sub reply t → IsKept s → IsKept t
 tick_keeps s name now sub Quiet t h kept = settled t s h.1 kept
 tick_keeps s name now sub (Rewound count) t h kept = settled t _ h.3 (kept_redelivered s name (pending_positions s sub) kept)
-tick_keeps s name now sub (Released position) t h kept = settled t _ h.2 (kept_redelivered s name (position ∷ []) kept)
+tick_keeps s name now sub (Released position) t h kept = settled t _ h.3 (kept_redelivered s name (position ∷ []) kept)
+tick_keeps s name now sub (Died position ordinal) t h kept =
+    some_elim (dying_at s sub position) _ (IsKept t) h.3 (λ m found is. settled t _ is (kept_died s name position m kept))
 tick_keeps s name now sub reply t h kept = absurd h
 
 dispatch_keeps : (s : State) (name : List ℕ) (now : ℕ) (sub : Subscription) (reply : Reply) (t : State) → find (is_named name) s.subscriptions ≡ Some sub → Dispatches s name now sub reply t → IsKept s → IsKept t
@@ -57,11 +61,13 @@ dispatch_keeps s name now sub reply t found h kept = absurd h
 
 takes_keeps : (s : State) (event : Event) (reply : Reply) (t : State) → refusal_of s event ≡ None → Takes s event reply t → IsKept s → IsKept t
 takes_keeps s (AddProducer name base) reply t allowed h kept = settled t _ h.3.1 (record { rising = kept.rising; tended = kept.tended })
+takes_keeps s (DropProducer producer) reply t allowed h kept = settled t _ h.1 (record { rising = kept.rising; tended = kept.tended })
 takes_keeps s (Publish producer sequence body now) reply t allowed h kept =
     some_elim (find (is_producer producer) s.producers) _ (IsKept t) h (λ p found h.
     publish_keeps s (message_of s p sequence body now) t (is_duplicate s p sequence)
     (sym (ap (publishing_refused s sequence) found) ∙ allowed) refl h.1 kept)
-takes_keeps s Stored reply t allowed h kept = settled t _ h.1 (record { rising = kept.rising; tended = kept.tended })
+takes_keeps s Stored reply t allowed h kept = settled t _ h.1 (kept_stored s kept)
+takes_keeps s Progress reply t allowed h kept = settled t s h.1 kept
 takes_keeps s (Subscribe name kind level flow ack_timeout nack_delay max_redeliver dead_topic initial) reply t allowed h kept =
     settled t _ h.1 (kept_taken_over _ name (active_at s name) (kept_joined s kind initial _ allowed kept))
 takes_keeps s (Leave consumer) reply t allowed h kept =
@@ -75,9 +81,19 @@ takes_keeps s (Nack consumer position now) reply t allowed h kept =
     settled t _ is (kept_nacked s m consumer position (Some (now + m.nack_delay)) (sym (ap (nacking_refused s consumer position) found) ∙ allowed) kept))
 takes_keeps s (Tick name now) reply t allowed h kept =
     some_elim (find (is_named name) s.subscriptions) _ (IsKept t) h (λ sub found h. tick_keeps s name now sub reply t h kept)
+takes_keeps s (Seek name target) reply t allowed h kept = settled t _ h.1 (kept_sought s name (length_before s target) kept)
+takes_keeps s (SeekTime name time) reply t allowed h kept = settled t _ h.1 (kept_sought s name (length_before_time s time) kept)
+takes_keeps s (Skip name count) reply t allowed h kept =
+    some_elim (find (is_named name) s.subscriptions) _ (IsKept t) h (λ sub found h. settled t _ h.1 (kept_acknowledged s name (first_live s sub count) kept))
+takes_keeps s (DropSubscription name) reply t allowed h kept = settled t _ h.1 (kept_dropped s name kept)
+takes_keeps s (Stats name) reply t allowed h kept = some_elim (find (is_named name) s.subscriptions) _ (IsKept t) h (λ sub found h. settled t s h.1 kept)
 takes_keeps s (Dispatch name now) reply t allowed h kept =
     some_elim (find (is_named name) s.subscriptions) _ (IsKept t) h (λ sub found h. dispatch_keeps s name now sub reply t found h kept)
 takes_keeps s (Collect consumer) reply t allowed h kept = settled t _ h.1 (kept_members s (is_member consumer) emptied (λ _ _ _. refl) kept)
+takes_keeps s (DeadNext name) reply t allowed h kept = some_elim (find (is_named name) s.subscriptions) _ (IsKept t) h (λ sub found h. settled t s h.1 kept)
+takes_keeps s (DeadDone name ordinal) reply t allowed h kept =
+    some_elim (find (is_named name) s.subscriptions) _ (IsKept t) h (λ sub found h.
+    some_elim (first_safe sub) _ (IsKept t) h.1 (λ d first is. settled t _ is (kept_moved s name d kept)))
 
 pub step_keeps : (s : State) (event : Event) (reply : Reply) (t : State) → Answers s event reply t → IsKept s → IsKept t
 step_keeps s event reply t h kept =

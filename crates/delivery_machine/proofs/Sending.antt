@@ -23,7 +23,7 @@ pub visible_found : (s : State) (p : Entry → Bool) (e : Entry) → find p (vis
 visible_found s p e found = taken_contained s.durable s.log e (found_contained p (visible s) e found)
 
 -- the best of a list is one of them
-best_contained : (xs : List Member) (m : Member) → active_of xs ≡ Some m → Contains xs m
+pub best_contained : (xs : List Member) (m : Member) → active_of xs ≡ Some m → Contains xs m
 best_contained [] m is = cc
 best_contained (x ∷ xs) m is = by (active_of xs) refl is (best_contained xs)
   where

@@ -83,7 +83,7 @@ pub tended_seats : (log : List Entry) (before after : List Member) (name : List 
 tended_seats log before after name kind pending stay tended = tended_members log before after name kind pending (λ p h e. stay name h.consumer) tended
 
 -- no position of the log is the one
-absent : (log : List Entry) (p : Position) → ((x : Entry) → Contains log x → x.position ≡ p → ⊥) → list_any (has_position p) log ≡ true → ⊥
+pub absent : (log : List Entry) (p : Position) → ((x : Entry) → Contains log x → x.position ≡ p → ⊥) → list_any (has_position p) log ≡ true → ⊥
 absent log p new any =
     let there = Any-from_list_any (has_position p) log any in
     new there.1 (there.0, there.2, there.3) (same_place there.1.position p there.4)

@@ -13,8 +13,8 @@ use Rattle.position_core.specs.Position.{position_cmp, exact_positions}
 use Rattle.delivery_machine.specs.State.{Member, Subscription}
 use Rattle.delivery_machine.specs.Words.{changed, removed, is_named, is_held_by}
 use Rattle.delivery_machine.specs.Joining.{placed}
-use Rattle.delivery_machine.proofs.Firsts.{found_changed, found_inserted, any_changed, any_mapped, any_pushed}
-use Rattle.delivery_machine.proofs.Behind.{IsIdle, AllBehindIdle, same_name, is_same_name, behind_changed, behind_placed, behind_removed, found_removed}
+use Rattle.delivery_machine.proofs.Firsts.{found_changed, found_mapped, found_inserted, any_changed, any_mapped, any_pushed}
+use Rattle.delivery_machine.proofs.Behind.{IsIdle, AllBehindIdle, same_name, is_same_name, behind_changed, behind_mapped, behind_placed, behind_removed, found_removed}
 use Rattle.delivery_machine.proofs.Tended.{tended_empty, IsTended, IsPartOf, KeepsSeats, is_seat, tended_part, tended_seats, got_inserted}
 
 -- ---- parts of what is pending
@@ -76,7 +76,7 @@ pub record AllTended (log : List Entry) (members : List Member) (subs : List Sub
   pub first : (name : List ℕ) (sub : Subscription) → find (is_named name) subs ≡ Some sub → IsTendedIn log members sub
   pub behind : AllBehindIdle subs
 
-names_apart : (name n : List ℕ) (x y : Subscription) → is_named n x ≡ true → is_named name x ≡ false → is_named name y ≡ true → is_named n y ≡ false
+pub names_apart : (name n : List ℕ) (x y : Subscription) → is_named n x ≡ true → is_named name x ≡ false → is_named name y ≡ true → is_named n y ≡ false
 names_apart name n x y xn xname yname = by (is_named n y) refl
   where
     by : (b : Bool) → is_named n y ≡ b → b ≡ false
@@ -109,6 +109,20 @@ tended_taken log members members' n f subs name_stays kind_stays part stay =
     (λ sub _ t. tended_seats log members members' sub.name sub.kind sub.pending stay t)
     (λ sub found t. subst₂ (λ (m : List ℕ) (k : Kind). IsTended log members' m k (f sub).pending) (sym (name_stays sub)) (sym (kind_stays sub))
     (tended_seats log members members' sub.name sub.kind (f sub).pending stay (tended_part log members sub.name sub.kind sub.pending (f sub).pending (part sub found) t)))
+
+-- where each subscription keeps its name, its kind and what is pending
+pub tended_mapped : (log : List Entry) (members : List Member) (f : Subscription → Subscription) (subs : List Subscription)
+    → ((sub : Subscription) → (f sub).name ≡ sub.name) → ((sub : Subscription) → (f sub).kind ≡ sub.kind) → ((sub : Subscription) → (f sub).pending ≡ sub.pending)
+    → AllTended log members subs → AllTended log members (map f subs)
+tended_mapped log members f subs names kinds same all = record {
+  first = λ name sub found.
+      let was = found_mapped (is_named name) f (λ x. ap (λ (m : List ℕ). bytes_eq m name) (names x)) subs sub found in
+      let as_before : IsTended log members (f was.0).name (f was.0).kind (f was.0).pending =
+      subst (λ (pending : map_of.FinMap position_cmp Held). IsTended log members (f was.0).name (f was.0).kind pending) (sym (same was.0))
+      (subst₂ (λ (m : List ℕ) (k : Kind). IsTended log members m k was.0.pending) (sym (names was.0)) (sym (kinds was.0)) (all.first name was.0 was.1)) in
+      subst (IsTendedIn log members) (sym was.2) as_before;
+  behind = behind_mapped f subs names same all.behind;
+}
 
 pub tended_stay : (log : List Entry) (members members' : List Member) (subs : List Subscription) → KeepsSeats members members' → AllTended log members subs → AllTended log members' subs
 tended_stay log members members' subs stay all = record {

@@ -13,7 +13,7 @@ use Rattle.position_core.specs.Name.{name_order}
 use Rattle.position_core.specs.Flow.{granted}
 use Rattle.delivery_machine.specs.State.{State, Member, Subscription}
 use Rattle.delivery_machine.specs.Shares.{shares_with, given_back}
-use Rattle.delivery_machine.specs.Words.{changed, removed, is_member, is_named, is_at, is_held_by, has_subscription, has_kind, active_at, emptied}
+use Rattle.delivery_machine.specs.Words.{changed, removed, is_member, is_named, is_held_by, has_subscription, has_kind, active_at, emptied_at}
 use Rattle.delivery_machine.specs.declared.event.Initial.{Initial}
 use Rattle.delivery_machine.specs.declared.event.Initial.TheVariants.{Earliest, Latest}
 use Rattle.delivery_machine.specs.declared.reply.Reply.{Reply}
@@ -59,7 +59,7 @@ releasing_all sub = record sub { pending = map_of.empty }
 abbrev pub all_released : List ℕ → State → State
 all_released name s = record s {
   subscriptions = changed (is_named name) releasing_all s.subscriptions;
-  members = map (λ m. if is_at name m then emptied m else m) s.members;
+  members = map (emptied_at name) s.members;
 }
 
 -- the Failover's active member is not the one of the number, which it was before

@@ -1,23 +1,31 @@
 -- Laws over every run: what a service relies on.
-use Rattle.std.specs.Prelude.{◌≡◌, ℕ, ◌^◌, ◌≤◌, List, map, Some, ◌⊎◌}
+use Rattle.std.specs.Prelude.{◌≡◌, ℕ, ◌+◌, ◌^◌, ◌≤◌, ◌==◌, Bool, false, ◌&&◌, ◌||◌, List, [], ◌∷◌, ◌++◌, map, length, Some, ◌⊎◌, if◌then◌else◌, IsTrue}
 use Rattle.std.specs.List.{find, All, Contains}
 use Rattle.std.specs.List.Sorted.{IsStrictlySortedBy}
+use Rattle.std.specs.Option.{option_map_or}
+use Rattle.std.specs.Str.{bytes_eq}
+use Rattle.std.specs.FinSet as set
 use Rattle.std.specs.FinMap as map_of
 use Rattle.position_core.specs.declared.position.Position.{Position}
 use Rattle.position_core.specs.declared.topic_name.TopicName.{TopicName}
 use Rattle.position_core.specs.declared.message.Entry.{Entry}
 use Rattle.position_core.specs.declared.body.Content.{Content}
 use Rattle.position_core.specs.declared.held.Held.{Held}
+use Rattle.position_core.specs.declared.flow.Flow.TheVariants.{Window, Credit}
 use Rattle.position_core.specs.declared.kind.Kind.TheVariants.{KeyShared}
-use Rattle.position_core.specs.Position.{position_cmp}
-use Rattle.delivery_machine.specs.State.{State, Subscription, fresh}
-use Rattle.delivery_machine.specs.Words.{is_named, hash_of, waits_with_hash, visible}
+use Rattle.position_core.specs.Position.{position_cmp, same_position}
+use Rattle.position_core.specs.Kind.{is_in_order}
+use Rattle.delivery_machine.specs.State.{State, Subscription, Member, fresh}
+use Rattle.delivery_machine.specs.Words.{is_named, is_member, hash_of, waits_with_hash, visible, pending_at, active_at}
+use Rattle.delivery_machine.specs.Acknowledging.{is_one_of}
+use Rattle.delivery_machine.specs.Seeking.{first_live}
+use Rattle.delivery_machine.specs.Ticking.{pending_positions}
 use Rattle.delivery_machine.specs.Snapshot.{Snapshot, restarted}
 use Rattle.delivery_machine.specs.Run.{Answers, Run}
 use Rattle.delivery_machine.specs.declared.event.Event.{Event}
-use Rattle.delivery_machine.specs.declared.event.Event.TheVariants.{Dispatch}
+use Rattle.delivery_machine.specs.declared.event.Event.TheVariants.{Subscribe, Permit, Seek, SeekTime, DropSubscription, Dispatch}
 use Rattle.delivery_machine.specs.declared.reply.Reply.{Reply}
-use Rattle.delivery_machine.specs.declared.reply.Reply.TheVariants.{Sent}
+use Rattle.delivery_machine.specs.declared.reply.Reply.TheVariants.{Subscribed, Done, Sent}
 
 -- ---- where a run begins
 
@@ -31,6 +39,131 @@ abbrev pub IsBeginning : State → Type 0
 IsBeginning s =
     ((name : TopicName) × (ledger_size : ℕ) × (s ≡ fresh name ledger_size))
     ⊎ ((kept : Snapshot) × IsSound kept × (s ≡ restarted kept))
+
+-- ---- what was answered in a run
+
+-- some event was answered so
+abbrev pub some_answer : (Event → Reply → Bool) → List Event → List Reply → Bool
+some_answer p (event ∷ events) (reply ∷ replies) = p event reply || some_answer p events replies
+some_answer p events replies = false
+
+-- the sum of the numbers that the answers count for
+abbrev pub sum_of_answers : (Event → Reply → ℕ) → List Event → List Reply → ℕ
+sum_of_answers n (event ∷ events) (reply ∷ replies) = n event reply + sum_of_answers n events replies
+sum_of_answers n events replies = 0
+
+-- whatever a message holds, some run of a topic with nothing in it comes to this
+abbrev pub MayCome : (Content → List Event → List Reply → State → Type 0) → Type 0
+MayCome P =
+    (name : TopicName) (body : Content)
+    → (events : List Event) × (replies : List Reply) × (t : State) × Run (fresh name 1) events replies t × P body events replies t
+
+-- ---- no redelivery after acknowledgement
+
+-- the message is acknowledged in the subscription of the name
+abbrev pub is_acknowledged_at : State → List ℕ → Position → Bool
+is_acknowledged_at s name position = option_map_or (λ sub. set.contains sub.acknowledged position) (find (is_named name) s.subscriptions) false
+
+-- the subscription of the name was sought, or dropped
+abbrev pub is_reset : List ℕ → Event → Reply → Bool
+is_reset name (Seek other target) Done = bytes_eq other name
+is_reset name (SeekTime other time) Done = bytes_eq other name
+is_reset name (DropSubscription other) Done = bytes_eq other name
+is_reset name event reply = false
+
+-- the message was sent in the subscription of the name
+abbrev pub is_sent_at : List ℕ → Position → Event → Reply → Bool
+is_sent_at name position (Dispatch other now) (Sent consumer p count) = bytes_eq other name && same_position p position
+is_sent_at name position event reply = false
+
+-- from whatever state a run goes on in which a message is acknowledged, the message is not sent again, unless the subscription is sought or dropped
+abbrev pub AcknowledgedStays : Type 0
+AcknowledgedStays =
+    (s : State) (events : List Event) (replies : List Reply) (t : State) → Run s events replies t
+    → (name : List ℕ) (position : Position) → IsTrue (is_acknowledged_at s name position)
+    → some_answer (is_reset name) events replies ≡ false → some_answer (is_sent_at name position) events replies ≡ false
+
+-- the message was sent in a subscription, and is acknowledged there
+abbrev pub IsSentAndAcknowledged : Content → List Event → List Reply → State → Type 0
+IsSentAndAcknowledged body events replies s =
+    (name : List ℕ) × (e : Entry) × Contains s.log e × (e.body ≡ body)
+    × IsTrue (some_answer (is_sent_at name e.position) events replies) × IsTrue (is_acknowledged_at s name e.position)
+
+-- ---- permits and windows
+
+-- the consumer joined to pull
+abbrev pub joins_to_pull : ℕ → Event → Reply → Bool
+joins_to_pull consumer (Subscribe name kind level (Credit left) ack_timeout nack_delay max_redeliver dead_topic initial) (Subscribed number) = number == consumer
+joins_to_pull consumer event reply = false
+
+abbrev pub sent_to : ℕ → Event → Reply → ℕ
+sent_to consumer (Dispatch name now) (Sent number position count) = if number == consumer then 1 else 0
+sent_to consumer event reply = 0
+
+abbrev pub permitted_to : ℕ → Event → Reply → ℕ
+permitted_to consumer (Permit number permits) Done = if number == consumer then permits else 0
+permitted_to consumer event reply = 0
+
+-- a consumer that joined to pull is sent at most as many messages as it was permitted
+abbrev pub PermitsBound : Type 0
+PermitsBound =
+    (s : State) (events : List Event) (replies : List Reply) (t : State) → IsBeginning s → Run s events replies t
+    → (consumer : ℕ) → IsTrue (some_answer (joins_to_pull consumer) events replies)
+    → sum_of_answers (sent_to consumer) events replies ≤ sum_of_answers (permitted_to consumer) events replies
+
+-- at a consumer that is pushed to, never more messages are pending than its window has places
+abbrev pub WindowsBound : Type 0
+WindowsBound =
+    (s : State) (events : List Event) (replies : List Reply) (t : State) → IsBeginning s → Run s events replies t
+    → (consumer size : ℕ) (m : Member) (sub : Subscription) → find (is_member consumer) t.members ≡ Some m → m.flow ≡ Window size
+    → find (is_named m.subscription) t.subscriptions ≡ Some sub → pending_at t sub consumer ≤ size
+
+abbrev pub PermitsAndWindowsBound : Type 0
+PermitsAndWindowsBound = PermitsBound × WindowsBound
+
+-- a consumer that joined to pull was permitted the one message, and was sent it
+abbrev pub IsSentByPermit : Content → List Event → List Reply → State → Type 0
+IsSentByPermit body events replies s =
+    (consumer : ℕ) × (e : Entry) × (s.log ≡ e ∷ []) × (e.body ≡ body) × IsTrue (some_answer (joins_to_pull consumer) events replies)
+    × (sum_of_answers (permitted_to consumer) events replies ≡ 1) × (sum_of_answers (sent_to consumer) events replies ≡ 1)
+
+-- the one message fills the window of a consumer
+abbrev pub FillsWindow : Content → List Event → List Reply → State → Type 0
+FillsWindow body events replies s =
+    (consumer : ℕ) × (m : Member) × (sub : Subscription) × (e : Entry) × (s.log ≡ e ∷ []) × (e.body ≡ body)
+    × (find (is_member consumer) s.members ≡ Some m) × (m.flow ≡ Window 1)
+    × (find (is_named m.subscription) s.subscriptions ≡ Some sub) × (pending_at s sub consumer ≡ 1)
+
+abbrev pub PermitsAndWindowsMayBeUsed : Type 0
+PermitsAndWindowsMayBeUsed = MayCome IsSentByPermit × MayCome FillsWindow
+
+-- ---- order at the active member
+
+-- the messages that are pending are the first live ones, and are all pending at the active member
+abbrev pub IsInOrderAtActive : State → Subscription → Type 0
+IsInOrderAtActive s sub =
+    (pending_positions s sub ≡ first_live s sub (length (pending_positions s sub)))
+    × ((position : Position) (held : Held) → map_of.get sub.pending position ≡ Some held → IsTrue (is_one_of (pending_positions s sub) position) × (active_at s sub.name ≡ Some held.consumer))
+
+-- whatever is sent next in the subscription of the name is the live message after those that are pending, and goes to the active member
+abbrev pub SendsNextLive : State → List ℕ → Subscription → Type 0
+SendsNextLive s name sub =
+    (now consumer count : ℕ) (position : Position) (t : State) → Answers s (Dispatch name now) (Sent consumer position count) t
+    → (first_live s sub (length (pending_positions s sub) + 1) ≡ pending_positions s sub ++ position ∷ []) × (active_at s name ≡ Some consumer)
+
+-- in an Exclusive or Failover subscription, after every run, the first live messages are pending at the active member, and each message is sent as the next live one
+abbrev pub OrderAtActive : Type 0
+OrderAtActive =
+    (s : State) (events : List Event) (replies : List Reply) (t : State) → IsBeginning s → Run s events replies t
+    → (name : List ℕ) (sub : Subscription) → find (is_named name) t.subscriptions ≡ Some sub → IsTrue (is_in_order sub.kind)
+    → IsInOrderAtActive t sub × SendsNextLive t name sub
+
+-- the message is pending in a subscription in which the order is kept
+abbrev pub IsPendingInOrder : Content → List Event → List Reply → State → Type 0
+IsPendingInOrder body events replies s =
+    (name : List ℕ) × (sub : Subscription) × (e : Entry)
+    × (find (is_named name) s.subscriptions ≡ Some sub) × IsTrue (is_in_order sub.kind)
+    × (e.body ≡ body) × (pending_positions s sub ≡ e.position ∷ []) × Contains s.log e
 
 -- ---- one hash at one consumer
 
@@ -57,17 +190,9 @@ OneHashAtOneConsumer =
     → (name : List ℕ) (sub : Subscription) → find (is_named name) t.subscriptions ≡ Some sub → sub.kind ≡ KeyShared
     → NoHashAtTwo t sub × SendsFirstOfHash t name sub
 
--- ---- that it comes to that
-
 -- the message is pending in a Key_Shared subscription
-abbrev pub IsPendingInKeyShared : State → Content → Type 0
-IsPendingInKeyShared s body =
+abbrev pub IsPendingInKeyShared : Content → List Event → List Reply → State → Type 0
+IsPendingInKeyShared body events replies s =
     (name : List ℕ) × (sub : Subscription) × (e : Entry) × (held : Held)
     × (find (is_named name) s.subscriptions ≡ Some sub) × (sub.kind ≡ KeyShared)
     × Contains s.log e × (e.body ≡ body) × (map_of.get sub.pending e.position ≡ Some held)
-
--- whatever a message holds, after some run of a topic with nothing in it the message is pending in a Key_Shared subscription
-abbrev pub EachMayBePendingInKeyShared : Type 0
-EachMayBePendingInKeyShared =
-    (name : TopicName) (body : Content)
-    → (events : List Event) × (replies : List Reply) × (t : State) × Run (fresh name 1) events replies t × IsPendingInKeyShared t body

@@ -6,6 +6,8 @@ pub mod Producing
 pub mod Joining
 pub mod Acknowledging
 pub mod Delivering
+pub mod Seeking
+pub mod Dying
 pub mod Ticking
 pub mod Run
 pub mod Snapshot

@@ -1,14 +1,14 @@
--- Producers and the log: connecting, publishing, storing.
-use Rattle.std.specs.Prelude.{◌≡◌, ℕ, ◌+◌, ◌<◌, Bool, true, false, ◌||◌, List, [], ◌∷◌, ◌++◌, length, Option, Some, None, if◌then◌else◌, ℤ, codes}
+-- Producers and the log: connecting, leaving, publishing, storing.
+use Rattle.std.specs.Prelude.{◌≡◌, ℕ, ◌+◌, ◌<◌, Bool, true, false, ◌||◌, List, [], ◌∷◌, ◌++◌, map, length, Option, Some, None, if◌then◌else◌, ℤ, codes}
 use Rattle.std.specs.List.{list_any}
 use Rattle.std.specs.Fmt.{decimal}
 use Rattle.position_core.specs.declared.body.Content.{Content}
 use Rattle.position_core.specs.declared.message.Entry.{Entry}
-use Rattle.delivery_machine.specs.State.{State, Producer}
-use Rattle.delivery_machine.specs.Words.{is_connected, is_by, last_sequence, next_position}
+use Rattle.delivery_machine.specs.State.{State, Producer, Subscription}
+use Rattle.delivery_machine.specs.Words.{removed, is_producer, is_connected, is_by, last_sequence, next_position}
 use Rattle.delivery_machine.specs.Refusals.{is_duplicate}
 use Rattle.delivery_machine.specs.declared.reply.Reply.{Reply}
-use Rattle.delivery_machine.specs.declared.reply.Reply.TheVariants.{ProducerAdded, Published, Duplicate, Durable}
+use Rattle.delivery_machine.specs.declared.reply.Reply.TheVariants.{ProducerAdded, Published, Duplicate, Durable, Progress, Done}
 
 -- the name that the topic makes of a number: `auto-0` and on
 abbrev pub auto_name : ℕ → List ℕ
@@ -51,5 +51,19 @@ Publishes s p sequence body now reply t =
     (reply ≡ (if is_duplicate s p sequence then Duplicate (length s.log) else Published (next_position s) (length s.log + 1)))
     × (t ≡ (if is_duplicate s p sequence then s else with_message s (message_of s p sequence body now)))
 
+abbrev pub DropsProducer : State → ℕ → Reply → State → Type 0
+DropsProducer s producer reply t = (reply ≡ Done) × (t ≡ record s { producers = removed (is_producer producer) s.producers })
+
+-- all deaths are stored
+abbrev pub storing : Subscription → Subscription
+storing sub = record sub { safe = length sub.dead }
+
+-- all messages are stored, and all deaths
+abbrev pub stored : State → State
+stored s = record s { durable = length s.log; subscriptions = map storing s.subscriptions }
+
 abbrev pub Stores : State → Reply → State → Type 0
-Stores s reply t = (reply ≡ Durable (length s.log)) × (t ≡ record s { durable = length s.log })
+Stores s reply t = (reply ≡ Durable (length s.log)) × (t ≡ stored s)
+
+abbrev pub Progresses : State → Reply → State → Type 0
+Progresses s reply t = (reply ≡ Progress s.durable (length s.log)) × (t ≡ s)

@@ -1,5 +1,5 @@
--- Due moments: negative acknowledgements, and ticks, which release what is due.
-use Rattle.std.specs.Prelude.{◌≡◌, ℕ, ◌+◌, nat_le, min, Bool, false, not, List, [], ◌∷◌, Option, Some, map, length, IsTrue, IsSomeAnd}
+-- Due moments: negative acknowledgements, and ticks, which release what is due, or let it die.
+use Rattle.std.specs.Prelude.{◌≡◌, ℕ, ◌+◌, nat_le, min, Bool, false, not, List, [], ◌∷◌, Option, Some, None, map, length, IsTrue, IsSomeAnd}
 use Rattle.std.specs.List.{filter, find, list_any}
 use Rattle.std.specs.Option.{option_map_or, unwrap_or}
 use Rattle.std.specs.FinMap as map_of
@@ -11,8 +11,9 @@ use Rattle.delivery_machine.specs.State.{State, Subscription}
 use Rattle.delivery_machine.specs.Words.{changed, is_member, is_named}
 use Rattle.delivery_machine.specs.Acknowledging.{is_one_of, forgetting}
 use Rattle.delivery_machine.specs.Delivering.{holding}
+use Rattle.delivery_machine.specs.Dying.{dying_at, died}
 use Rattle.delivery_machine.specs.declared.reply.Reply.{Reply}
-use Rattle.delivery_machine.specs.declared.reply.Reply.TheVariants.{Done, Released, Rewound, Quiet}
+use Rattle.delivery_machine.specs.declared.reply.Reply.TheVariants.{Done, Released, Died, Rewound, Quiet}
 
 -- ---- negative acknowledgement
 
@@ -60,12 +61,16 @@ any_due s sub now = list_any (λ e. is_due now (map_of.get sub.pending e.positio
 abbrev pub pending_positions : State → Subscription → List Position
 pending_positions s sub = map (λ e. e.position) (filter (λ e. map_of.contains_key sub.pending e.position) s.log)
 
--- where the order is kept, all pending messages are released when one is due; else any one that is due
+-- where the order is kept, all pending messages are released when one is due; else any one that is due is released or dies
 abbrev pub Ticks : State → List ℕ → ℕ → Subscription → Reply → State → Type 0
 Ticks s name now sub Quiet t = (any_due s sub now ≡ false) × (t ≡ s)
 Ticks s name now sub (Rewound count) t =
     IsTrue (is_in_order sub.kind) × IsTrue (any_due s sub now)
     × (count ≡ length (pending_positions s sub)) × (t ≡ redelivered s name (pending_positions s sub))
 Ticks s name now sub (Released position) t =
-    IsTrue (not (is_in_order sub.kind)) × IsTrue (is_due now (map_of.get sub.pending position)) × (t ≡ redelivered s name (position ∷ []))
+    IsTrue (not (is_in_order sub.kind)) × IsTrue (is_due now (map_of.get sub.pending position))
+    × (dying_at s sub position ≡ None) × (t ≡ redelivered s name (position ∷ []))
+Ticks s name now sub (Died position ordinal) t =
+    IsTrue (not (is_in_order sub.kind)) × IsTrue (is_due now (map_of.get sub.pending position))
+    × (ordinal ≡ s.next_ordinal) × IsSomeAnd (dying_at s sub position) (λ m. t ≡ died s name position m)
 Ticks s name now sub reply t = ⊥

@@ -71,6 +71,10 @@ is_in_order_at s name = option_map_or (λ sub. is_in_order sub.kind) (find (is_n
 abbrev pub emptied : Member → Member
 emptied m = record m { out = [] }
 
+-- so each member of the subscription
+abbrev pub emptied_at : List ℕ → Member → Member
+emptied_at name m = if is_at name m then emptied m else m
+
 abbrev pub is_connected : State → List ℕ → Bool
 is_connected s name = list_any (λ p. bytes_eq p.name name) s.producers
 

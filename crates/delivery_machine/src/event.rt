@@ -1,7 +1,7 @@
 // What may be asked of a topic.
 use position_core::{
     Base, Body, Flow, Kind, Level, Millis, Moment, Permits, Position, ProducerName, RedeliverLimit,
-    SubscriptionName, TopicName,
+    SkipLength, SubscriptionName, TopicName,
 };
 
 /// What a new subscription begins with.
@@ -13,6 +13,17 @@ pub enum Initial {
     Latest,
 }
 
+/// Where a subscription is to go on from.
+#[derive(Clone, Copy, Debug, PartialEq, Eq)]
+pub enum Target {
+    /// The first message of the log.
+    Earliest,
+    /// The messages that are yet to come.
+    Latest,
+    /// The message at the position.
+    At(Position),
+}
+
 /// What may be asked of a topic. Numbers of producers and consumers are those that it gave.
 #[derive(Drop)]
 pub enum Event {
@@ -20,6 +31,10 @@ pub enum Event {
     AddProducer {
         name: Option<ProducerName>,
         base: Base,
+    },
+    /// The producer goes. Its messages stay.
+    DropProducer {
+        producer: u64,
     },
     /// Hands in a message under the producer's sequence number.
     Publish {
@@ -30,6 +45,8 @@ pub enum Event {
     },
     /// The store holds all that the log has.
     Stored,
+    /// How much of the log is stored.
+    Progress,
     /// Joins a consumer to a subscription, which the first one makes.
     Subscribe {
         subscription: SubscriptionName,
@@ -72,6 +89,29 @@ pub enum Event {
         subscription: SubscriptionName,
         now: Moment,
     },
+    /// The subscription goes on from the target, and forgets what it was sent.
+    Seek {
+        subscription: SubscriptionName,
+        target: Target,
+    },
+    /// The subscription goes on from the first message that is not earlier.
+    SeekTime {
+        subscription: SubscriptionName,
+        time: Moment,
+    },
+    /// The subscription has done with so many of its next messages.
+    Skip {
+        subscription: SubscriptionName,
+        count: SkipLength,
+    },
+    /// The subscription goes, which nobody is at.
+    DropSubscription {
+        subscription: SubscriptionName,
+    },
+    /// How far the subscription is.
+    Stats {
+        subscription: SubscriptionName,
+    },
     /// Sends one message of the subscription, where one may be sent.
     Dispatch {
         subscription: SubscriptionName,
@@ -80,5 +120,14 @@ pub enum Event {
     /// Hands the consumer what it was sent.
     Collect {
         consumer: u64,
+    },
+    /// Shows the first dead letter whose death is stored.
+    DeadNext {
+        subscription: SubscriptionName,
+    },
+    /// That dead letter stands in its topic.
+    DeadDone {
+        subscription: SubscriptionName,
+        ordinal: u64,
     },
 }

@@ -1,5 +1,36 @@
 // Laws over every run: each holds of whatever a topic was asked, in any order.
-ghost use Rattle.delivery_machine.specs.Laws.{EachMayBePendingInKeyShared, OneHashAtOneConsumer};
+ghost use Rattle.delivery_machine.specs.Laws.{MayCome, AcknowledgedStays, IsSentAndAcknowledged, PermitsAndWindowsBound, PermitsAndWindowsMayBeUsed, OrderAtActive, IsPendingInOrder, OneHashAtOneConsumer, IsPendingInKeyShared};
+
+/// What a subscription has acknowledged it is not sent again, until it is sought or dropped.
+pub fn l1()
+    ensures { AcknowledgedStays }
+{}
+
+/// The law above speaks of something: any message may be sent and acknowledged.
+pub fn l1_example()
+    ensures { MayCome IsSentAndAcknowledged }
+{}
+
+/// Permits bound what a consumer that pulls is sent, and windows what is pending at one that is
+/// pushed to.
+pub fn l2()
+    ensures { PermitsAndWindowsBound }
+{}
+
+/// The law above speaks of something: any message may use up a permit, or fill a window.
+pub fn l2_example()
+    ensures { PermitsAndWindowsMayBeUsed }
+{}
+
+/// In Exclusive and Failover the messages are pending in their order at the active member.
+pub fn l3()
+    ensures { OrderAtActive }
+{}
+
+/// The law above speaks of something: any message may come to be pending in Exclusive.
+pub fn l3_example()
+    ensures { MayCome IsPendingInOrder }
+{}
 
 /// In Key_Shared one key's messages are pending at one consumer, and are sent in their order
 /// (PIP-379).
@@ -9,5 +40,5 @@ pub fn l4()
 
 /// The law above speaks of something: any message may come to be pending in Key_Shared.
 pub fn l4_example()
-    ensures { EachMayBePendingInKeyShared }
+    ensures { MayCome IsPendingInKeyShared }
 {}

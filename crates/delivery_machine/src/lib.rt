@@ -11,7 +11,7 @@ mod tests;
 mod topic;
 
 pub use delivery::{Deliveries, Delivery, is_one_of};
-pub use event::{Event, Initial};
+pub use event::{Event, Initial, Target};
 pub use position_core::{Fault, Flow, Kind};
 pub use reply::Reply;
 pub use runs::run;

@@ -1,6 +1,6 @@
 // What a topic answers.
 use crate::delivery::Deliveries;
-use position_core::{Fault, Position};
+use position_core::{Fault, Kind, Message, Position, TopicName};
 
 /// What a topic answers.
 #[derive(Drop)]
@@ -23,6 +23,11 @@ pub enum Reply {
     },
     /// So many messages are stored.
     Durable(u64),
+    /// So many messages of the log are stored.
+    Progress {
+        durable: u64,
+        length: u64,
+    },
     Subscribed {
         consumer: u64,
     },
@@ -40,12 +45,36 @@ pub enum Reply {
     Released {
         position: Position,
     },
+    /// The message is a dead letter, and so is not sent again.
+    Died {
+        position: Position,
+        ordinal: u64,
+    },
     /// All messages that were pending wait again: so many.
     Rewound {
         count: u64,
     },
     /// Nothing is due.
     Quiet,
+    /// How many consumers are at the subscription; the last message up to which all are
+    /// acknowledged; how many messages are acknowledged, live, pending, and dead letters.
+    Stats {
+        kind: Kind,
+        members: u64,
+        mark_delete: Option<Position>,
+        acknowledged: u64,
+        live: u64,
+        pending: u64,
+        dead: u64,
+    },
+    /// The first dead letter whose death is stored, and the topic that it goes to.
+    Dead {
+        message: Message,
+        target: TopicName,
+        ordinal: u64,
+    },
+    /// No death that is stored is left to be moved.
+    NoDead,
     /// The event changed nothing.
     Refused(Fault),
 }

@@ -37,6 +37,9 @@ pub type Permits = Bounded<1, 2_147_483_647>;
 /// After how many redeliveries a message dies: 0 for never.
 pub type RedeliverLimit = Bounded<0, 1_000_000>;
 
+/// How many messages are skipped.
+pub type SkipLength = Bounded<0, 2_147_483_647>;
+
 /// How many entries a ledger has.
 pub type LedgerSize = Bounded<1, 50_000>;
 

@@ -23,7 +23,7 @@ mod topic_name;
 pub use block::Block;
 pub use body::{Body, Content};
 pub use bounded::{
-    Bounded, Credit, LedgerSize, Level, Millis, Permits, RedeliverLimit, WindowSize,
+    Bounded, Credit, LedgerSize, Level, Millis, Permits, RedeliverLimit, SkipLength, WindowSize,
 };
 pub use fault::Fault;
 pub use flow::Flow;

@@ -1,0 +1,157 @@
+-- A run of one message: it is published and stored, a consumer joins, and it is sent to that consumer.
+use Rattle.std.proofs.Common.{◌≡◌, ℕ, List, [], ◌∷◌, Some, None, Option, refl, ap, sym, pos, Bool, true, false, arith, ◌∙◌, ap₂}
+use Rattle.std.specs.Prelude.{codes, is_some, not, cond, ◌==◌, ◌+◌, ◌&&◌, ◌||◌}
+use Rattle.std.specs.List.{find}
+use Rattle.std.specs.Option.{option_map, option_and_then, unwrap_or}
+use Rattle.std.specs.FinMap as map_of
+use Rattle.std.specs.FinSet as set
+use Rattle.std.proofs.lemmas.Bool.Decides.{nat_tests}
+use Rattle.position_core.specs.declared.block.Block.{Block}
+use Rattle.position_core.specs.declared.position.Position.{Position}
+use Rattle.position_core.specs.declared.topic_name.TopicName.{TopicName}
+use Rattle.position_core.specs.declared.body.Content.{Content}
+use Rattle.position_core.specs.declared.message.Entry.{Entry}
+use Rattle.position_core.specs.declared.held.Held.{Held}
+use Rattle.position_core.specs.declared.flow.Flow.{Flow}
+use Rattle.position_core.specs.declared.kind.Kind.{Kind}
+use Rattle.position_core.specs.declared.kind.Kind.TheVariants.{Exclusive, Failover, Shared, KeyShared}
+use Rattle.position_core.specs.Position.{position_cmp, positions_total}
+use Rattle.position_core.specs.Flow.{begun, flow_has_room}
+use Rattle.murmur_core.proofs.Keys.{sticky_hash-lt}
+use Rattle.delivery_machine.specs.State.{State, Subscription, Member, fresh}
+use Rattle.delivery_machine.specs.Shares.{has_hash, all_hashes}
+use Rattle.delivery_machine.specs.Words.{hash_of, count_of, is_at, is_member, is_held_by, is_held_beside, waits_with_hash, is_waiting, owner_at, has_room, IsEligible}
+use Rattle.delivery_machine.specs.Producing.{with_producer, with_message}
+use Rattle.delivery_machine.specs.Joining.{with_member, new_subscription}
+use Rattle.delivery_machine.specs.Delivering.{sent}
+use Rattle.delivery_machine.specs.Run.{Run, Answers}
+use Rattle.delivery_machine.specs.declared.event.Event.{Event}
+use Rattle.delivery_machine.specs.declared.event.Event.TheVariants.{AddProducer, Publish, Stored, Subscribe, Dispatch}
+use Rattle.delivery_machine.specs.declared.event.Initial.TheVariants.{Earliest}
+use Rattle.delivery_machine.specs.declared.reply.Reply.{Reply}
+use Rattle.delivery_machine.specs.declared.reply.Reply.TheVariants.{ProducerAdded, Published, Durable, Subscribed, Sent}
+
+abbrev pub first : Position
+first = record { ledger = 0; entry = 0 }
+
+-- what the message is pending under
+abbrev pub holder : Held
+holder = record { consumer = 1; due = None }
+
+-- nothing is pending yet
+pub nothing : map_of.get (map_of.empty {X = Held} {R = position_cmp}) first ≡ None
+nothing = map_of.get-empty position_cmp first
+
+-- the message is pending
+pub pending : map_of.get (map_of.insert (map_of.empty {X = Held} {R = position_cmp}) first holder) first ≡ Some holder
+pending = map_of.get-insert positions_total map_of.empty first holder first
+
+abbrev pub dispatch : Event
+dispatch = Dispatch (codes "s") 0
+
+abbrev pub to_one : Reply
+to_one = Sent 1 first 0
+
+abbrev pub answered : List Reply → List Reply
+answered replies = ProducerAdded 1 None (pos 0) ∷ Published first 1 ∷ Durable 1 ∷ Subscribed 1 ∷ replies
+
+-- a producer of the name `p` and a subscription of the name `s`
+module _ (name : TopicName) (body : Content) where
+  abbrev pub message : Entry
+  message = record { position = first; producer = codes "p"; sequence = pos 1; time = 0; body = body }
+
+  abbrev pub member : Flow → Member
+  member flow = record { number = 1; subscription = codes "s"; level = 0; flow = flow; ack_timeout = 0; nack_delay = 0; max_redeliver = 0; dead_topic = name; out = [] }
+
+  abbrev pub subscription : Kind → Subscription
+  subscription kind = new_subscription (codes "s") kind 1 Earliest (message ∷ [])
+
+  abbrev connected : State
+  connected = with_producer (fresh name 1) (record { number = 1; name = codes "p"; base = pos 0 })
+
+  abbrev published : State
+  published = with_message connected message
+
+  abbrev stored : State
+  stored = record published { durable = 1 }
+
+  -- the consumer has joined, and has the flow
+  abbrev pub joined : Kind → Flow → State
+  joined kind flow = with_member stored kind Earliest (member flow)
+
+  -- the message is sent to it
+  abbrev pub done : Kind → Flow → State
+  done kind flow = sent (joined kind flow) (codes "s") (subscription kind) message (member flow) 0
+
+  -- ---- the message may be sent
+
+  -- it was never redelivered
+  uncounted : 0 ≡ count_of (subscription Exclusive) first
+  uncounted = sym (ap (λ (o : Option ℕ). unwrap_or o 0) (map_of.get-empty position_cmp first))
+
+  waits : is_waiting (subscription Exclusive) message ≡ true
+  waits = ap₂ (λ (b : Bool) (o : Option Held). (not b && true) && not (is_some o)) (set.contains-empty position_cmp first) nothing
+
+  room : (kind : Kind) (flow : Flow) → flow_has_room flow 0 ≡ true → has_room (joined kind flow) (subscription kind) (member flow) ≡ true
+  room kind flow free = ap (λ o. flow_has_room flow (0 + cond {A = ℕ} (is_held_by 1 o) 1 0)) nothing ∙ free
+
+  in_order : (flow : Flow) → flow_has_room flow 0 ≡ true → IsEligible (joined Exclusive flow) (subscription Exclusive) message (member flow)
+  in_order flow free = (room Exclusive flow free, (ap (λ b. cond b (Some message) None) waits, refl))
+
+  same_hash : (hash_of message == hash_of message) ≡ true
+  same_hash = grind (arith, nat_tests)
+
+  waits_so : waits_with_hash (subscription KeyShared) (hash_of message) message ≡ true
+  waits_so = ap₂ (λ (a b : Bool). a && b) waits same_hash
+
+  in_share : has_hash (hash_of message) (all_hashes 1) ≡ true
+  in_share = let low = sticky_hash-lt body.key in grind (arith, nat_tests)
+
+  owned : (flow : Flow) → owner_at (joined KeyShared flow) (subscription KeyShared) (hash_of message) ≡ Some (member flow)
+  owned flow =
+      ap (λ b. option_and_then (λ number. find (λ m. is_at (codes "s") m && is_member number m) (member flow ∷ [])) (option_map (λ (b : Block). b.consumer) (cond b (Some (all_hashes 1)) None)))
+      in_share
+
+  by_hash : (flow : Flow) → flow_has_room flow 0 ≡ true → IsEligible (joined KeyShared flow) (subscription KeyShared) message (member flow)
+  by_hash flow free = (
+    room KeyShared flow free,
+    (
+      ap (λ b. cond b (Some message) None) waits_so,
+      owned flow,
+      ap₂ (λ (b : Bool) (o : Option Held). (b && is_held_beside 1 o) || false) same_hash nothing,
+    ),
+  )
+
+  -- ---- the run
+
+  pub sends_in_order : (flow : Flow) → flow_has_room flow 0 ≡ true → Answers (joined Exclusive flow) dispatch to_one (done Exclusive flow)
+  sends_in_order flow free = (refl, (message, member flow, in_order flow free, refl, refl, uncounted, refl))
+
+  pub sends_by_hash : (flow : Flow) → flow_has_room flow 0 ≡ true → Answers (joined KeyShared flow) dispatch to_one (done KeyShared flow)
+  sends_by_hash flow free = (refl, (message, member flow, by_hash flow free, refl, refl, uncounted, refl))
+
+  -- the consumer joins, and then come the events
+  abbrev pub joins : Kind → Flow → List Event → List Event
+  joins kind flow events =
+      AddProducer (Some (codes "p")) (pos 0) ∷ Publish 1 (pos 1) body 0 ∷ Stored ∷ Subscribe (codes "s") kind 0 flow 0 0 0 name Earliest ∷ events
+
+  subscribes : (kind : Kind) (flow : Flow) → Answers stored (Subscribe (codes "s") kind 0 flow 0 0 0 name Earliest) (Subscribed 1) (joined kind (begun flow))
+  subscribes Exclusive flow = (refl, (refl, refl))
+  subscribes Failover flow = (refl, (refl, refl))
+  subscribes Shared flow = (refl, (refl, refl))
+  subscribes KeyShared flow = (refl, (refl, refl))
+
+  pub run : (kind : Kind) (flow : Flow) (events : List Event) (replies : List Reply) (t : State) → Run (joined kind (begun flow)) events replies t → Run (fresh name 1) (joins kind flow events) (answered replies) t
+  run kind flow events replies t rest = (
+    connected,
+    (refl, (codes "p", None, (refl, refl), (refl, refl))),
+    (
+      published,
+      (refl, (refl, refl)),
+      (
+        stored,
+        (refl, (refl, refl)),
+        (joined kind (begun flow), subscribes kind flow, rest),
+      ),
+    ),
+  )
