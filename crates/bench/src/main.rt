@@ -6,6 +6,7 @@ ghost use Rattle.std.specs.Prelude.{◌≡◌, ◌↔◌, IsNone};
 
 mod dead;
 mod dedup;
+mod entries;
 mod mode;
 mod murmur;
 mod pending;
@@ -38,6 +39,7 @@ fn cases(rt: &HostRuntime, mode: Mode) -> io::Result<()> {
     pending::cases(&slots)?;
     dead::cases(&slots)?;
     dedup::cases(&slots)?;
+    entries::cases(&slots)?;
     let keys = Report {
         rt,
         mode,

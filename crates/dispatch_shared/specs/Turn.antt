@@ -3,7 +3,7 @@ use Rattle.std.specs.Prelude.{◌≡◌, ℕ, ◌==◌, nat_lt, Bool, false, ◌
 use Rattle.std.specs.List.{filter, All, Contains}
 use Rattle.std.specs.Option.{option_map_or}
 use Rattle.delivery_machine.specs.State.{State, Subscription, Member}
-use Rattle.plain_lists.specs.Turn.{is_sooner}
+use Rattle.plain_choices.specs.Turn.{is_sooner}
 use Rattle.dispatch_core.specs.Offers.{seen_of}
 use Rattle.dispatch_core.specs.declared.view.Seen.{Seen}
 

@@ -1,7 +1,7 @@
 // Which member is sent the next message, found by going through all of them.
 ghost use Rattle.std.specs.Prelude.{◌≡◌};
 ghost use Rattle.delivery_machine.specs.Words.{members_of};
-ghost use Rattle.plain_lists.specs.Turn.{is_sooner};
+ghost use Rattle.plain_choices.specs.Turn.{is_sooner};
 ghost use Rattle.dispatch_shared.specs.Turn.{goes_first, in_turn, roomy, IsFirst};
 
 use dispatch_core::{Seen, View};

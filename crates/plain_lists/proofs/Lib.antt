@@ -2,5 +2,3 @@ pub mod Greatest
 pub mod Active
 pub mod Undone
 pub mod Free
-pub mod Turns
-pub mod Hashes

@@ -1,7 +1,5 @@
 pub mod Codes
 pub mod Raised
 pub mod Members
-pub mod Due
-pub mod Turn
 pub mod Auto
-pub mod Keyed
+pub mod Letters

@@ -4,12 +4,12 @@ ghost use Rattle.std.specs.List.{count_by, find};
 ghost use Rattle.std.specs.Option.{option_copied};
 ghost use Rattle.std.specs.FinMap as map_of;
 ghost use Rattle.position_core.specs.Flow.{flow_has_room};
-ghost use Rattle.delivery_machine.specs.Words.{is_by, is_held_by, is_waiting, last_sequence};
+ghost use Rattle.delivery_machine.specs.Words.{has_position, is_by, is_held_by, is_waiting, last_sequence};
 ghost use Rattle.plain_lists.specs.Raised.{raised};
 
 use crate::member::Member;
 use crate::subscription::Subscription;
-use position_core::{Flow, Message, ProducerName};
+use position_core::{Flow, Message, Position, ProducerName};
 
 fn is_by(message: &Message, name: &ProducerName) -> bool
     ensures { result ≡ is_by name.now message.now }
@@ -49,6 +49,13 @@ pub fn used_in(log: &[Message], ledger: u64) -> usize
     log.iter()
         .filter(|message| message.position().ledger == ledger)
         .count()
+}
+
+/// The message at the position.
+pub fn message_at(log: &[Message], position: Position) -> Option<&Message>
+    ensures { option_copied result ≡ find (has_position position) log.now }
+{
+    log.iter().find(|message| message.position().is(position))
 }
 
 /// The first message that waits in the subscription.

@@ -1,9 +1,10 @@
 // The connected producers.
-ghost use Rattle.std.specs.Prelude.{◌≡◌};
+ghost use Rattle.std.specs.Prelude.{◌≡◌, is_some};
+ghost use Rattle.std.specs.Bool.{OnFalse};
 ghost use Rattle.std.specs.Option.{option_copied};
-ghost use Rattle.std.specs.List.{find, list_any};
+ghost use Rattle.std.specs.List.{find, list_any, position};
 ghost use Rattle.std.specs.Str.{bytes_eq};
-ghost use Rattle.delivery_machine.specs.Words.{is_producer};
+ghost use Rattle.delivery_machine.specs.Words.{is_producer, removed};
 
 use position_core::{Base, ProducerName};
 use std::marker::Model;
@@ -68,4 +69,27 @@ pub fn is_connected(producers: &[Producer], name: &ProducerName) -> bool
     ensures { result ≡ list_any (λ p. bytes_eq p.name name.now) producers.now }
 {
     producers.iter().any(|producer| producer.is_named(name))
+}
+
+fn place_of_producer(producers: &[Producer], number: u64) -> Option<usize>
+    ensures { result ≡ position (is_producer number) producers.now }
+{
+    producers
+        .iter()
+        .position(|producer| producer.is_number(number))
+}
+
+/// Takes the producer out, and answers whether it was there.
+pub fn drop_producer(producers: &mut Vec<Producer>, number: u64) -> bool
+    ensures known { result ≡ is_some (find (is_producer number) producers.old.items) }
+    ensures none { OnFalse result (producers.new.items ≡ producers.old.items) }
+    ensures left { producers.new.items ≡ removed (is_producer number) producers.old.items }
+{
+    match place_of_producer(producers, number) {
+        Some(place) => {
+            producers.remove(place);
+            true
+        }
+        None => false,
+    }
 }

@@ -1,41 +1,41 @@
-// The subscriptions of a topic.
-ghost use Rattle.std.specs.Prelude.{◌≡◌, ◌≤◌, OnOk, OnErr, IfOk, Some, false, is_some, length};
-ghost use Rattle.std.specs.List.{find, position, position_or_len};
+// What a subscription knows of its messages.
+ghost use Rattle.std.specs.Prelude.{◌≡◌, OnOk, OnErr, Some};
 ghost use Rattle.std.specs.Bool.{OnFalse, OnTrue};
-ghost use Rattle.std.specs.Option.{option_and_then, option_copied, option_map, option_map_or};
-ghost use Rattle.std.specs.Ordering.{is_lt};
+ghost use Rattle.std.specs.Option.{option_and_then, option_map};
+ghost use Rattle.std.specs.FinSet as set;
 ghost use Rattle.std.specs.FinMap as map_of;
-ghost use Rattle.position_core.specs.Name.{name_order};
-ghost use Rattle.delivery_machine.specs.Words.{changed, count_of, is_named, is_held_by, is_held_beside, is_waiting};
+ghost use Rattle.delivery_machine.specs.Words.{count_of, is_named, is_held_by, is_held_beside, is_live, is_waiting};
 ghost use Rattle.delivery_machine.specs.Joining.{joining, leaving, releasing_all};
 ghost use Rattle.delivery_machine.specs.Shares.{owner_of, shares_with};
-ghost use Rattle.position_core.specs.Kind.{is_in_order, same_kind};
 ghost use Rattle.delivery_machine.specs.Acknowledging.{acknowledging};
 ghost use Rattle.delivery_machine.specs.Delivering.{holding};
+ghost use Rattle.delivery_machine.specs.Seeking.{seeking};
 ghost use Rattle.delivery_machine.specs.Ticking.{redelivering};
 
+use crate::letter::DeadLetter;
 use hash_ranges::SplitTable;
 use plain_tables::{CountTable, PendingTable, PositionSet};
 use position_core::{Held, Kind, Message, Position, SubscriptionName};
 use std::alloc::{AllocError, Global};
 use std::marker::Model;
 
-/// A subscription. Nothing dies yet, so it has no dead letters.
+/// A subscription, and what became of each message in it.
 #[derive(Drop)]
 pub struct Subscription {
     name: SubscriptionName,
     kind: Kind,
-    acknowledged: PositionSet,
-    pending: PendingTable,
-    counts: CountTable,
+    pub(crate) acknowledged: PositionSet,
+    pub(crate) pending: PendingTable,
+    pub(crate) counts: CountTable,
     shares: SplitTable,
     /// The consumer that was sent a message last; 0 where there is none.
     last_served: u64,
+    pub(crate) dead: Vec<DeadLetter>,
+    /// So many of the first letters' deaths are stored.
+    pub(crate) safe: usize,
 }
 
 impl Model for Subscription {
-    ghost use Rattle.std.specs.Prelude.{[]};
-    ghost use Rattle.std.specs.FinMap as map_of;
     ghost use Rattle.delivery_machine.specs.State.{Subscription};
     ghost use Rattle.plain_lists.specs.Codes.{coded_subscription};
 
@@ -50,8 +50,8 @@ impl Model for Subscription {
       pending = s.pending;
       counts = s.counts;
       shares = s.shares;
-      dead = [];
-      safe = 0;
+      dead = s.dead.items;
+      safe = s.safe;
     } };
 }
 
@@ -89,6 +89,8 @@ impl Subscription {
             counts: CountTable::new(alloc),
             shares,
             last_served: 0,
+            dead: Vec::new(alloc),
+            safe: 0,
         })
     }
 
@@ -104,13 +106,13 @@ impl Subscription {
         &self.name
     }
 
-    fn is_named(&self, name: &SubscriptionName) -> bool
+    pub(crate) fn is_named(&self, name: &SubscriptionName) -> bool
         ensures { result ≡ is_named name.now self.now }
     {
         self.name.is(name)
     }
 
-    fn join(&mut self, kind: Kind, consumer: u64) -> Result<(), AllocError>
+    pub(crate) fn join(&mut self, kind: Kind, consumer: u64) -> Result<(), AllocError>
         ensures ok { OnOk result (self.new ≡ joining kind consumer self.old) }
         ensures err { OnErr result (self.new ≡ self.old) }
     {
@@ -134,15 +136,28 @@ impl Subscription {
     }
 
     /// The consumer that was sent a message last; 0 where there is none.
-    pub(crate) fn last_served(&self) -> u64 {
+    pub fn last_served(&self) -> u64 {
         self.last_served
     }
 
+    pub fn is_acknowledged(&self, message: &Message) -> bool
+        ensures { result ≡ set.contains self.now.acknowledged message.now.position }
+    {
+        self.acknowledged.contains(message.position())
+    }
+
+    /// Whether the message is neither acknowledged nor dead.
+    pub fn is_live(&self, message: &Message) -> bool
+        ensures { result ≡ is_live self.now message.now }
+    {
+        !self.is_acknowledged(message) && !self.is_dead(message.position())
+    }
+
+    /// Whether the message is live, and pending at nobody.
     pub fn is_waiting(&self, message: &Message) -> bool
         ensures { result ≡ is_waiting self.now message.now }
     {
-        let position = message.position();
-        !self.acknowledged.contains(position) && !self.pending.contains(position)
+        self.is_live(message) && !self.is_pending(message)
     }
 
     /// The consumer at which the message is pending.
@@ -159,7 +174,7 @@ impl Subscription {
     }
 
     /// Whether the message is pending at another consumer.
-    pub(crate) fn holds_beside(&self, consumer: u64, message: &Message) -> bool
+    pub fn holds_beside(&self, consumer: u64, message: &Message) -> bool
         ensures { result ≡ is_held_beside consumer (map_of.get self.now.pending message.now.position) }
     {
         match self.holder(message.position()) {
@@ -168,7 +183,7 @@ impl Subscription {
         }
     }
 
-    fn hold(&mut self, position: Position, held: Held) -> Result<(), AllocError>
+    pub(crate) fn hold(&mut self, position: Position, held: Held) -> Result<(), AllocError>
         ensures ok { OnOk result (self.new ≡ holding position held self.old) }
         ensures err { OnErr result (self.new ≡ self.old) }
     {
@@ -178,13 +193,13 @@ impl Subscription {
     }
 
     /// From when on the message may be released.
-    pub(crate) fn due(&self, message: &Message) -> Option<u64>
+    pub fn due(&self, message: &Message) -> Option<u64>
         ensures { result ≡ option_and_then (λ h. h.due) (map_of.get self.now.pending message.now.position) }
     {
         self.pending.due(message.position())
     }
 
-    pub(crate) fn is_pending(&self, message: &Message) -> bool
+    pub fn is_pending(&self, message: &Message) -> bool
         ensures { result ≡ map_of.contains_key self.now.pending message.now.position }
     {
         self.pending.contains(message.position())
@@ -192,7 +207,7 @@ impl Subscription {
 
     /// Makes the message due, and answers whether it is pending at the consumer; else nothing
     /// changes.
-    fn set_due(&mut self, consumer: u64, position: Position, due: u64) -> bool
+    pub(crate) fn set_due(&mut self, consumer: u64, position: Position, due: u64) -> bool
         ensures known { result ≡ is_held_by consumer (map_of.get self.old.pending position) }
         ensures held { OnTrue result (self.new ≡ holding position (record { consumer = consumer; due = Some due }) self.old) }
         ensures none { OnFalse result (self.new ≡ self.old) }
@@ -210,7 +225,11 @@ impl Subscription {
         true
     }
 
-    fn redeliver(&mut self, alloc: Global, positions: &[Position]) -> Result<(), AllocError>
+    pub(crate) fn redeliver(
+        &mut self,
+        alloc: Global,
+        positions: &[Position],
+    ) -> Result<(), AllocError>
         ensures ok { OnOk result (self.new ≡ redelivering positions.now self.old) }
         ensures err { OnErr result (self.new ≡ self.old) }
     {
@@ -219,7 +238,7 @@ impl Subscription {
         Ok(())
     }
 
-    fn acknowledge(&mut self, positions: &[Position]) -> Result<(), AllocError>
+    pub(crate) fn acknowledge(&mut self, positions: &[Position]) -> Result<(), AllocError>
         ensures ok { OnOk result (self.new ≡ acknowledging positions.now self.old) }
         ensures err { OnErr result (self.new ≡ self.old) }
     {
@@ -229,179 +248,26 @@ impl Subscription {
         Ok(())
     }
 
-    fn leave(&mut self, consumer: u64)
+    pub(crate) fn leave(&mut self, consumer: u64)
         ensures { self.new ≡ leaving consumer self.old }
     {
         self.pending.release_held_by(consumer);
         self.shares.leave(consumer);
     }
 
-    fn release_all(&mut self)
+    pub(crate) fn release_all(&mut self)
         ensures { self.new ≡ releasing_all self.old }
     {
         self.pending.clear();
     }
-}
-
-/// The subscription of the name.
-pub fn subscription_at<'a>(
-    subscriptions: &'a [Subscription],
-    name: &SubscriptionName,
-) -> Option<&'a Subscription>
-    ensures { option_copied result ≡ find (is_named name.now) subscriptions.now }
-{
-    subscriptions
-        .iter()
-        .find(|subscription| subscription.is_named(name))
-}
-
-/// Whether there is a subscription of the name, and it is of the kind.
-pub fn has_kind(subscriptions: &[Subscription], name: &SubscriptionName, kind: Kind) -> bool
-    ensures { result ≡ option_map_or (λ sub. same_kind sub.kind kind) (find (is_named name.now) subscriptions.now) false }
-{
-    match subscription_at(subscriptions, name) {
-        Some(subscription) => subscription.kind().is(kind),
-        None => false,
-    }
-}
-
-fn place_of_subscription(subscriptions: &[Subscription], name: &SubscriptionName) -> Option<usize>
-    ensures { result ≡ position (is_named name.now) subscriptions.now }
-{
-    subscriptions
-        .iter()
-        .position(|subscription| subscription.is_named(name))
-}
-
-fn place_after(subscriptions: &[Subscription], name: &SubscriptionName) -> Option<usize>
-    ensures { result ≡ position (λ other. is_lt (name_order name.now other.name)) subscriptions.now }
-{
-    subscriptions
-        .iter()
-        .position(|other| name.order(other.name()).is_lt())
-}
-
-/// Where a new subscription of the name goes: before the first of a greater name.
-pub fn place_for(subscriptions: &[Subscription], name: &SubscriptionName) -> usize
-    ensures value { result ≡ position_or_len (λ other. is_lt (name_order name.now other.name)) subscriptions.now }
-    ensures within { result ≤ length subscriptions.now }
-{
-    match place_after(subscriptions, name) {
-        Some(place) => place,
-        None => subscriptions.len(),
-    }
-}
-
-/// Lets the consumer into the subscription, which takes its kind. Nothing changes where there is no
-/// memory.
-pub fn join_at(
-    subscriptions: &mut [Subscription],
-    name: &SubscriptionName,
-    kind: Kind,
-    consumer: u64,
-) -> Result<(), AllocError>
-    ensures ok { OnOk result (subscriptions.new ≡ changed (is_named name.now) (joining kind consumer) subscriptions.old) }
-    ensures err { OnErr result (subscriptions.new ≡ subscriptions.old) }
-{
-    match place_of_subscription(subscriptions, name) {
-        Some(place) => subscriptions[place].join(kind, consumer),
-        None => Ok(()),
-    }
-}
-
-/// Makes the message pending in the subscription. Nothing changes where there is no memory.
-pub fn hold_at(
-    subscriptions: &mut [Subscription],
-    name: &SubscriptionName,
-    position: Position,
-    held: Held,
-) -> Result<(), AllocError>
-    ensures ok { OnOk result (subscriptions.new ≡ changed (is_named name.now) (holding position held) subscriptions.old) }
-    ensures err { OnErr result (subscriptions.new ≡ subscriptions.old) }
-{
-    match place_of_subscription(subscriptions, name) {
-        Some(place) => subscriptions[place].hold(position, held),
-        None => Ok(()),
-    }
-}
-
-/// Acknowledges the messages in the subscription. Nothing changes where there is no memory.
-pub fn acknowledge_at(
-    subscriptions: &mut [Subscription],
-    name: &SubscriptionName,
-    positions: &[Position],
-) -> Result<(), AllocError>
-    ensures ok { OnOk result (subscriptions.new ≡ changed (is_named name.now) (acknowledging positions.now) subscriptions.old) }
-    ensures err { OnErr result (subscriptions.new ≡ subscriptions.old) }
-{
-    match place_of_subscription(subscriptions, name) {
-        Some(place) => subscriptions[place].acknowledge(positions),
-        None => Ok(()),
-    }
-}
-
-/// Makes the message due, and answers whether it is pending at the consumer of the subscription;
-/// else nothing changes.
-pub fn set_due_at(
-    subscriptions: &mut [Subscription],
-    name: &SubscriptionName,
-    consumer: u64,
-    position: Position,
-    due: u64,
-) -> bool
-    ensures known { result ≡ option_map_or (λ sub. is_held_by consumer (map_of.get sub.pending position)) (find (is_named name.now) subscriptions.old) false }
-    ensures held { OnTrue result (subscriptions.new ≡ changed (is_named name.now) (holding position (record { consumer = consumer; due = Some due })) subscriptions.old) }
-    ensures none { OnFalse result (subscriptions.new ≡ subscriptions.old) }
-{
-    match place_of_subscription(subscriptions, name) {
-        Some(place) => subscriptions[place].set_due(consumer, position, due),
-        None => false,
-    }
-}
-
-/// Counts the messages once more and lets them wait again. Nothing changes where there is no memory.
-pub fn redeliver_at(
-    subscriptions: &mut [Subscription],
-    alloc: Global,
-    name: &SubscriptionName,
-    positions: &[Position],
-) -> Result<(), AllocError>
-    ensures ok { OnOk result (subscriptions.new ≡ changed (is_named name.now) (redelivering positions.now) subscriptions.old) }
-    ensures err { OnErr result (subscriptions.new ≡ subscriptions.old) }
-{
-    match place_of_subscription(subscriptions, name) {
-        Some(place) => subscriptions[place].redeliver(alloc, positions),
-        None => Ok(()),
-    }
-}
-
-/// Whether one consumer of the subscription takes its messages in order.
-pub fn is_in_order_at(subscriptions: &[Subscription], name: &SubscriptionName) -> bool
-    ensures { result ≡ option_map_or (λ sub. is_in_order sub.kind) (find (is_named name.now) subscriptions.now) false }
-{
-    match subscription_at(subscriptions, name) {
-        Some(subscription) => subscription.kind().is_in_order(),
-        None => false,
-    }
-}
-
-/// Lets the consumer out of the subscription: what is pending at it waits again, and its share goes
-/// to another.
-pub fn leave_at(subscriptions: &mut [Subscription], name: &SubscriptionName, consumer: u64)
-    ensures { subscriptions.new ≡ changed (is_named name.now) (leaving consumer) subscriptions.old }
-{
-    match place_of_subscription(subscriptions, name) {
-        Some(place) => subscriptions[place].leave(consumer),
-        None => {}
-    }
-}
-
-/// Releases all that is pending in the subscription.
-pub fn release_all_at(subscriptions: &mut [Subscription], name: &SubscriptionName)
-    ensures { subscriptions.new ≡ changed (is_named name.now) releasing_all subscriptions.old }
-{
-    match place_of_subscription(subscriptions, name) {
-        Some(place) => subscriptions[place].release_all(),
-        None => {}
+    /// Goes on after the messages, and forgets what was sent. Nothing changes where there is no memory.
+    pub(crate) fn seek(&mut self, alloc: Global, before: &[Message]) -> Result<(), AllocError>
+        ensures ok { OnOk result (self.new ≡ seeking before.now self.old) }
+        ensures err { OnErr result (self.new ≡ self.old) }
+    {
+        self.acknowledged = PositionSet::all_of(alloc, before)?;
+        self.release_all();
+        self.counts.clear();
+        Ok(())
     }
 }

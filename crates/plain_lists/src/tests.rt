@@ -1,6 +1,10 @@
-// That names are made where there is memory.
+// That names are made, and subscriptions changed, where there is memory.
 use super::*;
-use position_core::ProducerName;
+use plain_tables::PositionSet;
+use position_core::{
+    Base, Body, Content, Entry, Held, Kind, Message, Moment, Name, Payload, Position, ProducerName,
+    Properties, SubscriptionName, TopicName,
+};
 use std::alloc::Global;
 use std::sync::ArcStr;
 use std::test::Fail;
@@ -32,5 +36,118 @@ fn the_least_free_number_is_found(rt: HostRuntime) -> Result<(), Fail> {
         name(alloc, "auto-0")?,
     ]?;
     assert_eq!(rt; least_free(alloc, names)?, 2);
+    Ok(())
+}
+
+const FIRST: Position = Position {
+    ledger: 0,
+    entry: 0,
+};
+
+fn message(alloc: Global) -> Result<Message, Fail> {
+    let content = Content {
+        key: None,
+        properties: Properties::none(alloc),
+        payload: Payload::new(b"hi".to_vec(alloc)?).ok_or("no payload")?,
+    };
+    let entry = Entry {
+        position: FIRST,
+        producer: name(alloc, "p")?,
+        sequence: 0,
+        time: Moment::new(1000).ok_or("no moment")?,
+        body: Body::new(alloc, content)?,
+    };
+    Ok(Message::new(alloc, entry)?)
+}
+
+fn letter(alloc: Global) -> Result<DeadLetter, Fail> {
+    Ok(DeadLetter {
+        position: FIRST,
+        target: TopicName {
+            tenant: Name::from_text(alloc, "public")?.ok_or("no tenant")?,
+            namespace: Name::from_text(alloc, "default")?.ok_or("no namespace")?,
+            topic: Name::from_text(alloc, "t-s-DLQ")?.ok_or("no topic")?,
+        },
+        ordinal: 7,
+    })
+}
+
+/// A subscription of the name, in which the first message is pending.
+fn holding(alloc: Global, name: &SubscriptionName) -> Result<Vec<Subscription>, Fail> {
+    let none = PositionSet::new(alloc);
+    let made = Subscription::new(alloc, name.clone()?, Kind::Shared, 1, none)?;
+    let mut subscriptions = vec![in alloc; made]?;
+    let held = Held {
+        consumer: 1,
+        due: Some(2000),
+    };
+    hold_at(&mut subscriptions, name, FIRST, held)?;
+    Ok(subscriptions)
+}
+
+fn first(subscriptions: &[Subscription]) -> Result<&Subscription, Fail> {
+    Ok(subscriptions.first().ok_or("no subscription")?)
+}
+
+/// A subscription of the name, in which the first message died.
+fn burying(alloc: Global, name: &SubscriptionName) -> Result<Vec<Subscription>, Fail> {
+    let mut subscriptions = holding(alloc, name)?;
+    bury_at(&mut subscriptions, name, letter(alloc)?)?;
+    Ok(subscriptions)
+}
+
+#[test]
+fn a_message_dies(rt: HostRuntime) -> Result<(), Fail> {
+    let message = message(rt.alloc())?;
+    let name = Name::from_text(rt.alloc(), "s")?.ok_or("no name")?;
+    let subscriptions = burying(rt.alloc(), &name)?;
+    let subscription = first(&subscriptions)?;
+    assert!(rt; !subscription.is_pending(&message));
+    assert!(rt; !subscription.is_live(&message));
+    assert!(rt; subscription.first_safe().is_none());
+    assert_eq!(rt; subscription.number_of_dead(), 1);
+    Ok(())
+}
+
+#[test]
+fn a_letter_is_moved(rt: HostRuntime) -> Result<(), Fail> {
+    let message = message(rt.alloc())?;
+    let name = Name::from_text(rt.alloc(), "s")?.ok_or("no name")?;
+    let mut subscriptions = burying(rt.alloc(), &name)?;
+    store_all(&mut subscriptions);
+    assert!(rt; first(&subscriptions)?.first_safe().is_some());
+    move_first_at(&mut subscriptions, &name)?;
+    assert!(rt; first(&subscriptions)?.first_safe().is_none());
+    assert!(rt; first(&subscriptions)?.is_acknowledged(&message));
+    Ok(())
+}
+
+#[test]
+fn a_seek_releases_what_is_pending(rt: HostRuntime) -> Result<(), Fail> {
+    let log = vec![in rt.alloc(); message(rt.alloc())?]?;
+    let name = Name::from_text(rt.alloc(), "s")?.ok_or("no name")?;
+    let mut subscriptions = holding(rt.alloc(), &name)?;
+    assert!(rt; first_waiting(&log, first(&subscriptions)?).is_none());
+    seek_at(&mut subscriptions, rt.alloc(), &name, &[])?;
+    assert!(rt; first_waiting(&log, first(&subscriptions)?).is_some());
+    assert!(rt; message_at(&log, FIRST).is_some());
+    Ok(())
+}
+
+#[test]
+fn a_subscription_goes(rt: HostRuntime) -> Result<(), Fail> {
+    let name = Name::from_text(rt.alloc(), "s")?.ok_or("no name")?;
+    let mut subscriptions = holding(rt.alloc(), &name)?;
+    drop_subscription(&mut subscriptions, &name);
+    assert_eq!(rt; subscriptions.len(), 0);
+    Ok(())
+}
+
+#[test]
+fn a_producer_goes(rt: HostRuntime) -> Result<(), Fail> {
+    let base = Base::new(-1).ok_or("no base")?;
+    let mut producers = vec![in rt.alloc(); Producer::new(1, name(rt.alloc(), "p")?, base)]?;
+    assert!(rt; drop_producer(&mut producers, 1));
+    assert_eq!(rt; producers.len(), 0);
     Ok(())
 }

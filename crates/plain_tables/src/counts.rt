@@ -56,6 +56,12 @@ impl CountTable {
         leave_out(&mut self.entries, positions);
     }
 
+    pub fn clear(&mut self)
+        ensures { self.new ≡ map_of.empty }
+    {
+        self.entries.clear();
+    }
+
     /// Counts each of the messages once more. Nothing changes where there is no memory.
     pub fn count_again(&mut self, alloc: Global, positions: &[Position]) -> Result<(), AllocError>
         ensures ok { OnOk result (self.new ≡ recounted positions.now self.old) }

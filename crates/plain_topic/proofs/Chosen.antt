@@ -7,7 +7,7 @@ use Rattle.position_core.specs.declared.kind.Kind.TheVariants.{Shared}
 use Rattle.delivery_machine.specs.State.{State, Member, Subscription}
 use Rattle.delivery_machine.specs.Words.{IsEligible, ChoosesBy, first_waiting, has_room, is_at}
 use Rattle.delivery_machine.proofs.Passes.{passes}
-use Rattle.plain_lists.specs.Turn.{IsBestLevel, is_roomy, roomy}
+use Rattle.plain_choices.specs.Turn.{IsBestLevel, is_roomy, roomy}
 
 second_of : (a b : Bool) → (a && b) ≡ true → b ≡ true
 second_of true b e = e

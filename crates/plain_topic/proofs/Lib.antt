@@ -1,2 +1,4 @@
 pub mod Used
 mod Chosen
+pub mod Joins
+pub mod Moved

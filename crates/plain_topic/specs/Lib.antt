@@ -1,2 +1,3 @@
 pub mod StateOf
 pub mod Names
+pub mod Letters

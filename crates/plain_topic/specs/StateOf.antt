@@ -1,4 +1,4 @@
--- The machine's state that the lists stand for. Nothing dies yet, so no ordinal was given.
+-- The machine's state that the lists stand for.
 use Rattle.delivery_machine.specs.State.{State}
 use Rattle.plain_topic.specs.declared.plain.PlainTopic.{PlainTopic}
 
@@ -7,7 +7,7 @@ state_of t = record {
   name = t.name;
   ledger_size = t.ledger_size;
   ledger = t.ledger;
-  next_ordinal = 0;
+  next_ordinal = t.next_ordinal;
   next_producer = t.next_producer;
   next_consumer = t.next_consumer;
   log = t.log.items;

@@ -27,14 +27,14 @@ impl PlainTopic {
     ghost use Rattle.delivery_machine.specs.declared.event.Event.TheVariants.{Ack, AckUpTo};
     ghost use Rattle.plain_topic.specs.StateOf.{state_of};
 
-    fn has_visible(&self, position: Position) -> bool
+    pub(crate) fn has_visible(&self, position: Position) -> bool
         ensures { result ≡ list_any (has_position position) (visible (state_of self.now)) }
     {
         has_position(self.visible(), position)
     }
 
     /// Takes the messages out of the subscription. Nothing changes where there is no memory.
-    fn acknowledge(
+    pub(crate) fn acknowledge(
         &mut self,
         name: &SubscriptionName,
         positions: &[Position],

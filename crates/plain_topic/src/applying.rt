@@ -12,6 +12,7 @@ impl Topic for PlainTopic {
     fn apply(&mut self, event: &Event) -> Reply {
         match event {
             Event::AddProducer { name, base } => self.add_producer(name, *base),
+            Event::DropProducer { producer } => self.drop_producer(*producer),
             Event::Publish {
                 producer,
                 sequence,
@@ -19,6 +20,7 @@ impl Topic for PlainTopic {
                 now,
             } => self.publish(*producer, *sequence, body, *now),
             Event::Stored => self.stored(),
+            Event::Progress => self.progress(),
             Event::Subscribe {
                 subscription,
                 kind,
@@ -52,8 +54,24 @@ impl Topic for PlainTopic {
                 now,
             } => self.nack(*consumer, *position, *now),
             Event::Tick { subscription, now } => self.tick(subscription, *now),
+            Event::Seek {
+                subscription,
+                target,
+            } => self.seek(subscription, *target),
+            Event::SeekTime { subscription, time } => self.seek_time(subscription, *time),
+            Event::Skip {
+                subscription,
+                count,
+            } => self.skip(subscription, *count),
+            Event::DropSubscription { subscription } => self.drop_subscription(subscription),
+            Event::Stats { subscription } => self.stats(subscription),
             Event::Dispatch { subscription, now } => self.dispatch(subscription, *now),
             Event::Collect { consumer } => self.collect(*consumer),
+            Event::DeadNext { subscription } => self.dead_next(subscription),
+            Event::DeadDone {
+                subscription,
+                ordinal,
+            } => self.dead_done(subscription, *ordinal),
         }
     }
 

@@ -5,9 +5,10 @@ ghost use Rattle.delivery_machine.specs.Delivering.{given, holding};
 
 use crate::plain::PlainTopic;
 use delivery_machine::{Deliveries, Delivery, Kind, Reply};
+use plain_choices::{next_in_turn, next_of_any_hash};
 use plain_lists::{
     Member, Subscription, active_at, first_waiting, give_to, has_room, hold_at, member_at,
-    next_in_turn, next_of_any_hash, spend_at, subscription_at, take_back_from, take_out_of,
+    spend_at, subscription_at, take_back_from, take_out_of,
 };
 use position_core::{Fault, Held, Message, Moment, Position, SubscriptionName};
 use std::alloc::AllocError;

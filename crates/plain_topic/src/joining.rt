@@ -5,20 +5,38 @@ use plain_lists::{
     Member, Subscription, Terms, count_at, has_kind, join_at, place_for, subscription_at,
 };
 use plain_tables::PositionSet;
-use position_core::{Fault, Kind, SubscriptionName, TopicName};
+use position_core::{Fault, Kind, RedeliverLimit, SubscriptionName, TopicName};
 use std::alloc::AllocError;
 
 impl PlainTopic {
     ghost use Rattle.std.specs.Prelude.{◌≡◌, IfOk, OnOk, OnErr, vec_capacity};
     ghost use Rattle.delivery_machine.specs.Run.{Answers};
     ghost use Rattle.delivery_machine.specs.Joining.{acknowledged_at_first, joined};
-    ghost use Rattle.delivery_machine.specs.Refusals.{subscribing_refused};
+    ghost use Rattle.delivery_machine.specs.Refusals.{dies_into_itself, subscribing_refused};
     ghost use Rattle.delivery_machine.specs.declared.event.Event.TheVariants.{Subscribe};
     ghost use Rattle.plain_topic.specs.StateOf.{state_of};
 
+    /// Whether messages of the new member would die into the topic itself.
+    fn dies_into_itself(
+        &self,
+        kind: Kind,
+        max_redeliver: RedeliverLimit,
+        dead_topic: &TopicName,
+    ) -> bool
+        ensures { result ≡ dies_into_itself (state_of self.now) kind max_redeliver dead_topic.now }
+    {
+        !kind.is_in_order() && max_redeliver.get() > 0 && dead_topic.is(&self.name)
+    }
+
     /// Why the consumer is turned away, if it is.
-    fn subscribing_refused(&self, name: &SubscriptionName, kind: Kind) -> Option<Fault>
-        ensures { result ≡ subscribing_refused (state_of self.now) name.now kind }
+    fn subscribing_refused(
+        &self,
+        name: &SubscriptionName,
+        kind: Kind,
+        max_redeliver: RedeliverLimit,
+        dead_topic: &TopicName,
+    ) -> Option<Fault>
+        ensures { result ≡ subscribing_refused (state_of self.now) name.now kind max_redeliver dead_topic.now }
     {
         let members = count_at(&self.members, name);
         if members > 0 && !has_kind(&self.subscriptions, name, kind) {
@@ -35,6 +53,9 @@ impl PlainTopic {
         }
         if self.next_consumer >= 1 << 63 {
             return Some(Fault::TooMany);
+        }
+        if self.dies_into_itself(kind, max_redeliver, dead_topic) {
+            return Some(Fault::DeadLetterSelf);
         }
         None
     }
@@ -81,7 +102,7 @@ impl PlainTopic {
     ) -> Reply
         ensures { Answers (state_of self.old) (Subscribe name.now kind terms.level terms.flow terms.ack_timeout terms.nack_delay terms.max_redeliver dead_topic.now initial) result (state_of self.new) }
     {
-        if let Some(fault) = self.subscribing_refused(name, kind) {
+        if let Some(fault) = self.subscribing_refused(name, kind, terms.max_redeliver, dead_topic) {
             return Reply::Refused(fault);
         }
         let number = self.next_consumer;

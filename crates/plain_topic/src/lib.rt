@@ -4,11 +4,14 @@
 mod acknowledging;
 mod applying;
 mod delivering;
+mod dying;
 mod joining;
 mod leaving;
 mod permitting;
 mod plain;
 mod producing;
+mod seeking;
+mod statistics;
 mod taking_over;
 #[cfg(test)]
 mod tests;

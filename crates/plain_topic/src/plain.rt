@@ -13,6 +13,7 @@ pub struct PlainTopic {
     pub(crate) name: TopicName,
     pub(crate) ledger_size: LedgerSize,
     pub(crate) ledger: u64,
+    pub(crate) next_ordinal: u64,
     pub(crate) next_producer: u64,
     pub(crate) next_consumer: u64,
     pub(crate) log: Vec<Message>,
@@ -22,6 +23,7 @@ pub struct PlainTopic {
     pub(crate) subscriptions: Vec<Subscription>,
     ghost visible_in_log: { durable ≤ vec_len log },
     ghost ledger_fits: { ledger ≤ 2 ^ 62 + 1 },
+    ghost ordinal_fits: { next_ordinal ≤ 2 ^ 62 },
 }
 
 impl PlainTopic {
@@ -39,6 +41,7 @@ impl PlainTopic {
             name,
             ledger_size,
             ledger: 0,
+            next_ordinal: 0,
             next_producer: 1,
             next_consumer: 1,
             log: Vec::new(alloc),

@@ -1,10 +1,11 @@
-// Producers and the log: connecting, publishing, storing.
+// Producers and the log: connecting, leaving, publishing, storing.
 ghost use Rattle.std.specs.Prelude.{◌≡◌, ◌++◌, IfOk, OnOk, map};
 
 use crate::plain::PlainTopic;
 use delivery_machine::Reply;
 use plain_lists::{
-    Producer, auto_name, is_connected, last_sequence, least_free, producer_at, used_in,
+    Producer, auto_name, drop_producer, is_connected, last_sequence, least_free, producer_at,
+    store_all, used_in,
 };
 use position_core::{Base, Body, Entry, Fault, Message, Moment, Position, ProducerName};
 use std::alloc::{AllocError, Global};
@@ -54,7 +55,7 @@ impl PlainTopic {
     ghost use Rattle.delivery_machine.specs.Words.{last_sequence, next_position};
     ghost use Rattle.delivery_machine.specs.Refusals.{adding_refused, is_busy, is_full};
     ghost use Rattle.delivery_machine.specs.Producing.{IsGiven, IsLeastFree, with_producer};
-    ghost use Rattle.delivery_machine.specs.declared.event.Event.TheVariants.{AddProducer, Publish, Stored};
+    ghost use Rattle.delivery_machine.specs.declared.event.Event.TheVariants.{AddProducer, DropProducer, Progress, Publish, Stored};
     ghost use Rattle.plain_topic.specs.StateOf.{state_of};
     ghost use Rattle.plain_topic.specs.Names.{names_used};
 
@@ -146,6 +147,16 @@ impl PlainTopic {
         }
     }
 
+    pub(crate) fn drop_producer(&mut self, producer: u64) -> Reply
+        ensures { Answers (state_of self.old) (DropProducer producer) result (state_of self.new) }
+    {
+        if drop_producer(&mut self.producers, producer) {
+            Reply::Done
+        } else {
+            Reply::Refused(Fault::NoSession)
+        }
+    }
+
     fn next_position(&self) -> Position
         ensures { result ≡ next_position (state_of self.now) }
     {
@@ -208,6 +219,16 @@ impl PlainTopic {
         ensures { Answers (state_of self.old) Stored result (state_of self.new) }
     {
         self.durable = self.log.len();
+        store_all(&mut self.subscriptions);
         Reply::Durable(self.durable as u64)
+    }
+
+    pub(crate) fn progress(&self) -> Reply
+        ensures { Answers (state_of self.now) Progress result (state_of self.now) }
+    {
+        Reply::Progress {
+            durable: self.durable as u64,
+            length: self.log.len() as u64,
+        }
     }
 }

@@ -1,4 +1,5 @@
 // What the proofs do not see: worked rows with values from outside, and that calls with memory succeed.
+mod ends;
 mod failover;
 mod names;
 mod rows;

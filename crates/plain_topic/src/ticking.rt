@@ -1,10 +1,9 @@
-// Negative acknowledgements, and ticks, which release what is due.
+// Negative acknowledgements, and ticks, which release what is due, or let it die.
+use crate::dying::letter_of;
 use crate::plain::PlainTopic;
 use delivery_machine::Reply;
-use plain_lists::{
-    first_due, leave_out_at, member_at, pending_positions, redeliver_at, set_due_at,
-    subscription_at,
-};
+use plain_choices::{dying_at, first_due, pending_positions};
+use plain_lists::{leave_out_at, member_at, redeliver_at, set_due_at, subscription_at};
 use position_core::{Fault, Moment, Position, SubscriptionName};
 use std::alloc::AllocError;
 
@@ -54,18 +53,28 @@ impl PlainTopic {
         let Some(position) = first_due(&self.log, subscription, now) else {
             return Reply::Quiet;
         };
-        if !subscription.kind().is_in_order() {
+        if subscription.kind().is_in_order() {
+            let Ok(positions) = pending_positions(self.alloc, &self.log, subscription) else {
+                return Reply::Refused(Fault::NoMemory);
+            };
+            let count = positions.len() as u64;
+            return match self.redeliver(name, &positions) {
+                Ok(()) => Reply::Rewound { count },
+                Err(_) => Reply::Refused(Fault::NoMemory),
+            };
+        }
+        let Some(member) = dying_at(&self.members, subscription, position, self.next_ordinal) else {
             return match self.redeliver(name, &[position]) {
                 Ok(()) => Reply::Released { position },
                 Err(_) => Reply::Refused(Fault::NoMemory),
             };
-        }
-        let Ok(positions) = pending_positions(self.alloc, &self.log, subscription) else {
+        };
+        let ordinal = self.next_ordinal;
+        let Ok(letter) = letter_of(position, member, ordinal) else {
             return Reply::Refused(Fault::NoMemory);
         };
-        let count = positions.len() as u64;
-        match self.redeliver(name, &positions) {
-            Ok(()) => Reply::Rewound { count },
+        match self.bury(name, letter) {
+            Ok(()) => Reply::Died { position, ordinal },
             Err(_) => Reply::Refused(Fault::NoMemory),
         }
     }

@@ -42,6 +42,8 @@ pub(super) enum Ask {
     Join(&'static str, Kind, u32),
     /// A Shared subscription, and a consumer that pulls.
     Pull(&'static str),
+    /// A Shared subscription, and after how many redeliveries a message dies.
+    JoinDying(&'static str, u32),
     /// A consumer, and how many further messages it takes.
     Permit(u64, u32),
     Leave(u64),
@@ -67,6 +69,8 @@ pub(super) enum Answer {
     Sent(u64, Position, u32),
     Idle,
     Released(Position),
+    /// A position and an ordinal.
+    Died(Position, u64),
     Rewound(u64),
     Quiet,
     /// The one copy: its position, and how often it was redelivered.
@@ -75,6 +79,8 @@ pub(super) enum Answer {
     SeveralCopies,
     /// The number of the refusal.
     Refused(u8),
+    /// What no test here asks for.
+    Other,
 }
 
 fn name(alloc: Global, text: &str) -> Result<Name, Fail> {
@@ -127,6 +133,7 @@ fn subscribing(
     level: u32,
     flow: Flow,
     initial: Initial,
+    limit: u32,
 ) -> Result<Event, Fail> {
     Ok(Event::Subscribe {
         subscription: name(alloc, subscription)?,
@@ -135,7 +142,7 @@ fn subscribing(
         flow,
         ack_timeout: Millis::new(0).ok_or("no timeout")?,
         nack_delay: Millis::new(60_000).ok_or("no delay")?,
-        max_redeliver: RedeliverLimit::new(0).ok_or("no limit")?,
+        max_redeliver: RedeliverLimit::new(limit).ok_or("no limit")?,
         dead_topic: topic_name(alloc, "t-s-DLQ")?,
         initial,
     })
@@ -153,14 +160,34 @@ fn event_of(alloc: Global, ask: Ask) -> Result<Event, Fail> {
         }
         Ask::Store => Event::Stored,
         Ask::Subscribe(name, window, initial) => {
-            subscribing(alloc, name, Kind::Exclusive, 0, window_of(window)?, initial)?
+            subscribing(
+                alloc,
+                name,
+                Kind::Exclusive,
+                0,
+                window_of(window)?,
+                initial,
+                0,
+            )?
         }
         Ask::Join(name, kind, level) => {
-            subscribing(alloc, name, kind, level, window_of(10)?, Initial::Earliest)?
+            subscribing(
+                alloc,
+                name,
+                kind,
+                level,
+                window_of(10)?,
+                Initial::Earliest,
+                0,
+            )?
         }
         Ask::Pull(name) => {
             let flow = Flow::Credit(Credit::new(7).ok_or("no credit")?);
-            subscribing(alloc, name, Kind::Shared, 0, flow, Initial::Earliest)?
+            subscribing(alloc, name, Kind::Shared, 0, flow, Initial::Earliest, 0)?
+        }
+        Ask::JoinDying(name, limit) => {
+            let flow = window_of(10)?;
+            subscribing(alloc, name, Kind::Shared, 0, flow, Initial::Earliest, limit)?
         }
         Ask::Permit(consumer, permits) => Event::Permit {
             consumer,
@@ -205,6 +232,7 @@ fn answer_of(reply: &Reply) -> Answer {
         } => Answer::Sent(*consumer, *position, *count),
         Reply::Idle => Answer::Idle,
         Reply::Released { position } => Answer::Released(*position),
+        Reply::Died { position, ordinal } => Answer::Died(*position, *ordinal),
         Reply::Rewound { count } => Answer::Rewound(*count),
         Reply::Quiet => Answer::Quiet,
         Reply::Copies(copies) => match copies.as_slice() {
@@ -213,6 +241,8 @@ fn answer_of(reply: &Reply) -> Answer {
             _ => Answer::SeveralCopies,
         },
         Reply::Refused(fault) => Answer::Refused(fault.number()),
+        Reply::Progress { .. } | Reply::Stats { .. } | Reply::Dead { .. } | Reply::NoDead =>
+            Answer::Other,
     }
 }
 

@@ -1,7 +1,7 @@
 use Rattle.std.proofs.Common.{List, Some, ◌∙◌, sym, subst}
 use Rattle.position_core.specs.declared.message.Entry.{Entry}
 use Rattle.delivery_machine.specs.State.{Member}
-use Rattle.plain_lists.specs.Turn.{IsBestLevel, roomy}
+use Rattle.plain_choices.specs.Turn.{IsBestLevel, roomy}
 use Rattle.plain_topic.specs.StateOf.{state_of}
 use Rattle.plain_topic.proofs.Chosen.{shared_pair}
 use Rattle.plain_topic.proofs.plain.PlainTopic.choose.Goals as goal

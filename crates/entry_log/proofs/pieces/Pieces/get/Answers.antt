@@ -1,0 +1,36 @@
+use Rattle.std.proofs.Common.{◌≡◌, ◌+◌, ◌-◌, List, ◌*◌, ◌/◌, ◌%◌, ◌<◌, ℕ, length, Some, sym, ◌∙◌, ap, refl, arith}
+use Rattle.std.specs.List.{slice_get}
+use Rattle.std.proofs.lemmas.Option.{slice_get_read}
+use Rattle.position_core.specs.declared.message.Entry.{Entry}
+use Rattle.entry_log.specs.Pieces.{Parts, joined}
+use Rattle.entry_log.proofs.Joined.{get_sealed, get_loose}
+use Rattle.entry_log.proofs.pieces.Pieces.get.Goals as goal
+
+pub returns-then-place-sealed : goal.returns-then-place-sealed
+returns-then-place-sealed c =
+    let p : Parts = record { sealed = c.self.inside.sealed.items; loose = c.self.inside.loose.items } in
+    let e : p ≡ c.args.self.now = c.self.view_is in
+    let place = c.args.place in
+    let i : ℕ = place / 1024 in
+    let j : ℕ = place % 1024 in
+    let same : length p.sealed ≡ length c.args.self.now.sealed = ap (λ (q : Parts). length q.sealed) e in
+    let within : i < length p.sealed = omega (arith, same) in
+    let at : slice_get p.sealed i ≡ Some c.index.result.now = slice_get_read p.sealed (length p.sealed) i c.index.result.now refl within c.index.ensures in
+    let parted : 1024 * i + j ≡ place = omega arith in
+    c.get.ensures
+    ∙ sym (get_sealed p.sealed p.loose c.index.result.now i j c.self.invariant.segments at (omega arith))
+    ∙ ap (λ (n : ℕ). slice_get (joined p) n) parted
+    ∙ ap (λ (q : Parts). slice_get (joined q) place) e
+
+pub returns-else-place-sealed : goal.returns-else-place-sealed
+returns-else-place-sealed c =
+    let p : Parts = record { sealed = c.self.inside.sealed.items; loose = c.self.inside.loose.items } in
+    let e : p ≡ c.args.self.now = c.self.view_is in
+    let place = c.args.place in
+    let same : length p.sealed ≡ length c.args.self.now.sealed = ap (λ (q : Parts). length q.sealed) e in
+    let n = c.sealed_count-sealed.result in
+    let is : n ≡ 1024 * length p.sealed = omega (arith, same) in
+    c.message_at.ensures
+    ∙ ap (λ (xs : List Entry). slice_get xs (place - n)) c.deref.ensures.value
+    ∙ sym (get_loose p.sealed p.loose place n c.self.invariant.segments is c.if-place-sealed.false)
+    ∙ ap (λ (q : Parts). slice_get (joined q) place) e

@@ -1,0 +1,10 @@
+use Rattle.std.proofs.Common.{◌-◌}
+use Rattle.entry_log.specs.Pieces.{joined}
+use Rattle.entry_log.proofs.Searching.{IsBetween}
+use Rattle.entry_log.proofs.search.place_of.Given as goal
+
+abbrev pub invariant-loop-low : goal.invariant-loop-low
+invariant-loop-low l = IsBetween (joined l.pieces) l.at l.low l.high
+
+abbrev pub decreases-loop-low : goal.decreases-loop-low
+decreases-loop-low l = l.high - l.low

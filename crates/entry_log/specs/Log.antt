@@ -1,0 +1,57 @@
+-- A topic's log, and what its calls do, in the words of the delivery machine.
+use Rattle.std.specs.Prelude.{◌≡◌, ℕ, ◌+◌, ◌-◌, ◌^◌, ◌==◌, nat_le, nat_lt, min, Bool, ◌||◌, List, [], ◌∷◌, ◌++◌, length, take, Option, Some, None, if◌then◌else◌}
+use Rattle.std.specs.List.{count_by, position}
+use Rattle.std.specs.Option.{option_map_or}
+use Rattle.position_core.specs.declared.position.Position.{Position}
+use Rattle.position_core.specs.declared.message.Entry.{Entry}
+use Rattle.delivery_machine.specs.State.{State}
+use Rattle.delivery_machine.specs.Words.{has_position}
+
+-- messages go into `ledger` until that is full; `undo` is what it was before the last message, where that may be taken back
+pub record Log : Type 0 where
+  pub log : List Entry
+  pub ledger : ℕ
+  pub ledger_size : ℕ
+  pub undo : Option ℕ
+
+-- the log is the state's
+abbrev pub IsLogOf : Log → State → Type 0
+IsLogOf q s = (s.log ≡ q.log) × (s.ledger ≡ q.ledger) × (s.ledger_size ≡ q.ledger_size)
+
+abbrev pub empty_log : ℕ → Log
+empty_log ledger_size = record { log = []; ledger = 0; ledger_size = ledger_size; undo = None }
+
+-- how many messages of the log are in the ledger
+abbrev pub used_in : ℕ → List Entry → ℕ
+used_in ledger log = count_by (λ e. e.position.ledger == ledger) log
+
+-- the place after so many entries of a ledger
+abbrev pub place_after : ℕ → ℕ → ℕ → Position
+place_after ledger used ledger_size =
+    if nat_lt used ledger_size then record { ledger = ledger; entry = used } else record { ledger = ledger + 1; entry = 0 }
+
+abbrev pub next_in : Log → Position
+next_in q = place_after q.ledger (used_in q.ledger q.log) q.ledger_size
+
+-- no place is left, or the next message's ledger would pass 2^62
+abbrev pub is_full_log : Log → Bool
+is_full_log q = nat_le 1048576 (length q.log) || nat_lt (2 ^ 62) (next_in q).ledger
+
+abbrev pub appended : Entry → Log → Log
+appended e q = record q { log = q.log ++ e ∷ []; ledger = e.position.ledger; undo = Some q.ledger }
+
+-- without its last message
+abbrev pub front : List Entry → List Entry
+front log = take (length log - 1) log
+
+-- the last message is taken back, where it may be
+abbrev pub popped : Log → Log
+popped q = option_map_or (λ ledger. record q { log = front q.log; ledger = ledger; undo = None }) q.undo q
+
+-- messages go into the next ledger; 2^62 + 1 is the last
+abbrev pub rolled : Log → Log
+rolled q = record q { ledger = min (q.ledger + 1) (2 ^ 62 + 1); undo = None }
+
+-- the place in the log of the message at the position
+abbrev pub place_of : Position → List Entry → Option ℕ
+place_of at log = position (has_position at) log

@@ -1,0 +1,148 @@
+// The log of a topic.
+ghost use Rattle.std.specs.Prelude.{◌≡◌, ℕ, false, length, slice_get, IfOk, OnOk, OnErr, is_some};
+ghost use Rattle.std.specs.Option.{option_copied};
+ghost use Rattle.position_core.specs.Position.{same_position};
+ghost use Rattle.delivery_machine.specs.State.{State};
+ghost use Rattle.delivery_machine.specs.Words.{next_position};
+ghost use Rattle.delivery_machine.specs.Refusals.{is_full};
+ghost use Rattle.delivery_machine.specs.Producing.{with_message};
+ghost use Rattle.entry_log.specs.Log.{IsLogOf, empty_log, next_in, is_full_log, appended, popped, rolled, place_of};
+
+use crate::pieces::Pieces;
+use crate::place::{LAST_LEDGER, Place};
+use crate::search;
+use position_core::{LedgerSize, Message, Position};
+use std::alloc::{AllocError, Global};
+use std::marker::Model;
+
+/// How many messages a log has at most.
+const MOST: usize = 1_048_576;
+
+/// The messages of a topic in the order of their positions, and the ledger that the next one goes into.
+/// A call takes constant time, but for a growth, where it does not say otherwise. Only `append` and `copy`
+/// take memory.
+#[derive(Drop)]
+pub struct EntryLog {
+    pieces: Pieces,
+    place: Place,
+    undo: Option<Place>,
+    ledger_size: LedgerSize,
+}
+
+impl Model for EntryLog {
+    ghost use Rattle.std.specs.Option.{option_map};
+    ghost use Rattle.entry_log.specs.Log.{Log};
+    ghost use Rattle.entry_log.specs.Pieces.{joined};
+    ghost use Rattle.entry_log.specs.Kept.{IsKept};
+
+    ghost Value = { Log };
+
+    ghost view = { λ q. record {
+      log = joined q.pieces;
+      ledger = q.place.ledger;
+      ledger_size = q.ledger_size;
+      undo = option_map (λ p. p.ledger) q.undo;
+    } };
+
+    ghost invariant = { λ q. IsKept q.pieces q.place q.undo };
+}
+
+impl EntryLog {
+    /// Without messages, and at the first ledger.
+    pub fn new(alloc: Global, ledger_size: LedgerSize) -> Self
+        ensures { result ≡ empty_log ledger_size }
+    {
+        EntryLog {
+            pieces: Pieces::new(alloc),
+            place: Place { ledger: 0, used: 0 },
+            undo: None,
+            ledger_size,
+        }
+    }
+
+    pub fn len(&self) -> usize
+        ensures { result ≡ length self.now.log }
+    {
+        self.pieces.count()
+    }
+
+    /// The message at a place in the log.
+    pub fn get(&self, place: usize) -> Option<&Message>
+        ensures { option_copied result ≡ slice_get self.now.log place }
+    {
+        self.pieces.get(place)
+    }
+
+    /// The place in the log of the message at the position. Takes the logarithm of the log's length.
+    pub fn index_of(&self, at: Position) -> Option<usize>
+        ensures { result ≡ place_of at self.now.log }
+    {
+        search::place_of(&self.pieces, at)
+    }
+
+    /// The position of the next message.
+    pub fn next_position(&self) -> Position
+        ensures value { result ≡ next_in self.now }
+        ensures machine { (s : State) → IsLogOf self.now s → result ≡ next_position s }
+    {
+        self.place.next(self.ledger_size)
+    }
+
+    /// Whether there is no place for a further message.
+    pub fn is_full(&self) -> bool
+        ensures value { result ≡ is_full_log self.now }
+        ensures machine { (s : State) → IsLogOf self.now s → result ≡ is_full s }
+    {
+        self.pieces.count() >= MOST || self.next_position().ledger > LAST_LEDGER
+    }
+
+    /// Puts the message at the end.
+    pub fn append(&mut self, alloc: Global, message: Message) -> Result<(), AllocError>
+        requires room { is_full_log self.old ≡ false }
+        requires next { message.position ≡ next_in self.old }
+        ensures ok { OnOk result (self.new ≡ appended message self.old) }
+        ensures err { OnErr result (self.new ≡ self.old) }
+        ensures machine { OnOk result ((s : State) → IsLogOf self.old s → IsLogOf self.new (with_message s message)) }
+    {
+        let place = self.place.with(message.position());
+        self.pieces.push(alloc, message)?;
+        self.undo = Some(self.place);
+        self.place = place;
+        Ok(())
+    }
+
+    /// Takes the message back that was appended by the last call that changed the log; the ledger is again
+    /// what it was before. Answers whether there was such a message.
+    pub fn pop(&mut self) -> bool
+        ensures log { self.new ≡ popped self.old }
+        ensures done { result ≡ is_some self.old.undo }
+    {
+        let Some(place) = self.undo else {
+            return false;
+        };
+        self.pieces.pop();
+        self.place = place;
+        self.undo = None;
+        true
+    }
+
+    /// Further messages go into the next ledger.
+    pub fn roll(&mut self)
+        ensures { self.new ≡ rolled self.old }
+    {
+        self.place = self.place.rolled();
+        self.undo = None;
+    }
+
+    /// An equal log, which shares all segments of messages that are full. Takes a step for each of these.
+    pub fn copy(&self) -> Result<Self, AllocError>
+        ensures { IfOk result (λ copy. copy ≡ self.now) }
+    {
+        Ok(EntryLog {
+            pieces: self.pieces.clone()?,
+            place: self.place,
+            undo: self.undo,
+            ledger_size: self.ledger_size,
+        })
+    }
+}

@@ -1,0 +1,12 @@
+//! The log of a topic: its messages in the order of their positions, and the position of the next one.
+#![tactic(auto)]
+
+mod entry_log;
+mod pieces;
+mod place;
+mod search;
+mod segment;
+#[cfg(test)]
+mod tests;
+
+pub use entry_log::EntryLog;

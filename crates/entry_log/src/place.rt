@@ -1,0 +1,68 @@
+// How far a ledger is filled.
+ghost use Rattle.std.specs.Prelude.{◌≡◌, ◌+◌, ◌<◌, ◌≤◌, ◌^◌, ◌==◌, min, if◌then◌else◌};
+ghost use Rattle.entry_log.specs.Log.{place_after};
+
+use position_core::{LedgerSize, Position};
+
+/// The last ledger of a message is 2^62.
+pub(crate) const LAST_LEDGER: u64 = 1 << 62;
+
+/// A ledger, and how many messages of the log are in it.
+#[derive(Clone, Copy)]
+pub(crate) struct Place {
+    pub(crate) ledger: u64,
+    pub(crate) used: u64,
+}
+
+impl Place {
+    /// Where the next message goes.
+    pub(crate) fn next(self, ledger_size: LedgerSize) -> Position
+        requires { self.ledger + 1 < 2 ^ 64 }
+        ensures { result ≡ place_after self.ledger self.used ledger_size }
+    {
+        if self.used < u64::from(ledger_size.get()) {
+            Position {
+                ledger: self.ledger,
+                entry: self.used,
+            }
+        } else {
+            Position {
+                ledger: self.ledger + 1,
+                entry: 0,
+            }
+        }
+    }
+
+    /// The place after a message at the position.
+    pub(crate) fn with(self, position: Position) -> Place
+        requires { self.used + 1 < 2 ^ 64 }
+        ensures ledger { result.ledger ≡ position.ledger }
+        ensures used { result.used ≡ (if position.ledger == self.ledger then self.used + 1 else 1) }
+    {
+        let used = if position.ledger == self.ledger {
+            self.used + 1
+        } else {
+            1
+        };
+        Place {
+            ledger: position.ledger,
+            used,
+        }
+    }
+
+    /// The beginning of the next ledger, up to 2^62 + 1.
+    pub(crate) fn rolled(self) -> Place
+        requires { self.ledger ≤ 2 ^ 62 + 1 }
+        ensures ledger { result.ledger ≡ min (self.ledger + 1) (2 ^ 62 + 1) }
+        ensures next { self.ledger ≤ 2 ^ 62 → (result.ledger ≡ self.ledger + 1) × (result.used ≡ 0) }
+        ensures last { 2 ^ 62 < self.ledger → (result.ledger ≡ self.ledger) × (result.used ≡ self.used) }
+    {
+        if self.ledger > LAST_LEDGER {
+            return self;
+        }
+        Place {
+            ledger: self.ledger + 1,
+            used: 0,
+        }
+    }
+}

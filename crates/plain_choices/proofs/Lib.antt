@@ -1,0 +1,5 @@
+pub mod Turns
+pub mod Hashes
+mod Ends
+mod Marks
+mod Lives

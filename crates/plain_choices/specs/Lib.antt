@@ -1,0 +1,5 @@
+pub mod Due
+pub mod Turn
+pub mod Keyed
+pub mod Dying
+pub mod Live

@@ -1,0 +1,10 @@
+use Rattle.delivery_machine.specs.Words.{is_named}
+use Rattle.delivery_machine.specs.Joining.{leaving}
+use Rattle.delivery_machine.proofs.Places.{changed_there, unchanged}
+use Rattle.plain_lists.proofs.subscriptions.leave_at.Goals as goal
+
+pub returns-in-Some : goal.returns-in-Some
+returns-in-Some c = changed_there (is_named c.args.name.now) (leaving c.args.consumer) c.args.subscriptions.now c.in-Some.place c.index-subscriptions-place.result c.leave.new.self c.in-Some.ensures c.leave.ensures
+
+pub returns-in-None : goal.returns-in-None
+returns-in-None c = unchanged (is_named c.args.name.now) (leaving c.args.consumer) c.args.subscriptions.now c.in-None.ensures

@@ -1,0 +1,119 @@
+// The death of a message, and how its letter is moved to another topic.
+ghost use Rattle.std.specs.Prelude.{◌≡◌, IfOk};
+
+use crate::plain::PlainTopic;
+use delivery_machine::Reply;
+use plain_lists::{
+    DeadLetter, Member, Subscription, bury_at, leave_out_at, message_at, move_first_at,
+    subscription_at,
+};
+use position_core::{Fault, Message, Position, SubscriptionName};
+use std::alloc::AllocError;
+
+/// The letter of a message that dies at the member.
+pub(crate) fn letter_of(
+    position: Position,
+    member: &Member,
+    ordinal: u64,
+) -> Result<DeadLetter, AllocError>
+    ensures { IfOk result (λ d. d ≡ record { position = position; target = member.now.dead_topic; ordinal = ordinal }) }
+{
+    Ok(DeadLetter {
+        position,
+        target: member.dead_topic().clone()?,
+        ordinal,
+    })
+}
+
+impl PlainTopic {
+    ghost use Rattle.std.specs.Prelude.{◌≡◌, ◌<◌, ◌^◌, OnOk, OnErr, IfSome, IfNone, None, Some};
+    ghost use Rattle.delivery_machine.specs.Run.{Answers};
+    ghost use Rattle.delivery_machine.specs.Dying.{next_letter};
+    ghost use Rattle.delivery_machine.specs.declared.event.Event.TheVariants.{DeadDone, DeadNext};
+    ghost use Rattle.plain_topic.specs.StateOf.{state_of};
+    ghost use Rattle.plain_topic.specs.Letters.{buried, first_moved};
+
+    /// The letter's message dies under the topic's next ordinal. Nothing changes where there is no
+    /// memory.
+    pub(crate) fn bury(
+        &mut self,
+        name: &SubscriptionName,
+        letter: DeadLetter,
+    ) -> Result<(), AllocError>
+        requires { (state_of self.old).next_ordinal < 2 ^ 62 }
+        ensures ok { OnOk result (state_of self.new ≡ buried (state_of self.old) name.now letter) }
+        ensures err { OnErr result (state_of self.new ≡ state_of self.old) }
+    {
+        let position = letter.position;
+        bury_at(&mut self.subscriptions, name, letter)?;
+        leave_out_at(&mut self.members, name, &[position]);
+        self.next_ordinal += 1;
+        Ok(())
+    }
+
+    /// The first letter that is safe, with its message.
+    fn next_letter<'a>(
+        &'a self,
+        subscription: &'a Subscription,
+    ) -> Option<(&'a DeadLetter, &'a Message)>
+        ensures pair { IfSome result (λ p. next_letter (state_of self.entry.now) subscription.entry.now ≡ Some (p.0.now, p.1.now)) }
+        ensures none { IfNone result (next_letter (state_of self.entry.now) subscription.entry.now ≡ None) }
+    {
+        let letter = subscription.first_safe()?;
+        let message = message_at(&self.log, letter.position)?;
+        Some((letter, message))
+    }
+
+    pub(crate) fn dead_next(&self, name: &SubscriptionName) -> Reply
+        ensures { Answers (state_of self.now) (DeadNext name.now) result (state_of self.now) }
+    {
+        let Some(subscription) = subscription_at(&self.subscriptions, name) else {
+            return Reply::Refused(Fault::NoSuchSubscription);
+        };
+        let Some((letter, message)) = self.next_letter(subscription) else {
+            return Reply::NoDead;
+        };
+        let ordinal = letter.ordinal;
+        let Ok(message) = message.clone() else {
+            return Reply::Refused(Fault::NoMemory);
+        };
+        let Ok(target) = letter.target.clone() else {
+            return Reply::Refused(Fault::NoMemory);
+        };
+        Reply::Dead {
+            message,
+            target,
+            ordinal,
+        }
+    }
+
+    /// Takes out the first letter that is safe, and acknowledges its message. Nothing changes where
+    /// there is no memory.
+    fn move_first(&mut self, name: &SubscriptionName, position: Position) -> Result<(), AllocError>
+        ensures ok { OnOk result (state_of self.new ≡ first_moved (state_of self.old) name.now position) }
+        ensures err { OnErr result (state_of self.new ≡ state_of self.old) }
+    {
+        move_first_at(&mut self.subscriptions, name)?;
+        leave_out_at(&mut self.members, name, &[position]);
+        Ok(())
+    }
+
+    pub(crate) fn dead_done(&mut self, name: &SubscriptionName, ordinal: u64) -> Reply
+        ensures { Answers (state_of self.old) (DeadDone name.now ordinal) result (state_of self.new) }
+    {
+        let Some(subscription) = subscription_at(&self.subscriptions, name) else {
+            return Reply::Refused(Fault::NoSuchSubscription);
+        };
+        let Some(letter) = subscription.first_safe() else {
+            return Reply::Refused(Fault::NoSuchMessage);
+        };
+        if letter.ordinal != ordinal {
+            return Reply::Refused(Fault::NoSuchMessage);
+        }
+        let position = letter.position;
+        match self.move_first(name, position) {
+            Ok(()) => Reply::Done,
+            Err(_) => Reply::Refused(Fault::NoMemory),
+        }
+    }
+}
