@@ -6,11 +6,16 @@ use Rattle.percent_encoding.specs.Percent.{percent_encode_byte}
 use Rattle.position_core.specs.Id.{text_of}
 use Rattle.position_core.specs.declared.fault.Fault.{Fault}
 use Rattle.position_core.specs.Fault.{number_of}
+use Rattle.position_core.specs.declared.position.Position.{Position}
+use Rattle.position_core.specs.declared.kind.Kind.{Kind}
+use Rattle.position_core.specs.declared.kind.Kind.TheVariants.{Exclusive, Failover, Shared, KeyShared}
+use Rattle.position_core.specs.declared.topic_name.TopicName.{TopicName}
+use Rattle.position_core.specs.TopicName.{scheme}
 use Rattle.delivery_machine.specs.declared.delivery.Delivery.{Delivery}
 use Rattle.delivery_machine.specs.declared.event.Event.{Event}
 use Rattle.delivery_machine.specs.declared.event.Event.TheVariants.{AddProducer}
 use Rattle.delivery_machine.specs.declared.reply.Reply.{Reply}
-use Rattle.delivery_machine.specs.declared.reply.Reply.TheVariants.{ProducerAdded, Published, Duplicate, Durable, Subscribed, Done, Sent, Idle, Copies, Released, Rewound, Quiet, Refused}
+use Rattle.delivery_machine.specs.declared.reply.Reply.TheVariants.{ProducerAdded, Published, Duplicate, Durable, Progress, Subscribed, Done, Sent, Idle, Copies, Released, Died, Rewound, Quiet, Stats, Dead, NoDead, Refused}
 use Rattle.replay_lines.specs.Payloads.{payload_text}
 
 -- ---- names
@@ -40,6 +45,33 @@ producer_name event (Some number) = codes "auto-" ++ decimal number
 producer_name (AddProducer (Some name) base) None = name_text name
 producer_name event None = []
 
+-- the text of a topic, each of its names escaped
+abbrev pub target_text : TopicName → List ℕ
+target_text name = scheme ++ (escaped name.tenant ++ codes "/" ++ escaped name.namespace ++ codes "/" ++ escaped name.topic)
+
+-- ---- other words
+
+abbrev pub kind_text : Kind → List ℕ
+kind_text Exclusive = codes "Exclusive"
+kind_text Failover = codes "Failover"
+kind_text Shared = codes "Shared"
+kind_text KeyShared = codes "Key_Shared"
+
+-- `-` for none
+abbrev pub position_text : Option Position → List ℕ
+position_text None = codes "-"
+position_text (Some position) = text_of position
+
+-- what a subscription is, and how far it has come
+abbrev pub place_text : Kind → ℕ → Option Position → List ℕ
+place_text kind members mark_delete =
+    codes "stats " ++ kind_text kind ++ codes " " ++ decimal members ++ codes " " ++ position_text mark_delete
+
+-- how many of its messages are acknowledged, live, pending and dead
+abbrev pub counts_text : ℕ → ℕ → ℕ → ℕ → List ℕ
+counts_text acknowledged live pending dead =
+    codes " " ++ decimal acknowledged ++ codes " " ++ decimal live ++ codes " " ++ decimal pending ++ codes " " ++ decimal dead
+
 -- ---- replies
 
 abbrev pub refused_text : Fault → List ℕ
@@ -54,6 +86,7 @@ reply_text event (ProducerAdded producer auto last) =
 reply_text event (Published position index) = codes "published " ++ text_of position ++ codes " " ++ decimal index
 reply_text event (Duplicate index) = codes "duplicate " ++ decimal index
 reply_text event (Durable length) = codes "durable " ++ decimal length
+reply_text event (Progress durable length) = codes "progress " ++ decimal durable ++ codes " " ++ decimal length
 reply_text event (Subscribed consumer) = codes "consumer " ++ decimal consumer
 reply_text event Done = codes "done"
 reply_text event (Sent consumer position count) =
@@ -61,6 +94,12 @@ reply_text event (Sent consumer position count) =
 reply_text event Idle = codes "idle"
 reply_text event (Copies copies) = codes "copies " ++ decimal (length copies) ++ flat_map copy_text copies
 reply_text event (Released position) = codes "released " ++ text_of position
+reply_text event (Died position ordinal) = codes "died " ++ text_of position ++ codes " " ++ decimal ordinal
 reply_text event (Rewound count) = codes "rewound " ++ decimal count
 reply_text event Quiet = codes "quiet"
+reply_text event (Stats kind members mark_delete acknowledged live pending dead) =
+    place_text kind members mark_delete ++ counts_text acknowledged live pending dead
+reply_text event (Dead message target ordinal) =
+    codes "dead " ++ decimal ordinal ++ codes " " ++ text_of message.position ++ codes " " ++ target_text target
+reply_text event NoDead = codes "nodead"
 reply_text event (Refused fault) = refused_text fault

@@ -5,6 +5,7 @@ mod arguments;
 #[cfg(test)]
 mod doubles;
 mod engine;
+mod names;
 mod output;
 mod plain;
 mod printing;

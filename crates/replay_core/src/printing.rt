@@ -2,62 +2,13 @@
 ghost use Rattle.std.specs.Prelude.{◌≡◌, ℕ, ◌++◌, ◌∷◌, [], ◌<◌, OnOk, codes, flat_map, string_bytes, length};
 ghost use Rattle.std.specs.Fmt.{decimal, signed_decimal};
 ghost use Rattle.position_core.specs.Id.{text_of};
-ghost use Rattle.replay_core.specs.Printing.{is_within, is_plain, escaped_byte, escaped, name_text, producer_name, copy_text, refused_text, reply_text};
+ghost use Rattle.replay_core.specs.Printing.{producer_name, copy_text, target_text, kind_text, position_text, place_text, counts_text, refused_text, reply_text};
 
+use crate::names::{append_name, append_target};
 use delivery_machine::{Delivery, Event, Reply};
-use percent_encoding::percent_encode_byte;
-use position_core::{Fault, Position};
+use position_core::{Fault, Kind, Message, Position, TopicName};
 use replay_lines::append_payload;
 use std::alloc::AllocError;
-
-fn is_within(least: u8, most: u8, byte: u8) -> bool
-    ensures { result ≡ is_within least most byte }
-{
-    least <= byte && byte <= most
-}
-
-fn is_plain(byte: u8) -> bool
-    ensures { result ≡ is_plain byte }
-{
-    is_within(b'a', b'z', byte)
-        || is_within(b'A', b'Z', byte)
-        || is_within(b'0', b'9', byte)
-        || byte == b'-'
-        || byte == b'_'
-        || byte == b'.'
-        || byte == b'~'
-        || byte == b'/'
-        || byte == b':'
-}
-
-fn append_byte(out: &mut String, byte: u8) -> Result<(), AllocError>
-    ensures { OnOk result (string_bytes out.new ≡ string_bytes out.old ++ escaped_byte byte) }
-{
-    if is_plain(byte) {
-        out.push(char::from(byte))
-    } else {
-        out.push_str(percent_encode_byte(byte))
-    }
-}
-
-fn append_escaped(out: &mut String, name: &[u8]) -> Result<(), AllocError>
-    ensures { OnOk result (string_bytes out.new ≡ string_bytes out.old ++ escaped name.now) }
-{
-    for byte in name {
-        append_byte(out, *byte)?;
-    }
-    Ok(())
-}
-
-fn append_name(out: &mut String, name: &str) -> Result<(), AllocError>
-    ensures { OnOk result (string_bytes out.new ≡ string_bytes out.old ++ name_text name.now) }
-{
-    if name == "-" {
-        out.push_str("%2D")
-    } else {
-        append_escaped(out, name.as_bytes())
-    }
-}
 
 fn append_number(out: &mut String, number: u64) -> Result<(), AllocError>
     ensures { OnOk result (string_bytes out.new ≡ string_bytes out.old ++ decimal number) }
@@ -160,6 +111,109 @@ fn append_published(out: &mut String, position: Position, index: u64) -> Result<
     append_counted(out, " ", index)
 }
 
+fn append_progress(out: &mut String, durable: u64, length: u64) -> Result<(), AllocError>
+    ensures { OnOk result (string_bytes out.new
+        ≡ string_bytes out.old ++ (codes "progress " ++ decimal durable ++ codes " " ++ decimal length)) }
+{
+    append_counted(out, "progress ", durable)?;
+    append_counted(out, " ", length)
+}
+
+fn append_died(out: &mut String, position: Position, ordinal: u64) -> Result<(), AllocError>
+    ensures { OnOk result (string_bytes out.new
+        ≡ string_bytes out.old ++ (codes "died " ++ text_of position ++ codes " " ++ decimal ordinal)) }
+{
+    out.push_str("died ")?;
+    append_id(out, position)?;
+    append_counted(out, " ", ordinal)
+}
+
+fn append_dead(
+    out: &mut String,
+    message: &Message,
+    target: &TopicName,
+    ordinal: u64,
+) -> Result<(), AllocError>
+    ensures { OnOk result (string_bytes out.new
+        ≡ string_bytes out.old ++ (codes "dead " ++ decimal ordinal ++ codes " " ++ text_of message.now.position ++ codes " " ++ target_text target.now)) }
+{
+    append_counted(out, "dead ", ordinal)?;
+    out.push_str(" ")?;
+    append_id(out, message.position())?;
+    out.push_str(" ")?;
+    append_target(out, target)
+}
+
+fn append_kind(out: &mut String, kind: Kind) -> Result<(), AllocError>
+    ensures { OnOk result (string_bytes out.new ≡ string_bytes out.old ++ kind_text kind) }
+{
+    match kind {
+        Kind::Exclusive => out.push_str("Exclusive"),
+        Kind::Failover => out.push_str("Failover"),
+        Kind::Shared => out.push_str("Shared"),
+        Kind::KeyShared => out.push_str("Key_Shared"),
+    }
+}
+
+fn append_position(out: &mut String, position: Option<Position>) -> Result<(), AllocError>
+    ensures { OnOk result (string_bytes out.new ≡ string_bytes out.old ++ position_text position) }
+{
+    match position {
+        Some(position) => append_id(out, position),
+        None => out.push_str("-"),
+    }
+}
+
+/// Appends what a subscription is, and how far it has come.
+fn append_place(
+    out: &mut String,
+    kind: Kind,
+    members: u64,
+    mark_delete: Option<Position>,
+) -> Result<(), AllocError>
+    ensures { OnOk result (string_bytes out.new ≡ string_bytes out.old ++ place_text kind members mark_delete) }
+{
+    out.push_str("stats ")?;
+    append_kind(out, kind)?;
+    append_counted(out, " ", members)?;
+    out.push_str(" ")?;
+    append_position(out, mark_delete)
+}
+
+/// Appends how many of a subscription's messages are acknowledged, live, pending and dead.
+fn append_counts(
+    out: &mut String,
+    acknowledged: u64,
+    live: u64,
+    pending: u64,
+    dead: u64,
+) -> Result<(), AllocError>
+    ensures { OnOk result (string_bytes out.new ≡ string_bytes out.old ++ counts_text acknowledged live pending dead) }
+{
+    append_counted(out, " ", acknowledged)?;
+    append_counted(out, " ", live)?;
+    append_counted(out, " ", pending)?;
+    append_counted(out, " ", dead)
+}
+
+/// Appends the place and the counts.
+fn append_stats(
+    out: &mut String,
+    kind: Kind,
+    members: u64,
+    mark_delete: Option<Position>,
+    acknowledged: u64,
+    live: u64,
+    pending: u64,
+    dead: u64,
+) -> Result<(), AllocError>
+    ensures { OnOk result (string_bytes out.new
+        ≡ string_bytes out.old ++ (place_text kind members mark_delete ++ counts_text acknowledged live pending dead)) }
+{
+    append_place(out, kind, members, mark_delete)?;
+    append_counts(out, acknowledged, live, pending, dead)
+}
+
 fn append_released(out: &mut String, position: Position) -> Result<(), AllocError>
     ensures { OnOk result (string_bytes out.new ≡ string_bytes out.old ++ (codes "released " ++ text_of position)) }
 {
@@ -210,6 +264,7 @@ pub fn append_reply(out: &mut String, event: &Event, reply: &Reply) -> Result<()
         Reply::Published { position, index } => append_published(out, *position, *index),
         Reply::Duplicate { index } => append_counted(out, "duplicate ", *index),
         Reply::Durable(length) => append_counted(out, "durable ", *length),
+        Reply::Progress { durable, length } => append_progress(out, *durable, *length),
         Reply::Subscribed { consumer } => append_counted(out, "consumer ", *consumer),
         Reply::Done => out.push_str("done"),
         Reply::Sent {
@@ -220,8 +275,33 @@ pub fn append_reply(out: &mut String, event: &Event, reply: &Reply) -> Result<()
         Reply::Idle => out.push_str("idle"),
         Reply::Copies(copies) => append_collected(out, copies.as_slice()),
         Reply::Released { position } => append_released(out, *position),
+        Reply::Died { position, ordinal } => append_died(out, *position, *ordinal),
         Reply::Rewound { count } => append_counted(out, "rewound ", *count),
         Reply::Quiet => out.push_str("quiet"),
+        Reply::Stats {
+            kind,
+            members,
+            mark_delete,
+            acknowledged,
+            live,
+            pending,
+            dead,
+        } => append_stats(
+            out,
+            *kind,
+            *members,
+            *mark_delete,
+            *acknowledged,
+            *live,
+            *pending,
+            *dead,
+        ),
+        Reply::Dead {
+            message,
+            target,
+            ordinal,
+        } => append_dead(out, message, target, *ordinal),
+        Reply::NoDead => out.push_str("nodead"),
         Reply::Refused(fault) => append_refused(out, *fault),
     }
 }

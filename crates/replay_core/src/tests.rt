@@ -1,9 +1,14 @@
 // Worked rows, and readers and writers that fail.
 ghost use Rattle.std.specs.Prelude.{◌≤◌};
 
+mod dying;
 mod failover;
 mod keyed;
+mod producers;
+mod refusals;
+mod seeking;
 mod shared;
+mod statistics;
 
 use crate::doubles::{ByByte, Narrow};
 use crate::plain::replay;

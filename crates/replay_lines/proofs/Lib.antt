@@ -4,3 +4,4 @@ pub mod Partings
 pub mod BaseLemmas
 pub mod Commands
 pub mod ByWords
+pub mod Deaths

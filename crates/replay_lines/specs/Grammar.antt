@@ -1,15 +1,17 @@
 -- What each line stands for.
-use Rattle.std.specs.Prelude.{◌≡◌, ℕ, ℤ, List, [], ◌∷◌, ◌++◌, ◌<◌, ◌≤◌, ◌^◌, length, codes, Option}
+use Rattle.std.specs.Prelude.{◌≡◌, ℕ, ℤ, List, [], ◌∷◌, ◌++◌, ◌<◌, ◌≤◌, ◌^◌, length, codes, Option, Some, None}
 use Rattle.position_core.specs.declared.topic_name.TopicName.{TopicName}
 use Rattle.position_core.specs.declared.position.Position.{Position}
 use Rattle.position_core.specs.declared.body.Content.{Content}
 use Rattle.position_core.specs.Id.{text_of}
 use Rattle.delivery_machine.specs.declared.event.Event.{Event}
-use Rattle.delivery_machine.specs.declared.event.Event.TheVariants.{AddProducer, Publish, Stored, Subscribe, Leave, Permit, Ack, AckUpTo, Nack, Tick, Dispatch, Collect}
+use Rattle.delivery_machine.specs.declared.event.Event.TheVariants.{AddProducer, DropProducer, Publish, Stored, Progress, Subscribe, Leave, Permit, Ack, AckUpTo, Nack, Tick, Seek, SeekTime, Skip, DropSubscription, Stats, Dispatch, Collect, DeadNext, DeadDone}
 use Rattle.position_core.specs.declared.kind.Kind.{Kind}
 use Rattle.position_core.specs.declared.kind.Kind.TheVariants.{Exclusive, Failover, Shared, KeyShared}
 use Rattle.position_core.specs.declared.flow.Flow.{Flow}
 use Rattle.position_core.specs.declared.flow.Flow.TheVariants.{Window, Credit}
+use Rattle.delivery_machine.specs.declared.event.Target.{Target}
+use Rattle.delivery_machine.specs.declared.event.Target.TheVariants as targets
 use Rattle.delivery_machine.specs.declared.event.Initial.{Initial}
 use Rattle.delivery_machine.specs.declared.event.Initial.TheVariants.{Earliest, Latest}
 use Rattle.replay_lines.specs.declared.command.Command.{Command}
@@ -18,7 +20,7 @@ use Rattle.replay_lines.specs.declared.reading.Line.{Line}
 use Rattle.replay_lines.specs.declared.reading.Line.TheVariants as lines
 use Rattle.replay_lines.specs.Parting.{NoneEmpty, words_of}
 use Rattle.replay_lines.specs.Numbers.{IsNumber, IsSequence, IsBase, IsMoment, IsBetween}
-use Rattle.replay_lines.specs.Names.{IsNameWord, IsProducerWord, IsKeyWord, IsTopicWord}
+use Rattle.replay_lines.specs.Names.{IsNameWord, IsProducerWord, IsKeyWord, IsDeadTopic}
 use Rattle.replay_lines.specs.Payloads.{IsPayload}
 
 -- how many bytes a line may have
@@ -40,6 +42,15 @@ command_text commands.Nack = codes "nack"
 command_text commands.Tick = codes "tick"
 command_text commands.Dispatch = codes "dispatch"
 command_text commands.Collect = codes "collect"
+command_text commands.DropProducer = codes "drop"
+command_text commands.Progress = codes "progress"
+command_text commands.Seek = codes "seek"
+command_text commands.SeekTime = codes "seektime"
+command_text commands.Skip = codes "skip"
+command_text commands.DropSubscription = codes "dropsub"
+command_text commands.Stats = codes "stats"
+command_text commands.DeadNext = codes "deadnext"
+command_text commands.DeadDone = codes "deaddone"
 
 abbrev pub IsKind : List ℕ → Kind → Type 0
 IsKind word Exclusive = word ≡ codes "Exclusive"
@@ -55,9 +66,23 @@ abbrev pub IsInitial : List ℕ → Initial → Type 0
 IsInitial word Earliest = word ≡ codes "Earliest"
 IsInitial word Latest = word ≡ codes "Latest"
 
+-- the word says where to go on from; without a target it says nothing, and is no id
+abbrev pub IsTarget : List ℕ → Option Target → Type 0
+IsTarget word (Some targets.Earliest) = word ≡ codes "earliest"
+IsTarget word (Some targets.Latest) = word ≡ codes "latest"
+IsTarget word (Some (targets.At position)) = word ≡ text_of position
+IsTarget word None =
+    (word ≡ codes "earliest" → ⊥) × (word ≡ codes "latest" → ⊥)
+    × ((position : Position) → position.ledger < 2 ^ 64 → position.entry < 2 ^ 64 → word ≡ text_of position → ⊥)
+
 -- the words are those of the body's key and payload
 abbrev pub IsBody : List ℕ → List ℕ → Content → Type 0
 IsBody key payload body = IsKeyWord key body.key × (body.properties ≡ []) × IsPayload payload body.payload
+
+-- the words say how often a message is sent again before it dies, and to which topic it goes then
+abbrev pub IsDeath : TopicName → List ℕ → List ℕ → List ℕ → ℕ × TopicName → Type 0
+IsDeath this subscription limit target death =
+    IsBetween 0 1000000 limit death.0 × IsDeadTopic this subscription death.0 target death.1
 
 -- ---- lines
 
@@ -65,6 +90,11 @@ IsBody key payload body = IsKeyWord key body.key × (body.properties ≡ []) × 
 abbrev pub IsById : (Position → Event) → List ℕ → Line → Type 0
 IsById event_at id (lines.Event event) = (position : Position) × (id ≡ text_of position) × (event ≡ event_at position)
 IsById event_at id lines.BadId = (position : Position) → position.ledger < 2 ^ 64 → position.entry < 2 ^ 64 → id ≡ text_of position → ⊥
+
+-- the line of a seek: a word that says nothing is a bad id
+abbrev pub seek_line : List ℕ → Option Target → Line
+seek_line name (Some target) = lines.Event (Seek name target)
+seek_line name None = lines.BadId
 
 -- what a line of the command stands for by its further words
 abbrev pub IsLineOf : TopicName → Command → List (List ℕ) → Line → Type 0
@@ -78,11 +108,12 @@ IsLineOf this commands.Publish words line =
     × (line ≡ lines.Event (Publish producer sequence body now))
 IsLineOf this commands.Stored words line = (words ≡ []) × (line ≡ lines.Event Stored)
 IsLineOf this commands.Subscribe words line =
-    (s k l f a n d i : List ℕ) × (name : List ℕ) × (kind : Kind) × (level : ℕ) × (flow : Flow) × (ack_timeout nack_delay : ℕ) × (dead_topic : TopicName) × (initial : Initial)
-    × (words ≡ s ∷ k ∷ l ∷ f ∷ a ∷ n ∷ codes "0" ∷ d ∷ i ∷ [])
+    (s k l f a n m d i : List ℕ) × (name : List ℕ) × (kind : Kind) × (level : ℕ) × (flow : Flow) × (ack_timeout nack_delay max_redeliver : ℕ) × (dead_topic : TopicName) × (initial : Initial)
+    × (words ≡ s ∷ k ∷ l ∷ f ∷ a ∷ n ∷ m ∷ d ∷ i ∷ [])
     × IsNameWord s name × IsKind k kind × IsBetween 0 2147483647 l level × IsFlow f flow
-    × IsBetween 0 2147483647 a ack_timeout × IsBetween 0 2147483647 n nack_delay × IsTopicWord this d dead_topic × IsInitial i initial
-    × (line ≡ lines.Event (Subscribe name kind level flow ack_timeout nack_delay 0 dead_topic initial))
+    × IsBetween 0 2147483647 a ack_timeout × IsBetween 0 2147483647 n nack_delay
+    × IsDeath this name m d (max_redeliver, dead_topic) × IsInitial i initial
+    × (line ≡ lines.Event (Subscribe name kind level flow ack_timeout nack_delay max_redeliver dead_topic initial))
 IsLineOf this commands.Leave words line =
     (c : List ℕ) × (consumer : ℕ) × (words ≡ c ∷ [])
     × IsNumber c consumer
@@ -112,6 +143,39 @@ IsLineOf this commands.Collect words line =
     (c : List ℕ) × (consumer : ℕ) × (words ≡ c ∷ [])
     × IsNumber c consumer
     × (line ≡ lines.Event (Collect consumer))
+IsLineOf this commands.DropProducer words line =
+    (p : List ℕ) × (producer : ℕ) × (words ≡ p ∷ [])
+    × IsNumber p producer
+    × (line ≡ lines.Event (DropProducer producer))
+IsLineOf this commands.Progress words line = (words ≡ []) × (line ≡ lines.Event Progress)
+IsLineOf this commands.Seek words line =
+    (s w : List ℕ) × (name : List ℕ) × (target : Option Target) × (words ≡ s ∷ w ∷ [])
+    × IsNameWord s name × IsTarget w target
+    × (line ≡ seek_line name target)
+IsLineOf this commands.SeekTime words line =
+    (s n : List ℕ) × (name : List ℕ) × (time : ℕ) × (words ≡ s ∷ n ∷ [])
+    × IsNameWord s name × IsMoment n time
+    × (line ≡ lines.Event (SeekTime name time))
+IsLineOf this commands.Skip words line =
+    (s n : List ℕ) × (name : List ℕ) × (count : ℕ) × (words ≡ s ∷ n ∷ [])
+    × IsNameWord s name × IsBetween 0 2147483647 n count
+    × (line ≡ lines.Event (Skip name count))
+IsLineOf this commands.DropSubscription words line =
+    (s : List ℕ) × (name : List ℕ) × (words ≡ s ∷ [])
+    × IsNameWord s name
+    × (line ≡ lines.Event (DropSubscription name))
+IsLineOf this commands.Stats words line =
+    (s : List ℕ) × (name : List ℕ) × (words ≡ s ∷ [])
+    × IsNameWord s name
+    × (line ≡ lines.Event (Stats name))
+IsLineOf this commands.DeadNext words line =
+    (s : List ℕ) × (name : List ℕ) × (words ≡ s ∷ [])
+    × IsNameWord s name
+    × (line ≡ lines.Event (DeadNext name))
+IsLineOf this commands.DeadDone words line =
+    (s n : List ℕ) × (name : List ℕ) × (ordinal : ℕ) × (words ≡ s ∷ n ∷ [])
+    × IsNameWord s name × IsNumber n ordinal
+    × (line ≡ lines.Event (DeadDone name ordinal))
 
 -- none of the words is empty, and with the command they stand for the line
 abbrev pub Complete : TopicName → Command → List (List ℕ) → Line → Type 0

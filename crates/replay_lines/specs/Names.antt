@@ -1,5 +1,5 @@
 -- Words that are names and keys, which are percent-decoded.
-use Rattle.std.specs.Prelude.{◌≡◌, ℕ, ◌≤◌, List, length, Option, Some, None, ◌⊎◌, IsTrue, IsUtf8, codes}
+use Rattle.std.specs.Prelude.{◌≡◌, ℕ, zero, suc, ◌≤◌, List, ◌++◌, length, Option, Some, None, ◌⊎◌, IsTrue, IsUtf8, codes}
 use Rattle.percent_encoding.specs.Percent.{percent_decode}
 use Rattle.position_core.specs.Name.{is_name}
 use Rattle.position_core.specs.TopicName.{topic_text}
@@ -23,6 +23,22 @@ IsKeyWord word (Some key) = IsText word key × (length key ≤ 1024)
 abbrev pub AreNames : TopicName → Type 0
 AreNames name = IsTrue (is_name name.tenant) × IsTrue (is_name name.namespace) × IsTrue (is_name name.topic)
 
--- `-` stands for the topic itself
-unfoldable pub IsTopicWord : TopicName → List ℕ → TopicName → Type 0
-IsTopicWord this word name = ((word ≡ codes "-") × (name ≡ this)) ⊎ (IsText word (topic_text name) × AreNames name)
+abbrev pub IsTopicWord : List ℕ → TopicName → Type 0
+IsTopicWord word name = IsText word (topic_text name) × AreNames name
+
+-- where the subscription's messages go that die, if nothing else is said
+abbrev pub default_topic : TopicName → List ℕ → TopicName
+default_topic this subscription = record this { topic = this.topic ++ codes "-" ++ subscription ++ codes "-DLQ" }
+
+-- the default is a topic only where its name is one
+abbrev pub IsDefaultTopic : TopicName → List ℕ → TopicName → Type 0
+IsDefaultTopic this subscription name = (name ≡ default_topic this subscription) × IsTrue (is_name name.topic)
+
+-- what `-` stands for: the topic itself where no message dies, and else the default
+abbrev pub IsUnsaidTopic : TopicName → List ℕ → ℕ → TopicName → Type 0
+IsUnsaidTopic this subscription zero name = name ≡ this
+IsUnsaidTopic this subscription (suc limit) name = IsDefaultTopic this subscription name
+
+unfoldable pub IsDeadTopic : TopicName → List ℕ → ℕ → List ℕ → TopicName → Type 0
+IsDeadTopic this subscription limit word name =
+    ((word ≡ codes "-") × IsUnsaidTopic this subscription limit name) ⊎ IsTopicWord word name

@@ -20,10 +20,19 @@ pub enum Command {
     Tick,
     Dispatch,
     Collect,
+    DropProducer,
+    Progress,
+    Seek,
+    SeekTime,
+    Skip,
+    DropSubscription,
+    Stats,
+    DeadNext,
+    DeadDone,
 }
 
 /// Each command, in the order in which they are tried.
-const ALL: [Command; 12] = [
+const ALL: [Command; 21] = [
     Command::Producer,
     Command::Publish,
     Command::Stored,
@@ -36,6 +45,15 @@ const ALL: [Command; 12] = [
     Command::Tick,
     Command::Dispatch,
     Command::Collect,
+    Command::DropProducer,
+    Command::Progress,
+    Command::Seek,
+    Command::SeekTime,
+    Command::Skip,
+    Command::DropSubscription,
+    Command::Stats,
+    Command::DeadNext,
+    Command::DeadDone,
 ];
 
 impl Command {
@@ -57,6 +75,15 @@ impl Command {
             Command::Tick => b"tick",
             Command::Dispatch => b"dispatch",
             Command::Collect => b"collect",
+            Command::DropProducer => b"drop",
+            Command::Progress => b"progress",
+            Command::Seek => b"seek",
+            Command::SeekTime => b"seektime",
+            Command::Skip => b"skip",
+            Command::DropSubscription => b"dropsub",
+            Command::Stats => b"stats",
+            Command::DeadNext => b"deadnext",
+            Command::DeadDone => b"deaddone",
         }
     }
 }

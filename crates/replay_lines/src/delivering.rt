@@ -15,7 +15,7 @@ use position_core::Position;
 use std::alloc::Global;
 
 /// The line of an id that is none.
-fn bad_id() -> Result<Line, Unread>
+pub fn bad_id() -> Result<Line, Unread>
     ensures { result ≡ Ok BadId }
 {
     Ok(Line::BadId)

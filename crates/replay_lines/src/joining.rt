@@ -1,15 +1,15 @@
 // The lines of consumers who join and leave.
-ghost use Rattle.std.specs.Prelude.{◌≡◌, codes};
 ghost use Rattle.replay_lines.specs.Reads.{Reads, ReadsAtOnce};
 ghost use Rattle.replay_lines.specs.Grammar.{Complete, IsFlow, IsInitial, IsKind};
 
 use crate::command::Command;
-use crate::names::{read_name, read_topic};
+use crate::dying::read_death;
+use crate::names::read_name;
 use crate::numbers::{read_bounded, read_number};
 use crate::reading::Line;
 use crate::words::{Unread, Words};
 use delivery_machine::{Event, Flow, Initial, Kind};
-use position_core::{Credit, RedeliverLimit, TopicName};
+use position_core::{Credit, TopicName};
 use std::alloc::Global;
 
 fn read_kind(word: &[u8]) -> Result<Kind, Unread>
@@ -40,16 +40,6 @@ fn read_flow(word: &[u8]) -> Result<Flow, Unread>
     match word.strip_prefix(b"push:") {
         Some(number) => Ok(Flow::Window(read_bounded(number)?)),
         None => Err(Unread::BadLine),
-    }
-}
-
-/// No message dies as yet.
-fn read_limit(word: &[u8]) -> Result<RedeliverLimit, Unread>
-    ensures { ReadsAtOnce (λ limit. (word.now ≡ codes "0") × (limit ≡ 0)) result }
-{
-    match word {
-        b"0" => RedeliverLimit::new(0).ok_or(Unread::BadLine),
-        _ => Err(Unread::BadLine),
     }
 }
 
@@ -88,15 +78,23 @@ pub fn read_subscribe(alloc: Global, this: &TopicName, mut words: Words<'_>) -> 
     let (subscription, kind, level) = words.take_three()?;
     let (flow, ack_timeout, nack_delay) = words.take_three()?;
     let (max_redeliver, dead_topic, initial) = words.three()?;
+    let subscription = read_name(alloc, subscription)?;
+    let (max_redeliver, dead_topic) = read_death(
+        alloc,
+        this,
+        &subscription,
+        max_redeliver,
+        dead_topic,
+    )?;
     Ok(Line::Event(Event::Subscribe {
         kind: read_kind(kind)?,
         level: read_bounded(level)?,
         flow: read_flow(flow)?,
         ack_timeout: read_bounded(ack_timeout)?,
         nack_delay: read_bounded(nack_delay)?,
-        max_redeliver: read_limit(max_redeliver)?,
         initial: read_initial(initial)?,
-        subscription: read_name(alloc, subscription)?,
-        dead_topic: read_topic(alloc, dead_topic, this)?,
+        subscription,
+        max_redeliver,
+        dead_topic,
     }))
 }

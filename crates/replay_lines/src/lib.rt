@@ -3,6 +3,7 @@
 
 mod command;
 mod delivering;
+mod dying;
 mod joining;
 mod names;
 mod numbers;
@@ -10,6 +11,7 @@ mod parting;
 mod payloads;
 mod producing;
 mod reading;
+mod seeking;
 #[cfg(test)]
 mod tests;
 mod words;

@@ -66,14 +66,9 @@ pub fn read_key(alloc: Global, word: &[u8]) -> Result<Option<Key>, Unread>
     }
 }
 
-/// `this` where the word is `-`.
-#[tactic(auto, unfolding(crate::specs::Names::IsTopicWord))]
-pub fn read_topic(alloc: Global, word: &[u8], this: &TopicName) -> Result<TopicName, Unread>
-    ensures { Reads (IsTopicWord this.now word.now) result }
+pub fn read_topic(alloc: Global, word: &[u8]) -> Result<TopicName, Unread>
+    ensures { Reads (IsTopicWord word.now) result }
 {
-    if is_none(word) {
-        return Ok(this.clone()?);
-    }
     let text = decoded(alloc, word)?;
     match TopicName::from_text(alloc, text.as_str())? {
         Some(name) => Ok(name),

@@ -23,6 +23,13 @@ pub fn read_producer(alloc: Global, words: Words<'_>) -> Result<Line, Unread>
     }))
 }
 
+pub fn read_drop_producer(words: Words<'_>) -> Result<Line, Unread>
+    ensures { (this : TopicName) → Reads (Complete this Command.DropProducer words.entry) result }
+{
+    let producer = read_number(words.one()?)?;
+    Ok(Line::Event(Event::DropProducer { producer }))
+}
+
 /// Reads the words of a key and of a payload.
 fn read_body(alloc: Global, key: &[u8], payload: &[u8]) -> Result<Body, Unread>
     ensures { Reads (IsBody key.now payload.now) result }
@@ -53,4 +60,11 @@ pub fn read_stored(words: Words<'_>) -> Result<Line, Unread>
 {
     words.end()?;
     Ok(Line::Event(Event::Stored))
+}
+
+pub fn read_progress(words: Words<'_>) -> Result<Line, Unread>
+    ensures { (this : TopicName) → Reads (Complete this Command.Progress words.entry) result }
+{
+    words.end()?;
+    Ok(Line::Event(Event::Progress))
 }

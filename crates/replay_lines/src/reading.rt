@@ -7,8 +7,12 @@ use crate::command::{Command, read_command};
 use crate::delivering::{
     read_ack, read_ack_up_to, read_collect, read_dispatch, read_nack, read_tick,
 };
+use crate::dying::{read_dead_done, read_dead_next};
 use crate::joining::{read_leave, read_permit, read_subscribe};
-use crate::producing::{read_producer, read_publish, read_stored};
+use crate::producing::{
+    read_drop_producer, read_producer, read_progress, read_publish, read_stored,
+};
+use crate::seeking::{read_drop_subscription, read_seek, read_seek_time, read_skip, read_stats};
 use crate::words::{Unread, Words};
 use delivery_machine::Event;
 use position_core::TopicName;
@@ -47,6 +51,15 @@ fn read_rest(
         Command::Tick => read_tick(alloc, words),
         Command::Dispatch => read_dispatch(alloc, words),
         Command::Collect => read_collect(words),
+        Command::DropProducer => read_drop_producer(words),
+        Command::Progress => read_progress(words),
+        Command::Seek => read_seek(alloc, words),
+        Command::SeekTime => read_seek_time(alloc, words),
+        Command::Skip => read_skip(alloc, words),
+        Command::DropSubscription => read_drop_subscription(alloc, words),
+        Command::Stats => read_stats(alloc, words),
+        Command::DeadNext => read_dead_next(alloc, words),
+        Command::DeadDone => read_dead_done(alloc, words),
     }
 }
 

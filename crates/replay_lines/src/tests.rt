@@ -1,6 +1,7 @@
 // Lines that stand for events, and lines that stand for nothing.
 use crate::reading::{Line, read_line};
 use crate::words::Unread;
+use delivery_machine::Event;
 use position_core::TopicName;
 use std::process::Abort;
 
@@ -22,7 +23,7 @@ fn check_bad<R: Abort + AllocGlobal>(rt: &R, lines: &[&[u8]]) {
 #[test]
 fn good_lines(rt: HostRuntime) {
     let this = this_topic(&rt);
-    let lines: [&[u8]; 17] = [
+    let lines: [&[u8]; 30] = [
         b"producer - -",
         b"producer a%20b 4611686018427387904",
         b"publish 1 9223372036854775807 k aGk= 253402300799999",
@@ -40,18 +41,33 @@ fn good_lines(rt: HostRuntime) {
         b"tick s 0",
         b"dispatch s 0",
         b"collect 0",
+        b"drop 1",
+        b"progress",
+        b"subscribe s Shared 0 push:1 0 0 1000000 persistent://a/b/c%20d Earliest",
+        b"subscribe s Key_Shared 0 push:1 0 0 1 - Earliest",
+        b"seek s earliest",
+        b"seek s latest",
+        b"seek s CAAQAA==",
+        b"seektime s 253402300799999",
+        b"skip s 2147483647",
+        b"dropsub s",
+        b"stats s",
+        b"deadnext s",
+        b"deaddone s 18446744073709551615",
     ];
     for line in lines {
         let read = read_line(rt.alloc(), &this, line);
         assert!(rt; matches!(read, Ok(Line::Event(_))), "{line:?}");
     }
-    let read = read_line(rt.alloc(), &this, b"ack 1 x");
-    assert!(rt; matches!(read, Ok(Line::BadId)));
+    for line in [b"ack 1 x".as_slice(), b"seek s Earliest", b"seek s 0-1"] {
+        let read = read_line(rt.alloc(), &this, line);
+        assert!(rt; matches!(read, Ok(Line::BadId)), "{line:?}");
+    }
 }
 
 #[test]
 fn bad_lines(rt: HostRuntime) {
-    let lines: [&[u8]; 39] = [
+    let lines: [&[u8]; 54] = [
         b"",
         b" ",
         b"stored ",
@@ -59,7 +75,6 @@ fn bad_lines(rt: HostRuntime) {
         b"stored  ",
         b"stored\r",
         b"Stored",
-        b"restart",
         b"stored 1",
         b"producer p",
         b"producer p - ",
@@ -90,14 +105,30 @@ fn bad_lines(rt: HostRuntime) {
         b"leave -",
         b"permit 1 0",
         b"permit 1 2147483648",
-        b"stats s",
+        b"restart",
+        b"drop",
+        b"drop -",
+        b"progress 1",
+        b"seek s",
+        b"seek - x",
+        b"seek a%2Fb x",
+        b"seek s earliest ",
+        b"seektime s 253402300800000",
+        b"seektime s latest",
+        b"skip s -1",
+        b"skip s 2147483648",
+        b"dropsub",
+        b"stats s t",
+        b"deadnext -",
+        b"deaddone s 18446744073709551616",
+        b"deaddone s",
     ];
     check_bad(&rt, &lines);
 }
 
 #[test]
 fn bad_subscribes(rt: HostRuntime) {
-    let lines: [&[u8]; 16] = [
+    let lines: [&[u8]; 18] = [
         b"subscribe s KeyShared 0 push:1000 0 60000 0 - Earliest",
         b"subscribe s shared 0 push:1000 0 60000 0 - Earliest",
         b"subscribe s Exclusive 2147483648 push:1000 0 60000 0 - Earliest",
@@ -107,7 +138,9 @@ fn bad_subscribes(rt: HostRuntime) {
         b"subscribe s Exclusive 0 push:01 0 60000 0 - Earliest",
         b"subscribe s Exclusive 0 pull:1 0 60000 0 - Earliest",
         b"subscribe s Exclusive 0 Pull 0 60000 0 - Earliest",
-        b"subscribe s Exclusive 0 push:1 0 60000 1 - Earliest",
+        b"subscribe s Exclusive 0 push:1 0 60000 1000001 - Earliest",
+        b"subscribe s Exclusive 0 push:1 0 60000 01 - Earliest",
+        b"subscribe s Exclusive 0 push:1 0 60000 1 t Earliest",
         b"subscribe s Exclusive 0 push:1 0 60000 - - Earliest",
         b"subscribe s Exclusive 0 push:1 0 60000 0 t Earliest",
         b"subscribe s Exclusive 0 push:1 0 60000 0 - earliest",
@@ -116,4 +149,52 @@ fn bad_subscribes(rt: HostRuntime) {
         b"subscribe s Exclusive 0 push:1 0 60000 0 - Latest 0-1",
     ];
     check_bad(&rt, &lines);
+}
+
+/// The topic that the line's dead letters go to, as its three parts.
+fn check_target<R: Abort + AllocGlobal>(rt: &R, line: &[u8], parts: [&str; 3]) {
+    let read = read_line(rt.alloc(), &this_topic(rt), line);
+    let Ok(Line::Event(Event::Subscribe { dead_topic, .. })) = read else {
+        panic!(rt; "no subscription");
+    };
+    assert!(rt; dead_topic.tenant.as_str() == parts[0]);
+    assert!(rt; dead_topic.namespace.as_str() == parts[1]);
+    assert!(rt; dead_topic.topic.as_str() == parts[2], "{line:?}");
+}
+
+#[test]
+fn dead_topics(rt: HostRuntime) {
+    check_target(
+        &rt,
+        b"subscribe s Shared 0 pull 0 0 0 - Latest",
+        ["public", "default", "t"],
+    );
+    check_target(
+        &rt,
+        b"subscribe a%20s Shared 0 pull 0 0 3 - Latest",
+        ["public", "default", "t-a s-DLQ"],
+    );
+    check_target(
+        &rt,
+        b"subscribe s Shared 0 pull 0 0 3 persistent://a/b/c%20d Latest",
+        ["a", "b", "c d"],
+    );
+}
+
+/// A default dead topic of 255 bytes is a name, and one of 256 makes a bad line.
+#[test]
+fn long_dead_topics(rt: HostRuntime) {
+    let this = this_topic(&rt);
+    for (length, dies, is_read) in [(249, true, true), (250, true, false), (250, false, true)] {
+        let mut line = b"subscribe ".to_vec(rt.alloc()).expect(&rt, "no memory");
+        line.resize(10 + length, b'x').expect(&rt, "no memory");
+        let rest: &[u8] = if dies {
+            b" Shared 0 pull 0 0 1 - Latest"
+        } else {
+            b" Shared 0 pull 0 0 0 - Latest"
+        };
+        line.extend_from_slice(rest).expect(&rt, "no memory");
+        let read = read_line(rt.alloc(), &this, line.as_slice());
+        assert!(rt; matches!(read, Ok(Line::Event(_))) == is_read);
+    }
 }

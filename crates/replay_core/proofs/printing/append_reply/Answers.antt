@@ -39,3 +39,18 @@ returns-in-Rewound c = rw c.in-Rewound.is (search rules)
 
 pub returns-in-Quiet : goal.returns-in-Quiet
 returns-in-Quiet c = rw c.in-Quiet.is (search rules)
+
+pub returns-in-Progress : goal.returns-in-Progress
+returns-in-Progress c = rw c.in-Progress.is (search rules)
+
+pub returns-in-Died : goal.returns-in-Died
+returns-in-Died c = rw c.in-Died.is (search rules)
+
+pub returns-in-Stats : goal.returns-in-Stats
+returns-in-Stats c = rw c.in-Stats.is (search rules)
+
+pub returns-in-Dead : goal.returns-in-Dead
+returns-in-Dead c = rw c.in-Dead.is (search rules)
+
+pub returns-in-NoDead : goal.returns-in-NoDead
+returns-in-NoDead c = rw c.in-NoDead.is (search rules)

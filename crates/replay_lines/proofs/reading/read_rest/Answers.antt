@@ -35,3 +35,30 @@ returns-in-Nack c = rw c.in-Nack.is (c.read_nack.ensures c.args.this.now)
 
 pub returns-in-Tick : goal.returns-in-Tick
 returns-in-Tick c = rw c.in-Tick.is (c.read_tick.ensures c.args.this.now)
+
+pub returns-in-DropProducer : goal.returns-in-DropProducer
+returns-in-DropProducer c = rw c.in-DropProducer.is (c.read_drop_producer.ensures c.args.this.now)
+
+pub returns-in-Progress : goal.returns-in-Progress
+returns-in-Progress c = rw c.in-Progress.is (c.read_progress.ensures c.args.this.now)
+
+pub returns-in-Seek : goal.returns-in-Seek
+returns-in-Seek c = rw c.in-Seek.is (c.read_seek.ensures c.args.this.now)
+
+pub returns-in-SeekTime : goal.returns-in-SeekTime
+returns-in-SeekTime c = rw c.in-SeekTime.is (c.read_seek_time.ensures c.args.this.now)
+
+pub returns-in-Skip : goal.returns-in-Skip
+returns-in-Skip c = rw c.in-Skip.is (c.read_skip.ensures c.args.this.now)
+
+pub returns-in-DropSubscription : goal.returns-in-DropSubscription
+returns-in-DropSubscription c = rw c.in-DropSubscription.is (c.read_drop_subscription.ensures c.args.this.now)
+
+pub returns-in-Stats : goal.returns-in-Stats
+returns-in-Stats c = rw c.in-Stats.is (c.read_stats.ensures c.args.this.now)
+
+pub returns-in-DeadNext : goal.returns-in-DeadNext
+returns-in-DeadNext c = rw c.in-DeadNext.is (c.read_dead_next.ensures c.args.this.now)
+
+pub returns-in-DeadDone : goal.returns-in-DeadDone
+returns-in-DeadDone c = rw c.in-DeadDone.is (c.read_dead_done.ensures c.args.this.now)
