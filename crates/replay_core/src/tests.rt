@@ -6,6 +6,7 @@ mod failover;
 mod keyed;
 mod producers;
 mod refusals;
+mod rows;
 mod seeking;
 mod shared;
 mod statistics;
@@ -14,6 +15,7 @@ use crate::doubles::{ByByte, Narrow};
 use crate::plain::replay;
 use crate::stop::{Stop, status};
 use position_core::LedgerSize;
+use rows::check_rows;
 use std::io::Read;
 use std::process::Abort;
 
@@ -58,12 +60,6 @@ fn check<R: Abort + AllocGlobal>(rt: &R, input: &[u8], output: &[u8], ended: End
     check_read(rt, &mut reader, output, ended);
 }
 
-fn after<R: Abort + AllocGlobal>(rt: &R, first: &[u8], then: &[u8]) -> Vec<u8> {
-    let mut text = first.to_vec(rt.alloc()).expect(rt, "no memory");
-    text.extend_from_slice(then).expect(rt, "no memory");
-    text
-}
-
 #[test]
 fn first_row(rt: HostRuntime) {
     check(&rt, FIRST_ROW, FIRST_REPLIES, Ok(()));
@@ -71,36 +67,24 @@ fn first_row(rt: HostRuntime) {
 
 #[test]
 fn nothing_to_dispatch_before_stored(rt: HostRuntime) {
-    let input = b"producer p -
-publish 1 0 - aGk= 1000
-subscribe s Exclusive 0 push:1000 0 60000 0 - Earliest
-dispatch s 1000
+    let rows = "producer p - -> producer 1 p -1
+publish 1 0 - aGk= 1000 -> published CAAQAA== 1
+subscribe s Exclusive 0 push:1000 0 60000 0 - Earliest -> consumer 1
+dispatch s 1000 -> idle
 ";
-    let output = b"producer 1 p -1
-published CAAQAA== 1
-consumer 1
-idle
-";
-    check(&rt, input, output, Ok(()));
+    check_rows(&rt, &[rows]);
 }
 
 #[test]
 fn second_exclusive_member(rt: HostRuntime) {
-    let input = b"subscribe s Exclusive 0 push:1000 0 60000 0 - Earliest
-subscribe s Exclusive 0 push:1000 0 60000 0 - Earliest
-ack 1 CAAQAw==
-ack 1 CIAAEAM=
-ack 1 CAAQAw
-ack 2 CAAQAw==
+    let rows = "subscribe s Exclusive 0 push:1000 0 60000 0 - Earliest -> consumer 1
+subscribe s Exclusive 0 push:1000 0 60000 0 - Earliest -> refused F6
+ack 1 CAAQAw== -> refused F8
+ack 1 CIAAEAM= -> refused F17
+ack 1 CAAQAw -> refused F17
+ack 2 CAAQAw== -> refused F3
 ";
-    let output = b"consumer 1
-refused F6
-refused F8
-refused F17
-refused F17
-refused F3
-";
-    check(&rt, input, output, Ok(()));
+    check_rows(&rt, &[rows]);
 }
 
 #[test]

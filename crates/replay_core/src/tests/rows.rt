@@ -1,0 +1,46 @@
+// Lines with the replies that they have, as `line -> reply`, and how many topics begin.
+use super::check;
+use std::io::BufRead;
+use std::process::Abort;
+
+/// One message that is stored.
+pub(super) const ONE: &str = "producer p - -> producer 1 p -1
+publish 1 0 - aGk= 1000 -> published CAAQAA== 1
+stored -> durable 1
+";
+
+/// Two messages that are stored.
+pub(super) const TWO: &str = "producer p - -> producer 1 p -1
+publish 1 0 - aGk= 1000 -> published CAAQAA== 1
+publish 1 1 - aGk= 1000 -> published CAAQAQ== 2
+stored -> durable 2
+";
+
+/// Three messages that are stored.
+pub(super) const THREE: &str = "producer p - -> producer 1 p -1
+publish 1 0 - aGk= 1000 -> published CAAQAA== 1
+publish 1 1 - aGk= 1000 -> published CAAQAQ== 2
+publish 1 2 - aGk= 1000 -> published CAAQAg== 3
+stored -> durable 3
+";
+
+fn push_line<R: Abort + AllocGlobal>(rt: &R, text: &mut Vec<u8>, line: &str) {
+    text.extend_from_slice(line.as_bytes())
+        .expect(rt, "no memory");
+    text.push(b'\n').expect(rt, "no memory");
+}
+
+/// Replays the lines of all rows, and compares the replies.
+pub(super) fn check_rows<R: Abort + AllocGlobal>(rt: &R, rows: &[&str]) {
+    let mut input = Vec::new(rt.alloc());
+    let mut output = Vec::new(rt.alloc());
+    for row in rows {
+        for line in row.as_bytes().lines(rt.alloc()) {
+            let line = line.expect(rt, "no text");
+            let (line, reply) = line.as_str().split_once(" -> ").expect(rt, "no reply");
+            push_line(rt, &mut input, line);
+            push_line(rt, &mut output, reply);
+        }
+    }
+    check(rt, input.as_slice(), output.as_slice(), Ok(()));
+}
