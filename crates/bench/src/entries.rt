@@ -12,131 +12,158 @@ use std::io;
 use std::sync::ArcStr;
 use std::time::Instant;
 
-/// What the messages have in common.
+/// A log, and what the messages that come to it have in common.
 #[derive(Drop)]
-struct Sender {
+struct Filling {
+    log: EntryLog,
     producer: ProducerName,
     time: Moment,
     body: Body,
 }
 
-fn new_sender(alloc: Global) -> io::Result<Sender> {
+fn empty_body(alloc: Global) -> io::Result<Body> {
     let content = Content {
         key: None,
         properties: Properties::none(alloc),
         payload: Payload::new(Vec::new(alloc)).ok_or(io::ErrorKind::InvalidInput)?,
     };
-    let producer = ProducerName::new(ArcStr::from_str(alloc, "p")?);
-    Ok(Sender {
-        producer: producer.ok_or(io::ErrorKind::InvalidInput)?,
-        time: Moment::new(0).ok_or(io::ErrorKind::InvalidInput)?,
-        body: Body::new(alloc, content)?,
-    })
+    Ok(Body::new(alloc, content)?)
 }
 
-fn message(alloc: Global, sender: &Sender, position: Position) -> Result<Message, AllocError>
-    ensures { IfOk result (λ message. message.position ≡ position) }
-{
-    let entry = Entry {
-        position,
-        producer: sender.producer.clone()?,
-        sequence: 0,
-        time: sender.time,
-        body: sender.body.clone()?,
-    };
-    Message::new(alloc, entry)
-}
-
-/// Whether there was a place for a further message.
-fn append_one(alloc: Global, log: &mut EntryLog, sender: &Sender) -> Result<bool, AllocError> {
-    if log.is_full() {
-        return Ok(false);
+impl Filling {
+    fn new(alloc: Global) -> io::Result<Self> {
+        let ledger_size = LedgerSize::new(50_000).ok_or(io::ErrorKind::InvalidInput)?;
+        let time = Moment::new(0).ok_or(io::ErrorKind::InvalidInput)?;
+        let producer = ProducerName::new(ArcStr::from_str(alloc, "p")?);
+        Ok(Filling {
+            log: EntryLog::new(alloc, ledger_size),
+            producer: producer.ok_or(io::ErrorKind::InvalidInput)?,
+            time,
+            body: empty_body(alloc)?,
+        })
     }
-    let message = message(alloc, sender, log.next_position())?;
-    log.append(alloc, message)?;
-    Ok(true)
-}
 
-fn filled(alloc: Global, size: u64) -> io::Result<EntryLog> {
-    let ledger_size = LedgerSize::new(50_000).ok_or(io::ErrorKind::InvalidInput)?;
-    let sender = new_sender(alloc)?;
-    let mut log = EntryLog::new(alloc, ledger_size);
-    for _ in 0..size {
-        append_one(alloc, &mut log, &sender)?;
+    /// With so many messages.
+    fn filled(alloc: Global, size: u64) -> io::Result<Self> {
+        let mut filling = Filling::new(alloc)?;
+        filling.append_all(alloc, size)?;
+        Ok(filling)
     }
-    Ok(log)
+
+    fn message(&self, alloc: Global, position: Position) -> Result<Message, AllocError>
+        ensures { IfOk result (λ message. message.position ≡ position) }
+    {
+        let entry = Entry {
+            position,
+            producer: self.producer.clone()?,
+            sequence: 0,
+            time: self.time,
+            body: self.body.clone()?,
+        };
+        Message::new(alloc, entry)
+    }
+
+    /// Whether there was a place for a further message.
+    fn append(&mut self, alloc: Global) -> Result<bool, AllocError> {
+        if self.log.is_full() {
+            return Ok(false);
+        }
+        let message = self.message(alloc, self.log.next_position())?;
+        self.log.append(alloc, message)?;
+        Ok(true)
+    }
+
+    /// Whether there was a place for each of so many further messages.
+    fn append_all(&mut self, alloc: Global, size: u64) -> Result<bool, AllocError> {
+        let mut right = true;
+        for _ in 0..size {
+            right &= self.append(alloc)?;
+        }
+        Ok(right)
+    }
+
+    /// Each time a message is appended and taken back.
+    fn append_and_pop_all(&mut self, alloc: Global, size: u64) -> Result<bool, AllocError> {
+        let mut right = true;
+        for _ in 0..size {
+            right &= self.append(alloc)? && self.log.pop();
+        }
+        Ok(right)
+    }
 }
 
 fn append(rt: &HostRuntime, size: u64) -> io::Result<Run> {
-    let sender = new_sender(rt.alloc())?;
-    let mut log = filled(rt.alloc(), 0)?;
-    let mut right = true;
+    let mut filling = Filling::new(rt.alloc())?;
     let start = Instant::now(rt)?;
-    for _ in 0..size {
-        right &= append_one(rt.alloc(), &mut log, &sender)?;
-    }
+    let right = filling.append_all(rt.alloc(), size)?;
     let time = start.elapsed(rt)?;
     Ok(Run { time, right })
 }
 
-/// Each time a message is appended and taken back.
 fn append_and_pop(rt: &HostRuntime, size: u64) -> io::Result<Run> {
-    let sender = new_sender(rt.alloc())?;
-    let mut log = filled(rt.alloc(), size)?;
-    let mut right = true;
+    let mut filling = Filling::filled(rt.alloc(), size)?;
     let start = Instant::now(rt)?;
-    for _ in 0..size {
-        right &= append_one(rt.alloc(), &mut log, &sender)? && log.pop();
-    }
+    let right = filling.append_and_pop_all(rt.alloc(), size)?;
     let time = start.elapsed(rt)?;
     Ok(Run { time, right })
+}
+
+/// Whether there is a message at each place.
+fn all_there(log: &EntryLog, size: u64) -> bool {
+    (0..size).all(|place| log.get(place as usize).is_some())
 }
 
 fn get(rt: &HostRuntime, size: u64) -> io::Result<Run> {
-    let log = filled(rt.alloc(), size)?;
-    let mut right = true;
+    let filling = Filling::filled(rt.alloc(), size)?;
     let start = Instant::now(rt)?;
-    for place in 0..size {
-        right &= log.get(place as usize).is_some();
-    }
+    let right = all_there(&filling.log, size);
     let time = start.elapsed(rt)?;
     Ok(Run { time, right })
 }
 
-fn index_of(rt: &HostRuntime, size: u64) -> io::Result<Run> {
-    let log = filled(rt.alloc(), size)?;
-    let mut right = true;
-    let start = Instant::now(rt)?;
-    for place in 0..size {
+/// Whether each message is found at its place.
+fn all_found(log: &EntryLog, size: u64) -> bool {
+    (0..size).all(|place| {
         let position = Position {
             ledger: place / 50_000,
             entry: place % 50_000,
         };
-        right &= log.index_of(position) == Some(place as usize);
-    }
+        log.index_of(position) == Some(place as usize)
+    })
+}
+
+fn index_of(rt: &HostRuntime, size: u64) -> io::Result<Run> {
+    let filling = Filling::filled(rt.alloc(), size)?;
+    let start = Instant::now(rt)?;
+    let right = all_found(&filling.log, size);
     let time = start.elapsed(rt)?;
     Ok(Run { time, right })
 }
 
 fn roll(rt: &HostRuntime, size: u64) -> io::Result<Run> {
-    let mut log = filled(rt.alloc(), size)?;
+    let mut filling = Filling::filled(rt.alloc(), size)?;
     let start = Instant::now(rt)?;
     for _ in 0..size {
-        log.roll();
+        filling.log.roll();
     }
     let time = start.elapsed(rt)?;
-    let right = log.next_position().entry == 0;
+    let right = filling.log.next_position().entry == 0;
     Ok(Run { time, right })
 }
 
 /// So many copies as a segment has messages: a segment is shared a call.
-fn copy(rt: &HostRuntime, size: u64) -> io::Result<Run> {
-    let log = filled(rt.alloc(), size)?;
+fn copies(log: &EntryLog) -> Result<bool, AllocError> {
     let mut right = true;
-    let start = Instant::now(rt)?;
     for _ in 0..1024u64 {
         right &= log.copy()?.len() == log.len();
     }
+    Ok(right)
+}
+
+fn copy(rt: &HostRuntime, size: u64) -> io::Result<Run> {
+    let filling = Filling::filled(rt.alloc(), size)?;
+    let start = Instant::now(rt)?;
+    let right = copies(&filling.log)?;
     let time = start.elapsed(rt)?;
     Ok(Run { time, right })
 }
