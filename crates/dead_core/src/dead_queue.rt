@@ -3,7 +3,7 @@ ghost use Rattle.std.specs.Prelude.{◌≡◌, length, None, OnOk, OnErr, if◌t
 ghost use Rattle.std.specs.Option.{option_copied};
 ghost use Rattle.dead_core.specs.Letters.{none_dead, ending_with, all_safe, next_safe, is_next, without_first};
 
-use crate::dead_letter::DeadLetter;
+use delivery_machine::DeadLetter;
 use std::alloc::{AllocError, Global};
 use std::collections::VecDeque;
 use std::marker::Model;

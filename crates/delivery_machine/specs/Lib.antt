@@ -1,4 +1,5 @@
 pub mod State
+pub mod Codes
 pub mod Shares
 pub mod Words
 pub mod Refusals

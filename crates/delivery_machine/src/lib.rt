@@ -1,6 +1,7 @@
 //! The delivery machine: what may be asked of a topic, what it answers, and the rules that tie them.
 #![tactic(auto)]
 
+mod dead_letter;
 mod delivery;
 mod event;
 pub mod laws;
@@ -10,6 +11,7 @@ mod runs;
 mod tests;
 mod topic;
 
+pub use dead_letter::DeadLetter;
 pub use delivery::{Deliveries, Delivery, is_one_of};
 pub use event::{Event, Initial, Target};
 pub use position_core::{Fault, Flow, Kind};

@@ -1,28 +1,18 @@
 -- Codes of the values that hold sets and maps, as their models want them.
-use Rattle.std.specs.Prelude.{ℕ, List, Option, ◌≡◌}
+use Rattle.std.specs.Prelude.{ℕ, List, ◌≡◌}
 use Rattle.std.proofs.Common.{refl, suc, zero}
-use Rattle.std.specs.Coded.{Coded, code_by, coded×, coded_ℕ, coded_list, coded_option}
+use Rattle.std.specs.Coded.{Coded, code_by, coded×, coded_ℕ, coded_list}
 use Rattle.std.specs.FinSet as set
 use Rattle.std.specs.FinMap as map_of
-use Rattle.position_core.specs.declared.position.Position.{Position}
-use Rattle.position_core.specs.declared.topic_name.TopicName.{TopicName}
-use Rattle.position_core.specs.Position.{position_cmp, coded_position}
+use Rattle.position_core.specs.Position.{position_cmp}
 use Rattle.position_core.specs.declared.held.Held.{Held}
 use Rattle.position_core.specs.declared.kind.Kind.{Kind}
 use Rattle.position_core.specs.declared.kind.Kind.TheVariants.{Exclusive, Failover, Shared, KeyShared}
 use Rattle.delivery_machine.specs.State.{Dead, Subscription}
+use Rattle.delivery_machine.specs.Codes.{coded_text, coded_dead}
 use Rattle.position_core.specs.declared.block.Block.{Block}
 use Rattle.hash_ranges.specs.Codes.{coded_shares}
 use Rattle.plain_tables.specs.Codes.{coded_positions, coded_pending, coded_counts}
-
-abbrev pub coded_text : Coded (List ℕ)
-coded_text = coded_list coded_ℕ
-
-abbrev pub coded_topic : Coded TopicName
-coded_topic = code_by ((List ℕ × List ℕ) × List ℕ) (coded× (coded× coded_text coded_text) coded_text) (λ t. ((t.tenant, t.namespace), t.topic)) (λ p. record { tenant = p.0.0; namespace = p.0.1; topic = p.1 }) (λ _. refl)
-
-abbrev pub coded_dead : Coded Dead
-coded_dead = code_by ((Position × TopicName) × ℕ) (coded× (coded× coded_position coded_topic) coded_ℕ) (λ d. ((d.position, d.target), d.ordinal)) (λ p. record { position = p.0.0; target = p.0.1; ordinal = p.1 }) (λ _. refl)
 
 abbrev pub kind_number : Kind → ℕ
 kind_number Exclusive = 0

@@ -8,43 +8,21 @@ ghost use Rattle.delivery_machine.specs.Producing.{storing};
 ghost use Rattle.plain_lists.specs.Letters.{moving_first};
 
 use crate::subscription::Subscription;
-use position_core::{Position, TopicName};
+use delivery_machine::DeadLetter;
+use position_core::Position;
 use std::alloc::AllocError;
-use std::marker::Model;
 
-/// A message that was redelivered too often, and the topic that it goes to. The ordinal is the number
-/// of its death in the topic.
-#[derive(Drop)]
-pub struct DeadLetter {
-    pub position: Position,
-    pub target: TopicName,
-    pub ordinal: u64,
-}
-
-impl Model for DeadLetter {
-    ghost use Rattle.delivery_machine.specs.State.{Dead};
-    ghost use Rattle.plain_lists.specs.Codes.{coded_dead};
-
-    ghost Value = { Dead };
-
-    ghost coded = { coded_dead };
-
-    ghost view = { λ d. record { position = d.position; target = d.target; ordinal = d.ordinal } };
-}
-
-impl DeadLetter {
-    fn is_of(&self, position: Position) -> bool
-        ensures { result ≡ same_position self.now.position position }
-    {
-        self.position.is(position)
-    }
+fn is_of(letter: &DeadLetter, position: Position) -> bool
+    ensures { result ≡ same_position letter.now.position position }
+{
+    letter.position.is(position)
 }
 
 impl Subscription {
     pub(crate) fn is_dead(&self, position: Position) -> bool
         ensures { result ≡ is_dead self.now position }
     {
-        self.dead.iter().any(|letter| letter.is_of(position))
+        self.dead.iter().any(|letter| is_of(letter, position))
     }
 
     pub fn number_of_dead(&self) -> usize

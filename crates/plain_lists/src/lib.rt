@@ -13,7 +13,6 @@ mod subscriptions;
 mod tests;
 
 pub use auto::{auto_name, least_free};
-pub use letter::DeadLetter;
 pub use log::{first_waiting, has_room, last_sequence, message_at, pending_at, used_in};
 pub use member::{Member, Terms};
 pub use members::{

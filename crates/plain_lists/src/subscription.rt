@@ -12,7 +12,7 @@ ghost use Rattle.delivery_machine.specs.Delivering.{holding};
 ghost use Rattle.delivery_machine.specs.Seeking.{seeking};
 ghost use Rattle.delivery_machine.specs.Ticking.{redelivering};
 
-use crate::letter::DeadLetter;
+use delivery_machine::DeadLetter;
 use hash_ranges::SplitTable;
 use plain_tables::{CountTable, PendingTable, PositionSet};
 use position_core::{Held, Kind, Message, Position, SubscriptionName};

@@ -17,8 +17,8 @@ ghost use Rattle.delivery_machine.specs.Seeking.{seeking};
 ghost use Rattle.delivery_machine.specs.Ticking.{redelivering};
 ghost use Rattle.plain_lists.specs.Letters.{moving_first};
 
-use crate::letter::DeadLetter;
 use crate::subscription::Subscription;
+use delivery_machine::DeadLetter;
 use position_core::{Held, Kind, Message, Position, SubscriptionName};
 use std::alloc::{AllocError, Global};
 

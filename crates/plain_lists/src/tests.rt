@@ -1,5 +1,6 @@
 // That names are made, and subscriptions changed, where there is memory.
 use super::*;
+use delivery_machine::DeadLetter;
 use plain_tables::PositionSet;
 use position_core::{
     Base, Body, Content, Entry, Held, Kind, Message, Moment, Name, Payload, Position, ProducerName,

@@ -2,10 +2,9 @@
 ghost use Rattle.std.specs.Prelude.{◌≡◌, IfOk};
 
 use crate::plain::PlainTopic;
-use delivery_machine::Reply;
+use delivery_machine::{DeadLetter, Reply};
 use plain_lists::{
-    DeadLetter, Member, Subscription, bury_at, leave_out_at, message_at, move_first_at,
-    subscription_at,
+    Member, Subscription, bury_at, leave_out_at, message_at, move_first_at, subscription_at,
 };
 use position_core::{Fault, Message, Position, SubscriptionName};
 use std::alloc::AllocError;

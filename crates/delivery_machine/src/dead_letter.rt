@@ -13,7 +13,7 @@ pub struct DeadLetter {
 
 impl Model for DeadLetter {
     ghost use Rattle.delivery_machine.specs.State.{Dead};
-    ghost use Rattle.dead_core.specs.Codes.{coded_dead};
+    ghost use Rattle.delivery_machine.specs.Codes.{coded_dead};
 
     ghost Value = { Dead };
 
