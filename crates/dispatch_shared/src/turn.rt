@@ -1,22 +1,10 @@
 // Which member is sent the next message, found by going through all of them.
 ghost use Rattle.std.specs.Prelude.{◌≡◌};
 ghost use Rattle.delivery_machine.specs.Words.{members_of};
-ghost use Rattle.plain_choices.specs.Turn.{is_sooner};
 ghost use Rattle.dispatch_shared.specs.Turn.{goes_first, in_turn, roomy, IsFirst};
 
 use dispatch_core::{Seen, View};
-
-/// Of two consumers' numbers, whether the first is sooner in turn: the least above the one last
-/// served, else the least.
-fn is_sooner(last: u64, number: u64, other: u64) -> bool
-    ensures { result ≡ is_sooner last number other }
-{
-    if number > last {
-        other <= last || number < other
-    } else {
-        other <= last && number < other
-    }
-}
+use plain_choices::is_sooner;
 
 /// By level, and then in turn.
 fn goes_first(last: u64, seen: &Seen, other: &Seen) -> bool

@@ -8,7 +8,7 @@ use position_core::Message;
 
 /// Of two consumers' numbers, whether the first is sooner in turn: the least above the one last
 /// served, else the least.
-fn is_sooner(last: u64, number: u64, other: u64) -> bool
+pub fn is_sooner(last: u64, number: u64, other: u64) -> bool
     ensures { result ≡ is_sooner last number other }
 {
     if number > last {
