@@ -14,12 +14,9 @@ use Rattle.std.proofs.lemmas.Map.Text.{is_eq-slice_cmp}
 use Rattle.position_core.specs.Name.{name_order}
 use Rattle.position_core.specs.declared.message.Entry.{Entry}
 use Rattle.delivery_machine.specs.Words.{greatest, is_by}
-use Rattle.delivery_machine.proofs.Best.{best_by-push}
+use Rattle.delivery_machine.proofs.Best.{best_by-push, int_max_assoc}
 use Rattle.dedup_core.specs.Sequences.{Numbers, sequences_by, AgreesWith, IsAbove}
 use Rattle.dedup_core.proofs.Found.{names_total}
-
-int_max_assoc : (a b c : ℤ) → int_max a (int_max b c) ≡ int_max (int_max a b) c
-int_max_assoc a b c = grind (arith, ints)
 
 sequences_by-push : (name : List ℕ) (log : List Entry) (e : Entry) → sequences_by name (log ++ e ∷ []) ≡ (if is_by name e then sequences_by name log ++ e.sequence ∷ [] else sequences_by name log)
 sequences_by-push name [] e = grind (arith, nat_tests)

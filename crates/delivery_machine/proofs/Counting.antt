@@ -3,7 +3,6 @@ use Rattle.std.proofs.Common.{◌≡◌, ℕ, ◌+◌, ◌≤◌, List, [], ◌�
 use Rattle.std.specs.Prelude.{◌==◌}
 use Rattle.std.specs.List.{AllByRecursion}
 use Rattle.std.specs.List.Sorted.{IsStrictlySortedBy}
-use Rattle.std.specs.Cmp.{tied_itself}
 use Rattle.std.specs.FinMap as map_of
 use Rattle.std.specs.declared.cmp.Ordering.TheVariants.{Less}
 use Rattle.std.proofs.lemmas.List.Sums.{sum_by-cons, sum_by_push}
@@ -13,6 +12,7 @@ use Rattle.position_core.specs.declared.held.Held.{Held}
 use Rattle.position_core.specs.Position.{position_cmp, same_position, positions_total}
 use Rattle.delivery_machine.specs.Words.{is_held_by, has_position}
 use Rattle.delivery_machine.proofs.Tended.{IsPartOf, got_inserted, same_place}
+use Rattle.delivery_machine.proofs.Rising.{not_below_itself}
 
 -- ---- counts
 
@@ -54,9 +54,6 @@ module _ {A : Type 0} where
       omega arith
 
 -- ---- positions
-
-not_below_itself : (p : Position) → position_cmp p p ≡ Less → ⊥
-not_below_itself p e = let same = tied_itself positions_total p in cc
 
 none_above : (q : Position) (log : List Entry) → AllByRecursion (λ k. position_cmp q k ≡ Less) (map (λ e. e.position) log) → count_by (has_position q) log ≡ 0
 none_above q [] above = refl

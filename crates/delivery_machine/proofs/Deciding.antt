@@ -1,6 +1,6 @@
--- Tests of two parts, and of numbers.
-use Rattle.std.proofs.Common.{◌≡◌, ℕ, ◌<◌, Bool, true, false, refl, ap, ◌∙◌, arith, true≢false}
-use Rattle.std.specs.Prelude.{◌&&◌, ◌||◌, ◌==◌}
+-- Tests of two parts, of numbers, and of refusals.
+use Rattle.std.proofs.Common.{◌≡◌, ℕ, ◌<◌, ◌≤◌, Bool, true, false, refl, ap, ◌∙◌, arith, true≢false, Some, None}
+use Rattle.std.specs.Prelude.{◌&&◌, ◌||◌, ◌==◌, nat_lt, if◌then◌else◌}
 use Rattle.std.proofs.lemmas.Bool.Decides.{nat_tests}
 
 pub and_first : (a b : Bool) → (a && b) ≡ true → a ≡ true
@@ -30,3 +30,14 @@ apart_below a b low = grind (arith, nat_tests)
 
 pub apart_above : (a b : ℕ) → b < a → (a == b) ≡ false
 apart_above a b low = grind (arith, nat_tests)
+
+pub none_below : (n : ℕ) → nat_lt 0 n ≡ false → n ≡ 0
+none_below n e = grind (arith, nat_tests)
+
+pub within : (most n : ℕ) → nat_lt most n ≡ false → n ≤ most
+within most n e = grind (arith, nat_tests)
+
+-- where a test alone keeps from a refusal, it holds where nothing is refused
+pub holds_unless_refused : {A : Type 0} (b : Bool) (fault : A) → (if b then None else Some fault) ≡ None → b ≡ true
+holds_unless_refused true fault e = refl
+holds_unless_refused false fault e = cc

@@ -1,9 +1,12 @@
 -- What is found, or stands anywhere, in a list after a change of it.
 use Rattle.std.proofs.Common.{◌≡◌, ℕ, ◌<◌, List, [], ◌∷◌, ◌++◌, map, length, suc, zero, Some, None, Option, Bool, true, false, cond, get_or, refl, ap, ◌∙◌, sym, arith, ◌⊎◌, inl, inr}
-use Rattle.std.specs.Prelude.{◌||◌, nat_lt, IsSomeAnd}
-use Rattle.std.specs.List.{find, filter, insert, list_any, Contains}
+use Rattle.std.specs.Prelude.{◌||◌, nat_lt, IsSomeAnd, slice_get}
+use Rattle.std.specs.List.{find, filter, insert, list_any, Contains, position_or_len}
 use Rattle.std.proofs.lemmas.Bool.Decides.{nat_tests}
 use Rattle.delivery_machine.specs.Words.{changed, removed}
+use Rattle.std.proofs.lemmas.List.Folds.{find_at}
+use Rattle.std.proofs.lemmas.List.Sums.{passes_at_first}
+use Rattle.std.proofs.lemmas.Option.{slice_get_within, get_or_from_slice_get}
 
 -- ---- what passes first
 
@@ -167,3 +170,11 @@ module _ {A : Type 0} where
       by true zero below is rest = (0, omega arith, is)
       by true (suc k) below is rest = later (rest (k, omega arith, is))
       by false k below is rest = later (rest (k, below, is))
+
+-- what is found stands somewhere, and passes
+pub found_somewhere : {A : Type 0} (p : A → Bool) (xs : List A) (x : A) → find p xs ≡ Some x → (k : ℕ) × (k < length xs) × (get_or xs k x ≡ x) × (p x ≡ true)
+found_somewhere p xs x is =
+    let there : slice_get xs (position_or_len p xs) ≡ Some x = sym (find_at p xs) ∙ is in
+    let within = slice_get_within xs (position_or_len p xs) x there in
+    let same = get_or_from_slice_get xs (position_or_len p xs) x x there in
+    (position_or_len p xs, within, same, ap p (sym same) ∙ passes_at_first p xs x within)

@@ -1,6 +1,6 @@
 -- What every reached state keeps: positions that rise, and pending messages that are tended.
 use Rattle.std.proofs.Common.{◌≡◌, ℕ, List, [], ◌∷◌, ◌++◌, map, Some, None, Option, Bool, true, false, take, refl, ap, ◌∙◌, sym, subst, arith, true≢false, ap₂}
-use Rattle.std.specs.Prelude.{not, ◌==◌, ◌&&◌, ◌||◌, ◌^◌, nat_le, is_some, nat_lt, length, if◌then◌else◌}
+use Rattle.std.specs.Prelude.{not, ◌==◌, ◌&&◌, ◌^◌, nat_le, is_some, nat_lt, length, if◌then◌else◌}
 use Rattle.std.specs.List.{find}
 use Rattle.std.specs.Option.{option_map_or}
 use Rattle.std.specs.FinMap as map_of
@@ -32,6 +32,7 @@ use Rattle.delivery_machine.proofs.Behind.{same_name, names_differ}
 use Rattle.delivery_machine.proofs.Tended.{IsTended, IsPartOf, is_seat, is_seated, some_is, tended_empty, tended_part, tended_members, tended_seats, tended_push, tended_sent}
 use Rattle.delivery_machine.proofs.Tending.{IsTendedIn, AllTended, got_retained, part_retained, none_pending, part_empty, part_held_again, same_seat_if, tended_mapped, seats_changed, seats_mapped, seats_pushed, tended_changed, tended_taken, tended_stay, tended_placed, tended_removed}
 use Rattle.delivery_machine.proofs.Sending.{chosen}
+use Rattle.delivery_machine.proofs.Deciding.{and_first, holds_unless_refused, or_false}
 
 pub record IsKept (s : State) : Type 0 where
   pub rising : IsRising s.log s.ledger
@@ -46,7 +47,7 @@ not_refused false fault rest e = refl
 
 pub kept_message : (s : State) (e : Entry) → e.position ≡ next_position s → is_full s ≡ false → IsKept s → IsKept (with_message s e)
 kept_message s e is room kept = record {
-  rising = rising_push s e is (within (nat_le 1048576 (length s.log)) (nat_lt (2 ^ 62) (next_position s).ledger) room) kept.rising;
+  rising = rising_push s e is (or_false (nat_le 1048576 (length s.log)) (nat_lt (2 ^ 62) (next_position s).ledger) room).1 kept.rising;
   tended = record {
     first = λ name sub found.
         tended_push s.log e s.members sub.name sub.kind sub.pending
@@ -54,10 +55,6 @@ kept_message s e is room kept = record {
     behind = kept.tended.behind;
   };
 }
-  where
-    within : (a b : Bool) → (a || b) ≡ false → b ≡ false
-    within true b e = cc
-    within false b e = e
 
 -- ---- what only takes away
 
@@ -131,12 +128,8 @@ kept_nacked s m consumer position due allowed kept = record {
       (λ name number t. t) kept.tended;
 }
   where
-    is_held : (b : Bool) (fault : Fault) → (if b then None else Some fault) ≡ None → b ≡ true
-    is_held true fault e = refl
-    is_held false fault e = cc
-
     held : is_held_at s m.subscription consumer position ≡ true
-    held = is_held _ _ allowed
+    held = holds_unless_refused _ _ allowed
 
 -- where a subscription goes
 pub kept_dropped : (s : State) (name : List ℕ) → IsKept s → IsKept (record s { subscriptions = removed (is_named name) s.subscriptions })
@@ -163,14 +156,10 @@ pub nothing_pending : (s : State) (kind : Kind) (sub : Subscription) (name : Lis
 nothing_pending s kind sub name max_redeliver dead_topic there other allowed tended p h is =
     let named : sub.name ≡ name = same_name sub.name name (found_passes (is_named name) s.subscriptions sub there) in
     let some : nat_lt 0 (length (members_of s name)) ≡ true =
-    some_kept (is_seat name h.consumer) (is_at name) s.members (λ m. first (is_at name m) (is_member h.consumer m))
+    some_kept (is_seat name h.consumer) (is_at name) s.members (λ m. and_first (is_at name m) (is_member h.consumer m))
     (subst (λ (n : List ℕ). is_seated s.members n h.consumer ≡ true) named (tended.at_members p h is)) in
     let differs : has_kind s name kind ≡ false = ap (λ o. option_map_or (λ sub. same_kind sub.kind kind) o false) there ∙ other in
     true≢false (sym (ap₂ (λ a b. a && not b) some differs) ∙ not_refused _ _ _ allowed)
-  where
-    first : (a b : Bool) → (a && b) ≡ true → a ≡ true
-    first true b e = refl
-    first false b e = e
 
 tended_joining : (s : State) (kind : Kind) (m : Member) (sub : Subscription) → subscribing_refused s m.subscription kind m.max_redeliver m.dead_topic ≡ None → find (is_named m.subscription) s.subscriptions ≡ Some sub → IsTendedIn s.log s.members sub → IsTendedIn s.log (s.members ++ m ∷ []) (joining kind m.number sub)
 tended_joining s kind m sub allowed there tended = by (same_kind sub.kind kind) refl

@@ -36,6 +36,7 @@ use Rattle.delivery_machine.proofs.Kept.{IsKept}
 use Rattle.delivery_machine.proofs.Seats.{seat_of, seats, has_number, seats_of_changed, seats_stay, seats_of_mapped, seats_of_removed, seats_of_pushed}
 use Rattle.delivery_machine.proofs.Shrinking.{Shrinks, shrinks_not, shrinks_then, shrinks_changed, shrinks_mapped, shrinks_placed, shrinks_removed, part_itself}
 use Rattle.delivery_machine.proofs.Moves.{SendsNone, JoinsNone, Moves, Moves.stays, Moves.appends, Moves.joins, Moves.leaves, Moves.permits, Moves.sends, joins_to_push, pulls_if, pushes_if, granting, spending}
+use Rattle.delivery_machine.proofs.Deciding.{holds_unless_refused}
 
 -- ---- members that keep their seats
 
@@ -113,11 +114,7 @@ module _ (s : State) (event : Event) (reply : Reply) (sends_none : SendsNone eve
       stays_as t _ is refl refl refl
       (shrinks_changed m.subscription (holding p (record { consumer = consumer; due = due })) s.subscriptions (λ _. refl)
       (λ sub found. part_held_again sub.pending p (record { consumer = consumer; due = due })
-      (sym (ap (λ o. option_map_or (λ sub. is_held_by consumer (map_of.get sub.pending p)) o false) found) ∙ is_held _ _ allowed)))
-    where
-      is_held : (b : Bool) (fault : Fault) → (if b then None else Some fault) ≡ None → b ≡ true
-      is_held true fault e = refl
-      is_held false fault e = cc
+      (sym (ap (λ o. option_map_or (λ sub. is_held_by consumer (map_of.get sub.pending p)) o false) found) ∙ holds_unless_refused _ _ allowed)))
 
 tick_moves : (s : State) (n : List ℕ) (now : ℕ) (sub : Subscription) (reply : Reply) (t : State) → Ticks s n now sub reply t → Moves s (Tick n now) reply t
 tick_moves s n now sub Quiet t h = unmoved s (Tick n now) Quiet (λ _. refl) (λ _. (refl, refl)) t h.1

@@ -19,7 +19,7 @@ use Rattle.delivery_machine.specs.Words.{changed, removed, is_named, is_at, is_m
 use Rattle.delivery_machine.specs.Refusals.{subscribing_refused}
 use Rattle.delivery_machine.specs.Joining.{releasing_all, all_released, is_taken_over, taken_over, joining, new_subscription, placed, with_member, leaving, without_member}
 use Rattle.delivery_machine.specs.declared.event.Initial.{Initial}
-use Rattle.delivery_machine.proofs.Deciding.{and_first, number_is}
+use Rattle.delivery_machine.proofs.Deciding.{and_first, number_is, none_below}
 use Rattle.delivery_machine.proofs.Firsts.{found_passes, some_kept}
 use Rattle.delivery_machine.proofs.Behind.{IsIdle, same_name, is_same_name, names_differ}
 use Rattle.delivery_machine.proofs.Tended.{is_seat, is_seated}
@@ -66,7 +66,7 @@ abbrev pub IsOrderlyBut : List Entry → ℕ → List Member → List ℕ → Op
 IsOrderlyBut log durable members n before sub =
     (is_named n sub ≡ false → IsOrderlyIn log durable members sub) × (is_named n sub ≡ true → is_in_order sub.kind ≡ true → WasOrderly log durable members before sub)
 
-emptied_ranks : (n : List ℕ) (members : List Member) → KeepsRanks members (map (emptied_at n) members)
+pub emptied_ranks : (n : List ℕ) (members : List Member) → KeepsRanks members (map (emptied_at n) members)
 emptied_ranks n members = ranks_mapped (emptied_at n) (λ m. same_rank_if (is_at n m) m (emptied m) refl) members
 
 -- once it is settled who is active
@@ -127,16 +127,13 @@ each_taken_over s n before all = by (is_taken_over n before s) refl
 -- nobody is at the subscription that a consumer may have for itself
 nobody_before : (s : State) (name : List ℕ) (kind : Kind) (max_redeliver : ℕ) (dead_topic : TopicName) → subscribing_refused s name kind max_redeliver dead_topic ≡ None → kind ≡ Exclusive → seats_at s.members name ≡ 0
 nobody_before s name kind max_redeliver dead_topic allowed exclusive =
-    none (seats_at s.members name) (some_or_not (nat_lt 0 (seats_at s.members name)) (has_kind s name kind) (same_kind kind Exclusive) (itself_exclusive kind exclusive) _ allowed)
+    none_below (seats_at s.members name) (some_or_not (nat_lt 0 (seats_at s.members name)) (has_kind s name kind) (same_kind kind Exclusive) (itself_exclusive kind exclusive) _ allowed)
   where
     some_or_not : (some has same : Bool) → same ≡ true → (rest : Option Fault) → (if some && not has then Some WrongKind else if some && same then Some ConsumerBusy else rest) ≡ None → some ≡ false
     some_or_not false has same e rest h = refl
     some_or_not true false same e rest h = cc
     some_or_not true true true e rest h = cc
     some_or_not true true false e rest h = cc
-
-    none : (n : ℕ) → nat_lt 0 n ≡ false → n ≡ 0
-    none n e = grind (arith, nat_tests)
 
 one_after : (members : List Member) (m : Member) → seats_at members m.subscription ≡ 0 → seats_at (members ++ m ∷ []) m.subscription ≤ 1
 one_after members m none = let more = those_with members m m.subscription (is_same_name m.subscription m.subscription refl) in omega (arith, none, more)

@@ -6,7 +6,6 @@ use Rattle.std.specs.List.Sorted.{IsStrictlySortedBy}
 use Rattle.std.specs.Cmp.{Equal-is, tied_itself}
 use Rattle.std.specs.declared.cmp.Ordering.TheVariants.{Less}
 use Rattle.std.specs.FinMap as map_of
-use Rattle.std.proofs.lemmas.Bool.Decides.{nat_tests}
 use Rattle.std.proofs.lemmas.List.{map-append, take-map}
 use Rattle.std.proofs.lemmas.List.Folds.{Any-from_list_any}
 use Rattle.std.specs.Option.{option_map, option_map_or}
@@ -15,7 +14,6 @@ use Rattle.position_core.specs.declared.message.Entry.{Entry}
 use Rattle.position_core.specs.declared.held.Held.{Held}
 use Rattle.position_core.specs.declared.kind.Kind.{Kind}
 use Rattle.position_core.specs.declared.kind.Kind.TheVariants.{Exclusive, Failover, Shared, KeyShared}
-use Rattle.position_core.specs.declared.fault.Fault.{Fault}
 use Rattle.position_core.specs.declared.fault.Fault.TheVariants.{SubscriptionBusy}
 use Rattle.position_core.specs.Kind.{is_in_order}
 use Rattle.position_core.specs.Position.{position_cmp, same_position, positions_total}
@@ -50,7 +48,8 @@ use Rattle.delivery_machine.proofs.Ordered.{ordered_push, ordered_longer, held_a
 use Rattle.delivery_machine.proofs.Ranks.{rank_of, KeepsRanks, ranks_changed, ranks_mapped, same_rank_if, same_active, same_seats, seats_at, active_number}
 use Rattle.delivery_machine.proofs.Orderly.{is_pending_in, IsOrderly, IsOrderlyIn, IsTakenFrom, taken_nothing, orderly_idle, orderly_taken}
 use Rattle.delivery_machine.proofs.Taking.{taken_acknowledged, taken_moved, taken_held_again, pending_listed, idle_redelivered}
-use Rattle.delivery_machine.proofs.Ordering.{IsOrderlyBut, each_taken_over, each_joined, each_left}
+use Rattle.delivery_machine.proofs.Ordering.{IsOrderlyBut, each_taken_over, each_joined, each_left, emptied_ranks}
+use Rattle.delivery_machine.proofs.Deciding.{holds_unless_refused, none_below}
 
 pub record AllOrderly (s : State) : Type 0 where
   pub durable : s.durable ≤ length s.log
@@ -90,9 +89,6 @@ each_same s after same all =
 
 forgetting_ranks : (n : List ℕ) (positions : List Position) (members : List Member) → KeepsRanks members (map (forgetting n positions) members)
 forgetting_ranks n positions members = ranks_mapped (forgetting n positions) (λ m. same_rank_if (is_at n m) m (record m { out = without positions m.out }) refl) members
-
-emptied_ranks : (n : List ℕ) (members : List Member) → KeepsRanks members (map (emptied_at n) members)
-emptied_ranks n members = ranks_mapped (emptied_at n) (λ m. same_rank_if (is_at n m) m (emptied m) refl) members
 
 -- ---- the events
 
@@ -289,14 +285,11 @@ dispatch_orders s name now sub reply t found h kept all = absurd h
 -- a subscription that may be dropped has no members
 nobody_there : (s : State) (name : List ℕ) (o : Option Subscription) → dropping_refused s name o ≡ None → seats_at s.members name ≡ 0
 nobody_there s name None allowed = cc
-nobody_there s name (Some sub) allowed = none (seats_at s.members name) (first (nat_lt 0 (seats_at s.members name)) (nat_lt 0 (length sub.dead)) allowed)
+nobody_there s name (Some sub) allowed = none_below (seats_at s.members name) (first (nat_lt 0 (seats_at s.members name)) (nat_lt 0 (length sub.dead)) allowed)
   where
     first : (a b : Bool) → (if a || b then Some SubscriptionBusy else None) ≡ None → a ≡ false
     first false b e = refl
     first true b e = cc
-
-    none : (n : ℕ) → nat_lt 0 n ≡ false → n ≡ 0
-    none n e = grind (arith, nat_tests)
 
 order_members : (s : State) (q : Member → Bool) (f : Member → Member) → ((m : Member) → rank_of (f m) ≡ rank_of m) → AllOrderly s → AllOrderly (record s { members = changed q f s.members })
 order_members s q f same all = record { durable = all.durable; each = each_same s (changed q f s.members) (ranks_changed q f same s.members) all }
@@ -311,12 +304,8 @@ order_nacked s m consumer position due allowed all = record {
       refl all;
 }
   where
-    is_held : (b : Bool) (fault : Fault) → (if b then None else Some fault) ≡ None → b ≡ true
-    is_held true fault e = refl
-    is_held false fault e = cc
-
     held : is_held_at s m.subscription consumer position ≡ true
-    held = is_held _ _ allowed
+    held = holds_unless_refused _ _ allowed
 
 order_over : (s : State) (n : List ℕ) (before : Option ℕ) → s.durable ≤ length s.log → EachFirst (IsOrderlyBut s.log s.durable s.members n before) s.subscriptions → AllOrderly (taken_over n before s)
 order_over s n before low all = record { durable = by (is_taken_over n before s); each = each_taken_over s n before all }

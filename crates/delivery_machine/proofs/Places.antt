@@ -1,5 +1,5 @@
 -- What stands at the first place that passes a test.
-use Rattle.std.proofs.Common.{◌≡◌, ℕ, ◌<◌, List, [], ◌∷◌, Some, None, Bool, true, false, cond, get_or, set, length, refl, ap, ◌∙◌, sym, arith, suc, zero}
+use Rattle.std.proofs.Common.{◌≡◌, ℕ, ◌<◌, List, [], ◌∷◌, Some, None, Bool, true, false, cond, get_or, set, length, refl, ap, ◌∙◌, sym, arith, suc, zero, ◌≤◌}
 use Rattle.std.specs.Prelude.{nat_lt, ◌||◌}
 use Rattle.std.specs.List.{find, list_any, position, position_or_len, remove}
 use Rattle.std.proofs.lemmas.List.Recursion.{found_at, found_nowhere}
@@ -31,13 +31,13 @@ changed-position p f xs i d is =
     let at = position-Some p xs i d is in
     changed_at p f xs i d at.0 at.1 at.2
 
-not_below : (b : Bool) (n : ℕ) → cond b (Some n) None ≡ None → b ≡ false
-not_below true n e = cc
-not_below false n e = refl
+chosen_none : (b : Bool) (n : ℕ) → cond b (Some n) None ≡ None → b ≡ false
+chosen_none true n e = cc
+chosen_none false n e = refl
 
 pub fails_everywhere : {A : Type 0} (p : A → Bool) (xs : List A) → position p xs ≡ None → (k : ℕ) (d : A) → k < length xs → p (get_or xs k d) ≡ false
 fails_everywhere p xs is k d below =
-    let past : nat_lt (position_or_len p xs) (length xs) ≡ false = not_below _ _ is in
+    let past : nat_lt (position_or_len p xs) (length xs) ≡ false = chosen_none _ _ is in
     let before : k < position_or_len p xs = grind (arith, nat_tests) in
     fails_before_first p xs k d before
 
@@ -91,3 +91,6 @@ removed_there p xs i d there =
 
 pub none_removed : {A : Type 0} (p : A → Bool) (xs : List A) → None ≡ position p xs → xs ≡ removed p xs
 none_removed p xs nowhere = sym (removed_nowhere p xs (fails_everywhere p xs (sym nowhere)))
+
+pub at_the_end : (i n : ℕ) → i ≤ n → None ≡ cond (nat_lt i n) (Some i) None → n ≡ i
+at_the_end i n within nowhere = grind (arith, nat_tests)

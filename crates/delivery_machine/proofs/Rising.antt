@@ -16,10 +16,11 @@ use Rattle.delivery_machine.specs.State.{State}
 use Rattle.delivery_machine.specs.Words.{next_position}
 use Rattle.delivery_machine.specs.Snapshot.{Snapshot, snapshot_of}
 use Rattle.delivery_machine.specs.Laws.{IsSound}
+use Rattle.delivery_machine.proofs.Deciding.{within}
 
 -- ---- keys that rise
 
-sorted_push : {A K : Type 0} (c : K → K → Ordering) (f : A → K) (xs : List A) (y : A) → IsStrictlySortedBy c (map f xs) → AllByRecursion (λ x. c (f x) (f y) ≡ Less) xs → IsStrictlySortedBy c (map f (xs ++ y ∷ []))
+pub sorted_push : {A K : Type 0} (c : K → K → Ordering) (f : A → K) (xs : List A) (y : A) → IsStrictlySortedBy c (map f xs) → AllByRecursion (λ x. c (f x) (f y) ≡ Less) xs → IsStrictlySortedBy c (map f (xs ++ y ∷ []))
 unfolding IsStrictlySortedBy
 sorted_push c f [] y rising below = (tt, tt)
 sorted_push {A} c f (x ∷ xs) y rising below = (above xs rising.0, sorted_push c f xs y rising.1 below.1)
@@ -77,7 +78,7 @@ before_next ledger used size p low = by (nat_lt used size)
     by true = grind (arith, nat_tests)
     by false = grind (arith, nat_tests)
 
-not_below_itself : (p : Position) → position_cmp p p ≡ Less → ⊥
+pub not_below_itself : (p : Position) → position_cmp p p ≡ Less → ⊥
 not_below_itself p e = let same = tied_itself positions_total p in cc
 
 pub one_of_position : (log : List Entry) (ledger : ℕ) → IsRising log ledger → (x y : Entry) → Contains log x → Contains log y → x.position ≡ y.position → x ≡ y
@@ -145,11 +146,8 @@ rising_push s e is room rising =
           (All-weaker (λ x. is_below s.ledger (used_in s.ledger s.log) x.position ≡ true) Q
           (λ x low. still_below s.ledger (used_in s.ledger s.log) s.ledger_size more e.position x.position is longer low) s.log rising.below)
           (next_itself_below s.ledger (used_in s.ledger s.log) s.ledger_size more e.position is longer);
-      bounded = All-push (λ x. x.position.ledger ≤ 2 ^ 62) s.log e rising.bounded (within e.position.ledger (ap (λ (p : Position). nat_lt (2 ^ 62) p.ledger) is ∙ room));
+      bounded = All-push (λ x. x.position.ledger ≤ 2 ^ 62) s.log e rising.bounded (within (2 ^ 62) e.position.ledger (ap (λ (p : Position). nat_lt (2 ^ 62) p.ledger) is ∙ room));
     }
-  where
-    within : (n : ℕ) → nat_lt (2 ^ 62) n ≡ false → n ≤ 2 ^ 62
-    within n e = grind (arith, nat_tests)
 
 -- ---- where a run begins
 

@@ -1,9 +1,8 @@
 -- Who may be sent a message: a member of the subscription, and in Key_Shared one beside whom its hash is at nobody.
 use Rattle.std.proofs.Common.{◌≡◌, ℕ, List, [], ◌∷◌, Some, None, Option, Bool, true, false, cond, refl, ap, ◌∙◌, subst, arith, Contains, take, suc}
-use Rattle.std.specs.Prelude.{◌&&◌, ◌==◌}
+use Rattle.std.specs.Prelude.{◌&&◌}
 use Rattle.std.specs.List.{find}
 use Rattle.std.specs.Option.{option_map_or, option_and_then}
-use Rattle.std.proofs.lemmas.Bool.Decides.{nat_tests}
 use Rattle.std.proofs.lemmas.List.Elements.{All-contains, All-take, All-contains_itself}
 use Rattle.position_core.specs.declared.message.Entry.{Entry}
 use Rattle.position_core.specs.declared.kind.Kind.{Kind}
@@ -14,6 +13,7 @@ use Rattle.delivery_machine.specs.Words.{earlier, comes_before, active_of, membe
 use Rattle.delivery_machine.proofs.Firsts.{found_contained, found_passes, any_contained, filter_contained}
 use Rattle.delivery_machine.proofs.Passes.{passes}
 use Rattle.delivery_machine.proofs.Tended.{is_seat, is_seated, NoneBeside}
+use Rattle.delivery_machine.proofs.Deciding.{and_first, itself}
 
 pub taken_contained : {A : Type 0} (n : ℕ) (xs : List A) (x : A) → Contains (take n xs) x → Contains xs x
 taken_contained n xs x at = All-contains (Contains xs) (take n xs) x (All-take (Contains xs) n xs (All-contains_itself xs)) at
@@ -42,16 +42,9 @@ best_contained (x ∷ xs) m is = by (active_of xs) refl is (best_contained xs)
 
 seat_itself : (name : List ℕ) (m : Member) → is_at name m ≡ true → is_seat name m.number m ≡ true
 seat_itself name m at = ap (λ b. b && is_member m.number m) at ∙ itself m.number
-  where
-    itself : (n : ℕ) → (n == n) ≡ true
-    itself n = grind (arith, nat_tests)
 
 seated_at : (members : List Member) (name : List ℕ) (m : Member) → Contains members m → is_at name m ≡ true → is_seated members name m.number ≡ true
 seated_at members name m there at = any_contained (is_seat name m.number) members m there (seat_itself name m at)
-
-and_first : (a b : Bool) → (a && b) ≡ true → a ≡ true
-and_first true b e = refl
-and_first false b e = e
 
 pub active_seated : (s : State) (name : List ℕ) (m : Member) → active_of (members_of s name) ≡ Some m → is_seated s.members name m.number ≡ true
 active_seated s name m is =

@@ -1,10 +1,8 @@
 -- All subscriptions' pending messages are tended, whichever subscription is changed.
-use Rattle.std.proofs.Common.{◌≡◌, ℕ, List, [], ◌∷◌, ◌++◌, map, Some, None, Bool, true, false, cond, refl, ap, ◌∙◌, sym, subst, inl, inr, arith, Option, subst₂}
-use Rattle.std.specs.Prelude.{◌==◌}
+use Rattle.std.proofs.Common.{◌≡◌, ℕ, List, [], ◌∷◌, ◌++◌, map, Some, None, Bool, true, false, cond, refl, ap, ◌∙◌, sym, subst, inl, inr, Option, subst₂}
 use Rattle.std.specs.List.{find}
 use Rattle.std.specs.Str.{bytes_eq}
 use Rattle.std.specs.FinMap as map_of
-use Rattle.std.proofs.lemmas.Bool.Decides.{nat_tests}
 use Rattle.position_core.specs.declared.position.Position.{Position}
 use Rattle.position_core.specs.declared.message.Entry.{Entry}
 use Rattle.position_core.specs.declared.held.Held.{Held}
@@ -16,6 +14,7 @@ use Rattle.delivery_machine.specs.Joining.{placed}
 use Rattle.delivery_machine.proofs.Firsts.{found_changed, found_mapped, found_inserted, any_changed, any_mapped, any_pushed}
 use Rattle.delivery_machine.proofs.Behind.{IsIdle, AllBehindIdle, same_name, is_same_name, behind_changed, behind_mapped, behind_placed, behind_removed, found_removed}
 use Rattle.delivery_machine.proofs.Tended.{tended_empty, IsTended, IsPartOf, KeepsSeats, is_seat, tended_part, tended_seats, got_inserted}
+use Rattle.delivery_machine.proofs.Deciding.{number_is}
 
 -- ---- parts of what is pending
 
@@ -44,12 +43,9 @@ part_held_again pending p held was q h is = elim (got_inserted pending p held q 
   | inr old ↦ (h, old, refl)
 ]
   where
-    number : (a b : ℕ) → (a == b) ≡ true → a ≡ b
-    number a b e = grind (arith, nat_tests)
-
     by : (o : Option Held) → map_of.get pending p ≡ o → is_held_by held.consumer o ≡ true → q ≡ p → h ≡ held → (k : Held) × (map_of.get pending q ≡ Some k) × (k.consumer ≡ h.consumer)
     by None e t place same = cc
-    by (Some k) e t place same = (k, ap (map_of.get pending) place ∙ e, number k.consumer held.consumer t ∙ sym (ap (λ (z : Held). z.consumer) same))
+    by (Some k) e t place same = (k, ap (map_of.get pending) place ∙ e, number_is k.consumer held.consumer t ∙ sym (ap (λ (z : Held). z.consumer) same))
 
 -- ---- members that stay
 

@@ -20,7 +20,8 @@ use Rattle.dispatch_core.specs.Places.{key_at, holder_at, holder_of}
 use Rattle.dispatch_core.specs.Offers.{seen_of}
 use Rattle.dispatch_core.specs.declared.view.Seen.{Seen}
 use Rattle.dispatch_keyed.specs.Hashes.{hash_at, drains_at, IsFreeFor, NoneFree}
-use Rattle.dispatch_keyed.proofs.Finding.{found_somewhere, find-filter}
+use Rattle.dispatch_keyed.proofs.Finding.{find-filter}
+use Rattle.delivery_machine.proofs.Firsts.{found_somewhere}
 
 -- ---- hashes at places
 

@@ -14,7 +14,7 @@ use Rattle.dispatch_core.specs.Places.{IsReadyAt, IsNextReady, NoneReady}
 use Rattle.dispatch_core.specs.Offers.{IsGoodOffer}
 use Rattle.dispatch_core.proofs.Ready.{waits_at-visible}
 use Rattle.dispatch_keyed.specs.Hashes.{hash_at, MayTake, IsFreeFor, NoneFree}
-use Rattle.dispatch_keyed.proofs.Finding.{found_somewhere}
+use Rattle.delivery_machine.proofs.Firsts.{found_somewhere}
 use Rattle.dispatch_keyed.proofs.Owners.{hash_at-visible}
 
 -- ---- as the waiting messages are gone through

@@ -2,7 +2,6 @@
 use Rattle.std.proofs.Common.{◌≡◌, ℕ, ◌≤◌, ◌∙◌, List, [], ◌∷◌, map, Bool, true, false, cond, Some, None, get_or, length, refl, sym, ap, subst, arith, inl, inr}
 use Rattle.std.specs.Prelude.{◌&&◌}
 use Rattle.std.specs.List.{filter, All, Contains}
-use Rattle.std.proofs.lemmas.Bool.{false≢true}
 use Rattle.std.proofs.lemmas.Bool.Decides.{nat_tests}
 use Rattle.std.proofs.lemmas.List.{get_or-map, length-map}
 use Rattle.std.proofs.lemmas.Option.{slice_get_cases, none-some}
@@ -17,6 +16,7 @@ use Rattle.dispatch_core.specs.Offers.{seen_of, IsGoodOffer}
 use Rattle.dispatch_core.specs.declared.view.Seen.{Seen}
 use Rattle.dispatch_core.proofs.Ready.{first_waiting-next, first_waiting-none}
 use Rattle.dispatch_shared.specs.Turn.{roomy, goes_first, IsFirst}
+use Rattle.delivery_machine.proofs.Deciding.{and_second}
 
 -- ---- the members with room, and as they are seen
 
@@ -39,12 +39,8 @@ roomy-with_room s sub = filter-map-filter (is_at sub.name) (seen_of s sub) (λ s
 
 has_room-with_room : (s : State) (sub : Subscription) (m : Member) → Contains (with_room s sub) m → has_room s sub m ≡ true
 has_room-with_room s sub m at =
-    second_of (is_at sub.name m) (has_room s sub m)
+    and_second (is_at sub.name m) (has_room s sub m)
     (passes (λ (x : Member). is_at sub.name x && has_room s sub x) s.members m at)
-  where
-    second_of : (a b : Bool) → (a && b) ≡ true → b ≡ true
-    second_of true b e = e
-    second_of false b e = absurd (false≢true e)
 
 at_best_level : (last : ℕ) (a b : Seen) → goes_first last b a ≡ false → a.level ≤ b.level
 at_best_level last a b behind = grind (arith, nat_tests)

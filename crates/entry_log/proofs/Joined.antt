@@ -1,10 +1,11 @@
 -- Lists in pieces: how long they are, and what stands at a place.
-use Rattle.std.proofs.Common.{◌≡◌, ℕ, ◌+◌, ◌-◌, ◌*◌, ◌<◌, ◌≤◌, suc, zero, List, [], ◌∷◌, ◌++◌, length, take, Option, Some, None, refl, ap, sym, ◌∙◌, append_assoc, arith, slice_set}
+use Rattle.std.proofs.Common.{◌≡◌, ℕ, ◌+◌, ◌-◌, ◌*◌, ◌<◌, ◌≤◌, suc, zero, List, [], ◌∷◌, ◌++◌, length, take, Some, refl, ap, ◌∙◌, append_assoc, arith, slice_set}
 use Rattle.std.specs.List.{flat_map, slice_get}
 use Rattle.std.proofs.Math.ListN.{length-append}
 use Rattle.std.proofs.lemmas.Grind.{flat_map-append}
 use Rattle.position_core.specs.declared.message.Entry.{Entry}
 use Rattle.entry_log.specs.Pieces.{Parts, joined, AreSegments}
+use Rattle.std.proofs.lemmas.List.{append-nil}
 
 pub length_sealed : (segments : List (List Entry)) → AreSegments segments → length (flat_map (λ s. s) segments) ≡ 1024 * length segments
 length_sealed [] are = refl
@@ -61,14 +62,10 @@ pub segments_push : (segments : List (List Entry)) (s : List Entry) → AreSegme
 segments_push [] s are is = (is, tt)
 segments_push (t ∷ segments) s are is = (are.0, segments_push segments s are.1 is)
 
-append_none : (xs : List Entry) → xs ++ [] ≡ xs
-append_none [] = refl
-append_none (x ∷ xs) = ap (λ (ys : List Entry). x ∷ ys) (append_none xs)
-
 -- the loose messages may stand in a segment as well
 pub joined_push : (segments : List (List Entry)) (s : List Entry) (e : Entry) → flat_map (λ s. s) (segments ++ s ∷ []) ++ e ∷ [] ≡ (flat_map (λ s. s) segments ++ s) ++ e ∷ []
 joined_push segments s e =
-    ap (λ (xs : List Entry). xs ++ e ∷ []) (flat_map-append (λ s. s) segments (s ∷ []) ∙ ap (λ (xs : List Entry). flat_map (λ s. s) segments ++ xs) (append_none s))
+    ap (λ (xs : List Entry). xs ++ e ∷ []) (flat_map-append (λ s. s) segments (s ∷ []) ∙ ap (λ (xs : List Entry). flat_map (λ s. s) segments ++ xs) (append-nil s))
 
 pub first_set : (xs : List Entry) (e : Entry) → length xs ≡ 1024 → slice_set (take 1 xs) 0 e ≡ e ∷ []
 first_set [] e is = absurd (omega arith)

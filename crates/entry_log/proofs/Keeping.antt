@@ -1,9 +1,8 @@
 -- What a log keeps of its messages stays true as it grows, and as it goes on in the next ledger.
-use Rattle.std.proofs.Common.{◌≡◌, ℕ, ◌+◌, ◌-◌, ◌<◌, ◌≤◌, ◌^◌, Bool, true, false, cond, List, [], ◌∷◌, ◌++◌, map, length, take, refl, ap, sym, ◌∙◌, subst, inl, inr, arith, All, nat_lt}
-use Rattle.std.specs.Prelude.{◌==◌, ◌||◌, ◌⊎◌}
+use Rattle.std.proofs.Common.{◌≡◌, ℕ, ◌+◌, ◌-◌, ◌<◌, ◌≤◌, ◌^◌, Bool, true, false, cond, List, [], ◌∷◌, ◌++◌, length, take, refl, ap, sym, ◌∙◌, subst, inl, inr, arith, nat_lt}
+use Rattle.std.specs.Prelude.{◌==◌, ◌⊎◌}
 use Rattle.std.specs.List.{AllByRecursion}
 use Rattle.std.specs.List.Sorted.{IsStrictlySortedBy}
-use Rattle.std.specs.declared.cmp.Ordering.{Ordering}
 use Rattle.std.specs.declared.cmp.Ordering.TheVariants.{Less}
 use Rattle.std.proofs.Math.ListN.{length-append}
 use Rattle.std.proofs.Math.Seq.{take-append_seam}
@@ -16,6 +15,8 @@ use Rattle.position_core.specs.declared.message.Entry.{Entry}
 use Rattle.position_core.specs.Position.{position_cmp}
 use Rattle.entry_log.specs.Log.{used_in, place_after, front}
 use Rattle.entry_log.specs.Kept.{IsAt, is_before}
+use Rattle.delivery_machine.proofs.Rising.{sorted_push}
+use Rattle.delivery_machine.proofs.Deciding.{within}
 
 -- ---- a log without messages
 
@@ -65,15 +66,6 @@ front_push log e =
     let whole = length-append log (e ∷ []) in
     let less : length (log ++ e ∷ []) - 1 ≡ length log = omega (arith, whole) in
     ap (λ (n : ℕ). take n (log ++ e ∷ [])) less ∙ take-append_seam log (e ∷ [])
-
-sorted_push : {A K : Type 0} (c : K → K → Ordering) (f : A → K) (xs : List A) (y : A) → IsStrictlySortedBy c (map f xs) → AllByRecursion (λ x. c (f x) (f y) ≡ Less) xs → IsStrictlySortedBy c (map f (xs ++ y ∷ []))
-unfolding IsStrictlySortedBy
-sorted_push c f [] y rising below = (tt, tt)
-sorted_push {A} c f (x ∷ xs) y rising below = (above xs rising.0, sorted_push c f xs y rising.1 below.1)
-  where
-    above : (zs : List A) → AllByRecursion (λ k. c (f x) k ≡ Less) (map f zs) → AllByRecursion (λ k. c (f x) k ≡ Less) (map f (zs ++ y ∷ []))
-    above [] h = (below.0, tt)
-    above (z ∷ zs) h = (h.0, above zs h.1)
 
 before_next : (ledger used size : ℕ) (p : Position) → is_before ledger used p ≡ true → position_cmp p (place_after ledger used size) ≡ Less
 before_next ledger used size p low = by (nat_lt used size)
@@ -128,13 +120,10 @@ counted_with log ledger used e at (inr next) =
     let this = in_next ledger used e.position next.0 in
     omega (arith, more, none, this)
 
-within : (n : ℕ) → nat_lt (2 ^ 62) n ≡ false → n ≤ 2 ^ 62
-within n e = grind (arith, nat_tests)
-
 appended_here : (log : List Entry) (ledger used size : ℕ) (e : Entry) → IsAt log ledger used → e.position ≡ place_after ledger used size → nat_lt (2 ^ 62) e.position.ledger ≡ false → IsAt (log ++ e ∷ []) e.position.ledger (with_it ledger used e.position)
 appended_here log ledger used size e at is room =
     let next = next_is ledger used size e.position is in
-    let low = within e.position.ledger room in
+    let low = within (2 ^ 62) e.position.ledger room in
     let B : Entry → Type 0 = λ x. is_before ledger used x.position ≡ true in
     let P : Entry → Type 0 = λ x. position_cmp x.position e.position ≡ Less in
     let Q : Entry → Type 0 = λ x. is_before e.position.ledger (with_it ledger used e.position) x.position ≡ true in
@@ -151,7 +140,3 @@ pub appended_at : (log : List Entry) (ledger used size l u : ℕ) (e : Entry) �
 appended_at log ledger used size l u e at is room same_ledger same_used =
     let next : e.position ≡ place_after ledger used size = is ∙ ap (λ (n : ℕ). place_after ledger n size) (sym at.counted) in
     placed (log ++ e ∷ []) e.position.ledger (with_it ledger used e.position) l u (appended_here log ledger used size e at next room) same_ledger same_used
-
-pub neither : (a b : Bool) → (a || b) ≡ false → b ≡ false
-neither true b e = cc
-neither false b e = e

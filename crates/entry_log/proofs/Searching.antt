@@ -1,15 +1,13 @@
 -- Halving a log whose positions rise.
-use Rattle.std.proofs.Common.{◌≡◌, ℕ, ◌+◌, ◌<◌, ◌≤◌, Bool, true, false, cond, List, [], ◌∷◌, map, length, Option, Some, None, refl, ap, sym, ◌∙◌, subst, nat_lt, position, get_or, inl, inr, arith}
-use Rattle.std.specs.List.{slice_get, position_or_len}
+use Rattle.std.proofs.Common.{◌≡◌, ℕ, ◌+◌, ◌<◌, ◌≤◌, true, false, List, [], ◌∷◌, map, length, Option, Some, None, refl, ap, sym, ◌∙◌, position, get_or, inl, inr, arith}
+use Rattle.std.specs.List.{slice_get}
 use Rattle.std.specs.List.Sorted.{IsStrictlySortedBy}
 use Rattle.std.specs.Ordering.{is_eq, ordering_reverse}
 use Rattle.std.specs.declared.cmp.Ordering.{Ordering}
 use Rattle.std.specs.declared.cmp.Ordering.TheVariants.{Less, Equal, Greater}
 use Rattle.std.proofs.lemmas.Bool.{cases_lt, false≢true}
-use Rattle.std.proofs.lemmas.Bool.Decides.{nat_tests}
 use Rattle.std.proofs.lemmas.List.{length-map}
 use Rattle.std.proofs.lemmas.List.Quantifiers.{position-Some}
-use Rattle.std.proofs.lemmas.List.Sums.{fails_before_first}
 use Rattle.std.proofs.lemmas.Map.Keys.{Less-from_sorted}
 use Rattle.std.proofs.lemmas.Option.{slice_get_within, get_or_from_slice_get}
 use Rattle.std.proofs.Math.ListN.{get_or-map}
@@ -18,6 +16,7 @@ use Rattle.position_core.specs.declared.message.Entry.{Entry}
 use Rattle.position_core.specs.Position.{position_cmp, positions_total, exact_positions}
 use Rattle.delivery_machine.specs.Words.{has_position}
 use Rattle.entry_log.specs.Log.{place_of}
+use Rattle.delivery_machine.proofs.Places.{fails_everywhere}
 
 abbrev pub IsRising : List Entry → Type 0
 IsRising log = IsStrictlySortedBy position_cmp (map (λ e. e.position) log)
@@ -95,18 +94,6 @@ not_earlier e at less = ap (λ (r : Ordering). is_eq r) less
 not_later : (e : Entry) (at : Position) → position_cmp at e.position ≡ Less → has_position at e ≡ false
 not_later e at less = ap (λ (r : Ordering). is_eq r) (positions_total.antisymm e.position at ∙ ap (λ (r : Ordering). ordering_reverse r) less)
 
-chosen_none : (b : Bool) (n : ℕ) → cond b (Some n) None ≡ None → b ≡ false
-chosen_none true n e = cc
-chosen_none false n e = refl
-
-not_below : (m n : ℕ) → nat_lt m n ≡ false → n ≤ m
-not_below m n e = grind (arith, nat_tests)
-
-fails_all : (p : Entry → Bool) (log : List Entry) (k : ℕ) (d : Entry) → position p log ≡ None → k < length log → p (get_or log k d) ≡ false
-fails_all p log k d e within =
-    let beyond = not_below _ _ (chosen_none _ _ e) in
-    fails_before_first p log k d (omega (arith, beyond))
-
 pub nowhere : (log : List Entry) (at : Position) (low high : ℕ) → IsBetween log at low high → high ≤ low → None ≡ place_of at log
 nowhere log at low high between over = sym (by (place_of at log) refl)
   where
@@ -136,7 +123,7 @@ found log at middle m rising here equal = sym (by (place_of at log) refl)
     same = ap (λ (e : Entry). e.position) (get_or_from_slice_get log middle m m here) ∙ exact_positions m.position at equal
 
     by : (r : Option ℕ) → place_of at log ≡ r → place_of at log ≡ Some middle
-    by None e = absurd (false≢true (sym (fails_all (has_position at) log middle m e (slice_get_within log middle m here)) ∙ is_it))
+    by None e = absurd (false≢true (sym (fails_everywhere (has_position at) log e middle m (slice_get_within log middle m here)) ∙ is_it))
     by (Some i) e =
         let is = position-Some (has_position at) log i m e in
         elim (cases_lt i middle) [

@@ -1,5 +1,5 @@
 -- A list of messages in pieces: segments of 1,024 messages, and the others.
-use Rattle.std.specs.Prelude.{◌≡◌, ℕ, ◌≤◌, List, [], ◌∷◌, ◌++◌, length, ⊤}
+use Rattle.std.specs.Prelude.{◌≡◌, ◌≤◌, List, [], ◌∷◌, ◌++◌, length, ⊤}
 use Rattle.std.specs.List.{flat_map}
 use Rattle.position_core.specs.declared.message.Entry.{Entry}
 

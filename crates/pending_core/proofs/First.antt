@@ -12,9 +12,7 @@ use Rattle.pending_core.specs.declared.kept.Kept.{Kept}
 use Rattle.pending_core.specs.Pending.{IsDue, IsFirstDue}
 use Rattle.pending_core.specs.Kept.{kept_at, pending_in, slot_of, AreTied}
 use Rattle.pending_core.proofs.Found.{pending_at}
-
-nothing_is_some : {A : Type 0} (o : Option A) (x : A) → o ≡ None → o ≡ Some x → ⊥
-nothing_is_some o x p q = cc
+use Rattle.pending_core.proofs.Tied.{nothing_is_some}
 
 module _ (es : List (Position × Kept)) (slots : List Slot) (tied : AreTied es slots) where
   -- what is due has a slot that is due

@@ -32,7 +32,7 @@ changed_there es fs p o h q e = h q ∙ ap (λ b. cond b o (kept_at es q)) e
 abbrev slot_kept : List (Position × Kept) → Position → Option ℕ
 slot_kept es q = option_map (λ kept. kept.slot) (kept_at es q)
 
-nothing_is_some : {A : Type 0} (o : Option A) (x : A) → o ≡ None → o ≡ Some x → ⊥
+pub nothing_is_some : {A : Type 0} (o : Option A) (x : A) → o ≡ None → o ≡ Some x → ⊥
 nothing_is_some o x p q = cc
 
 both_ways_at : (b : Bool) → b ≡ true → b ≡ false → ⊥

@@ -1,5 +1,4 @@
 pub mod Turns
 pub mod Hashes
-mod Ends
 mod Marks
 mod Lives

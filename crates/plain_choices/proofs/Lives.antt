@@ -2,7 +2,7 @@
 use Rattle.std.proofs.Common.{◌≡◌, ℕ, ◌+◌, ◌<◌, ◌∙◌, List, [], ◌∷◌, ◌++◌, map, take, Bool, true, false, cond, get_or, length, suc, zero, refl, sym, ap, arith}
 use Rattle.std.specs.Prelude.{nat_lt, ◌&&◌, if◌then◌else◌}
 use Rattle.std.specs.List.{filter}
-use Rattle.std.proofs.lemmas.List.{map-append}
+use Rattle.std.proofs.lemmas.List.{map-append, append-nil}
 use Rattle.std.proofs.lemmas.List.Elements.{filter_more}
 use Rattle.std.proofs.lemmas.Bool.Decides.{nat_tests}
 use Rattle.position_core.specs.declared.position.Position.{Position}
@@ -44,10 +44,6 @@ first_live_more sub count log i e found low is so_far =
     before : List Entry
     before = filter (is_live sub) (take i log)
 
-    nothing : (xs : List Entry) → xs ++ [] ≡ xs
-    nothing [] = refl
-    nothing (x ∷ xs) = ap (λ ys. x ∷ ys) (nothing xs)
-
     settled : (b : Bool) → (if b then take count (live_in (take i log) sub) ++ e.position ∷ [] else take count (live_in (take i log) sub)) ≡ (if b && true then found ++ e.position ∷ [] else found)
     settled true = ap (λ (ps : List Position). ps ++ e.position ∷ []) (sym so_far)
     settled false = sym so_far
@@ -63,5 +59,5 @@ first_live_more sub count log i e found low is so_far =
         ∙ ap (λ (ps : List Position). if nat_lt (length ps) count then take count (live_in (take i log) sub) ++ e.position ∷ [] else take count (live_in (take i log) sub)) (sym so_far)
         ∙ settled (nat_lt (length found) count)
     by false =
-        ap (λ (es : List Entry). take count (map (λ e. e.position) es)) (nothing (filter (is_live sub) (take i log)))
+        ap (λ (es : List Entry). take count (map (λ e. e.position) es)) (append-nil (filter (is_live sub) (take i log)))
         ∙ sym so_far ∙ none (nat_lt (length found) count)

@@ -1,11 +1,12 @@
 -- The member of the best level, as the members are gone through.
 use Rattle.std.proofs.Common.{◌≡◌, ℕ, ◌+◌, ◌<◌, ◌≤◌, ◌∙◌, List, [], ◌∷◌, ◌++◌, Bool, true, false, cond, Option, Some, None, take, get_or, length, refl, sym, ap, subst, arith}
 use Rattle.std.specs.Prelude.{if◌then◌else◌}
-use Rattle.std.specs.List.{filter, All, Contains}
+use Rattle.std.specs.List.{filter, All}
 use Rattle.std.proofs.lemmas.List.Elements.{All-push, Contains-push, Contains-append_left, filter_more}
 use Rattle.std.proofs.lemmas.Bool.Decides.{nat_tests}
 use Rattle.delivery_machine.specs.State.{Member}
 use Rattle.plain_choices.specs.Turn.{IsBestLevel, goes_first, in_turn}
+use Rattle.std.proofs.lemmas.List.{append-nil}
 
 first_is_better : (last : ℕ) (m other : Member) → goes_first last m other ≡ true → m.level ≤ other.level
 first_is_better last m other first = grind (arith, nat_tests)
@@ -36,8 +37,4 @@ best_level_step p last ms i x t best new lt there test before now =
   where
     either_way : (b : Bool) → IsBestLevel (filter p (take i ms) ++ cond b (x ∷ []) []) (if b then Some (in_turn last best x) else best)
     either_way true = with_next last (filter p (take i ms)) best x before
-    either_way false = subst (λ (ys : List Member). IsBestLevel ys best) (sym (append_none (filter p (take i ms)))) before
-      where
-        append_none : (xs : List Member) → xs ++ [] ≡ xs
-        append_none [] = refl
-        append_none (y ∷ xs) = ap (λ ys. y ∷ ys) (append_none xs)
+    either_way false = subst (λ (ys : List Member). IsBestLevel ys best) (sym (append-nil (filter p (take i ms)))) before

@@ -5,18 +5,14 @@ use Rattle.std.specs.List.{filter}
 use Rattle.std.specs.Int.{int_max}
 use Rattle.std.specs.Str.{bytes_eq}
 use Rattle.std.proofs.lemmas.List.{take_more}
-use Rattle.std.proofs.lemmas.Int.{ints}
 use Rattle.std.proofs.lemmas.Bool.Decides.{nat_tests}
 use Rattle.position_core.specs.declared.message.Entry.{Entry}
 use Rattle.delivery_machine.specs.Words.{greatest}
 use Rattle.plain_lists.specs.Raised.{raised}
-use Rattle.delivery_machine.proofs.Best.{best_by-push}
+use Rattle.delivery_machine.proofs.Best.{best_by-push, int_max_assoc}
 
 abbrev pub numbers_of : List Entry → List ℕ → List ℤ
 numbers_of log name = map (λ e. e.sequence) (filter (λ e. bytes_eq e.producer name) log)
-
-int_max_assoc : (a b c : ℤ) → int_max a (int_max b c) ≡ int_max (int_max a b) c
-int_max_assoc a b c = grind (arith, ints)
 
 greatest_push : (ns : List ℤ) (n : ℤ) → greatest (ns ++ n ∷ []) ≡ Some (raised (greatest ns) n)
 greatest_push ns n = best_by-push int_max int_max_assoc ns n

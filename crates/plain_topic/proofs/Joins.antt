@@ -1,5 +1,5 @@
 -- Why a consumer is turned away: the first test that fails says so, and it is never want of memory.
-use Rattle.std.proofs.Common.{◌≡◌, ◌^◌, ◌<◌, ℕ, List, Bool, true, false, Option, Some, None, refl, subst, ap, sym, arith}
+use Rattle.std.proofs.Common.{◌≡◌, ◌^◌, ◌<◌, ℕ, List, Bool, true, false, Option, Some, None, refl, subst, arith}
 use Rattle.std.specs.Prelude.{not, ◌&&◌, nat_le, length, if◌then◌else◌}
 use Rattle.std.proofs.lemmas.Bool.Decides.{nat_tests}
 use Rattle.position_core.specs.declared.topic_name.TopicName.{TopicName}

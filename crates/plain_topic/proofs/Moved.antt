@@ -12,7 +12,6 @@ use Rattle.delivery_machine.specs.Dying.{first_safe, moving, moved, is_next_lett
 use Rattle.delivery_machine.specs.Refusals.{moving_refused}
 use Rattle.delivery_machine.specs.Run.{Answers}
 use Rattle.delivery_machine.specs.declared.event.Event.TheVariants.{DeadDone}
-use Rattle.delivery_machine.specs.declared.reply.Reply.{Reply}
 use Rattle.delivery_machine.specs.declared.reply.Reply.TheVariants.{Done}
 use Rattle.plain_lists.specs.Letters.{moving_first}
 use Rattle.plain_topic.specs.Letters.{first_moved}

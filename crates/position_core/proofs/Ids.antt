@@ -45,7 +45,7 @@ bytes_more : (x : ℕ) (xs : List ℕ) → x < 256 → IsBytes xs → IsBytes (x
 bytes_more x xs small others zero = small
 bytes_more x xs small others (suc i) = others i
 
-id_bytes_are_bytes : (p : Position) → IsBytes (id_bytes p)
+pub id_bytes_are_bytes : (p : Position) → IsBytes (id_bytes p)
 id_bytes_are_bytes p =
     bytes_more 8 (varint p.ledger ++ 16 ∷ varint p.entry) (omega arith)
     (bytes_append (varint p.ledger) (16 ∷ varint p.entry) (varint_bytes p.ledger) (bytes_more 16 (varint p.entry) (omega arith) (varint_bytes p.entry)))

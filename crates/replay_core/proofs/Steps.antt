@@ -1,6 +1,6 @@
 -- The steps of a replay.
 use Rattle.std.proofs.Common.{◌≡◌, ℕ, ◌+◌, ◌==◌, List, [], ◌∷◌, ◌++◌, Bool, true, false, length, Option, sym, ap, ◌∙◌, subst, append_assoc, append-nil, length-append, arith}
-use Rattle.std.specs.Prelude.{◌||◌, ◌&&◌, not}
+use Rattle.std.specs.Prelude.{◌&&◌, not}
 use Rattle.std.specs.List.{filter_map}
 use Rattle.std.specs.Io.KnownBytes.{Appends}
 use Rattle.std.proofs.KnownBytes.{Appends-trans}
@@ -21,6 +21,7 @@ use Rattle.replay_core.specs.declared.engine.Replay.{Replay}
 use Rattle.replay_core.specs.declared.stop.Stop.{Stop}
 use Rattle.replay_core.specs.declared.stop.Stop.TheVariants.{BadLine, Read, Write, Memory}
 use Rattle.replay_core.proofs.LinesLemmas.{AreAnswered-push, joined-push}
+use Rattle.delivery_machine.proofs.Deciding.{both_false}
 
 -- ---- runs
 
@@ -37,16 +38,12 @@ run_step s answers t bad_id u run step =
 texts-push : (answers : List Answer) (answer : Answer) → texts (answers ++ answer ∷ []) ≡ texts answers ++ answer_text answer
 texts-push answers answer = flat_map-append answer_text answers (answer ∷ []) ∙ ap (λ (x : List ℕ). texts answers ++ x) (append-nil (answer_text answer))
 
-both_no : (a b : Bool) → a ≡ false → b ≡ false → (a || b) ≡ false
-both_no false b p q = q
-both_no true b p q = cc
-
 both_all : (a b : Bool) → a ≡ true → b ≡ false → (a && (not b && true)) ≡ true
 both_all true b p q = ap (λ t. not t && true) q
 both_all false b p q = cc
 
 pub no_end : (held part : List ℕ) → has_end held ≡ false → has_end part ≡ false → has_end (held ++ part) ≡ false
-no_end held part p q = list_any-append (λ byte. byte == 10) held part ∙ both_no _ _ p q
+no_end held part p q = list_any-append (λ byte. byte == 10) held part ∙ both_false _ _ p q
 
 -- ---- progress
 

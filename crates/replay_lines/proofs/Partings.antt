@@ -1,5 +1,5 @@
 -- The first separator of a text, and what stands before and after it.
-use Rattle.std.proofs.Common.{◌≡◌, ◌==◌, ℕ, ◌+◌, ◌-◌, ◌<◌, ◌≤◌, Bool, true, false, cond, List, [], ◌∷◌, ◌++◌, length, take, drop, Some, None, sym, ◌∙◌, arith, refl, ap, subst, nat_lt, position, get_or}
+use Rattle.std.proofs.Common.{◌≡◌, ◌==◌, ℕ, ◌+◌, ◌-◌, ◌<◌, Bool, true, false, cond, List, [], ◌∷◌, ◌++◌, length, take, drop, Some, None, sym, ◌∙◌, arith, refl, ap, subst, nat_lt, position, get_or}
 use Rattle.std.specs.List.{list_any, position_or_len}
 use Rattle.std.proofs.lemmas.List.Folds.{list_any_none}
 use Rattle.std.proofs.lemmas.Bool.Decides.{nat_tests}
@@ -7,32 +7,23 @@ use Rattle.std.proofs.lemmas.List.{take_rest, get_or-take, length-take}
 use Rattle.std.proofs.lemmas.List.Elements.{All-from_get_or}
 use Rattle.std.proofs.lemmas.List.Quantifiers.{position-Some}
 use Rattle.std.proofs.lemmas.List.Splits.{slice_split_none, slice_split_first, length-slice_split}
-use Rattle.std.proofs.lemmas.List.Sums.{split_at_first, fails_before_first}
+use Rattle.std.proofs.lemmas.List.Sums.{split_at_first}
 use Rattle.replay_lines.specs.Parting.{parted, words_of}
+use Rattle.delivery_machine.proofs.Places.{fails_everywhere}
+use Rattle.delivery_machine.proofs.Deciding.{number_is}
 
 chosen_some : (b : Bool) (n i : ℕ) → cond b (Some n) None ≡ Some i → (b ≡ true) × (n ≡ i)
 chosen_some true n i e = (refl, cc)
 chosen_some false n i e = cc
 
-chosen_none : (b : Bool) (n : ℕ) → cond b (Some n) None ≡ None → b ≡ false
-chosen_none true n e = cc
-chosen_none false n e = refl
-
 below : (m n : ℕ) → nat_lt m n ≡ true → m < n
 below m n e = grind (arith, nat_tests)
-
-not_below : (m n : ℕ) → nat_lt m n ≡ false → n ≤ m
-not_below m n e = grind (arith, nat_tests)
-
-same : (a b : ℕ) → (a == b) ≡ true → a ≡ b
-same a b e = grind (arith, nat_tests)
 
 -- a text without a separator is one part
 pub none_is : (separator : ℕ) (text : List ℕ) → position (λ byte. byte == separator) text ≡ None → parted separator text ≡ text ∷ []
 none_is separator text e =
     let is = λ (byte : ℕ). byte == separator in
-    let beyond = not_below _ _ (chosen_none _ _ e) in
-    slice_split_none is text (All-from_get_or (λ byte. (byte == separator) ≡ false) text 0 (λ k within. fails_before_first is text k 0 (omega (arith, beyond))))
+    slice_split_none is text (All-from_get_or (λ byte. (byte == separator) ≡ false) text 0 (λ k within. fails_everywhere is text e k 0 within))
 
 -- the text is what stands before its first separator, that, and what comes after
 pub whole_is : (separator : ℕ) (text : List ℕ) (place : ℕ) → position (λ byte. byte == separator) text ≡ Some place → text ≡ take place text ++ separator ∷ take (length text - (place + 1)) (drop (place + 1) text)
@@ -41,7 +32,7 @@ whole_is separator text place e =
     let at = chosen_some _ _ _ e in
     let here = position_or_len is text in
     let split = split_at_first is text 0 (below _ _ at.0) in
-    let value : get_or text here 0 ≡ separator = same _ _ (position-Some is text here 0 (e ∙ ap Some (sym at.1))).1 in
+    let value : get_or text here 0 ≡ separator = number_is _ _ (position-Some is text here 0 (e ∙ ap Some (sym at.1))).1 in
     let found : text ≡ take here text ++ separator ∷ drop (here + 1) text = subst (λ (byte : ℕ). text ≡ take here text ++ byte ∷ drop (here + 1) text) value split in
     rw (take_rest text (place + 1)) (subst (λ (p : ℕ). text ≡ take p text ++ separator ∷ drop (p + 1) text) at.1 found)
 

@@ -1,5 +1,5 @@
 -- An id needs no escape.
-use Rattle.std.proofs.Common.{◌≡◌, ℕ, zero, suc, ◌+◌, ◌*◌, ◌/◌, ◌%◌, ◌<◌, List, [], ◌∷◌, ◌++◌, length, replicate, get_or, Bool, true, false, true≢false, not, refl, sym, ap, ◌∙◌, arith}
+use Rattle.std.proofs.Common.{◌≡◌, ℕ, zero, suc, ◌+◌, ◌*◌, ◌/◌, ◌%◌, ◌<◌, List, [], ◌∷◌, length, replicate, get_or, Bool, true, false, true≢false, not, refl, sym, ap, ◌∙◌, arith}
 use Rattle.std.specs.Prelude.{slice_index}
 use Rattle.std.specs.List.{list_all}
 use Rattle.std.proofs.lemmas.Grind.{flat_map-append}
@@ -9,10 +9,10 @@ use Rattle.base64.specs.GeneralPurpose.{IsBytes, encode_of}
 use Rattle.base64.specs.Rfc4648.{encode, encode_symbols, padding_len}
 use Rattle.json.specs.Print.{escape, escape_byte}
 use Rattle.position_core.specs.declared.position.Position.{Position}
-use Rattle.position_core.specs.Id.{varint, id_bytes, text_of}
-use Rattle.position_core.proofs.Varint.{varint_bytes}
+use Rattle.position_core.specs.Id.{id_bytes, text_of}
 use Rattle.wire_json.specs.Escapes.{needs_escape}
 use Rattle.wire_json.proofs.Escapes.{cons_plain, plain_byte}
+use Rattle.position_core.proofs.Ids.{id_bytes_are_bytes}
 
 abbrev IsPlainTable : List ℕ → Type 0
 IsPlainTable t = (i : ℕ) → i < 64 → needs_escape (slice_index t i) ≡ false
@@ -53,20 +53,6 @@ all_plain_at t i all within = plain_if_all (needs_escape (get_or t i 0)) t i all
 
 plain_table : IsPlainTable standard.encode_table
 plain_table i within = all_plain_at standard.encode_table i refl within
-
-bytes_append : (xs ys : List ℕ) → IsBytes xs → IsBytes ys → IsBytes (xs ++ ys)
-bytes_append [] ys front back i = back i
-bytes_append (x ∷ xs) ys front back zero = front 0
-bytes_append (x ∷ xs) ys front back (suc i) = bytes_append xs ys (λ k. front (suc k)) back i
-
-bytes_more : (x : ℕ) (xs : List ℕ) → x < 256 → IsBytes xs → IsBytes (x ∷ xs)
-bytes_more x xs small others zero = small
-bytes_more x xs small others (suc i) = others i
-
-id_bytes_are_bytes : (p : Position) → IsBytes (id_bytes p)
-id_bytes_are_bytes p =
-    bytes_more 8 (varint p.ledger ++ 16 ∷ varint p.entry) (omega arith)
-    (bytes_append (varint p.ledger) (16 ∷ varint p.entry) (varint_bytes p.ledger) (bytes_more 16 (varint p.entry) (omega arith) (varint_bytes p.entry)))
 
 pub plain_id : (p : Position) → escape (text_of p) ≡ text_of p
 unfolding text_of

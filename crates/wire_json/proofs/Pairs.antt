@@ -10,6 +10,7 @@ use Rattle.std.specs.BTreeMap.{insert_entry}
 use Rattle.serde_json.specs.View.{view, members_view}
 use Rattle.serde_json.proofs.Views.{Entry}
 use Rattle.wire_json.specs.Members.{pairs_in, said_by, value_of, with_property}
+use Rattle.std.proofs.lemmas.List.{append-nil}
 
 abbrev pub Pairs : Type 0
 Pairs = List (List ℕ × List ℕ)
@@ -77,13 +78,9 @@ abbrev pub with_said : List ℕ → Option (List ℕ) → Pairs → Pairs
 with_said name None pairs = pairs
 with_said name (Some value) pairs = insert_entry (slice_cmp nat_cmp) pairs name value
 
-append_none : (pairs : Pairs) → pairs ++ [] ≡ pairs
-append_none [] = refl
-append_none (p ∷ pairs) = ap (λ ps. p ∷ ps) (append_none pairs)
-
 one_more : (said : Option (List ℕ)) (done : List Entry) (e : Entry) (more : List Entry) (pairs : Pairs) → IsStrictlySortedBy string_cmp (keys_of (done ++ e ∷ more)) → pairs_in (members_view done) ≡ Some pairs
     → both (Some pairs) (with_property (string_bytes e.0) (Some said) (Some [])) ≡ Some (with_said (string_bytes e.0) said pairs)
-one_more None done e more pairs sorted are = ap Some (append_none pairs)
+one_more None done e more pairs sorted are = ap Some (append-nil pairs)
 one_more (Some value) done e more pairs sorted are = ap Some (sym (insert_last done e more pairs value sorted are))
 
 pub next_taken : (said : Option (List ℕ)) (done : List Entry) (e : Entry) (more : List Entry) (before after : Pairs) → IsStrictlySortedBy string_cmp (keys_of (done ++ e ∷ more))

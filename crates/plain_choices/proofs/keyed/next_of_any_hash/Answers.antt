@@ -1,4 +1,4 @@
-use Rattle.std.proofs.Common.{◌≡◌, ◌∙◌, ℕ, true, false, rules, sym, subst, cond}
+use Rattle.std.proofs.Common.{◌∙◌, ℕ, subst}
 use Rattle.std.proofs.lemmas.Bool.{false≢true}
 use Rattle.plain_choices.specs.Keyed.{NoneGoes}
 use Rattle.plain_choices.proofs.Hashes.{none_more, none_by_hash}

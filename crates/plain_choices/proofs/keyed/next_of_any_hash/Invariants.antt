@@ -1,5 +1,3 @@
-use Rattle.std.proofs.Common.{take}
-use Rattle.plain_choices.specs.Keyed.{NoneGoes}
 use Rattle.plain_choices.proofs.Hashes.{NoneSoFar}
 use Rattle.plain_choices.proofs.keyed.next_of_any_hash.Given as goal
 

@@ -1,5 +1,5 @@
 use Rattle.std.proofs.lemmas.List.Sums.{prefix_len-le-length}
-use Rattle.plain_choices.proofs.Ends.{at_the_end}
+use Rattle.delivery_machine.proofs.Places.{at_the_end}
 use Rattle.plain_choices.proofs.places.place_of.Goals as goal
 
 pub returns-in-None-clause-value : goal.returns-in-None-clause-value

@@ -1,8 +1,5 @@
-use Rattle.std.proofs.Common.{ap, ◌∙◌, sym}
-use Rattle.std.specs.Prelude.{Option, None, Some}
-use Rattle.position_core.specs.declared.fault.Fault.{Fault}
+use Rattle.std.proofs.Common.{ap, ◌∙◌}
 use Rattle.std.proofs.lemmas.Result.{on_ok_weaker, IfErr-weaker}
-use Rattle.delivery_machine.specs.State.{Member}
 use Rattle.delivery_machine.specs.Words.{is_member}
 use Rattle.delivery_machine.specs.Joining.{permitted}
 use Rattle.delivery_machine.specs.Refusals.{permitting_refused}

@@ -1,4 +1,4 @@
-use Rattle.std.proofs.Common.{ap, ◌∙◌, sym, Some}
+use Rattle.std.proofs.Common.{ap, ◌∙◌, sym}
 use Rattle.std.specs.Prelude.{is_some}
 use Rattle.std.specs.List.{position}
 use Rattle.delivery_machine.specs.Words.{is_producer}

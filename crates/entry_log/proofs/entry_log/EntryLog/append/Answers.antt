@@ -5,8 +5,9 @@ use Rattle.position_core.specs.declared.message.Entry.{Entry}
 use Rattle.entry_log.specs.Log.{Log, next_in, place_after, used_in, front}
 use Rattle.entry_log.specs.Pieces.{joined}
 use Rattle.entry_log.specs.Kept.{IsAt}
-use Rattle.entry_log.proofs.Keeping.{appended_at, front_push, neither}
+use Rattle.entry_log.proofs.Keeping.{appended_at, front_push}
 use Rattle.entry_log.proofs.entry_log.EntryLog.append.Goals as goal
+use Rattle.delivery_machine.proofs.Deciding.{or_false}
 
 pub invariant_of-self-2 : goal.invariant_of-self-2
 invariant_of-self-2 c =
@@ -16,7 +17,7 @@ invariant_of-self-2 c =
     let ledger : ℕ = inside.place.ledger in
     let used : ℕ = inside.place.used in
     let next : e.position ≡ place_after ledger (used_in ledger log) inside.ledger_size = c.requires.next ∙ sym (ap (λ (q : Log). next_in q) c.self.view_is) in
-    let room : nat_lt (2 ^ 62) e.position.ledger ≡ false = ap (λ (p : Position). nat_lt (2 ^ 62) p.ledger) c.requires.next ∙ neither _ _ c.requires.room in
+    let room : nat_lt (2 ^ 62) e.position.ledger ≡ false = ap (λ (p : Position). nat_lt (2 ^ 62) p.ledger) c.requires.next ∙ (or_false _ _ c.requires.room).1 in
     let is : joined c.push.new.self ≡ log ++ e ∷ [] = c.in_ok-push.ensures.ok in
     let its_ledger : c.with-place.result.ledger ≡ e.position.ledger = c.with-place.ensures.ledger ∙ ap (λ (p : Position). p.ledger) c.position.ensures in
     let its_used = c.with-place.ensures.used ∙ ap (λ (p : Position). cond {A = ℕ} (p.ledger == ledger) (used + 1) 1) c.position.ensures in

@@ -1,7 +1,3 @@
-use Rattle.std.proofs.Common.{ap, ◌∙◌, sym}
-use Rattle.std.specs.Option.{unwrap_or}
-use Rattle.std.specs.FinMap as map_of
-use Rattle.plain_tables.specs.Counted.{count_in}
 use Rattle.plain_tables.proofs.Tables.{get-entries}
 use Rattle.plain_tables.proofs.counts.CountTable.get.Goals as goal
 
