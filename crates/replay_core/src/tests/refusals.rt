@@ -1,4 +1,5 @@
 // Where two refusals of an event hold, the first one comes.
+use super::rows::check_rows;
 use super::size_of;
 use crate::plain::replay;
 use std::process::Abort;
@@ -76,4 +77,26 @@ fn the_first_refusal_comes(rt: HostRuntime) {
     for refused in &table {
         check_refused(&rt, refused);
     }
+}
+
+/// A topic has 64 subscriptions at most, and each of them takes further members.
+#[test]
+fn a_topic_is_full_of_subscriptions(rt: HostRuntime) {
+    let mut rows = String::new(rt.alloc());
+    for consumer in 1..65u32 {
+        let row = format!(in rt.alloc();
+            "subscribe s{consumer} Shared 0 push:10 0 0 0 - Earliest -> consumer {consumer}\n"
+        );
+        rows.push_str(row.expect(&rt, "no memory").as_str())
+            .expect(&rt, "no memory");
+    }
+    let further = "subscribe s64 Shared 0 push:10 0 0 0 - Earliest -> consumer 65
+subscribe s65 Shared 0 push:10 0 0 0 - Earliest -> refused F7
+subscribe s65 Shared 0 push:10 0 0 1 persistent://public/default/t Earliest -> refused F7
+subscribe s64 Exclusive 0 push:10 0 0 0 - Earliest -> refused F5
+leave 1 -> done
+dropsub s1 -> done
+subscribe s65 Exclusive 0 push:10 0 0 0 - Earliest -> consumer 66
+";
+    check_rows(&rt, &[rows.as_str(), further]);
 }
