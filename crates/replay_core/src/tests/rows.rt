@@ -30,17 +30,22 @@ fn push_line<R: Abort + AllocGlobal>(rt: &R, text: &mut Vec<u8>, line: &str) {
     text.push(b'\n').expect(rt, "no memory");
 }
 
-/// Replays the lines of all rows, and compares the replies.
-pub(super) fn check_rows<R: Abort + AllocGlobal>(rt: &R, rows: &[&str]) {
+/// Parts the rows into lines and replies.
+fn part<R: Abort + AllocGlobal>(rt: &R, rows: &str, input: &mut Vec<u8>, output: &mut Vec<u8>) {
+    for row in rows.as_bytes().lines(rt.alloc()) {
+        let row = row.expect(rt, "no text");
+        let (line, reply) = row.as_str().split_once(" -> ").expect(rt, "no reply");
+        push_line(rt, input, line);
+        push_line(rt, output, reply);
+    }
+}
+
+/// Replays the lines of all rows, text by text, and compares the replies.
+pub(super) fn check_rows<R: Abort + AllocGlobal>(rt: &R, texts: &[&str]) {
     let mut input = Vec::new(rt.alloc());
     let mut output = Vec::new(rt.alloc());
-    for row in rows {
-        for line in row.as_bytes().lines(rt.alloc()) {
-            let line = line.expect(rt, "no text");
-            let (line, reply) = line.as_str().split_once(" -> ").expect(rt, "no reply");
-            push_line(rt, &mut input, line);
-            push_line(rt, &mut output, reply);
-        }
+    for rows in texts {
+        part(rt, rows, &mut input, &mut output);
     }
     check(rt, input.as_slice(), output.as_slice(), Ok(()));
 }
