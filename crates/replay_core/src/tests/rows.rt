@@ -1,4 +1,4 @@
-// Lines with the replies that they have, as `line -> reply`, and how many topics begin.
+// Rows, each a line and its reply as `line -> reply`, and the rows with which many tests begin.
 use super::check;
 use std::io::BufRead;
 use std::process::Abort;
