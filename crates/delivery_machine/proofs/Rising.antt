@@ -71,7 +71,7 @@ pub record IsRising (log : List Entry) (ledger : ℕ) : Type 0 where
 abbrev next_of : ℕ → ℕ → ℕ → Position
 next_of ledger used size = cond (nat_lt used size) (record { ledger = ledger; entry = used }) (record { ledger = ledger + 1; entry = 0 })
 
-before_next : (ledger used size : ℕ) (p : Position) → is_below ledger used p ≡ true → position_cmp p (next_of ledger used size) ≡ Less
+pub before_next : (ledger used size : ℕ) (p : Position) → is_below ledger used p ≡ true → position_cmp p (next_of ledger used size) ≡ Less
 before_next ledger used size p low = by (nat_lt used size)
   where
     by : (b : Bool) → position_cmp p (cond b (record { ledger = ledger; entry = used }) (record { ledger = ledger + 1; entry = 0 })) ≡ Less

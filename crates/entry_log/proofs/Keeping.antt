@@ -15,7 +15,7 @@ use Rattle.position_core.specs.declared.message.Entry.{Entry}
 use Rattle.position_core.specs.Position.{position_cmp}
 use Rattle.entry_log.specs.Log.{used_in, place_after, front}
 use Rattle.entry_log.specs.Kept.{IsAt, is_before}
-use Rattle.delivery_machine.proofs.Rising.{sorted_push}
+use Rattle.delivery_machine.proofs.Rising.{sorted_push, before_next}
 use Rattle.delivery_machine.proofs.Deciding.{within}
 
 -- ---- a log without messages
@@ -66,13 +66,6 @@ front_push log e =
     let whole = length-append log (e ∷ []) in
     let less : length (log ++ e ∷ []) - 1 ≡ length log = omega (arith, whole) in
     ap (λ (n : ℕ). take n (log ++ e ∷ [])) less ∙ take-append_seam log (e ∷ [])
-
-before_next : (ledger used size : ℕ) (p : Position) → is_before ledger used p ≡ true → position_cmp p (place_after ledger used size) ≡ Less
-before_next ledger used size p low = by (nat_lt used size)
-  where
-    by : (b : Bool) → position_cmp p (cond b (record { ledger = ledger; entry = used }) (record { ledger = ledger + 1; entry = 0 })) ≡ Less
-    by true = grind (arith, nat_tests)
-    by false = grind (arith, nat_tests)
 
 -- the next place is in the ledger, or the first of the next one
 abbrev IsNext : ℕ → ℕ → Position → Type 0

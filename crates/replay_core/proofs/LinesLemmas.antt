@@ -1,36 +1,29 @@
 -- How the lines of an input begin, and how one ends.
 use Rattle.std.proofs.Common.{◌≡◌, ℕ, ◌+◌, ◌<◌, ◌==◌, List, [], ◌∷◌, ◌++◌, Bool, true, false, cond, length, drop, refl, sym, ap, ◌∙◌, subst, append_assoc, length-append, arith}
-use Rattle.std.specs.Prelude.{◌||◌, ◌&&◌, not}
+use Rattle.std.specs.Prelude.{◌&&◌, not}
 use Rattle.std.specs.List.{list_all}
 use Rattle.std.proofs.Math.Seq.{drop-append_seam}
 use Rattle.std.proofs.lemmas.List.Sums.{sum_by-cons}
 use Rattle.position_core.specs.declared.topic_name.TopicName.{TopicName}
 use Rattle.replay_lines.specs.Grammar.{IsBadLine, longest_line}
+use Rattle.delivery_machine.proofs.Deciding.{or_false}
 use Rattle.replay_core.specs.Lines.{lines_of, onto_line, ends_in}
 use Rattle.replay_core.specs.Replay.{Answer, AreAnswered, IsAnswered, IsBadFirst}
 use Rattle.replay_core.specs.Progress.{has_end, joined, IsBadWhatever}
-
-first_no : (a b : Bool) → (a || b) ≡ false → a ≡ false
-first_no false b e = refl
-first_no true b e = e
-
-second_no : (a b : Bool) → (a || b) ≡ false → b ≡ false
-second_no false b e = e
-second_no true b e = absurd (cc)
 
 -- a line ends at its end
 pub lines_of-line : (line rest : List ℕ) → has_end line ≡ false → lines_of (line ++ 10 ∷ rest) ≡ line ∷ lines_of rest
 lines_of-line [] rest e = refl
 lines_of-line (b ∷ line) rest e =
-    ap (λ t. cond t ([] ∷ lines_of (line ++ 10 ∷ rest)) (onto_line b (lines_of (line ++ 10 ∷ rest)))) (first_no (b == 10) (has_end line) e)
-    ∙ ap (onto_line b) (lines_of-line line rest (second_no (b == 10) (has_end line) e))
+    ap (λ t. cond t ([] ∷ lines_of (line ++ 10 ∷ rest)) (onto_line b (lines_of (line ++ 10 ∷ rest)))) (or_false (b == 10) (has_end line) e).0
+    ∙ ap (onto_line b) (lines_of-line line rest (or_false (b == 10) (has_end line) e).1)
 
 -- the last line may lack its end
 pub lines_of-last : (b : ℕ) (line : List ℕ) → has_end (b ∷ line) ≡ false → lines_of (b ∷ line) ≡ (b ∷ line) ∷ []
-lines_of-last b [] e = ap (λ t. cond t ([] ∷ []) (onto_line b [])) (first_no (b == 10) false e)
+lines_of-last b [] e = ap (λ t. cond t ([] ∷ []) (onto_line b [])) (or_false (b == 10) false e).0
 lines_of-last b (x ∷ line) e =
-    ap (λ t. cond t ([] ∷ lines_of (x ∷ line)) (onto_line b (lines_of (x ∷ line)))) (first_no (b == 10) (has_end (x ∷ line)) e)
-    ∙ ap (onto_line b) (lines_of-last x line (second_no (b == 10) (has_end (x ∷ line)) e))
+    ap (λ t. cond t ([] ∷ lines_of (x ∷ line)) (onto_line b (lines_of (x ∷ line)))) (or_false (b == 10) (has_end (x ∷ line)) e).0
+    ∙ ap (onto_line b) (lines_of-last x line (or_false (b == 10) (has_end (x ∷ line)) e).1)
 
 onto_begins : (b : ℕ) (lines : List (List ℕ)) → (front : List ℕ) × (rest : List (List ℕ)) × (onto_line b lines ≡ (b ∷ front) ∷ rest)
 onto_begins b [] = ([], [], refl)
@@ -40,12 +33,12 @@ onto_begins b (line ∷ lines) = (line, lines, refl)
 pub lines_begin : (b : ℕ) (line more : List ℕ) → has_end (b ∷ line) ≡ false → (front : List ℕ) × (rest : List (List ℕ)) × (lines_of (b ∷ line ++ more) ≡ (b ∷ line ++ front) ∷ rest)
 lines_begin b [] more e =
     let on = onto_begins b (lines_of more) in
-    (on.0, on.1, ap (λ t. cond t ([] ∷ lines_of more) (onto_line b (lines_of more))) (first_no (b == 10) false e) ∙ on.2)
+    (on.0, on.1, ap (λ t. cond t ([] ∷ lines_of more) (onto_line b (lines_of more))) (or_false (b == 10) false e).0 ∙ on.2)
 lines_begin b (x ∷ line) more e =
-    let on = lines_begin x line more (second_no (b == 10) (has_end (x ∷ line)) e) in (
+    let on = lines_begin x line more (or_false (b == 10) (has_end (x ∷ line)) e).1 in (
       on.0,
       on.1,
-      ap (λ t. cond t ([] ∷ lines_of (x ∷ line ++ more)) (onto_line b (lines_of (x ∷ line ++ more)))) (first_no (b == 10) (has_end (x ∷ line)) e)
+      ap (λ t. cond t ([] ∷ lines_of (x ∷ line ++ more)) (onto_line b (lines_of (x ∷ line ++ more)))) (or_false (b == 10) (has_end (x ∷ line)) e).0
           ∙ ap (onto_line b) on.2,
     )
 
@@ -79,11 +72,11 @@ ends_in-other b text e =
 
 ends_in-none : (text : List ℕ) → has_end text ≡ false → ends_in text ≡ 0
 ends_in-none [] e = refl
-ends_in-none (b ∷ text) e = ends_in-other b text (first_no (b == 10) (has_end text) e) ∙ ends_in-none text (second_no (b == 10) (has_end text) e)
+ends_in-none (b ∷ text) e = ends_in-other b text (or_false (b == 10) (has_end text) e).0 ∙ ends_in-none text (or_false (b == 10) (has_end text) e).1
 
 ends_in-line : (line rest : List ℕ) → has_end line ≡ false → ends_in (line ++ 10 ∷ rest) ≡ 1 + ends_in rest
 ends_in-line [] rest e = ends_in-cons 10 rest
-ends_in-line (b ∷ line) rest e = ends_in-other b (line ++ 10 ∷ rest) (first_no (b == 10) (has_end line) e) ∙ ends_in-line line rest (second_no (b == 10) (has_end line) e)
+ends_in-line (b ∷ line) rest e = ends_in-other b (line ++ 10 ∷ rest) (or_false (b == 10) (has_end line) e).0 ∙ ends_in-line line rest (or_false (b == 10) (has_end line) e).1
 
 -- whole lines, and a text with no end
 pub ends_in-joined : (whole : List (List ℕ)) (tail : List ℕ) → list_all (λ line. not (has_end line)) whole ≡ true → has_end tail ≡ false → ends_in (joined whole ++ tail) ≡ length whole
