@@ -1,8 +1,4 @@
-// What the proofs do not see: worked rows with values from outside, and that calls with memory succeed.
+// What lines cannot reach: counters, ordinals and ledgers at their ends, and copies that are not collected.
+mod copies;
 mod ends;
-mod failover;
-mod names;
-mod rows;
-mod rules;
-mod script;
-mod shared;
+mod scene;

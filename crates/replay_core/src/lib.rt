@@ -2,16 +2,12 @@
 #![tactic(auto)]
 
 mod arguments;
-#[cfg(test)]
-mod doubles;
 mod engine;
 mod names;
 mod output;
 mod plain;
 mod printing;
 mod stop;
-#[cfg(test)]
-mod tests;
 
 pub use arguments::read_ledger_size;
 pub use engine::replay_over;

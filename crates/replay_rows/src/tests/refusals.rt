@@ -1,7 +1,7 @@
 // Where two refusals of an event hold, the first one comes.
 use super::rows::check_rows;
 use super::size_of;
-use crate::plain::replay;
+use replay_core::replay;
 use std::process::Abort;
 
 /// A line of which the topic has so many, and then one that is refused.

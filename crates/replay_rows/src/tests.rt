@@ -1,20 +1,21 @@
 // Worked rows, and readers and writers that fail.
 ghost use Rattle.std.specs.Prelude.{◌≤◌};
 
+mod doubles;
 mod dying;
 mod failover;
 mod keyed;
 mod producers;
 mod refusals;
 mod rows;
+mod rules;
 mod seeking;
 mod shared;
 mod statistics;
 
-use crate::doubles::{ByByte, Narrow};
-use crate::plain::replay;
-use crate::stop::{Stop, status};
+use doubles::{ByByte, Narrow};
 use position_core::LedgerSize;
+use replay_core::{Stop, replay, status};
 use rows::check_rows;
 use std::io::Read;
 use std::process::Abort;

@@ -31,3 +31,24 @@ progress -> progress 1 1
 ";
     check_rows(&rt, &[rows]);
 }
+
+#[test]
+fn the_least_free_number_is_given(rt: HostRuntime) {
+    let rows = "producer auto-1 - -> producer 1 auto-1 -1
+producer - - -> producer 2 auto-0 -1
+producer - - -> producer 3 auto-2 -1
+producer auto-0 - -> refused F2
+";
+    check_rows(&rt, &[rows]);
+}
+
+#[test]
+fn a_name_in_the_log_is_not_given_again(rt: HostRuntime) {
+    let rows = "producer - - -> producer 1 auto-0 -1
+publish 1 6 - aGk= 1000 -> published CAAQAA== 1
+drop 1 -> done
+producer - - -> producer 2 auto-1 -1
+producer auto-0 - -> producer 3 auto-0 6
+";
+    check_rows(&rt, &[rows]);
+}

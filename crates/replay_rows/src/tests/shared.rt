@@ -156,3 +156,37 @@ dispatch s 3000 -> sent 3 CAAQAg== 0
 ";
     check_rows(&rt, &[THREE, rows]);
 }
+
+#[test]
+fn a_message_that_is_refused_is_counted(rt: HostRuntime) {
+    let rows = "subscribe s Shared 1 push:10 0 60000 0 - Earliest -> consumer 1
+subscribe s Shared 0 pull 0 60000 0 - Earliest -> consumer 2
+dispatch s 1000 -> sent 1 CAAQAA== 0
+permit 2 1 -> done
+permit 1 1 -> refused F22
+dispatch s 1000 -> sent 2 CAAQAQ== 0
+ackupto 1 CAAQAA== -> refused F9
+nack 1 CAAQAQ== 1000 -> refused F10
+nack 1 CAAQAA== 1000 -> done
+tick s 60999 -> quiet
+tick s 61000 -> released CAAQAA==
+collect 1 -> copies 0
+dispatch s 1000 -> sent 1 CAAQAA== 1
+ack 2 CAAQAA== -> done
+collect 1 -> copies 0
+";
+    check_rows(&rt, &[THREE, rows]);
+}
+
+#[test]
+fn an_order_begins_again(rt: HostRuntime) {
+    let rows = "subscribe s Exclusive 0 push:10 0 60000 0 - Earliest -> consumer 1
+dispatch s 1000 -> sent 1 CAAQAA== 0
+dispatch s 1000 -> sent 1 CAAQAQ== 0
+nack 1 CAAQAQ== 0 -> done
+tick s 60000 -> rewound 2
+collect 1 -> copies 0
+dispatch s 1000 -> sent 1 CAAQAA== 1
+";
+    check_rows(&rt, &[THREE, rows]);
+}
