@@ -10,7 +10,7 @@ use Rattle.base64.proofs.EngineFacts.{decode_of-encode_of, decode_of_strict}
 use Rattle.base64.proofs.RoundTrip.{length-encode_symbols}
 use Rattle.position_core.specs.declared.position.Position.{Position}
 use Rattle.position_core.specs.declared.fault.Fault.TheVariants.{BadId}
-use Rattle.position_core.specs.Id.{varint, id_bytes, text_of}
+use Rattle.position_core.specs.Id.{varint, id_bytes, text_of, IsIdOf}
 use Rattle.position_core.proofs.Varint.{varint_same, varint_short, varint_bytes}
 
 -- what begins with the ledger's field and is an id
@@ -59,7 +59,7 @@ unfolding text_of
 text_short p =
     encoding_short _ (id_bytes p) _ (omega (arith, varint_short p.ledger, varint_short p.entry, length-append (varint p.ledger) (16 ∷ varint p.entry)))
 
-text_decodes : (p : Position) → decode_of standard (text_of p) ≡ Ok (id_bytes p)
+pub text_decodes : (p : Position) → decode_of standard (text_of p) ≡ Ok (id_bytes p)
 unfolding text_of
 text_decodes p = decode_of-encode_of standard (id_bytes p) refl (id_bytes_are_bytes p)
 
@@ -72,11 +72,11 @@ text_not_refused p text error e refused =
     let both = sym refused ∙ ap (decode_of standard) e ∙ text_decodes p in
     cc both
 
--- what was decoded and read is the text of what was read
-pub read_is_text : (text bytes : List ℕ) (found : Option Position) → IsBytes text → decode_of standard text ≡ Ok bytes → IfSome found (λ p. bytes ≡ id_bytes p)
-    → IfOk (ok_or found BadId) (λ p. text ≡ text_of p)
-read_is_text text bytes None are_bytes decoded read = tt
-read_is_text text bytes (Some p) are_bytes decoded read = decoded_text p text are_bytes (decoded ∙ ap Ok read)
+-- what was decoded and read is the position whose id the text is
+pub read_is_text : (text bytes : List ℕ) (found : Option Position) → IsBytes text → decode_of standard text ≡ Ok bytes → IfSome found (λ p. bytes ≡ id_bytes p) → IfSome found (λ p. (p.ledger < 2 ^ 64) × (p.entry < 2 ^ 64))
+    → IfOk (ok_or found BadId) (IsIdOf text)
+read_is_text text bytes None are_bytes decoded read fits = tt
+read_is_text text bytes (Some p) are_bytes decoded read fits = record { ledger = fits.0; entry = fits.1; text_is = decoded_text p text are_bytes (decoded ∙ ap Ok read) }
 
 -- the text of a position is read as the position
 pub text_is_read : (text bytes : List ℕ) (found : Option Position) (p : Position) → text ≡ text_of p → decode_of standard text ≡ Ok bytes → (bytes ≡ id_bytes p → found ≡ Some p)
@@ -85,8 +85,8 @@ text_is_read text bytes found p e decoded read =
     let both = sym decoded ∙ ap (decode_of standard) e ∙ text_decodes p in
     rw (read (cc both)) refl
 
--- positions with one text are one
-pub text_same : (p q : Position) → p.ledger < 2 ^ 64 → p.entry < 2 ^ 64 → q.ledger < 2 ^ 64 → q.entry < 2 ^ 64 → text_of p ≡ text_of q → p ≡ q
-text_same p q pl pe ql qe e =
-    let both = sym (text_decodes p) ∙ ap (decode_of standard) e ∙ text_decodes q in
-    id_bytes_same p q pl pe ql qe (cc both)
+-- a text is the id of one position
+pub one_id : (text : List ℕ) (p q : Position) → IsIdOf text p → IsIdOf text q → p ≡ q
+one_id text p q is_p is_q =
+    let both = sym (text_decodes p) ∙ ap (decode_of standard) (sym is_p.text_is ∙ is_q.text_is) ∙ text_decodes q in
+    id_bytes_same p q is_p.ledger is_p.entry is_q.ledger is_q.entry (cc both)

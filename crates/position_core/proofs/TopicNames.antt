@@ -1,12 +1,15 @@
 -- How the text of a topic's name parts: a name has no `/`, so there is one way.
-use Rattle.std.proofs.Common.{rules, tests, ◌≡◌, ℕ, ◌<◌, false, List, ◌∷◌, ◌++◌, length, get_or, Option, Some, None, Bor, IsTrue, IsSomeAnd, MatchOption, ◌∙◌, ap, lit<}
-use Rattle.std.specs.Prelude.{◌≢◌}
+use Rattle.std.proofs.Common.{rules, tests, ◌≡◌, ℕ, ◌<◌, Bool, true, false, List, [], ◌∷◌, ◌++◌, length, get_or, Option, Some, None, Bor, IsTrue, IsSomeAnd, MatchOption, refl, sym, ◌∙◌, ap, lit<, true≢false}
+use Rattle.std.specs.Prelude.{◌≢◌, ◌||◌}
 use Rattle.std.specs.List.{list_any}
 use Rattle.std.specs.Str.Pattern.{FindsTextPrefix, StripsPrefix}
 use Rattle.std.proofs.Math.Seq.{drop-append_seam}
 use Rattle.std.proofs.lemmas.List.Folds.{list_any_at}
 use Rattle.std.proofs.lemmas.Str.Pattern.{IsSplitOnceResult, split_after}
+use Rattle.std.proofs.lemmas.Bool.{false≢true}
+use Rattle.position_core.specs.declared.topic_name.TopicName.{TopicName}
 use Rattle.position_core.specs.Name.{is_name, is_barred}
+use Rattle.position_core.specs.TopicName.{scheme, topic_text}
 
 none_barred : (name : List ℕ) → IsTrue (is_name name) → list_any is_barred name ≡ false
 none_barred name h = search (rules, tests)
@@ -26,3 +29,35 @@ pub strips_text : (prefix bs rest : List ℕ) (r : Option (Bor (List ℕ))) → 
     → IsSomeAnd r (λ x. x.now ≡ rest)
 strips_text prefix bs rest None h e = h rest e
 strips_text prefix bs rest (Some x) h e = h.2 ∙ rw (h.1.0, e) (drop-append_seam prefix rest)
+
+-- what stands before the first `/` is known, and what stands after it
+parts_same : (a b x y : List ℕ) → list_any is_barred a ≡ false → list_any is_barred b ≡ false → a ++ 47 ∷ x ≡ b ++ 47 ∷ y → (a ≡ b) × (x ≡ y)
+parts_same [] [] x y none_a none_b e = (refl, cc e)
+parts_same [] (c ∷ b) x y none_a none_b e =
+    let slash : 47 ≡ c = cc e in
+    absurd (false≢true (sym none_b ∙ ap (λ (k : ℕ). is_barred k || list_any is_barred b) (sym slash)))
+parts_same (c ∷ a) [] x y none_a none_b e =
+    let slash : c ≡ 47 = cc e in
+    absurd (false≢true (sym none_a ∙ ap (λ (k : ℕ). is_barred k || list_any is_barred a) slash))
+parts_same (c ∷ a) (d ∷ b) x y none_a none_b e =
+    let first : c ≡ d = cc e in
+    let others : a ++ 47 ∷ x ≡ b ++ 47 ∷ y = cc e in
+    let rest = parts_same a b x y (or_second (is_barred c) (list_any is_barred a) none_a) (or_second (is_barred d) (list_any is_barred b) none_b) others in
+    (ap (λ (k : ℕ). k ∷ a) first ∙ ap (λ (z : List ℕ). d ∷ z) rest.0, rest.1)
+  where
+    or_second : (p q : Bool) → (p || q) ≡ false → q ≡ false
+    or_second true q e = absurd (true≢false e)
+    or_second false q e = e
+
+after_scheme : (x y : List ℕ) → scheme ++ x ≡ scheme ++ y → x ≡ y
+after_scheme x y e = cc e
+
+topic_is : (t : TopicName) (tenant namespace topic : List ℕ) → tenant ≡ t.tenant → namespace ≡ t.namespace → topic ≡ t.topic → record { tenant = tenant; namespace = namespace; topic = topic } ≡ t
+topic_is t tenant namespace topic tenants namespaces topics = rw (tenants, namespaces, topics) refl
+
+-- a text is that of one topic
+pub one_topic : (s t : TopicName) → IsTrue (is_name s.tenant) → IsTrue (is_name s.namespace) → IsTrue (is_name t.tenant) → IsTrue (is_name t.namespace) → topic_text s ≡ topic_text t → s ≡ t
+one_topic s t tenant_s namespace_s tenant_t namespace_t e =
+    let first = parts_same s.tenant t.tenant _ _ (none_barred s.tenant tenant_s) (none_barred t.tenant tenant_t) (after_scheme _ _ e) in
+    let second = parts_same s.namespace t.namespace s.topic t.topic (none_barred s.namespace namespace_s) (none_barred t.namespace namespace_t) first.1 in
+    topic_is t s.tenant s.namespace s.topic first.0 second.0 second.1

@@ -3,7 +3,7 @@ ghost use Rattle.std.specs.Prelude.{◌≡◌, ℕ, ◌+◌, ◌<◌, ◌≤◌,
 ghost use Rattle.arrayvec.specs.ArrayVec.{array_vec_len};
 ghost use Rattle.position_core.specs.declared.fault.Fault.TheVariants.{BadId};
 ghost use Rattle.position_core.specs.declared.position.Position.{Position};
-ghost use Rattle.position_core.specs.Id.{varint, text_of, id_bytes};
+ghost use Rattle.position_core.specs.Id.{varint, text_of, id_bytes, IsIdOf};
 
 use crate::fault::Fault;
 use crate::position::Position;
@@ -75,6 +75,7 @@ fn split_field(mark: u8, bytes: &[u8]) -> Option<(u64, &[u8])>
 
 fn position_in(bytes: &[u8]) -> Option<Position>
     ensures some { IfSome result (λ p. bytes.now ≡ id_bytes p) }
+    ensures fits { IfSome result (λ p. (p.ledger < 2 ^ 64) × (p.entry < 2 ^ 64)) }
     ensures all_read { (p : Position) → p.ledger < 2 ^ 64 → p.entry < 2 ^ 64 → bytes.now ≡ id_bytes p → result ≡ Some p }
 {
     let (ledger, rest) = split_field(8, bytes)?;
@@ -105,9 +106,9 @@ impl Position {
 
     /// Reads a position's one text; takes no memory.
     pub fn from_text(text: &[u8]) -> Result<Self, Fault>
-        ensures ok { IfOk result (λ p. text.now ≡ text_of p) }
+        ensures ok { IfOk result (IsIdOf text.now) }
         ensures bad { IfErr result (λ fault. fault ≡ BadId) }
-        ensures all_read { (p : Position) → p.ledger < 2 ^ 64 → p.entry < 2 ^ 64 → text.now ≡ text_of p → result ≡ Ok p }
+        ensures all_read { (p : Position) → IsIdOf text.now p → result ≡ Ok p }
     {
         if text.len() > LONGEST_TEXT {
             return Err(Fault::BadId);

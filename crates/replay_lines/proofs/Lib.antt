@@ -5,3 +5,5 @@ pub mod BaseLemmas
 pub mod Commands
 pub mod ByWords
 pub mod Deaths
+pub mod OneWord
+pub mod OneLine

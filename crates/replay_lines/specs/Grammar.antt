@@ -3,7 +3,7 @@ use Rattle.std.specs.Prelude.{◌≡◌, ℕ, ℤ, List, [], ◌∷◌, ◌++◌
 use Rattle.position_core.specs.declared.topic_name.TopicName.{TopicName}
 use Rattle.position_core.specs.declared.position.Position.{Position}
 use Rattle.position_core.specs.declared.body.Content.{Content}
-use Rattle.position_core.specs.Id.{text_of}
+use Rattle.position_core.specs.Id.{IsIdOf}
 use Rattle.delivery_machine.specs.declared.event.Event.{Event}
 use Rattle.delivery_machine.specs.declared.event.Event.TheVariants.{AddProducer, DropProducer, Publish, Stored, Progress, Subscribe, Leave, Permit, Ack, AckUpTo, Nack, Tick, Seek, SeekTime, Skip, DropSubscription, Stats, Dispatch, Collect, DeadNext, DeadDone}
 use Rattle.position_core.specs.declared.kind.Kind.{Kind}
@@ -31,8 +31,10 @@ longest_line = 1500000
 
 abbrev pub command_text : Command → List ℕ
 command_text commands.Producer = codes "producer"
+command_text commands.DropProducer = codes "drop"
 command_text commands.Publish = codes "publish"
 command_text commands.Stored = codes "stored"
+command_text commands.Progress = codes "progress"
 command_text commands.Subscribe = codes "subscribe"
 command_text commands.Leave = codes "leave"
 command_text commands.Permit = codes "permit"
@@ -40,15 +42,13 @@ command_text commands.Ack = codes "ack"
 command_text commands.AckUpTo = codes "ackupto"
 command_text commands.Nack = codes "nack"
 command_text commands.Tick = codes "tick"
-command_text commands.Dispatch = codes "dispatch"
-command_text commands.Collect = codes "collect"
-command_text commands.DropProducer = codes "drop"
-command_text commands.Progress = codes "progress"
 command_text commands.Seek = codes "seek"
 command_text commands.SeekTime = codes "seektime"
 command_text commands.Skip = codes "skip"
 command_text commands.DropSubscription = codes "dropsub"
 command_text commands.Stats = codes "stats"
+command_text commands.Dispatch = codes "dispatch"
+command_text commands.Collect = codes "collect"
 command_text commands.DeadNext = codes "deadnext"
 command_text commands.DeadDone = codes "deaddone"
 
@@ -70,10 +70,10 @@ IsInitial word Latest = word ≡ codes "Latest"
 abbrev pub IsTarget : List ℕ → Option Target → Type 0
 IsTarget word (Some targets.Earliest) = word ≡ codes "earliest"
 IsTarget word (Some targets.Latest) = word ≡ codes "latest"
-IsTarget word (Some (targets.At position)) = word ≡ text_of position
+IsTarget word (Some (targets.At position)) = IsIdOf word position
 IsTarget word None =
     (word ≡ codes "earliest" → ⊥) × (word ≡ codes "latest" → ⊥)
-    × ((position : Position) → position.ledger < 2 ^ 64 → position.entry < 2 ^ 64 → word ≡ text_of position → ⊥)
+    × ((position : Position) → IsIdOf word position → ⊥)
 
 -- the words are those of the body's key and payload
 abbrev pub IsBody : List ℕ → List ℕ → Content → Type 0
@@ -88,8 +88,8 @@ IsDeath this subscription limit target death =
 
 -- the line stands for the event of the id's position, or the id is that of no position
 abbrev pub IsById : (Position → Event) → List ℕ → Line → Type 0
-IsById event_at id (lines.Event event) = (position : Position) × (id ≡ text_of position) × (event ≡ event_at position)
-IsById event_at id lines.BadId = (position : Position) → position.ledger < 2 ^ 64 → position.entry < 2 ^ 64 → id ≡ text_of position → ⊥
+IsById event_at id (lines.Event event) = (position : Position) × IsIdOf id position × (event ≡ event_at position)
+IsById event_at id lines.BadId = (position : Position) → IsIdOf id position → ⊥
 
 -- the line of a seek: a word that says nothing is a bad id
 abbrev pub seek_line : List ℕ → Option Target → Line
@@ -102,11 +102,16 @@ IsLineOf this commands.Producer words line =
     (n b : List ℕ) × (name : Option (List ℕ)) × (base : ℤ) × (words ≡ n ∷ b ∷ [])
     × IsProducerWord n name × IsBase b base
     × (line ≡ lines.Event (AddProducer name base))
+IsLineOf this commands.DropProducer words line =
+    (p : List ℕ) × (producer : ℕ) × (words ≡ p ∷ [])
+    × IsNumber p producer
+    × (line ≡ lines.Event (DropProducer producer))
 IsLineOf this commands.Publish words line =
     (p s k b n : List ℕ) × (producer : ℕ) × (sequence : ℤ) × (body : Content) × (now : ℕ) × (words ≡ p ∷ s ∷ k ∷ b ∷ n ∷ [])
     × IsNumber p producer × IsSequence s sequence × IsBody k b body × IsMoment n now
     × (line ≡ lines.Event (Publish producer sequence body now))
 IsLineOf this commands.Stored words line = (words ≡ []) × (line ≡ lines.Event Stored)
+IsLineOf this commands.Progress words line = (words ≡ []) × (line ≡ lines.Event Progress)
 IsLineOf this commands.Subscribe words line =
     (s k l f a n m d i : List ℕ) × (name : List ℕ) × (kind : Kind) × (level : ℕ) × (flow : Flow) × (ack_timeout nack_delay max_redeliver : ℕ) × (dead_topic : TopicName) × (initial : Initial)
     × (words ≡ s ∷ k ∷ l ∷ f ∷ a ∷ n ∷ m ∷ d ∷ i ∷ [])
@@ -122,6 +127,12 @@ IsLineOf this commands.Permit words line =
     (c n : List ℕ) × (consumer permits : ℕ) × (words ≡ c ∷ n ∷ [])
     × IsNumber c consumer × IsBetween 1 2147483647 n permits
     × (line ≡ lines.Event (Permit consumer permits))
+IsLineOf this commands.Ack words line =
+    (c id : List ℕ) × (consumer : ℕ) × (words ≡ c ∷ id ∷ [])
+    × IsNumber c consumer × IsById (λ position. Ack consumer position) id line
+IsLineOf this commands.AckUpTo words line =
+    (c id : List ℕ) × (consumer : ℕ) × (words ≡ c ∷ id ∷ [])
+    × IsNumber c consumer × IsById (λ position. AckUpTo consumer position) id line
 IsLineOf this commands.Nack words line =
     (c id n : List ℕ) × (consumer now : ℕ) × (words ≡ c ∷ id ∷ n ∷ [])
     × IsNumber c consumer × IsMoment n now × IsById (λ position. Nack consumer position now) id line
@@ -129,25 +140,6 @@ IsLineOf this commands.Tick words line =
     (s n : List ℕ) × (name : List ℕ) × (now : ℕ) × (words ≡ s ∷ n ∷ [])
     × IsNameWord s name × IsMoment n now
     × (line ≡ lines.Event (Tick name now))
-IsLineOf this commands.AckUpTo words line =
-    (c id : List ℕ) × (consumer : ℕ) × (words ≡ c ∷ id ∷ [])
-    × IsNumber c consumer × IsById (λ position. AckUpTo consumer position) id line
-IsLineOf this commands.Ack words line =
-    (c id : List ℕ) × (consumer : ℕ) × (words ≡ c ∷ id ∷ [])
-    × IsNumber c consumer × IsById (λ position. Ack consumer position) id line
-IsLineOf this commands.Dispatch words line =
-    (s n : List ℕ) × (name : List ℕ) × (now : ℕ) × (words ≡ s ∷ n ∷ [])
-    × IsNameWord s name × IsMoment n now
-    × (line ≡ lines.Event (Dispatch name now))
-IsLineOf this commands.Collect words line =
-    (c : List ℕ) × (consumer : ℕ) × (words ≡ c ∷ [])
-    × IsNumber c consumer
-    × (line ≡ lines.Event (Collect consumer))
-IsLineOf this commands.DropProducer words line =
-    (p : List ℕ) × (producer : ℕ) × (words ≡ p ∷ [])
-    × IsNumber p producer
-    × (line ≡ lines.Event (DropProducer producer))
-IsLineOf this commands.Progress words line = (words ≡ []) × (line ≡ lines.Event Progress)
 IsLineOf this commands.Seek words line =
     (s w : List ℕ) × (name : List ℕ) × (target : Option Target) × (words ≡ s ∷ w ∷ [])
     × IsNameWord s name × IsTarget w target
@@ -168,6 +160,14 @@ IsLineOf this commands.Stats words line =
     (s : List ℕ) × (name : List ℕ) × (words ≡ s ∷ [])
     × IsNameWord s name
     × (line ≡ lines.Event (Stats name))
+IsLineOf this commands.Dispatch words line =
+    (s n : List ℕ) × (name : List ℕ) × (now : ℕ) × (words ≡ s ∷ n ∷ [])
+    × IsNameWord s name × IsMoment n now
+    × (line ≡ lines.Event (Dispatch name now))
+IsLineOf this commands.Collect words line =
+    (c : List ℕ) × (consumer : ℕ) × (words ≡ c ∷ [])
+    × IsNumber c consumer
+    × (line ≡ lines.Event (Collect consumer))
 IsLineOf this commands.DeadNext words line =
     (s : List ℕ) × (name : List ℕ) × (words ≡ s ∷ [])
     × IsNameWord s name
@@ -192,3 +192,7 @@ IsLine this line read = (length line ≤ longest_line) × StandFor this (words_o
 
 abbrev pub IsBadLine : TopicName → List ℕ → Type 0
 IsBadLine this line = (read : Line) → IsLine this line read → ⊥
+
+-- no line stands for two things
+abbrev pub EachLineIsOne : Type 0
+EachLineIsOne = (this : TopicName) (line : List ℕ) (one other : Line) → IsLine this line one → IsLine this line other → one ≡ other

@@ -19,5 +19,5 @@ mod words;
 pub use numbers::read_bounded;
 pub use parting::split;
 pub use payloads::append_payload;
-pub use reading::{LONGEST_LINE, Line, read_line};
+pub use reading::{LONGEST_LINE, Line, each_line_is_one, read_line};
 pub use words::Unread;

@@ -1,7 +1,7 @@
 // A line to what it stands for.
 ghost use Rattle.replay_lines.specs.Reads.{Reads};
 ghost use Rattle.replay_lines.specs.Parting.{words_of};
-ghost use Rattle.replay_lines.specs.Grammar.{Complete, IsLine, StandFor};
+ghost use Rattle.replay_lines.specs.Grammar.{Complete, EachLineIsOne, IsLine, StandFor};
 
 use crate::command::{Command, read_command};
 use crate::delivering::{
@@ -40,8 +40,10 @@ fn read_rest(
 {
     match command {
         Command::Producer => read_producer(alloc, words),
+        Command::DropProducer => read_drop_producer(words),
         Command::Publish => read_publish(alloc, words),
         Command::Stored => read_stored(words),
+        Command::Progress => read_progress(words),
         Command::Subscribe => read_subscribe(alloc, this, words),
         Command::Leave => read_leave(words),
         Command::Permit => read_permit(words),
@@ -49,15 +51,13 @@ fn read_rest(
         Command::AckUpTo => read_ack_up_to(words),
         Command::Nack => read_nack(words),
         Command::Tick => read_tick(alloc, words),
-        Command::Dispatch => read_dispatch(alloc, words),
-        Command::Collect => read_collect(words),
-        Command::DropProducer => read_drop_producer(words),
-        Command::Progress => read_progress(words),
         Command::Seek => read_seek(alloc, words),
         Command::SeekTime => read_seek_time(alloc, words),
         Command::Skip => read_skip(alloc, words),
         Command::DropSubscription => read_drop_subscription(alloc, words),
         Command::Stats => read_stats(alloc, words),
+        Command::Dispatch => read_dispatch(alloc, words),
+        Command::Collect => read_collect(words),
         Command::DeadNext => read_dead_next(alloc, words),
         Command::DeadDone => read_dead_done(alloc, words),
     }
@@ -79,3 +79,8 @@ pub fn read_line(alloc: Global, this: &TopicName, line: &[u8]) -> Result<Line, U
     }
     read_words(alloc, this, Words::of(line))
 }
+
+/// A line stands for at most one thing.
+pub fn each_line_is_one()
+    ensures { EachLineIsOne }
+{}
