@@ -1,4 +1,4 @@
 pub mod Places
 pub mod Changes
 pub mod Offers
-pub mod Listed
+pub mod Turn

@@ -1,5 +1,5 @@
 -- A member as it is seen, and what an offer names.
-use Rattle.std.specs.Prelude.{◌≡◌, ℕ, Option, Some, slice_get}
+use Rattle.std.specs.Prelude.{◌≡◌, ℕ, List, map, Option, Some, slice_get}
 use Rattle.std.specs.Option.{option_map}
 use Rattle.position_core.specs.declared.message.Entry.{Entry}
 use Rattle.delivery_machine.specs.State.{State, Member, Subscription}
@@ -9,6 +9,10 @@ use Rattle.dispatch_core.specs.declared.dispatcher.Offer.{Offer}
 
 abbrev pub seen_of : State → Subscription → Member → Seen
 seen_of s sub m = record { consumer = m.number; level = m.level; room = has_room s sub m }
+
+-- the members of the subscription, in the order of joining
+abbrev pub seen_members : State → Subscription → List Seen
+seen_members s sub = map (seen_of s sub) (members_of s sub.name)
 
 -- the member at the place of the line
 abbrev pub seen_at : State → Subscription → ℕ → Option Seen

@@ -2,11 +2,11 @@
 #![tactic(auto)]
 
 mod dispatcher;
-mod list_view;
-#[cfg(test)]
-mod tests;
+mod members;
+mod turn;
 mod view;
 
 pub use dispatcher::{Dispatcher, Offer};
-pub use list_view::ListView;
+pub use members::Members;
+pub use turn::is_sooner;
 pub use view::{Seen, View};

@@ -4,8 +4,9 @@ ghost use Rattle.std.specs.Option.{option_copied};
 ghost use Rattle.delivery_machine.specs.State.{State, Subscription};
 ghost use Rattle.delivery_machine.specs.Words.{members_of, visible};
 ghost use Rattle.dispatch_core.specs.Places.{holder_at, key_at, IsNextReady, NoneReady};
-ghost use Rattle.dispatch_core.specs.Offers.{seen_at};
+ghost use Rattle.dispatch_core.specs.Offers.{seen_at, seen_members};
 
+use crate::members::Members;
 use position_core::Level;
 
 /// A member of a subscription.
@@ -50,4 +51,13 @@ pub trait View {
     fn member(&self, place: u64) -> Option<Seen>
         ensures seen { result ≡ seen_at (state self.now) (subscription self.now) place }
         ensures few { length (members_of (state self.now) (subscription self.now).name) < 2 ^ 64 };
+
+    /// All members, in the order of joining.
+    final fn members(&self) -> Members<'_, Self>
+    where
+        Self: Sized,
+        ensures { result ≡ seen_members (state self.now) (subscription self.now) }
+    {
+        Members::of(self)
+    }
 }

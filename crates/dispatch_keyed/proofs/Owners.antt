@@ -1,15 +1,14 @@
 -- The owner of a hash, as the members and the log are gone through.
-use Rattle.std.proofs.Common.{◌≡◌, ℕ, ◌+◌, ◌<◌, ◌≤◌, ◌∙◌, List, [], ◌∷◌, Bool, true, false, Option, Some, None, take, get_or, length, refl, sym, ap, subst, arith, inl, inr}
-use Rattle.std.specs.Prelude.{◌==◌, ◌&&◌, ◌||◌, not, slice_get}
+use Rattle.std.proofs.Common.{◌≡◌, ℕ, ◌+◌, ◌<◌, ◌≤◌, ◌∙◌, Bool, true, false, Option, Some, None, take, get_or, length, refl, sym, ap, arith, inl, inr}
+use Rattle.std.specs.Prelude.{◌==◌, ◌&&◌, ◌||◌, not}
 use Rattle.std.specs.List.{find, list_any}
 use Rattle.std.specs.Option.{option_map, option_map_or, option_and_then}
 use Rattle.std.specs.FinMap as map_of
 use Rattle.std.proofs.Math.Seq.{take-length}
-use Rattle.std.proofs.lemmas.Bool.{cases_lt, eq-eqb, ne_eqb, eqb-true}
+use Rattle.std.proofs.lemmas.Bool.{eqb-true}
 use Rattle.std.proofs.lemmas.List.{get_or-take, length-take}
 use Rattle.std.proofs.lemmas.List.Folds.{list_any_more, list_any_at}
-use Rattle.std.proofs.lemmas.List.Recursion.{found_at, found_nowhere}
-use Rattle.std.proofs.lemmas.Option.{slice_get_cases, slice_get-get_or, get_or_from_slice_get, same_Some, none-some}
+use Rattle.std.proofs.lemmas.Option.{slice_get_cases, slice_get-get_or, same_Some, none-some}
 use Rattle.position_core.specs.declared.message.Entry.{Entry}
 use Rattle.position_core.specs.declared.held.Held.{Held}
 use Rattle.murmur_core.specs.Sticky.{sticky_hash}
@@ -75,59 +74,6 @@ pub drains_nowhere : (s : State) (sub : Subscription) (hash owner i : ℕ) → l
 drains_nowhere s sub hash owner i past within none =
     let all : length s.log ≡ i = omega arith in
     ap (list_any (drains sub hash owner)) (sym (take-length s.log) ∙ ap (λ (n : ℕ). take n s.log) all) ∙ none
-
--- ---- the member of a number
-
--- none of the first members has the number
-abbrev pub NoneOf : ℕ → List Member → ℕ → Type 0
-NoneOf number ms i = (k : ℕ) (d : Member) → k < i → is_member number (get_or ms k d) ≡ false
-
--- the one at the place is seen, and has the number
-pub member_found : (s : State) (sub : Subscription) (ms : List Member) (number i : ℕ) (seen : Seen) → NoneOf number ms i → Some seen ≡ option_map (seen_of s sub) (slice_get ms i) → seen.consumer ≡ number → Some seen ≡ option_map (seen_of s sub) (find (is_member number) ms)
-member_found s sub ms number i seen none there same =
-    elim (slice_get_cases ms i).1 [
-      | inl at ↦
-          let is : seen ≡ seen_of s sub at.0 = same_Some _ _ (there ∙ ap (option_map (seen_of s sub)) at.2) in
-          let passes : is_member number at.0 ≡ true = eq-eqb at.0.number number (ap (λ (x : Seen). x.consumer) (sym is) ∙ same) in
-          let found : find (is_member number) ms ≡ Some (get_or ms i at.0) =
-          found_at (find (is_member number)) (is_member number) Some None refl (λ _ _. refl) ms i at.0 at.1 (λ k below. none k at.0 below) (ap (is_member number) at.3 ∙ passes) in
-          ap Some is ∙ ap (λ (m : Member). Some (seen_of s sub m)) (sym at.3) ∙ ap (option_map (seen_of s sub)) (sym found)
-      | inr past ↦ absurd (none-some seen (sym (there ∙ ap (option_map (seen_of s sub)) past.1)))
-    ]
-
--- it has another number
-pub member_passed : (s : State) (sub : Subscription) (ms : List Member) (number i : ℕ) (seen : Seen) → NoneOf number ms i → Some seen ≡ option_map (seen_of s sub) (slice_get ms i) → (seen.consumer ≡ number → ⊥) → (i + 1 ≤ length ms) × NoneOf number ms (i + 1)
-member_passed s sub ms number i seen none there other =
-    elim (slice_get_cases ms i).1 [
-      | inl at ↦
-          let is : seen ≡ seen_of s sub at.0 = same_Some _ _ (there ∙ ap (option_map (seen_of s sub)) at.2) in (
-            omega (arith, at.1),
-            λ k d below.
-                elim (cases_lt k i) [
-                  | inl before ↦ none k d before
-                  | inr not_before ↦
-                      let last : k ≡ i = omega arith in
-                      let here : get_or ms k d ≡ at.0 = ap (λ (j : ℕ). get_or ms j d) last ∙ get_or_from_slice_get ms i at.0 d at.2 in
-                      ap (is_member number) here ∙ ne_eqb at.0.number number (λ same. other (ap (λ (x : Seen). x.consumer) is ∙ same))
-                ],
-          )
-      | inr past ↦ absurd (none-some seen (sym (there ∙ ap (option_map (seen_of s sub)) past.1)))
-    ]
-
-nobody : (number : ℕ) (ms : List Member) → NoneOf number ms (length ms) → find (is_member number) ms ≡ None
-nobody number [] none = refl
-nobody number (m ∷ ms) none =
-    found_nowhere (find (is_member number)) (is_member number) Some None refl (λ _ _. refl) (m ∷ ms) m (λ k below. none k m below)
-
--- no member is left
-pub member_missing : (s : State) (sub : Subscription) (ms : List Member) (number i : ℕ) (found : Option Seen) → i ≤ length ms → NoneOf number ms i → found ≡ option_map (seen_of s sub) (slice_get ms i) → found ≡ None → None ≡ option_map (seen_of s sub) (find (is_member number) ms)
-member_missing s sub ms number i found within none there nothing =
-    elim (slice_get_cases ms i).1 [
-      | inl at ↦ absurd (none-some (seen_of s sub at.0) (sym nothing ∙ there ∙ ap (option_map (seen_of s sub)) at.2))
-      | inr past ↦
-          let all : i ≡ length ms = omega (arith, past.0) in
-          sym (ap (option_map (seen_of s sub)) (nobody number ms (subst (NoneOf number ms) all none)))
-    ]
 
 -- ---- the owner
 

@@ -22,14 +22,7 @@ fn hash_at<V: View>(view: &V, index: u64) -> u16
 fn member_of<V: View>(view: &V, consumer: u64) -> Option<Seen>
     ensures { result ≡ option_map (seen_of (V.state view.now) (V.subscription view.now)) (find (is_member consumer) (members_of (V.state view.now) (V.subscription view.now).name)) }
 {
-    let mut place = 0;
-    while let Some(seen) = view.member(place) {
-        if seen.consumer == consumer {
-            return Some(seen);
-        }
-        place += 1;
-    }
-    None
+    view.members().find(|seen| seen.consumer == consumer)
 }
 
 /// Whether the message at the place has the hash, and is pending at another consumer.

@@ -4,6 +4,7 @@ use dispatch_core::{Dispatcher, Offer, View};
 use hash_ranges::SplitTable;
 use position_core::Fault;
 use std::alloc::Global;
+use std::marker::Model;
 
 /// Offers, of the messages that may be sent to the owners of their hashes, the first in topic order.
 /// It keeps the members' shares of the hashes, which only joining and leaving change. An offer goes
@@ -11,6 +12,15 @@ use std::alloc::Global;
 #[derive(Drop)]
 pub struct Keyed {
     shares: SplitTable,
+}
+
+impl Model for Keyed {
+    ghost use Rattle.std.specs.Prelude.{List};
+    ghost use Rattle.position_core.specs.declared.block.Block.{Block};
+
+    ghost Value = { List Block };
+
+    ghost view = { λ d. d.shares };
 }
 
 impl Dispatcher for Keyed {
@@ -22,7 +32,7 @@ impl Dispatcher for Keyed {
 
     ghost serves = { λ kind. same_kind kind KeyShared };
 
-    ghost agrees = { λ d _ sub. (sub.kind ≡ KeyShared) × (d.shares ≡ sub.shares) };
+    ghost agrees = { λ d _ sub. (sub.kind ≡ KeyShared) × (d ≡ sub.shares) };
 
     fn begin<V: View>(alloc: Global, _view: &V) -> Result<Self, Fault> {
         Ok(Keyed {
@@ -41,7 +51,7 @@ impl Dispatcher for Keyed {
     fn undo_append<V: View>(&mut self, _view: &V) {}
 
     fn on_join<V: View>(&mut self, _view: &V, consumer: u64) -> Result<(), Fault>
-        ensures ok { OnOk result (self.new.shares ≡ shared_out consumer self.old.shares) }
+        ensures ok { OnOk result (self.new ≡ shared_out consumer self.old) }
         ensures err { IfErr result (λ fault. fault ≡ NoMemory) }
         ensures unchanged { OnErr result (self.new ≡ self.old) }
     {
@@ -52,7 +62,7 @@ impl Dispatcher for Keyed {
     }
 
     fn on_leave<V: View>(&mut self, _view: &V, consumer: u64)
-        ensures { self.new.shares ≡ given_back consumer self.old.shares }
+        ensures { self.new ≡ given_back consumer self.old }
     {
         self.shares.leave(consumer);
     }

@@ -3,7 +3,5 @@
 
 mod hashes;
 mod keyed;
-#[cfg(test)]
-mod tests;
 
 pub use keyed::Keyed;

@@ -9,7 +9,7 @@ use Rattle.position_core.specs.declared.kind.Kind.{Kind}
 use Rattle.position_core.specs.declared.kind.Kind.TheVariants.{Shared}
 use Rattle.position_core.specs.declared.message.Entry.{Entry}
 use Rattle.delivery_machine.specs.State.{State, Subscription, Member}
-use Rattle.delivery_machine.specs.Words.{is_at, has_room, members_of, with_room, visible, ChoosesBy, IsNextAtBestLevel, NoneEligible}
+use Rattle.delivery_machine.specs.Words.{is_at, has_room, with_room, visible, ChoosesBy, IsNextAtBestLevel, NoneEligible}
 use Rattle.delivery_machine.proofs.Passes.{passes}
 use Rattle.dispatch_core.specs.Places.{IsNextReady, NoneReady}
 use Rattle.dispatch_core.specs.Offers.{seen_of, IsGoodOffer}
@@ -34,7 +34,7 @@ filter-map-filter {A} {B} p f q (x ∷ xs) =
     by_first here there true same = by_second (filter q (map f here)) there (q (f x)) same
     by_first here there false same = same
 
-roomy-with_room : (s : State) (sub : Subscription) → roomy s sub (members_of s sub.name) ≡ map (seen_of s sub) (with_room s sub)
+roomy-with_room : (s : State) (sub : Subscription) → roomy s sub ≡ map (seen_of s sub) (with_room s sub)
 roomy-with_room s sub = filter-map-filter (is_at sub.name) (seen_of s sub) (λ seen. seen.room) s.members
 
 has_room-with_room : (s : State) (sub : Subscription) (m : Member) → Contains (with_room s sub) m → has_room s sub m ≡ true
@@ -54,7 +54,7 @@ pub none_without_message : (s : State) (sub : Subscription) → sub.kind ≡ Sha
 none_without_message s sub kind none e m pair =
     none-some e (sym (first_waiting-none s sub e none) ∙ (next_at_best s sub e m kind pair.1).0)
 
-pub none_without_room : (last : ℕ) (s : State) (sub : Subscription) → sub.kind ≡ Shared → IsFirst last (roomy s sub (members_of s sub.name)) None → NoneEligible s sub
+pub none_without_room : (last : ℕ) (s : State) (sub : Subscription) → sub.kind ≡ Shared → IsFirst last (roomy s sub) None → NoneEligible s sub
 none_without_room last s sub kind none e m pair =
     let at = (next_at_best s sub e m kind pair.1).1 in
     let nobody = ap length (sym (roomy-with_room s sub) ∙ none) in
@@ -66,7 +66,7 @@ record IsServed (s : State) (sub : Subscription) (seen : Seen) (m : Member) : Ty
   at : Contains (with_room s sub) m
   best : All (λ other. m.level ≤ other.level) (with_room s sub)
 
-served : (last : ℕ) (s : State) (sub : Subscription) (seen : Seen) → IsFirst last (roomy s sub (members_of s sub.name)) (Some seen) → (m : Member) × IsServed s sub seen m
+served : (last : ℕ) (s : State) (sub : Subscription) (seen : Seen) → IsFirst last (roomy s sub) (Some seen) → (m : Member) × IsServed s sub seen m
 served last s sub seen first = among (subst (λ (ys : List Seen). IsFirst last ys (Some seen)) (roomy-with_room s sub) first)
   where
     among : IsFirst last (map (seen_of s sub) (with_room s sub)) (Some seen) → (m : Member) × IsServed s sub seen m
@@ -90,7 +90,7 @@ served last s sub seen first = among (subst (λ (ys : List Seen). IsFirst last y
         ]
 
 -- the first waiting message may be sent to the member with room that goes first
-pub good_offer : (last : ℕ) (s : State) (sub : Subscription) (i : ℕ) (seen : Seen) → sub.kind ≡ Shared → IsNextReady s sub 0 i → IsFirst last (roomy s sub (members_of s sub.name)) (Some seen) → IsGoodOffer s sub (record { index = i; consumer = seen.consumer })
+pub good_offer : (last : ℕ) (s : State) (sub : Subscription) (i : ℕ) (seen : Seen) → sub.kind ≡ Shared → IsNextReady s sub 0 i → IsFirst last (roomy s sub) (Some seen) → IsGoodOffer s sub (record { index = i; consumer = seen.consumer })
 good_offer last s sub i seen kind next first =
     let to = served last s sub seen first in
     elim (slice_get_cases (visible s) i).1 [

@@ -2,8 +2,6 @@
 #![tactic(auto)]
 
 mod shared;
-#[cfg(test)]
-mod tests;
 mod turn;
 
 pub use shared::Shared;

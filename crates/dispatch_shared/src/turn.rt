@@ -1,10 +1,8 @@
-// Which member is sent the next message, found by going through all of them.
+// Which member is sent the next message.
 ghost use Rattle.std.specs.Prelude.{◌≡◌};
-ghost use Rattle.delivery_machine.specs.Words.{members_of};
 ghost use Rattle.dispatch_shared.specs.Turn.{goes_first, in_turn, roomy, IsFirst};
 
-use dispatch_core::{Seen, View};
-use plain_choices::is_sooner;
+use dispatch_core::{Seen, View, is_sooner};
 
 /// By level, and then in turn.
 fn goes_first(last: u64, seen: &Seen, other: &Seen) -> bool
@@ -15,31 +13,22 @@ fn goes_first(last: u64, seen: &Seen, other: &Seen) -> bool
     level < their_level || (level == their_level && is_sooner(last, seen.consumer, other.consumer))
 }
 
-fn in_turn(last: u64, best: Option<Seen>, seen: Seen) -> Seen
+fn in_turn(last: u64, best: Seen, seen: Seen) -> Seen
     ensures { result ≡ in_turn last best seen }
 {
-    match best {
-        Some(best) => if goes_first(last, &seen, &best) {
-            seen
-        } else {
-            best
-        },
-        None => seen,
+    if goes_first(last, &seen, &best) {
+        seen
+    } else {
+        best
     }
 }
 
 /// Of the members with room, one of the best level: the one with the least number above that last
 /// served, else with the least number.
 pub(crate) fn first_in_turn<V: View>(view: &V, last: u64) -> Option<Seen>
-    ensures { IsFirst last (roomy (V.state view.now) (V.subscription view.now) (members_of (V.state view.now) (V.subscription view.now).name)) result }
+    ensures { IsFirst last (roomy (V.state view.now) (V.subscription view.now)) result }
 {
-    let mut best = None;
-    let mut place = 0;
-    while let Some(seen) = view.member(place) {
-        if seen.room {
-            best = Some(in_turn(last, best, seen));
-        }
-        place += 1;
-    }
-    best
+    view.members()
+        .filter(|seen| seen.room)
+        .reduce(|best, seen| in_turn(last, best, seen))
 }

@@ -1,65 +1,50 @@
--- The active member, as the members are gone through, and what makes a pair eligible.
-use Rattle.std.proofs.Common.{◌≡◌, ℕ, ◌+◌, ◌≤◌, List, ◌∷◌, ◌++◌, [], Some, None, Option, Bool, true, false, IsTrue, cond, take, get_or, length, refl, ap, ◌∙◌, sym, arith, inl, inr}
-use Rattle.std.specs.Prelude.{slice_get, IfSome}
+-- The active member as it is seen, and which pairs are eligible.
+use Rattle.std.proofs.Common.{◌≡◌, ℕ, List, ◌∷◌, [], map, Some, None, Option, Bool, true, false, IsTrue, cond, refl, ap, ◌∙◌, sym, arith, inl, inr}
+use Rattle.std.specs.Prelude.{IfSome}
 use Rattle.std.specs.Bool.{then_some}
+use Rattle.std.specs.List.{fold, reduce}
 use Rattle.std.specs.Option.{option_map, option_map_or}
 use Rattle.std.proofs.lemmas.Bool.{false≢true}
-use Rattle.std.proofs.lemmas.List.{take_more}
-use Rattle.std.proofs.Math.Seq.{take-length}
-use Rattle.std.proofs.lemmas.Option.{slice_get_cases, slice_get-get_or, same_Some, none-some}
+use Rattle.std.proofs.lemmas.Option.{slice_get_cases, same_Some, none-some}
 use Rattle.position_core.specs.declared.kind.Kind.{Kind}
 use Rattle.position_core.specs.declared.kind.Kind.TheVariants.{Exclusive, Failover, Shared, KeyShared}
 use Rattle.position_core.specs.Kind.{is_in_order}
 use Rattle.position_core.specs.declared.message.Entry.{Entry}
 use Rattle.delivery_machine.specs.State.{State, Subscription, Member}
-use Rattle.delivery_machine.specs.Words.{active_of, earlier, comes_before, members_of, visible, ChoosesBy, IsNextInOrder, NoneEligible}
-use Rattle.delivery_machine.proofs.Best.{best_by-push, earlier_assoc}
+use Rattle.delivery_machine.specs.Words as machine
+use Rattle.delivery_machine.specs.Words.{active_of, members_of, visible, ChoosesBy, IsNextInOrder, NoneEligible}
+use Rattle.delivery_machine.proofs.Best.{earlier_assoc}
 use Rattle.dispatch_core.specs.Places.{IsNextReady, NoneReady}
 use Rattle.dispatch_core.specs.Offers.{seen_of, IsGoodOffer}
 use Rattle.dispatch_core.specs.declared.view.Seen.{Seen}
 use Rattle.dispatch_core.specs.declared.dispatcher.Offer.{Offer}
 use Rattle.dispatch_core.proofs.Ready.{first_waiting-next, first_waiting-none}
-use Rattle.dispatch_single.specs.InOrder.{sooner_seen}
+use Rattle.dispatch_single.specs.InOrder.{earlier}
 
--- which of two is served may be seen
-seen_earlier : (s : State) (sub : Subscription) (best : Option Member) (m : Member) → Some (sooner_seen (option_map (seen_of s sub) best) (seen_of s sub m)) ≡ option_map (seen_of s sub) (Some (option_map_or (λ b. earlier b m) best m))
-seen_earlier s sub None m = refl
-seen_earlier s sub (Some b) m = either (comes_before m b)
+-- ---- the active member
+
+seen_earlier : (s : State) (sub : Subscription) (a b : Member) → earlier (seen_of s sub a) (seen_of s sub b) ≡ seen_of s sub (machine.earlier a b)
+seen_earlier s sub a b = either (machine.comes_before b a)
   where
-    either : (t : Bool) → Some (cond t (seen_of s sub m) (seen_of s sub b)) ≡ Some (seen_of s sub (cond t m b))
+    either : (t : Bool) → cond t (seen_of s sub b) (seen_of s sub a) ≡ seen_of s sub (cond t b a)
     either true = refl
     either false = refl
 
-active_push : (s : State) (sub : Subscription) (ms : List Member) (m : Member) → Some (sooner_seen (option_map (seen_of s sub) (active_of ms)) (seen_of s sub m)) ≡ option_map (seen_of s sub) (active_of (ms ++ m ∷ []))
-active_push s sub ms m =
-    seen_earlier s sub (active_of ms) m
-    ∙ ap (option_map (seen_of s sub)) (sym (best_by-push earlier earlier_assoc ms m))
+-- from the first member on
+earliest_from : (s : State) (sub : Subscription) (a : Member) (ms : List Member) → fold earlier (seen_of s sub a) (map (seen_of s sub) ms) ≡ seen_of s sub (option_map_or (machine.earlier a) (active_of ms) a)
+earliest_from s sub a [] = refl
+earliest_from s sub a (b ∷ ms) =
+    ap (λ (x : Seen). fold earlier x (map (seen_of s sub) ms)) (seen_earlier s sub a b)
+    ∙ earliest_from s sub (machine.earlier a b) ms
+    ∙ ap (seen_of s sub) (grouped (active_of ms))
+  where
+    grouped : (o : Option Member) → option_map_or (machine.earlier (machine.earlier a b)) o (machine.earlier a b) ≡ machine.earlier a (option_map_or (machine.earlier b) o b)
+    grouped None = refl
+    grouped (Some c) = sym (earlier_assoc a b c)
 
--- one member more
-pub active_more : (s : State) (sub : Subscription) (ms : List Member) (i : ℕ) (best : Option Seen) (seen now : Seen) → best ≡ option_map (seen_of s sub) (active_of (take i ms)) → Some seen ≡ option_map (seen_of s sub) (slice_get ms i) → now ≡ sooner_seen best seen → (i + 1 ≤ length ms) × (Some now ≡ option_map (seen_of s sub) (active_of (take (i + 1) ms)))
-active_more s sub ms i best seen now before there chosen =
-    elim (slice_get_cases ms i).1 [
-      | inl at ↦
-          let is : seen ≡ seen_of s sub (get_or ms i at.0) = same_Some _ _ (there ∙ ap (option_map (seen_of s sub)) (slice_get-get_or ms i at.0 at.1)) in (
-            omega (arith, at.1),
-            ap Some chosen
-                ∙ ap (λ (b : Option Seen). Some (sooner_seen b seen)) before
-                ∙ ap (λ (x : Seen). Some (sooner_seen (option_map (seen_of s sub) (active_of (take i ms))) x)) is
-                ∙ active_push s sub (take i ms) (get_or ms i at.0)
-                ∙ ap (λ (xs : List Member). option_map (seen_of s sub) (active_of xs)) (sym (take_more ms i at.0 at.1)),
-          )
-      | inr past ↦ absurd (none-some seen (sym (there ∙ ap (option_map (seen_of s sub)) past.1)))
-    ]
-
--- no member is left
-pub active_all : (s : State) (sub : Subscription) (ms : List Member) (i : ℕ) (best found : Option Seen) → i ≤ length ms → best ≡ option_map (seen_of s sub) (active_of (take i ms)) → found ≡ option_map (seen_of s sub) (slice_get ms i) → found ≡ None → best ≡ option_map (seen_of s sub) (active_of ms)
-active_all s sub ms i best found within before there none =
-    elim (slice_get_cases ms i).1 [
-      | inl at ↦ absurd (none-some (seen_of s sub at.0) (sym none ∙ there ∙ ap (option_map (seen_of s sub)) at.2))
-      | inr past ↦
-          let all : i ≡ length ms = omega (arith, past.0) in
-          before ∙ ap (λ (xs : List Member). option_map (seen_of s sub) (active_of xs)) (ap (λ (n : ℕ). take n ms) all ∙ take-length ms)
-    ]
+pub active_seen : (s : State) (sub : Subscription) (ms : List Member) → reduce earlier (map (seen_of s sub) ms) ≡ option_map (seen_of s sub) (active_of ms)
+active_seen s sub [] = refl
+active_seen s sub (m ∷ ms) = ap Some (earliest_from s sub m ms)
 
 -- ---- eligible pairs
 

@@ -1,30 +1,27 @@
-// The member that is served, found by going through all of them.
+// The member that is served.
 ghost use Rattle.std.specs.Prelude.{◌≡◌};
 ghost use Rattle.std.specs.Option.{option_map};
 ghost use Rattle.delivery_machine.specs.Words.{active_of, members_of};
 ghost use Rattle.dispatch_core.specs.Offers.{seen_of};
-ghost use Rattle.dispatch_single.specs.InOrder.{seen_before, sooner_seen};
+ghost use Rattle.dispatch_single.specs.InOrder.{comes_before, earlier};
 
 use dispatch_core::{Seen, View};
 
 fn comes_before(first: &Seen, second: &Seen) -> bool
-    ensures { result ≡ seen_before first.now second.now }
+    ensures { result ≡ comes_before first.now second.now }
 {
     let level = first.level.get();
     let other = second.level.get();
     level < other || (level == other && first.consumer < second.consumer)
 }
 
-fn sooner(best: Option<Seen>, seen: Seen) -> Seen
-    ensures { result ≡ sooner_seen best seen }
+fn earlier(first: Seen, second: Seen) -> Seen
+    ensures { result ≡ earlier first second }
 {
-    match best {
-        Some(best) => if comes_before(&seen, &best) {
-            seen
-        } else {
-            best
-        },
-        None => seen,
+    if comes_before(&second, &first) {
+        second
+    } else {
+        first
     }
 }
 
@@ -32,11 +29,5 @@ fn sooner(best: Option<Seen>, seen: Seen) -> Seen
 pub(crate) fn active<V: View>(view: &V) -> Option<Seen>
     ensures { result ≡ option_map (seen_of (V.state view.now) (V.subscription view.now)) (active_of (members_of (V.state view.now) (V.subscription view.now).name)) }
 {
-    let mut best = None;
-    let mut place = 0;
-    while let Some(seen) = view.member(place) {
-        best = Some(sooner(best, seen));
-        place += 1;
-    }
-    best
+    view.members().reduce(earlier)
 }

@@ -3,7 +3,5 @@
 
 mod active;
 mod single;
-#[cfg(test)]
-mod tests;
 
 pub use single::Single;

@@ -1,5 +1,5 @@
 -- Members in turn, and the best level among those with room.
-use Rattle.std.specs.Prelude.{◌≡◌, ℕ, ◌==◌, ◌≤◌, nat_lt, nat_le, Bool, ◌&&◌, ◌||◌, List, [], Option, Some, None, if◌then◌else◌}
+use Rattle.std.specs.Prelude.{◌≡◌, ℕ, ◌==◌, ◌≤◌, nat_lt, Bool, ◌&&◌, ◌||◌, List, [], Option, Some, None, if◌then◌else◌}
 use Rattle.std.specs.List.{filter, count_by, All, Contains}
 use Rattle.std.specs.Option.{option_map_or}
 use Rattle.std.specs.FinMap as map_of
@@ -7,6 +7,7 @@ use Rattle.position_core.specs.declared.message.Entry.{Entry}
 use Rattle.position_core.specs.Flow.{flow_has_room}
 use Rattle.delivery_machine.specs.State.{Member, Subscription}
 use Rattle.delivery_machine.specs.Words.{is_at, is_held_by}
+use Rattle.dispatch_core.specs.Turn.{is_sooner}
 
 -- the member may be sent a further message of the log
 abbrev pub room_in : List Entry → Subscription → Member → Bool
@@ -23,11 +24,6 @@ roomy log sub members = filter (is_roomy log sub) members
 abbrev pub IsBestLevel : List Member → Option Member → Type 0
 IsBestLevel members None = members ≡ []
 IsBestLevel members (Some m) = Contains members m × All (λ other. m.level ≤ other.level) members
-
--- the least number above the one last served comes first, and then the least
-abbrev pub is_sooner : ℕ → ℕ → ℕ → Bool
-is_sooner last number other =
-    if nat_lt last number then nat_le other last || nat_lt number other else nat_le other last && nat_lt number other
 
 abbrev pub goes_first : ℕ → Member → Member → Bool
 goes_first last m other = nat_lt m.level other.level || (m.level == other.level && is_sooner last m.number other.number)

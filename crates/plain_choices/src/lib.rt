@@ -13,4 +13,4 @@ pub use dying::dying_at;
 pub use keyed::next_of_any_hash;
 pub use places::{first_live, place_of, place_of_time};
 pub use statistics::{mark_delete, number_acknowledged, number_live, number_pending};
-pub use turn::{is_sooner, next_in_turn};
+pub use turn::next_in_turn;

@@ -1,22 +1,11 @@
 // Which member of a Shared subscription is sent the next message.
 ghost use Rattle.std.specs.Prelude.{◌≡◌};
 ghost use Rattle.std.specs.Option.{option_copied};
-ghost use Rattle.plain_choices.specs.Turn.{IsBestLevel, goes_first, in_turn, is_roomy, is_sooner, roomy};
+ghost use Rattle.plain_choices.specs.Turn.{IsBestLevel, goes_first, in_turn, is_roomy, roomy};
 
+use dispatch_core::is_sooner;
 use plain_lists::{Member, Subscription, has_room};
 use position_core::Message;
-
-/// Of two consumers' numbers, whether the first is sooner in turn: the least above the one last
-/// served, else the least.
-pub fn is_sooner(last: u64, number: u64, other: u64) -> bool
-    ensures { result ≡ is_sooner last number other }
-{
-    if number > last {
-        other <= last || number < other
-    } else {
-        other <= last && number < other
-    }
-}
 
 /// By level, and then in turn.
 fn goes_first(last: u64, member: &Member, other: &Member) -> bool

@@ -1,21 +1,19 @@
+use Rattle.std.proofs.Common.{rules, tests, Bool, sym, ◌∙◌}
+use Rattle.std.specs.Prelude.{◌==◌}
+use Rattle.std.proofs.lemmas.Iterator.Adapters.{option_map_id}
+use Rattle.std.proofs.lemmas.Iterator.Consumers.{YieldsList-from_first}
+use Rattle.std.proofs.lemmas.Iterator.Search.{find_from_yields_List}
 use Rattle.delivery_machine.specs.Words.{members_of}
-use Rattle.dispatch_keyed.proofs.Owners.{member_found, member_passed, member_missing}
+use Rattle.dispatch_core.specs.Offers.{seen_of}
+use Rattle.dispatch_core.specs.declared.view.Seen.{Seen}
+use Rattle.dispatch_keyed.proofs.Finding.{find-map}
 use Rattle.dispatch_keyed.proofs.hashes.member_of.Goals as goal
-
-pub returns-then-seen-consumer : goal.returns-then-seen-consumer
-returns-then-seen-consumer g c =
-    let s = g.V.View.state c.args.view.now in
-    let sub = g.V.View.subscription c.args.view.now in
-    member_found s sub (members_of s sub.name) c.args.consumer c.loop-seen.place c.in-Some.seen c.loop-seen.invariant.1 c.in-Some.ensures.seen c.if-seen-consumer.true
-
-pub loop-seen-preserved : goal.loop-seen-preserved
-loop-seen-preserved g c =
-    let s = g.V.View.state c.args.view.now in
-    let sub = g.V.View.subscription c.args.view.now in
-    member_passed s sub (members_of s sub.name) c.args.consumer c.loop-seen.place c.in-Some.seen c.loop-seen.invariant.1 c.in-Some.ensures.seen c.if-seen-consumer.false
 
 pub returns : goal.returns
 returns g c =
     let s = g.V.View.state c.args.view.now in
     let sub = g.V.View.subscription c.args.view.now in
-    member_missing s sub (members_of s sub.name) c.args.consumer c.loop-seen.place _ c.loop-seen.invariant.0 c.loop-seen.invariant.1 c.member.ensures.seen c.in_default.is
+    let has_number : Seen → Bool = λ seen. seen.consumer == c.args.consumer in
+    sym (option_map_id c.find.result)
+    ∙ find_from_yields_List has_number _ _ c.find.result c.find.ensures.ran (YieldsList-from_first (λ x. x) (λ rest. rest) _ c.members.ensures) (λ x b q k. search (rules, tests))
+    ∙ find-map (seen_of s sub) has_number (members_of s sub.name)

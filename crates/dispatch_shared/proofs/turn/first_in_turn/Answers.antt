@@ -1,20 +1,17 @@
-use Rattle.std.proofs.Common.{true, false, ◌∙◌, ap, Some}
-use Rattle.delivery_machine.specs.Words.{members_of}
-use Rattle.dispatch_shared.proofs.Turns.{first_more, first_of_all}
+use Rattle.std.proofs.Common.{rules, tests, ◌∙◌}
+use Rattle.std.proofs.lemmas.Iterator.Consumers.{YieldsList-from_first, YieldsList-from_filter}
+use Rattle.dispatch_core.proofs.Reduced.{reduced}
+use Rattle.dispatch_core.specs.Offers.{seen_members}
+use Rattle.dispatch_core.specs.declared.view.Seen.{Seen}
+use Rattle.dispatch_shared.specs.Turn.{in_turn, roomy}
+use Rattle.dispatch_shared.proofs.Turns.{first_of_all}
 use Rattle.dispatch_shared.proofs.turn.first_in_turn.Goals as goal
-use Rattle.dispatch_shared.proofs.turn.first_in_turn.Goals.{then-seen, else-seen}
-
-pub loop-seen-preserved : goal.loop-seen-preserved
-loop-seen-preserved g c =
-    let s = g.V.View.state c.args.view.now in
-    let sub = g.V.View.subscription c.args.view.now in
-    elim c.if-seen.branch [
-      | then-seen w ↦ first_more c.args.last s sub (members_of s sub.name) c.loop-seen.place c.loop-seen.best c.if-seen.best c.in-Some.seen true c.loop-seen.invariant.1 c.in-Some.ensures.seen w.if-seen.true (w.best-is ∙ ap Some w.in_turn.ensures)
-      | else-seen w ↦ first_more c.args.last s sub (members_of s sub.name) c.loop-seen.place c.loop-seen.best c.if-seen.best c.in-Some.seen false c.loop-seen.invariant.1 c.in-Some.ensures.seen w.if-seen.false w.best-is
-    ]
 
 pub returns : goal.returns
 returns g c =
     let s = g.V.View.state c.args.view.now in
     let sub = g.V.View.subscription c.args.view.now in
-    first_of_all c.args.last s sub (members_of s sub.name) _ _ _ c.loop-seen.invariant.0 c.loop-seen.invariant.1 c.member.ensures.seen c.in_default.is
+    rw (reduced _ (in_turn c.args.last) _ _ c.reduce.ensures.ran
+    (YieldsList-from_filter {s = c.filter.result} _ (λ (x : Seen). x.room) (YieldsList-from_first (λ x. x) (λ rest. rest) (seen_members s sub) (c.filter.ensures.source ∙ c.members.ensures)) c.filter.ensures.closure (λ x r q k. search (rules, tests)))
+    (λ a x b q k. search (rules, tests)))
+    (first_of_all c.args.last (roomy s sub))

@@ -1,15 +1,14 @@
+use Rattle.std.proofs.Common.{rules, tests, ◌∙◌}
+use Rattle.std.proofs.lemmas.Iterator.Consumers.{YieldsList-from_first}
 use Rattle.delivery_machine.specs.Words.{members_of}
-use Rattle.dispatch_single.proofs.Serving.{active_more, active_all}
+use Rattle.dispatch_core.proofs.Reduced.{reduced}
+use Rattle.dispatch_single.specs.InOrder.{earlier}
+use Rattle.dispatch_single.proofs.Serving.{active_seen}
 use Rattle.dispatch_single.proofs.active.active.Goals as goal
-
-pub loop-seen-preserved : goal.loop-seen-preserved
-loop-seen-preserved g c =
-    let s = g.V.View.state c.args.view.now in
-    let sub = g.V.View.subscription c.args.view.now in
-    active_more s sub (members_of s sub.name) _ _ _ _ c.loop-seen.invariant.1 c.in-Some.ensures.seen c.sooner.ensures
 
 pub returns : goal.returns
 returns g c =
     let s = g.V.View.state c.args.view.now in
     let sub = g.V.View.subscription c.args.view.now in
-    active_all s sub (members_of s sub.name) _ _ _ c.loop-seen.invariant.0 c.loop-seen.invariant.1 c.member.ensures.seen c.in_default.is
+    reduced _ earlier _ _ c.reduce.ensures.ran (YieldsList-from_first (λ x. x) (λ rest. rest) _ c.members.ensures) (λ a x b q k. search (rules, tests))
+    ∙ active_seen s sub (members_of s sub.name)
