@@ -14,7 +14,7 @@ use Rattle.delivery_machine.specs.State.{State, Subscription, Member}
 use Rattle.delivery_machine.specs.State as state
 use Rattle.delivery_machine.specs.Words.{is_live, is_held_by, has_position}
 use Rattle.delivery_machine.specs.Acknowledging.{acknowledging, is_one_of}
-use Rattle.delivery_machine.specs.Producing.{storing}
+use Rattle.delivery_machine.specs.Producing.{storing, storing_below}
 use Rattle.delivery_machine.specs.Joining.{joining}
 use Rattle.delivery_machine.specs.Delivering.{holding}
 use Rattle.delivery_machine.specs.Ticking.{redelivering, pending_positions}
@@ -94,6 +94,9 @@ taken_joined sub consumer = taken_nothing sub (joining sub.kind consumer sub) re
 
 pub taken_stored : (sub : Subscription) → IsTakenFrom sub (storing sub)
 taken_stored sub = taken_nothing sub (storing sub) refl refl (λ e. refl) (λ e. refl) (λ p h is. (h, is, refl))
+
+pub taken_stored_to : (ordinal : ℕ) (sub : Subscription) → IsTakenFrom sub (storing_below ordinal sub)
+taken_stored_to ordinal sub = taken_nothing sub (storing_below ordinal sub) refl refl (λ e. refl) (λ e. refl) (λ p h is. (h, is, refl))
 
 -- a message that is pending at the consumer falls due at another moment
 pub taken_held_again : (sub : Subscription) (p : Position) (held : Held) → is_held_by held.consumer (map_of.get sub.pending p) ≡ true → IsTakenFrom sub (holding p held sub)
