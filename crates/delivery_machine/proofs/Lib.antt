@@ -30,3 +30,5 @@ pub mod Orderly
 pub mod Taking
 pub mod Ordering
 pub mod Orders
+pub mod Parts
+pub mod Sharing

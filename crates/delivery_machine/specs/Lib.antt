@@ -1,6 +1,7 @@
 pub mod State
 pub mod Codes
 pub mod Shares
+pub mod ShareSets
 pub mod Words
 pub mod Refusals
 pub mod Producing
