@@ -32,3 +32,5 @@ pub mod Ordering
 pub mod Orders
 pub mod Parts
 pub mod Sharing
+pub mod Halving
+pub mod ShareLaws

@@ -68,4 +68,3 @@ parts_given_back consumer (a ∷ []) parts = by_test (is_share_of consumer a)
     by_test true = tt
     by_test false = parts
 parts_given_back consumer (a ∷ b ∷ bs) parts = parts_of_row (given_back consumer (a ∷ b ∷ bs)) (row_given_back 0 consumer a b bs parts)
-

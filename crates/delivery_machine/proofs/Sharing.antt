@@ -29,23 +29,23 @@ pub owner_past : (hash : ℕ) (b : Block) (bs : List Block) → has_hash hash b 
 owner_past hash b bs past = ap (λ t. option_map (λ (x : Block). x.consumer) (cond t (Some b) (find (has_hash hash) bs))) past
 
 -- one block in the place of another with other hashes of one consumer
-owner_alike : (hash : ℕ) (b c : Block) (bs cs : List Block) → has_hash hash b ≡ has_hash hash c → b.consumer ≡ c.consumer → owner_of bs hash ≡ owner_of cs hash → owner_of (b ∷ bs) hash ≡ owner_of (c ∷ cs) hash
+pub owner_alike : (hash : ℕ) (b c : Block) (bs cs : List Block) → has_hash hash b ≡ has_hash hash c → b.consumer ≡ c.consumer → owner_of bs hash ≡ owner_of cs hash → owner_of (b ∷ bs) hash ≡ owner_of (c ∷ cs) hash
 owner_alike hash b c bs cs same who rest =
     elim (cases_Bool (has_hash hash b)) [
       | inl here ↦ owner_here hash b bs here ∙ ap Some who ∙ sym (owner_here hash c cs (sym same ∙ here))
       | inr past ↦ owner_past hash b bs past ∙ rest ∙ sym (owner_past hash c cs (sym same ∙ past))
     ]
 
-contains_more : {A : Type 0} (x y : A) (xs : List A) → Contains xs x → Contains (y ∷ xs) x
+pub contains_more : {A : Type 0} (x y : A) (xs : List A) → Contains xs x → Contains (y ∷ xs) x
 contains_more x y xs at = (suc at.0, omega (arith, at.1), at.2)
 
-contains_here : {A : Type 0} (x : A) (xs : List A) → Contains (x ∷ xs) x
+pub contains_here : {A : Type 0} (x : A) (xs : List A) → Contains (x ∷ xs) x
 contains_here x xs = (0, omega arith, refl)
 
 -- ---- leaving
 
 -- the leaver's block, and whose its hashes are, in a row that begins at a hash
-record GoesFrom (start consumer : ℕ) (shares new : List Block) : Type 0 where
+pub record GoesFrom (start consumer : ℕ) (shares new : List Block) : Type 0 where
   pub gone : Block
   pub there : Contains shares gone
   pub leaver : gone.consumer ≡ consumer
@@ -107,7 +107,7 @@ heir_behind a gone bs after last within some =
 share_of : (consumer : ℕ) (b : Block) → is_share_of consumer b ≡ true → b.consumer ≡ consumer
 share_of consumer b e = grind (arith, nat_tests)
 
-goes : (start consumer : ℕ) (shares : List Block) → IsRow start shares → AllByRecursion (λ b. 0 < b.size) shares → list_any (is_share_of consumer) shares ≡ true → GoesFrom start consumer shares (given_back consumer shares)
+pub goes : (start consumer : ℕ) (shares : List Block) → IsRow start shares → AllByRecursion (λ b. 0 < b.size) shares → list_any (is_share_of consumer) shares ≡ true → GoesFrom start consumer shares (given_back consumer shares)
 goes start consumer [] row some there = cc
 goes start consumer (a ∷ []) row some there = by_test (is_share_of consumer a) refl
   where

@@ -43,8 +43,8 @@ abbrev pub Joins : Type 0
 Joins =
     (consumer : ℕ) (shares : List Block) → AreShares shares → list_any (is_share_of consumer) shares ≡ false
     → (shares ≡ [] → (hash : ℕ) → hash < 65536 → owner_of (shared_out consumer shares) hash ≡ Some consumer)
-      × (shares ≢ [] → TakesHalf consumer shares (shared_out consumer shares))
-      × (length shares < 64 → AreShares (shared_out consumer shares))
+    × (shares ≢ [] → TakesHalf consumer shares (shared_out consumer shares))
+    × (length shares < 64 → AreShares (shared_out consumer shares))
 
 -- a consumer that is there gives its hashes back
 abbrev pub Leaves : Type 0

@@ -1,5 +1,6 @@
 // Laws over every run: each holds of whatever a topic was asked, in any order.
 ghost use Rattle.delivery_machine.specs.Laws.{MayCome, AcknowledgedStays, IsSentAndAcknowledged, PermitsAndWindowsBound, PermitsAndWindowsMayBeUsed, OrderAtActive, IsPendingInOrder, OneHashAtOneConsumer, IsPendingInKeyShared};
+ghost use Rattle.delivery_machine.specs.ShareSets.{SharesAreSets};
 
 /// What a subscription has acknowledged it is not sent again, until it is sought or dropped.
 pub fn l1()
@@ -41,4 +42,10 @@ pub fn l4()
 /// The law above speaks of something: any message may come to be pending in Key_Shared.
 pub fn l4_example()
     ensures { MayCome IsPendingInKeyShared }
+{}
+
+/// A consumer that joins takes half of the largest share, and one that leaves gives its share to its
+/// neighbour; nobody else's hashes change, and shares part all hashes as before.
+pub fn shares_are_sets()
+    ensures { SharesAreSets }
 {}
