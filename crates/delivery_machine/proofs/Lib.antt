@@ -34,3 +34,4 @@ pub mod Parts
 pub mod Sharing
 pub mod Halving
 pub mod ShareLaws
+pub mod Retained
