@@ -29,7 +29,7 @@ sorted_push {A} c f (x ∷ xs) y rising below = (above xs rising.0, sorted_push 
     above [] h = (below.0, tt)
     above (z ∷ zs) h = (h.0, above zs h.1)
 
-keys_above : {A K : Type 0} (c : K → K → Ordering) (f : A → K) (k : K) (xs : List A) (x : A) → AllByRecursion (λ q. c k q ≡ Less) (map f xs) → Contains xs x → c k (f x) ≡ Less
+pub keys_above : {A K : Type 0} (c : K → K → Ordering) (f : A → K) (k : K) (xs : List A) (x : A) → AllByRecursion (λ q. c k q ≡ Less) (map f xs) → Contains xs x → c k (f x) ≡ Less
 keys_above {A} c f k xs x above at = All-contains (λ y. c k (f y) ≡ Less) xs x (All-from_recursion (λ y. c k (f y) ≡ Less) xs (of_keys xs above)) at
   where
     of_keys : (ys : List A) → AllByRecursion (λ q. c k q ≡ Less) (map f ys) → AllByRecursion (λ y. c k (f y) ≡ Less) ys
@@ -68,7 +68,7 @@ pub record IsRising (log : List Entry) (ledger : ℕ) : Type 0 where
   pub below : All (λ e. is_below ledger (used_in ledger log) e.position ≡ true) log
   pub bounded : All (λ e. e.position.ledger ≤ 2 ^ 62) log
 
-abbrev next_of : ℕ → ℕ → ℕ → Position
+abbrev pub next_of : ℕ → ℕ → ℕ → Position
 next_of ledger used size = cond (nat_lt used size) (record { ledger = ledger; entry = used }) (record { ledger = ledger + 1; entry = 0 })
 
 pub before_next : (ledger used size : ℕ) (p : Position) → is_below ledger used p ≡ true → position_cmp p (next_of ledger used size) ≡ Less
