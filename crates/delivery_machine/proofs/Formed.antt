@@ -14,19 +14,21 @@ use Rattle.position_core.specs.declared.kind.Kind.{Kind}
 use Rattle.position_core.specs.Position.{position_cmp, same_position, positions_total}
 use Rattle.delivery_machine.specs.State.{Subscription, Dead}
 use Rattle.delivery_machine.specs.Words.{is_dead, is_held_by}
-use Rattle.delivery_machine.specs.Joining.{releasing_all, leaving}
+use Rattle.delivery_machine.specs.Joining.{new_subscription, releasing_all, leaving}
 use Rattle.delivery_machine.specs.Acknowledging.{acknowledging, is_one_of}
 use Rattle.delivery_machine.specs.Delivering.{holding}
 use Rattle.delivery_machine.specs.Ticking.{redelivering, recounted}
 use Rattle.delivery_machine.specs.Seeking.{seeking}
 use Rattle.delivery_machine.specs.Dying.{burying, moving, first_safe}
 use Rattle.delivery_machine.specs.WellFormed.{has_message, AreAcknowledgedIn, AreDeadIn}
+use Rattle.delivery_machine.specs.declared.event.Initial.{Initial}
+use Rattle.delivery_machine.specs.declared.event.Initial.TheVariants.{Earliest, Latest}
 use Rattle.delivery_machine.proofs.Deciding.{or_false, and_first}
 use Rattle.delivery_machine.proofs.Tended.{got_inserted}
 use Rattle.delivery_machine.proofs.Tending.{got_retained, none_pending}
 use Rattle.delivery_machine.proofs.Messages.{either_way, message_taken, one_listed, one_of_itself}
 use Rattle.delivery_machine.proofs.Sending.{taken_contained}
-use Rattle.delivery_machine.proofs.Letters.{dead_in_more, dead_pushed, dead_dropped}
+use Rattle.delivery_machine.proofs.Letters.{none_dead, dead_in_more, dead_pushed, dead_dropped}
 use Rattle.delivery_machine.proofs.Orderly.{held_retained}
 use Rattle.delivery_machine.proofs.Taking.{first_letter}
 
@@ -174,15 +176,28 @@ module _ (log : List Entry) (durable : ℕ) where
 
   -- ---- sought
 
-  pub formed_seeking : (before : List Entry) (sub : Subscription) → ((e : Entry) → Contains before e → Contains log e) → IsFormed log durable sub → IsFormed log durable (seeking before sub)
-  formed_seeking before sub among formed = record {
-    acknowledged = λ p is. one_listed before log p among (sym (set.contains-from_list positions_total (map (λ (e : Entry). e.position) before) p) ∙ is);
+  -- where nothing is pending or counted
+  pub formed_begun : (name : List ℕ) (kind : Kind) (acknowledged : set.FinSet position_cmp) (shares : List Block) (dead : List Dead) (safe : ℕ) → AreAcknowledgedIn log acknowledged → AreDeadIn log dead → safe ≤ length dead
+      → IsFormed log durable (record { name = name; kind = kind; acknowledged = acknowledged; pending = map_of.empty; counts = map_of.empty; shares = shares; dead = dead; safe = safe })
+  formed_begun name kind acknowledged shares dead safe there letters low = record {
+    acknowledged = there;
     visible = λ p h is. absurd (none_pending p h is);
     live = λ p h is. absurd (none_pending p h is);
     counted = λ p is. absurd (true≢false (sym is ∙ ap is_some (map_of.get-empty position_cmp p)));
-    dead = formed.dead;
-    safe = formed.safe;
+    dead = letters;
+    safe = low;
   }
+
+  -- the positions of messages of the log are acknowledged
+  acknowledged_first : (before : List Entry) → ((e : Entry) → Contains before e → Contains log e) → AreAcknowledgedIn log (set.from_list (map (λ (e : Entry). e.position) before))
+  acknowledged_first before among p is = one_listed before log p among (sym (set.contains-from_list positions_total (map (λ (e : Entry). e.position) before) p) ∙ is)
+
+  pub formed_seeking : (before : List Entry) (sub : Subscription) → ((e : Entry) → Contains before e → Contains log e) → IsFormed log durable sub → IsFormed log durable (seeking before sub)
+  formed_seeking before sub among formed = formed_begun sub.name sub.kind _ sub.shares sub.dead sub.safe (acknowledged_first before among) formed.dead formed.safe
+
+  pub formed_new : (name : List ℕ) (kind : Kind) (consumer : ℕ) (initial : Initial) → IsFormed log durable (new_subscription name kind consumer initial log)
+  formed_new name kind consumer Earliest = formed_begun name kind _ _ [] 0 (λ p is. absurd (true≢false (sym is ∙ set.contains-empty position_cmp p))) (none_dead log) (omega arith)
+  formed_new name kind consumer Latest = formed_begun name kind _ _ [] 0 (acknowledged_first log (λ e at. at)) (none_dead log) (omega arith)
 
   -- ---- dead
 

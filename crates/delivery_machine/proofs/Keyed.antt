@@ -19,9 +19,9 @@ module _ {A K : Type 0} (key : A → K) where
       by true rest = ap (λ k. k ∷ map key xs) (same x)
       by false rest = ap (λ ks. key x ∷ ks) rest
 
-  pub keys_mapped : (f : A → A) → ((x : A) → key (f x) ≡ key x) → (xs : List A) → map key (map f xs) ≡ map key xs
+  pub keys_mapped : {B : Type 0} {other : B → K} (f : B → A) → ((x : B) → key (f x) ≡ other x) → (xs : List B) → map key (map f xs) ≡ map other xs
   keys_mapped f same [] = refl
-  keys_mapped f same (x ∷ xs) = ap (λ k. k ∷ map key (map f xs)) (same x) ∙ ap (λ ks. key x ∷ ks) (keys_mapped f same xs)
+  keys_mapped {other = other} f same (x ∷ xs) = ap (λ k. k ∷ map key (map f xs)) (same x) ∙ ap (λ ks. other x ∷ ks) (keys_mapped f same xs)
 
   -- what holds of each key
   pub each_key_removed : (P : K → Type 0) (q : A → Bool) (xs : List A) → AllByRecursion P (map key xs) → AllByRecursion P (map key (removed q xs))

@@ -42,3 +42,5 @@ pub mod Seated
 pub mod Formed
 pub mod WellKept
 pub mod WellTaken
+pub mod WellSeated
+pub mod WellReached

@@ -69,6 +69,11 @@ free_above next (d ∷ ds) all n low = let rest = free_above next ds all.1 n low
 
 -- ---- in all lists of dead letters
 
+-- where the lists are those of other things
+pub letters_mapped : {A B : Type 0} (dead : A → List Dead) (other : B → List Dead) (f : B → A) → ((x : B) → dead (f x) ≡ other x) → (xs : List B) → flat_map dead (map f xs) ≡ flat_map other xs
+letters_mapped dead other f same [] = refl
+letters_mapped dead other f same (x ∷ xs) = ap (λ ds. ds ++ flat_map dead (map f xs)) (same x) ∙ ap (λ ds. other x ++ ds) (letters_mapped dead other f same xs)
+
 module _ {A : Type 0} (dead : A → List Dead) where
   abbrev pub times_among : ℕ → List A → ℕ
   times_among n [] = 0

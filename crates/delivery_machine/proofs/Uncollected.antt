@@ -39,7 +39,7 @@ IsUncollected log subs m d = Contains log d.message × (holds_in subs m.subscrip
 abbrev pub AllUncollected : List Entry → List Member → List Subscription → Type 0
 AllUncollected log members subs = (m : Member) → Contains members m → (d : Delivery) → Contains m.out d → IsUncollected log subs m d
 
-none_out : {A : Type 0} (x : A) → Contains [] x → ⊥
+pub none_out : {A : Type 0} (x : A) → Contains [] x → ⊥
 none_out x at = let below = at.1 in omega arith
 
 -- ---- subscriptions
