@@ -1,11 +1,11 @@
 -- What is in a list after a change of the list was in it before, or was changed.
-use Rattle.std.proofs.Common.{◌≡◌, ℕ, ◌<◌, List, [], ◌∷◌, map, length, zero, suc, Some, None, Option, Bool, true, false, cond, get_or, refl, ap, ◌∙◌, sym, arith, ◌⊎◌, inl, inr, true≢false}
-use Rattle.std.specs.List.{AllByRecursion, Contains, find}
+use Rattle.std.proofs.Common.{◌≡◌, ℕ, ◌<◌, List, [], ◌∷◌, map, length, zero, suc, Some, Bool, true, false, cond, get_or, refl, ap, ◌∙◌, sym, arith, ◌⊎◌, inl, inr, true≢false}
+use Rattle.std.specs.List.{Contains, find}
 use Rattle.std.specs.List.Sorted.{IsStrictlySortedBy}
 use Rattle.std.specs.declared.cmp.Ordering.{Ordering}
 use Rattle.std.specs.declared.cmp.Ordering.TheVariants.{Less}
 use Rattle.delivery_machine.specs.Words.{changed, removed}
-use Rattle.delivery_machine.proofs.Firsts.{found_contained, found_passes}
+use Rattle.delivery_machine.proofs.Firsts.{found_contained}
 use Rattle.delivery_machine.proofs.Rising.{keys_above}
 
 module _ {A : Type 0} where

@@ -1,6 +1,6 @@
 -- What each subscription of a reached state has, whatever becomes of it: messages of the log, and live ones pending.
-use Rattle.std.proofs.Common.{◌≡◌, ℕ, ◌+◌, ◌-◌, ◌<◌, ◌≤◌, List, [], ◌∷◌, ◌++◌, map, length, take, drop, Some, None, Option, Bool, true, false, cond, refl, ap, ◌∙◌, sym, subst, arith, inl, inr, ◌⊎◌, Contains, true≢false}
-use Rattle.std.specs.Prelude.{◌&&◌, ◌||◌, not, is_some, nat_lt, slice_get}
+use Rattle.std.proofs.Common.{◌≡◌, ℕ, ◌+◌, ◌-◌, ◌<◌, ◌≤◌, List, [], ◌∷◌, ◌++◌, map, length, take, drop, Some, Bool, true, false, cond, refl, ap, ◌∙◌, sym, subst, arith, inl, inr, ◌⊎◌, Contains, true≢false}
+use Rattle.std.specs.Prelude.{◌||◌, not, is_some}
 use Rattle.std.specs.List.{All, AllByRecursion, list_any}
 use Rattle.std.specs.FinSet as set
 use Rattle.std.specs.FinMap as map_of
@@ -27,7 +27,6 @@ use Rattle.delivery_machine.proofs.Deciding.{or_false, and_first}
 use Rattle.delivery_machine.proofs.Tended.{got_inserted}
 use Rattle.delivery_machine.proofs.Tending.{got_retained, none_pending}
 use Rattle.delivery_machine.proofs.Messages.{either_way, message_taken, one_listed, one_of_itself}
-use Rattle.delivery_machine.proofs.Sending.{taken_contained}
 use Rattle.delivery_machine.proofs.Letters.{none_dead, dead_in_more, dead_pushed, dead_dropped}
 use Rattle.delivery_machine.proofs.Orderly.{held_retained}
 use Rattle.delivery_machine.proofs.Taking.{first_letter}

@@ -44,3 +44,4 @@ pub mod WellKept
 pub mod WellTaken
 pub mod WellSeated
 pub mod WellReached
+pub mod Forms

@@ -1,9 +1,9 @@
 -- Subscriptions by rising names: each is the first of its name.
-use Rattle.std.proofs.Common.{◌≡◌, ℕ, ◌<◌, List, map, length, Some, None, Bool, true, false, get_or, refl, ap, ◌∙◌, sym, subst, All, Contains}
+use Rattle.std.proofs.Common.{◌≡◌, ℕ, List, map, Some, None, Bool, true, false, get_or, refl, ◌∙◌, sym, subst, All, Contains}
 use Rattle.std.specs.List.{find}
-use Rattle.std.specs.Ordering.{nat_cmp, is_eq}
+use Rattle.std.specs.Ordering.{is_eq}
 use Rattle.std.specs.Cmp.{tied_itself}
-use Rattle.std.specs.Cmp.Lexicographic.{slice_cmp, nat_list_cmp_total}
+use Rattle.std.specs.Cmp.Lexicographic.{nat_list_cmp_total}
 use Rattle.std.specs.declared.cmp.Ordering.TheVariants.{Less}
 use Rattle.std.proofs.lemmas.Map.Text.{is_eq-slice_cmp}
 use Rattle.std.proofs.lemmas.List.Elements.{All-contains, Contains-get_or}

@@ -1,13 +1,9 @@
 -- Each member's subscription is there.
-use Rattle.std.proofs.Common.{◌≡◌, ℕ, zero, suc, List, [], ◌∷◌, map, Some, None, Option, Bool, true, false, cond, refl, ap, ◌∙◌, sym, arith, Contains, subst}
+use Rattle.std.proofs.Common.{◌≡◌, ℕ, zero, suc, List, [], ◌∷◌, Some, Bool, true, false, cond, refl, ap}
 use Rattle.std.specs.Prelude.{◌||◌, is_some}
 use Rattle.std.specs.List.{AllByRecursion, find, insert, list_any}
-use Rattle.std.specs.Str.{bytes_eq}
 use Rattle.delivery_machine.specs.State.{Subscription}
-use Rattle.delivery_machine.specs.Words.{changed, removed, is_named}
-use Rattle.delivery_machine.specs.Joining.{placed}
-use Rattle.delivery_machine.proofs.Firsts.{any_removed}
-use Rattle.delivery_machine.proofs.Behind.{same_name, is_same_name}
+use Rattle.delivery_machine.specs.Words.{is_named}
 
 -- there is a subscription of the name
 abbrev pub is_there : List Subscription → List ℕ → Bool

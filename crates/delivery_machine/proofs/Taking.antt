@@ -1,5 +1,5 @@
 -- What each rule takes from a subscription in which the order is kept.
-use Rattle.std.proofs.Common.{◌≡◌, ℕ, ◌<◌, List, [], ◌∷◌, map, get_or, length, zero, suc, Some, None, Option, Bool, true, false, cond, refl, ap, ◌∙◌, sym, subst, arith, true≢false}
+use Rattle.std.proofs.Common.{◌≡◌, ℕ, ◌<◌, List, [], ◌∷◌, map, get_or, length, zero, suc, Some, None, Option, Bool, true, false, cond, refl, ap, ◌∙◌, sym, arith, true≢false}
 use Rattle.std.specs.Prelude.{not, ◌&&◌, ◌||◌, is_some, nat_lt, drop, slice_get}
 use Rattle.std.specs.List.{list_any, filter, Contains}
 use Rattle.std.specs.Cmp.{Equal-is, tied_itself}

@@ -1,15 +1,12 @@
 -- What members were sent and have not collected stays pending at them.
 use Rattle.std.proofs.Common.{◌≡◌, ℕ, List, [], ◌∷◌, ◌++◌, map, Some, None, Option, Bool, true, false, cond, refl, ap, ◌∙◌, sym, subst, subst₂, arith, inl, inr, Contains, true≢false}
-use Rattle.std.specs.Prelude.{◌&&◌, ◌==◌, not, is_some}
-use Rattle.std.specs.List.{find, insert}
+use Rattle.std.specs.Prelude.{◌==◌, not, is_some}
+use Rattle.std.specs.List.{find}
 use Rattle.std.specs.Option.{option_map_or}
 use Rattle.std.specs.Str.{bytes_eq}
 use Rattle.std.specs.FinMap as map_of
-use Rattle.std.specs.Ordering.{nat_cmp}
-use Rattle.std.specs.List.Sorted.{IsStrictlySortedBy}
-use Rattle.std.specs.declared.cmp.Ordering.TheVariants.{Less}
 use Rattle.std.proofs.lemmas.Bool.Decides.{nat_tests}
-use Rattle.std.proofs.lemmas.List.Elements.{Contains-push_cases, Contains-append_left}
+use Rattle.std.proofs.lemmas.List.Elements.{Contains-push_cases}
 use Rattle.position_core.specs.declared.position.Position.{Position}
 use Rattle.position_core.specs.declared.message.Entry.{Entry}
 use Rattle.position_core.specs.declared.held.Held.{Held}
@@ -20,7 +17,7 @@ use Rattle.delivery_machine.specs.Joining.{placed, leaving}
 use Rattle.delivery_machine.specs.Acknowledging.{forgetting, without, is_one_of}
 use Rattle.delivery_machine.specs.Delivering.{holding, given}
 use Rattle.delivery_machine.specs.declared.delivery.Delivery.{Delivery}
-use Rattle.delivery_machine.proofs.Firsts.{filter_contained, found_contained, found_passes}
+use Rattle.delivery_machine.proofs.Firsts.{filter_contained, found_contained}
 use Rattle.delivery_machine.proofs.Passes.{passes}
 use Rattle.delivery_machine.proofs.Finding.{find_inserted, find_removed, still_changed, still_mapped, found_itself_changed}
 use Rattle.delivery_machine.proofs.Behind.{same_name, is_same_name}

@@ -1,9 +1,8 @@
 -- What every reached state keeps beside `IsKept`: numbers, names, ordinals, and well-formed subscriptions and members.
-use Rattle.std.proofs.Common.{◌≡◌, ℕ, ◌+◌, ◌<◌, ◌≤◌, List, [], ◌∷◌, ◌++◌, map, length, take, Some, None, Option, Bool, true, false, cond, refl, ap, ◌∙◌, sym, subst, subst₂, arith, inl, inr, Contains, true≢false}
-use Rattle.std.specs.Prelude.{◌^◌, ◌==◌, nat_lt, nat_le}
+use Rattle.std.proofs.Common.{◌≡◌, ℕ, ◌+◌, ◌<◌, ◌≤◌, List, [], ◌∷◌, ◌++◌, map, length, Some, Bool, true, false, cond, refl, ap, ◌∙◌, sym, subst, arith}
+use Rattle.std.specs.Prelude.{◌^◌, nat_lt, nat_le}
 use Rattle.std.specs.List.{All, IsDistinct, list_any, find}
 use Rattle.std.specs.Str.{bytes_eq}
-use Rattle.std.specs.FinMap as map_of
 use Rattle.std.proofs.lemmas.Bool.Decides.{nat_tests}
 use Rattle.std.proofs.lemmas.List.Elements.{All-push, Contains-append_left}
 use Rattle.position_core.specs.declared.position.Position.{Position}
@@ -18,7 +17,6 @@ use Rattle.delivery_machine.proofs.Firsts.{any_changed, any_mapped, any_pushed}
 use Rattle.delivery_machine.proofs.Rising.{used_in, next_of}
 use Rattle.delivery_machine.proofs.Messages.{taken_more, first_pushed}
 use Rattle.delivery_machine.proofs.Given.{names, given_pushed, given_removed, names_pushed, names_removed}
-use Rattle.delivery_machine.proofs.Keyed.{keys_changed, keys_mapped}
 use Rattle.delivery_machine.proofs.EachFirst.{EachFirst, each_kept, each_changed, each_mapped}
 use Rattle.delivery_machine.proofs.Named.{AreNamed, named_changed, named_mapped}
 use Rattle.delivery_machine.proofs.Ordinals.{times, AreOnce, among_changed, among_mapped, once_fewer}
@@ -103,6 +101,7 @@ well_stored s safe durable enough longer well = record {
       (formed_with s.log s.durable sub.kind sub.shares (safe sub) sub (enough sub formed.safe) formed)) well.each;
   uncollected = uncollected_same s.log s.members s.subscriptions (map (storing_so safe) s.subscriptions) (λ name consumer p at. holds_mapped name consumer p (storing_so safe) s.subscriptions (λ _. refl) (λ _. refl) ∙ at) well.uncollected;
 }
+
 -- ---- the log
 
 pub well_published : (s : State) (e : Entry) → e.position ≡ next_position s → is_full s ≡ false → s.durable ≤ length s.log → IsWellKept s → IsWellKept (with_message s e)

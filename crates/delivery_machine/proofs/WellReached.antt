@@ -1,9 +1,9 @@
 -- Each step keeps what is well kept, and so does each run.
-use Rattle.std.proofs.Common.{◌≡◌, ℕ, ◌+◌, ◌<◌, ◌≤◌, List, [], ◌∷◌, map, length, min, max, Some, None, Option, Bool, true, false, cond, refl, ap, ◌∙◌, sym, subst, arith, inl, inr, true≢false}
+use Rattle.std.proofs.Common.{◌≡◌, ℕ, ◌+◌, ◌<◌, ◌≤◌, List, [], ◌∷◌, map, length, min, max, Some, None, Option, Bool, true, false, refl, ap, ◌∙◌, sym, subst, arith, inl, inr, true≢false}
 use Rattle.std.specs.Prelude.{◌^◌, ◌&&◌, nat_lt, nat_le, not, if◌then◌else◌}
-use Rattle.std.specs.List.{All, IsDistinct, find, filter, count_by, flat_map, list_any}
+use Rattle.std.specs.List.{IsDistinct, find, filter, count_by, list_any}
 use Rattle.std.specs.List.Sorted.{IsStrictlySortedBy}
-use Rattle.std.specs.Option.{option_and_then, option_map_or}
+use Rattle.std.specs.Option.{option_and_then}
 use Rattle.std.specs.Ordering.{is_le}
 use Rattle.std.specs.FinMap as map_of
 use Rattle.std.proofs.lemmas.Bool.Decides.{nat_tests}
@@ -13,15 +13,14 @@ use Rattle.position_core.specs.declared.position.Position.{Position}
 use Rattle.position_core.specs.declared.message.Entry.{Entry}
 use Rattle.position_core.specs.declared.topic_name.TopicName.{TopicName}
 use Rattle.position_core.specs.declared.held.Held.{Held}
-use Rattle.position_core.specs.declared.fault.Fault.{Fault}
 use Rattle.position_core.specs.declared.fault.Fault.TheVariants.{ProducerBusy, NoSession, NoSuchMessage, TopicFull}
 use Rattle.position_core.specs.Position.{position_cmp}
 use Rattle.delivery_machine.specs.State.{State, Member, Subscription, Dead, fresh}
 use Rattle.delivery_machine.specs.Words.{count_of, is_named, is_member, is_producer, is_connected, is_live, has_member, has_position, next_position, visible, emptied, active_at}
 use Rattle.delivery_machine.specs.Refusals.{refusal_of, adding_refused, publishing_refused, acking_refused, nacking_refused, dropping_refused, is_full, is_duplicate}
-use Rattle.delivery_machine.specs.Producing.{IsGiven, auto_name, is_used, with_message, message_of}
+use Rattle.delivery_machine.specs.Producing.{IsGiven, auto_name, with_message, message_of}
 use Rattle.delivery_machine.specs.Joining.{permitted, without_member}
-use Rattle.delivery_machine.specs.Acknowledging.{Acks, is_one_of, positions_up_to}
+use Rattle.delivery_machine.specs.Acknowledging.{Acks, positions_up_to}
 use Rattle.delivery_machine.specs.Delivering.{Dispatches}
 use Rattle.delivery_machine.specs.Ticking.{Ticks, is_due, pending_positions}
 use Rattle.delivery_machine.specs.Seeking.{length_before, length_before_time, first_live}
@@ -35,7 +34,7 @@ use Rattle.delivery_machine.specs.declared.event.Event.TheVariants.{AddProducer,
 use Rattle.delivery_machine.specs.declared.reply.Reply.{Reply}
 use Rattle.delivery_machine.specs.declared.reply.Reply.TheVariants.{Sent, Idle, Quiet, Rewound, Released, Died}
 use Rattle.delivery_machine.proofs.RunSteps.{split, Run-keeps}
-use Rattle.delivery_machine.proofs.Deciding.{or_false, and_second}
+use Rattle.delivery_machine.proofs.Deciding.{or_false}
 use Rattle.delivery_machine.proofs.Firsts.{some_elim, filter_contained}
 use Rattle.delivery_machine.proofs.Sending.{taken_contained}
 use Rattle.delivery_machine.proofs.Kept.{not_refused, not_refused_next}

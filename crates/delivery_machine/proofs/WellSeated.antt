@@ -1,16 +1,13 @@
 -- What is well kept stays so where members join and leave, and where messages are sent to them and collected.
-use Rattle.std.proofs.Common.{◌≡◌, ℕ, ◌+◌, ◌<◌, ◌≤◌, List, [], ◌∷◌, ◌++◌, map, length, take, Some, None, Option, Bool, true, false, cond, refl, ap, ◌∙◌, sym, subst, arith, Contains, inl, inr, true≢false}
-use Rattle.std.specs.Prelude.{◌==◌, ◌&&◌, not, is_some, nat_lt}
-use Rattle.std.specs.List.{AllByRecursion, find, filter, list_any}
-use Rattle.std.specs.List.Sorted.{IsStrictlySortedBy}
+use Rattle.std.proofs.Common.{◌≡◌, ℕ, ◌+◌, List, [], ◌∷◌, ◌++◌, length, Some, None, Option, Bool, true, false, cond, refl, ap, ◌∙◌, sym, subst, arith, Contains, true≢false}
+use Rattle.std.specs.Prelude.{◌==◌, not, is_some}
+use Rattle.std.specs.List.{AllByRecursion, find, filter}
 use Rattle.std.specs.Option.{option_map_or}
 use Rattle.std.specs.Ordering.{nat_cmp}
 use Rattle.std.specs.Cmp.{tied_itself, nat_cmp_total}
-use Rattle.std.specs.Str.{bytes_eq}
 use Rattle.std.specs.FinMap as map_of
 use Rattle.std.specs.FinSet as set
 use Rattle.std.specs.declared.cmp.Ordering.TheVariants.{Less}
-use Rattle.std.proofs.lemmas.Bool.Decides.{nat_tests}
 use Rattle.std.proofs.lemmas.List.{map-append}
 use Rattle.std.proofs.lemmas.List.Elements.{All-contains, All-from_recursion}
 use Rattle.std.proofs.lemmas.Map.Keys.{sorted_from_strictly_increasing}
@@ -21,21 +18,20 @@ use Rattle.position_core.specs.declared.kind.Kind.{Kind}
 use Rattle.position_core.specs.declared.kind.Kind.TheVariants.{Exclusive, Failover, Shared, KeyShared}
 use Rattle.position_core.specs.Name.{name_order}
 use Rattle.delivery_machine.specs.State.{State, Member, Subscription}
-use Rattle.delivery_machine.specs.Words.{changed, removed, is_named, is_at, is_member, is_held_by, is_held_at, is_live, is_dead, is_waiting, waits_with_hash, hash_of, visible, count_of, members_of, ChoosesBy, IsEligible}
+use Rattle.delivery_machine.specs.Words.{changed, removed, is_named, is_at, is_member, is_held_by, is_held_at, is_live, is_dead, is_waiting, waits_with_hash, hash_of, visible, count_of, ChoosesBy, IsEligible}
 use Rattle.delivery_machine.specs.Refusals.{nacking_refused}
 use Rattle.delivery_machine.specs.Joining.{joining, new_subscription, placed, with_member, leaving, without_member}
 use Rattle.delivery_machine.specs.Delivering.{holding, given, sent, due_after}
-use Rattle.delivery_machine.specs.WellFormed.{has_message, AreGiven}
+use Rattle.delivery_machine.specs.WellFormed.{AreGiven}
 use Rattle.delivery_machine.specs.declared.delivery.Delivery.{Delivery}
 use Rattle.delivery_machine.specs.declared.event.Initial.{Initial}
-use Rattle.delivery_machine.specs.declared.event.Initial.TheVariants.{Earliest, Latest}
 use Rattle.delivery_machine.proofs.Deciding.{and_first, and_second, number_is, itself, holds_unless_refused}
 use Rattle.delivery_machine.proofs.Firsts.{any_changed, any_removed, found_contained, found_passes}
 use Rattle.delivery_machine.proofs.Behind.{same_name, is_same_name}
 use Rattle.delivery_machine.proofs.Sending.{taken_contained}
 use Rattle.delivery_machine.proofs.Chosen.{chosen_member}
 use Rattle.delivery_machine.proofs.Tended.{some_is}
-use Rattle.delivery_machine.proofs.Messages.{has_there, one_listed}
+use Rattle.delivery_machine.proofs.Messages.{has_there}
 use Rattle.delivery_machine.proofs.Among.{key_differs, found_by_key}
 use Rattle.delivery_machine.proofs.Keyed.{keys_changed, each_key_removed, sorted_removed}
 use Rattle.delivery_machine.proofs.Given.{given_pushed, given_removed}
@@ -44,11 +40,9 @@ use Rattle.delivery_machine.proofs.Named.{AreNamed, named_changed, named_placed,
 use Rattle.delivery_machine.proofs.Ordinals.{AreOnce, times_among, among_removed, among_inserted, once_fewer}
 use Rattle.delivery_machine.proofs.Seated.{is_there, AllThere, all_there, any_found, any_inserted, inserted_there}
 use Rattle.delivery_machine.proofs.Ranks.{seats_at}
-use Rattle.delivery_machine.proofs.Letters.{none_dead}
-use Rattle.delivery_machine.proofs.Tending.{none_pending}
 use Rattle.delivery_machine.proofs.Formed.{IsFormed, IsLiveAt, formed_new, formed_with, formed_leaving, formed_holding}
-use Rattle.delivery_machine.proofs.Uncollected.{AllUncollected, holds_in, uncollected_held, uncollected_sent, uncollected_changed, uncollected_pushed, uncollected_left, uncollected_same, holds_kept, holds_placed, holds_removed}
-use Rattle.delivery_machine.proofs.WellKept.{IsWellKept, IsChange, well_changed, ordinals_stay, letters, numbers_of, places_of}
+use Rattle.delivery_machine.proofs.Uncollected.{holds_in, uncollected_held, uncollected_sent, uncollected_changed, uncollected_pushed, uncollected_left, uncollected_same, holds_kept, holds_placed, holds_removed}
+use Rattle.delivery_machine.proofs.WellKept.{IsWellKept, well_changed, ordinals_stay, letters, numbers_of, places_of}
 
 not_below_itself : (n : ℕ) → nat_cmp n n ≡ Less → ⊥
 not_below_itself n e = let same = tied_itself nat_cmp_total n in cc

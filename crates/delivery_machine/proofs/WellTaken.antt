@@ -1,30 +1,27 @@
 -- What is well kept stays so where messages are taken out of a subscription, and where one is sent.
-use Rattle.std.proofs.Common.{◌≡◌, ℕ, ◌+◌, ◌<◌, ◌≤◌, List, [], ◌∷◌, ◌++◌, map, length, take, Some, None, Option, Bool, true, false, cond, refl, ap, ◌∙◌, sym, subst, arith, Contains}
+use Rattle.std.proofs.Common.{◌≡◌, ℕ, ◌+◌, ◌<◌, List, [], ◌∷◌, map, take, Some, Option, Bool, true, false, cond, refl, ap, ◌∙◌, arith}
 use Rattle.std.specs.Prelude.{◌^◌, ◌==◌, if◌then◌else◌}
 use Rattle.std.specs.List.{find}
 use Rattle.std.specs.FinMap as map_of
 use Rattle.position_core.specs.declared.position.Position.{Position}
-use Rattle.position_core.specs.declared.message.Entry.{Entry}
 use Rattle.position_core.specs.declared.held.Held.{Held}
 use Rattle.delivery_machine.specs.State.{State, Member, Subscription}
 use Rattle.delivery_machine.specs.State as state
-use Rattle.delivery_machine.specs.Words.{changed, is_named, is_at, is_member, emptied, emptied_at}
+use Rattle.delivery_machine.specs.Words.{changed, is_named, is_at, emptied, emptied_at}
 use Rattle.delivery_machine.specs.Joining.{releasing_all, all_released, is_taken_over, taken_over}
 use Rattle.delivery_machine.specs.Acknowledging.{acknowledging, acknowledged, forgetting, is_one_of, without}
-use Rattle.delivery_machine.specs.Delivering.{holding}
 use Rattle.delivery_machine.specs.Ticking.{redelivering, redelivered}
 use Rattle.delivery_machine.specs.Seeking.{seeking, sought}
 use Rattle.delivery_machine.specs.Dying.{burying, letter_of, died, first_safe, moving, moved}
 use Rattle.delivery_machine.specs.WellFormed.{has_message}
-use Rattle.delivery_machine.proofs.Deciding.{itself}
 use Rattle.delivery_machine.proofs.Firsts.{found_contained}
 use Rattle.delivery_machine.proofs.Sending.{taken_contained}
 use Rattle.delivery_machine.proofs.Tended.{some_is}
 use Rattle.delivery_machine.proofs.Keyed.{keys_mapped}
-use Rattle.delivery_machine.proofs.Ordinals.{times, times_append, times_dropped, among_changed, once_fewer, once_more, below_next}
-use Rattle.delivery_machine.proofs.Formed.{IsFormed, formed_acknowledging, formed_redelivering, formed_burying, formed_moving, formed_seeking, formed_released, formed_holding}
-use Rattle.delivery_machine.proofs.Uncollected.{uncollected_taken, uncollected_emptied, uncollected_held}
-use Rattle.delivery_machine.proofs.WellKept.{IsWellKept, IsChange, well_changed, ordinals_stay, letters, numbers_of, places_of}
+use Rattle.delivery_machine.proofs.Ordinals.{times_append, times_dropped, among_changed, once_more, below_next}
+use Rattle.delivery_machine.proofs.Formed.{formed_acknowledging, formed_redelivering, formed_burying, formed_moving, formed_seeking, formed_released}
+use Rattle.delivery_machine.proofs.Uncollected.{uncollected_taken, uncollected_emptied}
+use Rattle.delivery_machine.proofs.WellKept.{IsWellKept, well_changed, ordinals_stay, letters, numbers_of, places_of}
 
 -- the positions are of messages of the log
 abbrev pub AreLogged : State → List Position → Type 0
