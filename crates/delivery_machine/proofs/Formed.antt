@@ -20,7 +20,7 @@ use Rattle.delivery_machine.specs.Delivering.{holding}
 use Rattle.delivery_machine.specs.Ticking.{redelivering, recounted}
 use Rattle.delivery_machine.specs.Seeking.{seeking}
 use Rattle.delivery_machine.specs.Dying.{burying, moving, first_safe}
-use Rattle.delivery_machine.specs.WellFormed.{has_message, AreAcknowledgedIn, AreDeadIn}
+use Rattle.delivery_machine.specs.WellFormed.{has_message, AreMessagesOf, AreDeadLettersOf}
 use Rattle.delivery_machine.specs.declared.event.Initial.{Initial}
 use Rattle.delivery_machine.specs.declared.event.Initial.TheVariants.{Earliest, Latest}
 use Rattle.delivery_machine.proofs.Deciding.{or_false, and_first}
@@ -36,11 +36,11 @@ abbrev pub IsLiveAt : Subscription → Position → Type 0
 IsLiveAt sub p = (set.contains sub.acknowledged p ≡ false) × (is_dead sub p ≡ false)
 
 pub record IsFormed (log : List Entry) (durable : ℕ) (sub : Subscription) : Type 0 where
-  pub acknowledged : AreAcknowledgedIn log sub.acknowledged
+  pub acknowledged : AreMessagesOf log sub.acknowledged
   pub visible : (p : Position) (h : Held) → map_of.get sub.pending p ≡ Some h → has_message (take durable log) p ≡ true
   pub live : (p : Position) (h : Held) → map_of.get sub.pending p ≡ Some h → IsLiveAt sub p
   pub counted : (p : Position) → map_of.contains_key sub.counts p ≡ true → has_message log p ≡ true
-  pub dead : AreDeadIn log sub.dead
+  pub dead : AreDeadLettersOf log sub.dead
   pub safe : sub.safe ≤ length sub.dead
 
 -- what is pending is in the log
@@ -176,7 +176,7 @@ module _ (log : List Entry) (durable : ℕ) where
   -- ---- sought
 
   -- where nothing is pending or counted
-  pub formed_begun : (name : List ℕ) (kind : Kind) (acknowledged : set.FinSet position_cmp) (shares : List Block) (dead : List Dead) (safe : ℕ) → AreAcknowledgedIn log acknowledged → AreDeadIn log dead → safe ≤ length dead
+  pub formed_begun : (name : List ℕ) (kind : Kind) (acknowledged : set.FinSet position_cmp) (shares : List Block) (dead : List Dead) (safe : ℕ) → AreMessagesOf log acknowledged → AreDeadLettersOf log dead → safe ≤ length dead
       → IsFormed log durable (record { name = name; kind = kind; acknowledged = acknowledged; pending = map_of.empty; counts = map_of.empty; shares = shares; dead = dead; safe = safe })
   formed_begun name kind acknowledged shares dead safe there letters low = record {
     acknowledged = there;
@@ -188,7 +188,7 @@ module _ (log : List Entry) (durable : ℕ) where
   }
 
   -- the positions of messages of the log are acknowledged
-  acknowledged_first : (before : List Entry) → ((e : Entry) → Contains before e → Contains log e) → AreAcknowledgedIn log (set.from_list (map (λ (e : Entry). e.position) before))
+  acknowledged_first : (before : List Entry) → ((e : Entry) → Contains before e → Contains log e) → AreMessagesOf log (set.from_list (map (λ (e : Entry). e.position) before))
   acknowledged_first before among p is = one_listed before log p among (sym (set.contains-from_list positions_total (map (λ (e : Entry). e.position) before) p) ∙ is)
 
   pub formed_seeking : (before : List Entry) (sub : Subscription) → ((e : Entry) → Contains before e → Contains log e) → IsFormed log durable sub → IsFormed log durable (seeking before sub)
@@ -251,7 +251,7 @@ module _ (log : List Entry) (durable : ℕ) where
       in_log : (p : Position) → is_one_of (letter.position ∷ []) p ≡ true → has_message log p ≡ true
       in_log p one =
           subst (λ (q : Position). has_message log q ≡ true) (one_of_itself letter.position p one)
-          (All-head (λ (d : Dead). has_message log d.position ≡ true) letter rest.0 (subst (λ (ds : List Dead). All (λ (d : Dead). has_message log d.position ≡ true) ds) rest.1 formed.dead.in_log))
+          (All-head (λ (d : Dead). has_message log d.position ≡ true) letter rest.0 (subst (λ (ds : List Dead). All (λ (d : Dead). has_message log d.position ≡ true) ds) rest.1 formed.dead.messages))
 
       later : (ds : List Dead) (p : Position) → list_any (λ (d : Dead). same_position d.position p) ds ≡ false → list_any (λ (d : Dead). same_position d.position p) (drop 1 ds) ≡ false
       later [] p none = refl

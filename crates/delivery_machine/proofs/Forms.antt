@@ -6,12 +6,15 @@ use Rattle.std.proofs.lemmas.Bool.Decides.{nat_tests}
 use Rattle.std.proofs.lemmas.List.Elements.{All-map, All-from_recursion, recursion_from_All, Contains-get_or}
 use Rattle.std.proofs.lemmas.List.Sums.{sum_by-cons}
 use Rattle.position_core.specs.declared.message.Entry.{Entry}
+use Rattle.position_core.specs.declared.position.Position.{Position}
+use Rattle.position_core.specs.Position.{same_position}
 use Rattle.delivery_machine.specs.State.{State, Member, Subscription, Dead}
-use Rattle.delivery_machine.specs.Words.{is_named, is_at, is_member, is_live, has_subscription}
+use Rattle.delivery_machine.specs.Words.{visible, has_position, is_named, is_at, is_member, is_live, has_subscription}
 use Rattle.delivery_machine.specs.Producing.{storing, storing_below, stored, stored_to}
 use Rattle.delivery_machine.specs.Snapshot.{Place, place_of, snapshot_of}
-use Rattle.delivery_machine.specs.WellFormed.{IsLog, IsWellFormed, IsWellFormedIn, IsSound, IsSoundIn, HaveOrdinals, NamesRise}
-use Rattle.delivery_machine.proofs.Firsts.{found_contained}
+use Rattle.delivery_machine.specs.WellFormed.{has_message, IsWellFormedLog, IsWellFormed, IsWellFormedIn, IsSound, IsSoundPlace, HaveOrdinals, NamesRise}
+use Rattle.delivery_machine.proofs.Firsts.{any_contained, found_contained}
+use Rattle.delivery_machine.proofs.Messages.{message_there, place_itself}
 use Rattle.delivery_machine.proofs.Rising.{used_in, IsRising, ledgers_below}
 use Rattle.delivery_machine.proofs.Keyed.{keys_mapped}
 use Rattle.delivery_machine.proofs.Named.{all_from_each}
@@ -21,7 +24,7 @@ use Rattle.delivery_machine.proofs.Formed.{IsLiveAt}
 use Rattle.delivery_machine.proofs.WellKept.{IsLedgered, letters, places_of}
 use Rattle.delivery_machine.proofs.WellReached.{IsAllKept}
 
-log_formed : (ledger_size ledger : ℕ) (log : List Entry) → IsRising log ledger → IsLedgered ledger_size ledger log → IsLog ledger_size ledger log
+log_formed : (ledger_size ledger : ℕ) (log : List Entry) → IsRising log ledger → IsLedgered ledger_size ledger log → IsWellFormedLog ledger_size ledger log
 log_formed ledger_size ledger log rising ledgered = record {
   positions = rising.sorted;
   ledgers = λ k d low. (ledgers_below ledger (used_in ledger log) (get_or log k d).position (rising.below k d low), rising.bounded k d low);
@@ -29,27 +32,32 @@ log_formed ledger_size ledger log rising ledgered = record {
   last_ledger = ledgered.last_ledger;
 }
 
-all_live : (sub : Subscription) (e : Entry) → IsLiveAt sub e.position → is_live sub e ≡ true
-all_live sub e live = ap₂ (λ a d. not a && not d) live.0 live.1
-
 -- one that passes is one of those that pass another test, where it passes both
-among_those : (p q : Member → Bool) (members : List Member) → list_any p (filter q members) ≡ list_any (λ m. q m && p m) members
+among_those : {A : Type 0} (p q : A → Bool) (xs : List A) → list_any p (filter q xs) ≡ list_any (λ x. q x && p x) xs
 among_those p q [] = refl
-among_those p q (m ∷ members) = by (q m) (among_those p q members)
+among_those {A} p q (x ∷ xs) = by (q x) (among_those p q xs)
   where
-    by : (b : Bool) → list_any p (filter q members) ≡ list_any (λ m. q m && p m) members → list_any p (cond b (m ∷ filter q members) (filter q members)) ≡ ((b && p m) || list_any (λ m. q m && p m) members)
-    by true rest = ap (λ c. p m || c) rest
+    by : (b : Bool) → list_any p (filter q xs) ≡ list_any (λ x. q x && p x) xs → list_any p (cond b (x ∷ filter q xs) (filter q xs)) ≡ ((b && p x) || list_any (λ x. q x && p x) xs)
+    by true rest = ap (λ c. p x || c) rest
     by false rest = rest
+
+-- a live position among the messages is of a live one of them
+live_message : (sub : Subscription) (messages : List Entry) (p : Position) → IsLiveAt sub p → has_message messages p ≡ true → has_message (filter (is_live sub) messages) p ≡ true
+live_message sub messages p live there =
+    let at = message_there messages p there in
+    let both : IsLiveAt sub at.0.position = subst (IsLiveAt sub) (sym at.2) live in
+    let is_live_there : is_live sub at.0 ≡ true = ap₂ (λ a d. not a && not d) both.0 both.1 in
+    among_those (has_position p) (is_live sub) messages
+    ∙ any_contained (λ e. is_live sub e && has_position p e) messages at.0 at.1 (ap₂ (λ a b. a && b) is_live_there (ap (λ (q : Position). same_position q p) at.2 ∙ place_itself p))
 
 subscription_formed : (t : State) → IsAllKept t → (name : List ℕ) (sub : Subscription) → find (is_named name) t.subscriptions ≡ Some sub → IsWellFormedIn t sub
 subscription_formed t all name sub found =
     let formed = all.well.each name sub found in
     record {
       acknowledged = formed.acknowledged;
-      pending = λ e held is. record {
-        visible = formed.visible e.position held is;
-        live = all_live sub e (formed.live e.position held is);
-        member = among_those (is_member held.consumer) (is_at sub.name) t.members ∙ (all.order.kept.tended.first name sub found).at_members e.position held is;
+      pending = λ p held is. record {
+        message = live_message sub (visible t) p (formed.live p held is) (formed.visible p held is);
+        member = among_those (is_member held.consumer) (is_at sub.name) t.members ∙ (all.order.kept.tended.first name sub found).at_members p held is;
       };
       counted = formed.counted;
       dead = formed.dead;
@@ -82,8 +90,8 @@ pub sound_snapshot : (t : State) → IsAllKept t → IsSound (snapshot_of t)
 sound_snapshot t all = record {
   log = log_formed t.ledger_size t.ledger t.log all.order.kept.rising all.well.ledgered;
   names = subst NamesRise (sym (keys_mapped (λ (place : Place). place.name) place_of (λ _. refl) t.subscriptions)) all.well.named;
-  subscriptions = All-map (IsSoundIn t.log) place_of t.subscriptions
-      (all_from_each (λ sub. IsSoundIn t.log (place_of sub)) t.subscriptions all.well.named
+  subscriptions = All-map (IsSoundPlace t.log) place_of t.subscriptions
+      (all_from_each (λ sub. IsSoundPlace t.log (place_of sub)) t.subscriptions all.well.named
       (λ name sub found. let formed = all.well.each name sub found in record { acknowledged = formed.acknowledged; dead = formed.dead }));
   ordinals = subst (HaveOrdinals t.next_ordinal) (sym (letters_mapped (λ (place : Place). place.dead) letters place_of (λ _. refl) t.subscriptions)) (ordinals_once letters t.next_ordinal t.subscriptions all.well.ordinals);
 }

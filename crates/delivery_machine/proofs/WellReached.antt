@@ -25,7 +25,7 @@ use Rattle.delivery_machine.specs.Delivering.{Dispatches}
 use Rattle.delivery_machine.specs.Ticking.{Ticks, is_due, pending_positions}
 use Rattle.delivery_machine.specs.Seeking.{length_before, length_before_time, first_live}
 use Rattle.delivery_machine.specs.Dying.{dying_at, is_to_die, first_safe}
-use Rattle.delivery_machine.specs.WellFormed.{has_message, HaveOrdinals, NamesRise, IsSound, IsSoundIn}
+use Rattle.delivery_machine.specs.WellFormed.{has_message, HaveOrdinals, NamesRise, IsSound, IsSoundPlace}
 use Rattle.delivery_machine.specs.Run.{Run, Answers, Takes}
 use Rattle.delivery_machine.specs.Snapshot.{Snapshot, Place, restarted, subscription_from}
 use Rattle.delivery_machine.specs.Laws.{IsBeginning}
@@ -207,7 +207,7 @@ well_restarted kept sound = record {
       (subst (HaveOrdinals kept.next_ordinal) (sym (letters_mapped letters (λ (place : Place). place.dead) subscription_from (λ _. refl) kept.subscriptions)) sound.ordinals);
   each = each_from_all (IsFormed kept.log (length kept.log)) (map subscription_from kept.subscriptions)
       (All-map (IsFormed kept.log (length kept.log)) subscription_from kept.subscriptions
-      (All-weaker (IsSoundIn kept.log) (λ place. IsFormed kept.log (length kept.log) (subscription_from place))
+      (All-weaker (IsSoundPlace kept.log) (λ place. IsFormed kept.log (length kept.log) (subscription_from place))
       (λ place one. formed_begun kept.log (length kept.log) place.name place.kind place.acknowledged [] place.dead (length place.dead) one.acknowledged one.dead (omega arith)) kept.subscriptions sound.subscriptions));
   uncollected = λ m at. absurd (none_out m at);
 }

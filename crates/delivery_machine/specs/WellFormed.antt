@@ -1,6 +1,6 @@
 -- Well-formed states and sound snapshots: what holds of every state that a run comes to, and of every snapshot of one.
 use Rattle.std.specs.Prelude.{◌≡◌, ℕ, ◌+◌, ◌^◌, ◌<◌, ◌≤◌, ◌==◌, List, map, length, Bool, Some, IsTrue}
-use Rattle.std.specs.List.{list_any, flat_map, All, Contains, IsDistinct}
+use Rattle.std.specs.List.{filter, list_any, flat_map, All, Contains, IsDistinct}
 use Rattle.std.specs.List.Sorted.{IsStrictlyIncreasing, IsStrictlySortedBy}
 use Rattle.std.specs.Str.{bytes_eq}
 use Rattle.std.specs.FinSet as set
@@ -20,24 +20,23 @@ use Rattle.delivery_machine.specs.Snapshot.{Place, Snapshot}
 abbrev pub has_message : List Entry → Position → Bool
 has_message messages position = list_any (has_position position) messages
 
--- positions rise; messages stand in ledgers up to the topic's and in places of a ledger; 2^62 is the last ledger of messages
-pub record IsLog (ledger_size ledger : ℕ) (log : List Entry) : Type 0 where
+-- positions rise; each message is in a ledger up to the topic's and up to 2^62, at one of the places of a ledger
+pub record IsWellFormedLog (ledger_size ledger : ℕ) (log : List Entry) : Type 0 where
   pub positions : IsStrictlySortedBy position_cmp (map (λ e. e.position) log)
   pub ledgers : All (λ e. (e.position.ledger ≤ ledger) × (e.position.ledger ≤ 2 ^ 62)) log
   pub entries : 0 < ledger_size → All (λ e. e.position.entry < ledger_size) log
   pub last_ledger : ledger ≤ 2 ^ 62 + 1
 
--- what a subscription has acknowledged are messages of the log
-abbrev pub AreAcknowledgedIn : List Entry → set.FinSet position_cmp → Type 0
-AreAcknowledgedIn log acknowledged = (position : Position) → IsTrue (set.contains acknowledged position) → IsTrue (has_message log position)
+abbrev pub AreMessagesOf : List Entry → set.FinSet position_cmp → Type 0
+AreMessagesOf log positions = (position : Position) → IsTrue (set.contains positions position) → IsTrue (has_message log position)
 
 -- a subscription's dead letters are messages of the log, none of them twice, in the order in which they died
-pub record AreDeadIn (log : List Entry) (dead : List Dead) : Type 0 where
-  pub in_log : All (λ d. IsTrue (has_message log d.position)) dead
+pub record AreDeadLettersOf (log : List Entry) (dead : List Dead) : Type 0 where
+  pub messages : All (λ d. IsTrue (has_message log d.position)) dead
   pub once : IsDistinct same_position (map (λ d. d.position) dead)
   pub ordinals : IsStrictlyIncreasing (map (λ d. d.ordinal) dead)
 
--- no two dead letters of a topic have one ordinal, and the next is above them all; 2^62 is given to none
+-- no two dead letters of a topic have one ordinal, and the next ordinal is above them all; 2^62 is given to none
 pub record HaveOrdinals (next : ℕ) (dead : List Dead) : Type 0 where
   pub distinct : IsDistinct (λ a b. a == b) (map (λ d. d.ordinal) dead)
   pub below : All (λ d. d.ordinal < next) dead
@@ -54,18 +53,16 @@ pub record AreGiven (next : ℕ) (numbers : List ℕ) : Type 0 where
   pub rising : IsStrictlyIncreasing numbers
   pub below : All (λ n. n < next) numbers
 
--- what is pending is visible, and neither acknowledged nor dead, and the consumer is a member of the subscription
-pub record IsPendingWell (s : State) (sub : Subscription) (e : Entry) (consumer : ℕ) : Type 0 where
-  pub visible : IsTrue (has_message (visible s) e.position)
-  pub live : IsTrue (is_live sub e)
+-- a live message that is visible, pending at a member of the subscription
+pub record IsPendingWell (s : State) (sub : Subscription) (position : Position) (consumer : ℕ) : Type 0 where
+  pub message : IsTrue (has_message (filter (is_live sub) (visible s)) position)
   pub member : IsTrue (list_any (is_member consumer) (members_of s sub.name))
 
--- `acknowledged`, `counted` and `dead` are messages of the log
 pub record IsWellFormedIn (s : State) (sub : Subscription) : Type 0 where
-  pub acknowledged : AreAcknowledgedIn s.log sub.acknowledged
-  pub pending : (e : Entry) (held : Held) → map_of.get sub.pending e.position ≡ Some held → IsPendingWell s sub e held.consumer
+  pub acknowledged : AreMessagesOf s.log sub.acknowledged
+  pub pending : (position : Position) (held : Held) → map_of.get sub.pending position ≡ Some held → IsPendingWell s sub position held.consumer
   pub counted : (position : Position) → IsTrue (map_of.contains_key sub.counts position) → IsTrue (has_message s.log position)
-  pub dead : AreDeadIn s.log sub.dead
+  pub dead : AreDeadLettersOf s.log sub.dead
   pub safe : sub.safe ≤ length sub.dead
 
 -- what the member was sent and has not collected are messages of the log, pending at it
@@ -73,7 +70,7 @@ abbrev pub IsSentWell : State → Member → Type 0
 IsSentWell s m = All (λ d. Contains s.log d.message × IsTrue (is_held_at s m.subscription m.number d.message.position)) m.out
 
 pub record IsWellFormed (s : State) : Type 0 where
-  pub log : IsLog s.ledger_size s.ledger s.log
+  pub log : IsWellFormedLog s.ledger_size s.ledger s.log
   pub durable : s.durable ≤ length s.log
   pub producers : AreGiven s.next_producer (map (λ p. p.number) s.producers)
   pub producer_names : IsDistinct bytes_eq (map (λ p. p.name) s.producers)
@@ -86,12 +83,12 @@ pub record IsWellFormed (s : State) : Type 0 where
 
 -- ---- snapshots
 
-pub record IsSoundIn (log : List Entry) (place : Place) : Type 0 where
-  pub acknowledged : AreAcknowledgedIn log place.acknowledged
-  pub dead : AreDeadIn log place.dead
+pub record IsSoundPlace (log : List Entry) (place : Place) : Type 0 where
+  pub acknowledged : AreMessagesOf log place.acknowledged
+  pub dead : AreDeadLettersOf log place.dead
 
 pub record IsSound (kept : Snapshot) : Type 0 where
-  pub log : IsLog kept.ledger_size kept.ledger kept.log
+  pub log : IsWellFormedLog kept.ledger_size kept.ledger kept.log
   pub names : NamesRise (map (λ place. place.name) kept.subscriptions)
-  pub subscriptions : All (IsSoundIn kept.log) kept.subscriptions
+  pub subscriptions : All (IsSoundPlace kept.log) kept.subscriptions
   pub ordinals : HaveOrdinals kept.next_ordinal (flat_map (λ place. place.dead) kept.subscriptions)
