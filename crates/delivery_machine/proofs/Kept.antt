@@ -43,6 +43,10 @@ pub not_refused : (b : Bool) (fault : Fault) (rest : Option Fault) → (if b the
 not_refused true fault rest e = cc
 not_refused false fault rest e = refl
 
+pub not_refused_next : (b : Bool) (fault : Fault) (rest : Option Fault) → (if b then Some fault else rest) ≡ None → rest ≡ None
+not_refused_next true fault rest e = cc
+not_refused_next false fault rest e = e
+
 -- ---- the log
 
 pub kept_message : (s : State) (e : Entry) → e.position ≡ next_position s → is_full s ≡ false → IsKept s → IsKept (with_message s e)

@@ -1,4 +1,5 @@
 pub mod RunSteps
+pub mod Keyed
 pub mod Example
 pub mod Deciding
 pub mod Finding
@@ -18,6 +19,7 @@ pub mod Passes
 pub mod Firsts
 pub mod Behind
 pub mod Rising
+pub mod Among
 pub mod Tended
 pub mod Tending
 pub mod Sending
@@ -26,7 +28,11 @@ pub mod Reached
 pub mod Ordered
 pub mod Ranks
 pub mod EachFirst
+pub mod Messages
+pub mod Letters
 pub mod Orderly
+pub mod Named
+pub mod Ordinals
 pub mod Taking
 pub mod Ordering
 pub mod Orders
@@ -35,3 +41,12 @@ pub mod Sharing
 pub mod Halving
 pub mod ShareLaws
 pub mod Retained
+pub mod Given
+pub mod Uncollected
+pub mod Seated
+pub mod Formed
+pub mod WellKept
+pub mod WellTaken
+pub mod WellSeated
+pub mod WellReached
+pub mod Forms

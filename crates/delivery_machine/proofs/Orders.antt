@@ -288,7 +288,7 @@ dispatch_orders s name now sub Idle t found h kept all = settled t s h.1 all
 dispatch_orders s name now sub reply t found h kept all = absurd h
 
 -- a subscription that may be dropped has no members
-nobody_there : (s : State) (name : List ℕ) (o : Option Subscription) → dropping_refused s name o ≡ None → seats_at s.members name ≡ 0
+pub nobody_there : (s : State) (name : List ℕ) (o : Option Subscription) → dropping_refused s name o ≡ None → seats_at s.members name ≡ 0
 nobody_there s name None allowed = cc
 nobody_there s name (Some sub) allowed = none_below (seats_at s.members name) (first (nat_lt 0 (seats_at s.members name)) (nat_lt 0 (length sub.dead)) allowed)
   where
@@ -382,10 +382,14 @@ pub record IsKeptInOrder (s : State) : Type 0 where
   pub kept : IsKept s
   pub all : AllOrderly s
 
+pub step_in_order : (s : State) (event : Event) (reply : Reply) (t : State) → Answers s event reply t → IsKeptInOrder s → IsKeptInOrder t
+step_in_order s event reply t step both = record { kept = step_keeps s event reply t step both.kept; all = step_orders s event reply t step both.kept both.all }
+
+pub beginning_in_order : (s : State) → IsBeginning s → IsKeptInOrder s
+beginning_in_order s begins = record { kept = beginning_kept s begins; all = beginning_ordered s begins (beginning_kept s begins) }
+
 pub reached_ordered : (s : State) (events : List Event) (replies : List Reply) (t : State) → IsBeginning s → Run s events replies t → IsKeptInOrder t
-reached_ordered s events replies t begins run =
-    Run-keeps IsKeptInOrder (λ s event reply t step both. record { kept = step_keeps s event reply t step both.kept; all = step_orders s event reply t step both.kept both.all }) s events replies t run
-    (record { kept = beginning_kept s begins; all = beginning_ordered s begins (beginning_kept s begins) })
+reached_ordered s events replies t begins run = Run-keeps IsKeptInOrder step_in_order s events replies t run (beginning_in_order s begins)
 
 -- ---- what a reader sees
 

@@ -19,15 +19,16 @@ use Rattle.delivery_machine.specs.Ticking.{Ticks, pending_positions}
 use Rattle.delivery_machine.specs.Seeking.{length_before, length_before_time, first_live}
 use Rattle.delivery_machine.specs.Dying.{dying_at, first_safe}
 use Rattle.delivery_machine.specs.Run.{Run, Answers, Takes}
-use Rattle.delivery_machine.specs.Snapshot.{Snapshot, Place, snapshot_of, restarted, subscription_from}
-use Rattle.delivery_machine.specs.Laws.{IsSound, IsBeginning}
+use Rattle.delivery_machine.specs.Snapshot.{Snapshot, Place, restarted, subscription_from}
+use Rattle.delivery_machine.specs.WellFormed.{IsSound}
+use Rattle.delivery_machine.specs.Laws.{IsBeginning}
 use Rattle.delivery_machine.specs.declared.event.Event.{Event}
 use Rattle.delivery_machine.specs.declared.event.Event.TheVariants.{AddProducer, DropProducer, Publish, Stored, StoredTo, Progress, Subscribe, Leave, Permit, Ack, AckUpTo, Nack, Tick, Seek, SeekTime, Skip, DropSubscription, Stats, Dispatch, Collect, DeadNext, DeadDone}
 use Rattle.delivery_machine.specs.declared.reply.Reply.{Reply}
 use Rattle.delivery_machine.specs.declared.reply.Reply.TheVariants.{Sent, Idle, Quiet, Rewound, Released, Died}
 use Rattle.delivery_machine.proofs.RunSteps.{split, Run-keeps}
 use Rattle.delivery_machine.proofs.Firsts.{some_elim}
-use Rattle.delivery_machine.proofs.Rising.{rising_fresh, rising_restarted, sound_snapshot}
+use Rattle.delivery_machine.proofs.Rising.{rising_fresh, rising_restarted}
 use Rattle.delivery_machine.proofs.Behind.{IsIdle, IsBehindIdle, AllBehindIdle}
 use Rattle.delivery_machine.proofs.Tended.{tended_empty}
 use Rattle.delivery_machine.proofs.Tending.{none_pending}
@@ -143,7 +144,3 @@ reached_kept s events replies t begins run = Run-keeps IsKept step_keeps s event
 -- positions rise in every reached state
 pub rises : (s : State) (events : List Event) (replies : List Reply) (t : State) → IsBeginning s → Run s events replies t → IsStrictlySortedBy position_cmp (map (λ e. e.position) t.log)
 rises s events replies t begins run = (reached_kept s events replies t begins run).rising.sorted
-
--- a snapshot of every reached state is sound, so that a run may begin from it
-pub reached_sound : (s : State) (events : List Event) (replies : List Reply) (t : State) → IsBeginning s → Run s events replies t → IsSound (snapshot_of t)
-reached_sound s events replies t begins run = sound_snapshot t (reached_kept s events replies t begins run).rising

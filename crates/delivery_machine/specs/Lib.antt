@@ -13,4 +13,5 @@ pub mod Dying
 pub mod Ticking
 pub mod Run
 pub mod Snapshot
+pub mod WellFormed
 pub mod Laws
