@@ -1,8 +1,8 @@
 -- The dead letters of one subscription.
-use Rattle.std.specs.Prelude.{ℕ, ◌-◌, ◌==◌, nat_lt, List, [], ◌∷◌, ◌++◌, length, drop, Bool, false, Option, None, if◌then◌else◌}
+use Rattle.std.specs.Prelude.{◌≡◌, ℕ, ◌-◌, ◌==◌, nat_lt, List, [], ◌∷◌, ◌++◌, length, drop, Bool, false, Option, None, if◌then◌else◌}
 use Rattle.std.specs.List.{slice_get}
 use Rattle.std.specs.Option.{option_map_or}
-use Rattle.delivery_machine.specs.State.{Dead}
+use Rattle.delivery_machine.specs.State.{Dead, Subscription}
 
 -- in the order of dying; the first `safe` of them are stored
 pub record Letters : Type 0 where
@@ -29,3 +29,7 @@ is_next ordinal q = option_map_or (λ letter. letter.ordinal == ordinal) (next_s
 
 abbrev pub without_first : Letters → Letters
 without_first q = record { dead = drop 1 q.dead; safe = q.safe - 1 }
+
+-- the letters are the subscription's
+abbrev pub AreLettersOf : Letters → Subscription → Type 0
+AreLettersOf q sub = (sub.dead ≡ q.dead) × (sub.safe ≡ q.safe)

@@ -1,7 +1,10 @@
 // The dead letters of a subscription, in the order of dying.
-ghost use Rattle.std.specs.Prelude.{◌≡◌, length, None, OnOk, OnErr, if◌then◌else◌};
+ghost use Rattle.std.specs.Prelude.{◌≡◌, [], length, None, IfSome, IfNone, OnOk, OnErr, is_some, if◌then◌else◌};
 ghost use Rattle.std.specs.Option.{option_copied};
-ghost use Rattle.dead_core.specs.Letters.{none_dead, ending_with, all_safe, next_safe, is_next, without_first};
+ghost use Rattle.delivery_machine.specs.State.{Subscription};
+ghost use Rattle.delivery_machine.specs.Producing.{storing};
+ghost use Rattle.delivery_machine.specs.Dying.{burying, first_safe, is_next_letter, moving};
+ghost use Rattle.dead_core.specs.Letters.{AreLettersOf, none_dead, ending_with, all_safe, next_safe, is_next, without_first};
 
 use delivery_machine::DeadLetter;
 use std::alloc::{AllocError, Global};
@@ -34,7 +37,8 @@ impl Model for DeadQueue {
 impl DeadQueue {
     /// Nothing died.
     pub fn new(alloc: Global) -> Self
-        ensures { result ≡ none_dead }
+        ensures value { result ≡ none_dead }
+        ensures machine { (sub : Subscription) → sub.dead ≡ [] → sub.safe ≡ 0 → AreLettersOf result sub }
     {
         DeadQueue {
             letters: VecDeque::new(alloc),
@@ -46,6 +50,7 @@ impl DeadQueue {
     pub fn push(&mut self, letter: DeadLetter) -> Result<(), AllocError>
         ensures ok { OnOk result (self.new ≡ ending_with letter self.old) }
         ensures err { OnErr result (self.new ≡ self.old) }
+        ensures machine { OnOk result ((sub : Subscription) → AreLettersOf self.old sub → AreLettersOf self.new (burying letter sub)) }
     {
         self.letters.push_back(letter)?;
         Ok(())
@@ -53,14 +58,16 @@ impl DeadQueue {
 
     /// All deaths so far are stored.
     pub fn mark_safe(&mut self)
-        ensures { self.new ≡ all_safe self.old }
+        ensures value { self.new ≡ all_safe self.old }
+        ensures machine { (sub : Subscription) → AreLettersOf self.old sub → AreLettersOf self.new (storing sub) }
     {
         self.safe = self.count();
     }
 
     /// The letter that is published next: the first one, where it is safe.
     pub fn next_safe(&self) -> Option<&DeadLetter>
-        ensures { option_copied result ≡ next_safe self.now }
+        ensures value { option_copied result ≡ next_safe self.now }
+        ensures machine { (sub : Subscription) → AreLettersOf self.now sub → option_copied result ≡ first_safe sub }
     {
         if self.safe == 0 {
             return None;
@@ -82,6 +89,8 @@ impl DeadQueue {
     pub fn done(&mut self, ordinal: u64) -> Option<DeadLetter>
         ensures letter { result ≡ (if is_next ordinal self.old then next_safe self.old else None) }
         ensures others { self.new ≡ (if is_next ordinal self.old then without_first self.old else self.old) }
+        ensures next { (sub : Subscription) → AreLettersOf self.old sub → is_some result ≡ is_next_letter ordinal sub }
+        ensures machine { IfSome result (λ letter. (sub : Subscription) → AreLettersOf self.old sub → AreLettersOf self.new (moving letter sub)) }
     {
         if !self.is_next(ordinal) {
             return None;

@@ -13,7 +13,7 @@ use Rattle.position_core.specs.Position.{position_cmp, same_position, positions_
 use Rattle.delivery_machine.specs.State.{State, Subscription, Member}
 use Rattle.delivery_machine.specs.Words.{changed, is_named, is_member, is_producer, is_dead, is_live, is_waiting, waits_with_hash, hash_of, visible, active_at, ChoosesBy}
 use Rattle.delivery_machine.specs.Refusals.{is_duplicate}
-use Rattle.delivery_machine.specs.Producing.{storing, with_message, message_of}
+use Rattle.delivery_machine.specs.Producing.{storing, storing_below, with_message, message_of}
 use Rattle.delivery_machine.specs.Joining.{releasing_all, all_released, is_taken_over, taken_over, joining, joined, leaving, without_member, placed, new_subscription, with_member}
 use Rattle.delivery_machine.specs.Acknowledging.{acknowledging, Acks, positions_up_to}
 use Rattle.delivery_machine.specs.Delivering.{holding, Dispatches}
@@ -24,7 +24,7 @@ use Rattle.delivery_machine.specs.Run.{Run, Answers, Takes}
 use Rattle.delivery_machine.specs.Laws.{is_reset, is_sent_at, some_answer}
 use Rattle.delivery_machine.specs.declared.event.Initial.{Initial}
 use Rattle.delivery_machine.specs.declared.event.Event.{Event}
-use Rattle.delivery_machine.specs.declared.event.Event.TheVariants.{AddProducer, DropProducer, Publish, Stored, Progress, Subscribe, Leave, Permit, Ack, AckUpTo, Nack, Tick, Seek, SeekTime, Skip, DropSubscription, Stats, Dispatch, Collect, DeadNext, DeadDone}
+use Rattle.delivery_machine.specs.declared.event.Event.TheVariants.{AddProducer, DropProducer, Publish, Stored, StoredTo, Progress, Subscribe, Leave, Permit, Ack, AckUpTo, Nack, Tick, Seek, SeekTime, Skip, DropSubscription, Stats, Dispatch, Collect, DeadNext, DeadDone}
 use Rattle.delivery_machine.specs.declared.reply.Reply.{Reply}
 use Rattle.delivery_machine.specs.declared.reply.Reply.TheVariants.{Sent, Idle, Quiet, Rewound, Released, Died}
 use Rattle.delivery_machine.proofs.RunSteps.{split}
@@ -132,6 +132,8 @@ module _ (name : List ℕ) (position : Position) where
       some_elim (find (is_producer producer) s.producers) _ (stands_at t) h (λ p found h. publish_stands s (message_of s p sequence body now) t (is_duplicate s p sequence) h.1 there)
   takes_stands s Stored reply t h r there =
       settled t _ h.1 (still_mapped (is_named name) has storing (λ _. refl) (λ _. refl) s.subscriptions ∙ there)
+  takes_stands s (StoredTo count ordinal) reply t h r there =
+      settled t _ h.1 (still_mapped (is_named name) has (storing_below ordinal) (λ _. refl) (λ _. refl) s.subscriptions ∙ there)
   takes_stands s Progress reply t h r there = settled t s h.1 there
   takes_stands s (Subscribe n kind level flow ack_timeout nack_delay max_redeliver dead_topic initial) reply t h r there =
       settled t _ h.1 (stands_taken_over n (active_at s n) (with_member s kind initial _) (stands_joined s n kind s.next_consumer initial there))

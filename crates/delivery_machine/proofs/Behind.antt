@@ -68,7 +68,7 @@ module _ {A : Type 0} (P : A → Type 0) where
       by false h rest = rest h
 
   -- none passes
-  each_unfound : (q : A → Bool) (xs : List A) → find q xs ≡ None → ((x : A) → q x ≡ false → P x) → AllByRecursion P xs
+  pub each_unfound : (q : A → Bool) (xs : List A) → find q xs ≡ None → ((x : A) → q x ≡ false → P x) → AllByRecursion P xs
   each_unfound q [] h fails = tt
   each_unfound q (x ∷ xs) h fails = by (q x) refl h (λ h. each_unfound q xs h fails)
     where

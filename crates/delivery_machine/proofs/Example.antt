@@ -1,10 +1,11 @@
 -- A run of one message: it is published and stored, a consumer joins, and it is sent to that consumer.
-use Rattle.std.proofs.Common.{◌≡◌, ℕ, List, [], ◌∷◌, Some, None, Option, refl, ap, sym, pos, Bool, true, false, arith, ◌∙◌, ap₂}
+use Rattle.std.proofs.Common.{◌≡◌, ℕ, List, [], ◌∷◌, Some, None, Option, refl, ap, sym, pos, Bool, true, false, arith, ◌∙◌, ap₂, subst, ◌≤◌, Contains}
 use Rattle.std.specs.Prelude.{codes, is_some, not, cond, ◌==◌, ◌+◌, ◌&&◌, ◌||◌}
 use Rattle.std.specs.List.{find}
 use Rattle.std.specs.Option.{option_map, option_and_then, unwrap_or}
 use Rattle.std.specs.FinMap as map_of
 use Rattle.std.specs.FinSet as set
+use Rattle.std.proofs.lemmas.List.Elements.{All-nil, All-cons, All-same}
 use Rattle.std.proofs.lemmas.Bool.Decides.{nat_tests}
 use Rattle.position_core.specs.declared.block.Block.{Block}
 use Rattle.position_core.specs.declared.position.Position.{Position}
@@ -20,7 +21,7 @@ use Rattle.position_core.specs.Flow.{begun, flow_has_room}
 use Rattle.murmur_core.proofs.Keys.{sticky_hash-lt}
 use Rattle.delivery_machine.specs.State.{State, Subscription, Member, fresh}
 use Rattle.delivery_machine.specs.Shares.{has_hash, all_hashes}
-use Rattle.delivery_machine.specs.Words.{hash_of, count_of, is_at, is_member, is_held_by, is_held_beside, waits_with_hash, is_waiting, owner_at, has_room, IsEligible}
+use Rattle.delivery_machine.specs.Words.{with_room, hash_of, count_of, is_at, is_member, is_held_by, is_held_beside, waits_with_hash, is_waiting, owner_at, has_room, IsEligible}
 use Rattle.delivery_machine.specs.Producing.{with_producer, with_message}
 use Rattle.delivery_machine.specs.Joining.{with_member, new_subscription}
 use Rattle.delivery_machine.specs.Delivering.{sent}
@@ -122,6 +123,21 @@ module _ (name : TopicName) (body : Content) where
     ),
   )
 
+  -- it is the only member, and has room
+  alone : (flow : Flow) → flow_has_room flow 0 ≡ true → with_room (joined Shared flow) (subscription Shared) ≡ member flow ∷ []
+  alone flow free = ap (λ b. cond b (member flow ∷ []) []) (room Shared flow free)
+
+  at_best_level : (flow : Flow) → flow_has_room flow 0 ≡ true → IsEligible (joined Shared flow) (subscription Shared) message (member flow)
+  at_best_level flow free = (
+    room Shared flow free,
+    (
+      ap (λ b. cond b (Some message) None) waits,
+      subst (λ (ms : List Member). Contains ms (member flow)) (sym (alone flow free)) (0, omega arith, refl),
+      All-same (λ other. (member flow).level ≤ other.level) (with_room (joined Shared flow) (subscription Shared)) (member flow ∷ []) (alone flow free)
+          (All-cons (λ other. (member flow).level ≤ other.level) (member flow) [] (omega arith) (All-nil (λ other. (member flow).level ≤ other.level))),
+    ),
+  )
+
   -- ---- the run
 
   pub sends_in_order : (flow : Flow) → flow_has_room flow 0 ≡ true → Answers (joined Exclusive flow) dispatch to_one (done Exclusive flow)
@@ -129,6 +145,9 @@ module _ (name : TopicName) (body : Content) where
 
   pub sends_by_hash : (flow : Flow) → flow_has_room flow 0 ≡ true → Answers (joined KeyShared flow) dispatch to_one (done KeyShared flow)
   sends_by_hash flow free = (refl, (message, member flow, by_hash flow free, refl, refl, uncounted, refl))
+
+  pub sends_at_best_level : (flow : Flow) → flow_has_room flow 0 ≡ true → Answers (joined Shared flow) dispatch to_one (done Shared flow)
+  sends_at_best_level flow free = (refl, (message, member flow, at_best_level flow free, refl, refl, uncounted, refl))
 
   -- the consumer joins, and then come the events
   abbrev pub joins : Kind → Flow → List Event → List Event

@@ -54,3 +54,12 @@ module _ {A : Type 0} (p : A → Bool) where
       by : (b : Bool) → cond b (Some x) (find p (xs ++ y ∷ [])) ≡ Some z → (find p (xs ++ y ∷ []) ≡ Some z → (find p xs ≡ Some z) ⊎ ((z ≡ y) × (p y ≡ true))) → (cond b (Some x) (find p xs) ≡ Some z) ⊎ ((z ≡ y) × (p y ≡ true))
       by true h rest = inl h
       by false h rest = rest h
+
+-- the first that passes is found changed
+pub found_itself_changed : {A : Type 0} (p : A → Bool) (f : A → A) → ((x : A) → p (f x) ≡ p x) → (xs : List A) (x : A) → find p xs ≡ Some x → find p (changed p f xs) ≡ Some (f x)
+found_itself_changed p f same [] x found = cc
+found_itself_changed {A} p f same (y ∷ ys) x found = by (p y) refl found (found_itself_changed p f same ys x)
+  where
+    by : (b : Bool) → p y ≡ b → cond b (Some y) (find p ys) ≡ Some x → (find p ys ≡ Some x → find p (changed p f ys) ≡ Some (f x)) → find p (cond b (f y ∷ ys) (y ∷ changed p f ys)) ≡ Some (f x)
+    by true t found rest = ap (λ b. cond b (Some (f y)) (find p ys)) (same y ∙ t) ∙ (let is : y ≡ x = cc in ap (λ z. Some (f z)) is)
+    by false e found rest = ap (λ b. cond b (Some y) (find p (changed p f ys))) e ∙ rest found

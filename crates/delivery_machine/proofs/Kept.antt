@@ -18,7 +18,7 @@ use Rattle.delivery_machine.specs.State.{State, Member, Subscription}
 use Rattle.delivery_machine.specs.State as state
 use Rattle.delivery_machine.specs.Words.{changed, removed, is_named, is_at, is_member, is_held_by, is_held_at, members_of, has_kind, next_position, emptied, emptied_at, count_of, IsEligible}
 use Rattle.delivery_machine.specs.Refusals.{is_full, subscribing_refused, nacking_refused}
-use Rattle.delivery_machine.specs.Producing.{with_message, storing, stored}
+use Rattle.delivery_machine.specs.Producing.{with_message, storing, stored, storing_below, stored_to}
 use Rattle.delivery_machine.specs.Joining.{releasing_all, all_released, is_taken_over, taken_over, joining, new_subscription, placed, with_member, leaving, without_member}
 use Rattle.delivery_machine.specs.Acknowledging.{acknowledging, acknowledged, forgetting, without, is_one_of}
 use Rattle.delivery_machine.specs.Delivering.{holding, given, sent, due_after}
@@ -42,6 +42,10 @@ pub record IsKept (s : State) : Type 0 where
 pub not_refused : (b : Bool) (fault : Fault) (rest : Option Fault) → (if b then Some fault else rest) ≡ None → b ≡ false
 not_refused true fault rest e = cc
 not_refused false fault rest e = refl
+
+pub not_refused_next : (b : Bool) (fault : Fault) (rest : Option Fault) → (if b then Some fault else rest) ≡ None → rest ≡ None
+not_refused_next true fault rest e = cc
+not_refused_next false fault rest e = e
 
 -- ---- the log
 
@@ -104,6 +108,12 @@ pub kept_stored : (s : State) → IsKept s → IsKept (stored s)
 kept_stored s kept = record {
   rising = kept.rising;
   tended = tended_mapped s.log s.members storing s.subscriptions (λ _. refl) (λ _. refl) (λ _. refl) kept.tended;
+}
+
+pub kept_stored_to : (s : State) (count ordinal : ℕ) → IsKept s → IsKept (stored_to s count ordinal)
+kept_stored_to s count ordinal kept = record {
+  rising = kept.rising;
+  tended = tended_mapped s.log s.members (storing_below ordinal) s.subscriptions (λ _. refl) (λ _. refl) (λ _. refl) kept.tended;
 }
 
 pub kept_all_released : (s : State) (name : List ℕ) → IsKept s → IsKept (all_released name s)

@@ -16,7 +16,7 @@ use Rattle.position_core.specs.Flow.{begun}
 use Rattle.delivery_machine.specs.State.{State, Subscription, Member}
 use Rattle.delivery_machine.specs.Words.{changed, is_named, is_member, is_at, is_producer, is_held_by, emptied, emptied_at, active_at, next_position, count_of}
 use Rattle.delivery_machine.specs.Refusals.{refusal_of, nacking_refused, is_duplicate}
-use Rattle.delivery_machine.specs.Producing.{storing, with_message, message_of}
+use Rattle.delivery_machine.specs.Producing.{storing, storing_below, with_message, message_of}
 use Rattle.delivery_machine.specs.Joining.{releasing_all, all_released, is_taken_over, taken_over, joining, joined, leaving, permitted, without_member, placed, new_subscription, with_member}
 use Rattle.delivery_machine.specs.Acknowledging.{acknowledging, forgetting, is_one_of, without, Acks, positions_up_to}
 use Rattle.delivery_machine.specs.Delivering.{holding, given, due_after, Dispatches}
@@ -27,7 +27,7 @@ use Rattle.delivery_machine.specs.Run.{Answers, Takes}
 use Rattle.delivery_machine.specs.Laws.{permitted_to, joins_to_pull}
 use Rattle.delivery_machine.specs.declared.event.Initial.{Initial}
 use Rattle.delivery_machine.specs.declared.event.Event.{Event}
-use Rattle.delivery_machine.specs.declared.event.Event.TheVariants.{AddProducer, DropProducer, Publish, Stored, Progress, Subscribe, Leave, Permit, Ack, AckUpTo, Nack, Tick, Seek, SeekTime, Skip, DropSubscription, Stats, Dispatch, Collect, DeadNext, DeadDone}
+use Rattle.delivery_machine.specs.declared.event.Event.TheVariants.{AddProducer, DropProducer, Publish, Stored, StoredTo, Progress, Subscribe, Leave, Permit, Ack, AckUpTo, Nack, Tick, Seek, SeekTime, Skip, DropSubscription, Stats, Dispatch, Collect, DeadNext, DeadDone}
 use Rattle.delivery_machine.specs.declared.reply.Reply.{Reply}
 use Rattle.delivery_machine.specs.declared.reply.Reply.TheVariants.{Sent, Idle, Quiet, Rewound, Released, Died, Subscribed, Refused}
 use Rattle.delivery_machine.proofs.Firsts.{some_elim}
@@ -227,6 +227,8 @@ takes_moves s (Publish producer sequence body now) reply t allowed h kept =
     publish_moves s (Publish producer sequence body now) reply (message_of s p sequence body now) t (is_duplicate s p sequence) (λ _. refl) (λ _. (refl, refl)) refl h.1)
 takes_moves s Stored reply t allowed h kept =
     stays_as s Stored reply (λ _. refl) (λ _. (refl, refl)) t _ h.1 refl refl refl (shrinks_mapped storing s.subscriptions (λ _. refl) (λ _. refl))
+takes_moves s (StoredTo count ordinal) reply t allowed h kept =
+    stays_as s (StoredTo count ordinal) reply (λ _. refl) (λ _. (refl, refl)) t _ h.1 refl refl refl (shrinks_mapped (storing_below ordinal) s.subscriptions (λ _. refl) (λ _. refl))
 takes_moves s Progress reply t allowed h kept = unmoved s Progress reply (λ _. refl) (λ _. (refl, refl)) t h.1
 takes_moves s (Subscribe n kind level flow ack_timeout nack_delay max_redeliver dead_topic initial) reply t allowed h kept =
     joins_moves s (Subscribe n kind level flow ack_timeout nack_delay max_redeliver dead_topic initial) reply t kind initial _ flow (active_at s n) refl refl (λ _. refl)

@@ -89,11 +89,11 @@ taken_nothing old new name kind live held part = record {
   part = part;
 }
 
-pub held_retained : (pending : map_of.FinMap position_cmp Held) (keeps : Position → Bool) (p : Position) → map_of.contains_key (map_of.retain_keys pending keeps) p ≡ (map_of.contains_key pending p && keeps p)
-held_retained pending keeps p =
-    ap is_some (map_of.get-retain_keys pending keeps p (λ x t. ap keeps (sym (exact_positions p x t)))) ∙ by (keeps p) (map_of.get pending p)
+pub held_retained : {X : Type 0} (kept : map_of.FinMap position_cmp X) (keeps : Position → Bool) (p : Position) → map_of.contains_key (map_of.retain_keys kept keeps) p ≡ (map_of.contains_key kept p && keeps p)
+held_retained {X} kept keeps p =
+    ap is_some (map_of.get-retain_keys kept keeps p (λ x t. ap keeps (sym (exact_positions p x t)))) ∙ by (keeps p) (map_of.get kept p)
   where
-    by : (b : Bool) (o : Option Held) → is_some (cond b o None) ≡ (is_some o && b)
+    by : (b : Bool) (o : Option X) → is_some (cond b o None) ≡ (is_some o && b)
     by true None = refl
     by true (Some h) = refl
     by false None = refl

@@ -1,6 +1,6 @@
 -- Every reached state keeps the order, and whatever is sent is the next in it.
 use Rattle.std.proofs.Common.{◌≡◌, ℕ, ◌+◌, ◌≤◌, List, [], ◌∷◌, ◌++◌, map, length, suc, take, Some, None, Option, Bool, true, false, cond, refl, ap, ◌∙◌, sym, subst, ap₂, arith, inl, inr, true≢false}
-use Rattle.std.specs.Prelude.{not, ◌||◌, is_some, nat_lt, IsSomeAnd, if◌then◌else◌}
+use Rattle.std.specs.Prelude.{not, ◌||◌, is_some, nat_lt, min, max, IsSomeAnd, if◌then◌else◌}
 use Rattle.std.specs.List.{AllByRecursion, list_any, filter, find}
 use Rattle.std.specs.List.Sorted.{IsStrictlySortedBy}
 use Rattle.std.specs.Cmp.{Equal-is, tied_itself}
@@ -21,7 +21,7 @@ use Rattle.delivery_machine.specs.State.{State, Subscription, Member, fresh}
 use Rattle.delivery_machine.specs.State as state
 use Rattle.delivery_machine.specs.Words.{changed, removed, is_named, is_at, is_member, is_producer, is_held_by, is_held_at, is_live, has_position, active_at, emptied, emptied_at, next_position, visible, first_waiting, count_of, ChoosesBy, IsEligible, IsNextInOrder}
 use Rattle.delivery_machine.specs.Refusals.{refusal_of, nacking_refused, dropping_refused, is_duplicate}
-use Rattle.delivery_machine.specs.Producing.{with_message, message_of, storing, stored}
+use Rattle.delivery_machine.specs.Producing.{with_message, message_of, storing, storing_below}
 use Rattle.delivery_machine.specs.Joining.{permitted, without_member, taken_over, all_released, is_taken_over}
 use Rattle.delivery_machine.specs.Acknowledging.{Acks, acknowledging, acknowledged, forgetting, without, positions_up_to}
 use Rattle.delivery_machine.specs.Delivering.{Dispatches, holding, given, sent, due_after}
@@ -32,7 +32,7 @@ use Rattle.delivery_machine.specs.Run.{Run, Answers, Takes}
 use Rattle.delivery_machine.specs.Snapshot.{Snapshot, restarted}
 use Rattle.delivery_machine.specs.Laws.{IsBeginning, IsInOrderAtActive, SendsNextLive}
 use Rattle.delivery_machine.specs.declared.event.Event.{Event}
-use Rattle.delivery_machine.specs.declared.event.Event.TheVariants.{AddProducer, DropProducer, Publish, Stored, Progress, Subscribe, Leave, Permit, Ack, AckUpTo, Nack, Tick, Seek, SeekTime, Skip, DropSubscription, Stats, Dispatch, Collect, DeadNext, DeadDone}
+use Rattle.delivery_machine.specs.declared.event.Event.TheVariants.{AddProducer, DropProducer, Publish, Stored, StoredTo, Progress, Subscribe, Leave, Permit, Ack, AckUpTo, Nack, Tick, Seek, SeekTime, Skip, DropSubscription, Stats, Dispatch, Collect, DeadNext, DeadDone}
 use Rattle.delivery_machine.specs.declared.reply.Reply.{Reply}
 use Rattle.delivery_machine.specs.declared.reply.Reply.TheVariants.{Sent, Idle, Quiet, Rewound, Released, Died}
 use Rattle.delivery_machine.proofs.RunSteps.{split, Run-keeps}
@@ -47,7 +47,7 @@ use Rattle.delivery_machine.proofs.EachFirst.{EachFirst, each_kept, each_changed
 use Rattle.delivery_machine.proofs.Ordered.{ordered_push, ordered_longer, held_are_first, PassOnce, ordered_next, IsOrderedWith}
 use Rattle.delivery_machine.proofs.Ranks.{rank_of, KeepsRanks, ranks_changed, ranks_mapped, same_rank_if, same_active, same_seats, seats_at, active_number}
 use Rattle.delivery_machine.proofs.Orderly.{is_pending_in, IsOrderly, IsOrderlyIn, IsTakenFrom, taken_nothing, orderly_idle, orderly_taken}
-use Rattle.delivery_machine.proofs.Taking.{taken_acknowledged, taken_moved, taken_held_again, pending_listed, idle_redelivered}
+use Rattle.delivery_machine.proofs.Taking.{taken_acknowledged, taken_moved, taken_stored, taken_stored_to, taken_held_again, pending_listed, idle_redelivered}
 use Rattle.delivery_machine.proofs.Ordering.{IsOrderlyBut, each_taken_over, each_joined, each_left, emptied_ranks}
 use Rattle.delivery_machine.proofs.Deciding.{holds_unless_refused, none_below}
 
@@ -139,15 +139,20 @@ order_died s n sub position m found other all = record {
       (forgetting_ranks n (position ∷ []) s.members) all;
 }
 
-order_stored : (s : State) → AllOrderly s → AllOrderly (stored s)
-order_stored s all = record {
-  durable = omega arith;
-  each = each_mapped (IsOrderlyIn s.log s.durable s.members) (IsOrderlyIn s.log (length s.log) s.members) storing s.subscriptions (λ _. refl)
-      (λ sub was order.
-      let one = was order in
-      record { leads = ordered_longer (is_live sub) (is_pending_in sub) s.durable (length s.log) s.log all.durable one.leads; at_active = one.at_active; alone = one.alone })
+-- more is stored
+order_stored : (s : State) (storing : Subscription → Subscription) (durable : ℕ) → ((sub : Subscription) → IsTakenFrom sub (storing sub)) → ((sub : Subscription) → (storing sub).name ≡ sub.name)
+    → s.durable ≤ durable → durable ≤ length s.log → AllOrderly s → AllOrderly (record s { durable = durable; subscriptions = map storing s.subscriptions })
+order_stored s storing durable takes same more within all = record {
+  durable = within;
+  each = each_mapped (IsOrderlyIn s.log s.durable s.members) (IsOrderlyIn s.log durable s.members) storing s.subscriptions same
+      (λ sub was. orderly_taken s.log durable s.members s.members sub (storing sub) (takes sub) refl (longer sub was))
       all.each;
 }
+  where
+    longer : (sub : Subscription) → IsOrderlyIn s.log s.durable s.members sub → IsOrderlyIn s.log durable s.members sub
+    longer sub was order =
+        let one = was order in
+        record { leads = ordered_longer (is_live sub) (is_pending_in sub) s.durable durable s.log more one.leads; at_active = one.at_active; alone = one.alone }
 
 order_published : (s : State) (e : Entry) → e.position ≡ next_position s → IsKept s → AllOrderly s → AllOrderly (with_message s e)
 order_published s e is kept all = record {
@@ -283,7 +288,7 @@ dispatch_orders s name now sub Idle t found h kept all = settled t s h.1 all
 dispatch_orders s name now sub reply t found h kept all = absurd h
 
 -- a subscription that may be dropped has no members
-nobody_there : (s : State) (name : List ℕ) (o : Option Subscription) → dropping_refused s name o ≡ None → seats_at s.members name ≡ 0
+pub nobody_there : (s : State) (name : List ℕ) (o : Option Subscription) → dropping_refused s name o ≡ None → seats_at s.members name ≡ 0
 nobody_there s name None allowed = cc
 nobody_there s name (Some sub) allowed = none_below (seats_at s.members name) (first (nat_lt 0 (seats_at s.members name)) (nat_lt 0 (length sub.dead)) allowed)
   where
@@ -320,7 +325,11 @@ takes_order s (DropProducer producer) reply t allowed h kept all = settled t _ h
 takes_order s (Publish producer sequence body now) reply t allowed h kept all =
     some_elim (find (is_producer producer) s.producers) _ (AllOrderly t) h (λ p found h.
     publish_orders s (message_of s p sequence body now) t (is_duplicate s p sequence) refl h.1 kept all)
-takes_order s Stored reply t allowed h kept all = settled t _ h.1 (order_stored s all)
+takes_order s Stored reply t allowed h kept all =
+    settled t _ h.1 (order_stored s storing (length s.log) taken_stored (λ _. refl) all.durable (omega arith) all)
+takes_order s (StoredTo count ordinal) reply t allowed h kept all =
+    let below = all.durable in
+    settled t _ h.1 (order_stored s (storing_below ordinal) (max s.durable (min count (length s.log))) (taken_stored_to ordinal) (λ _. refl) (omega arith) (omega arith) all)
 takes_order s Progress reply t allowed h kept all = settled t s h.1 all
 takes_order s (Subscribe name kind level flow ack_timeout nack_delay max_redeliver dead_topic initial) reply t allowed h kept all =
     settled t _ h.1 (order_over _ name (active_at s name) all.durable (each_joined s kind initial _ allowed kept all.each))
@@ -373,10 +382,14 @@ pub record IsKeptInOrder (s : State) : Type 0 where
   pub kept : IsKept s
   pub all : AllOrderly s
 
+pub step_in_order : (s : State) (event : Event) (reply : Reply) (t : State) → Answers s event reply t → IsKeptInOrder s → IsKeptInOrder t
+step_in_order s event reply t step both = record { kept = step_keeps s event reply t step both.kept; all = step_orders s event reply t step both.kept both.all }
+
+pub beginning_in_order : (s : State) → IsBeginning s → IsKeptInOrder s
+beginning_in_order s begins = record { kept = beginning_kept s begins; all = beginning_ordered s begins (beginning_kept s begins) }
+
 pub reached_ordered : (s : State) (events : List Event) (replies : List Reply) (t : State) → IsBeginning s → Run s events replies t → IsKeptInOrder t
-reached_ordered s events replies t begins run =
-    Run-keeps IsKeptInOrder (λ s event reply t step both. record { kept = step_keeps s event reply t step both.kept; all = step_orders s event reply t step both.kept both.all }) s events replies t run
-    (record { kept = beginning_kept s begins; all = beginning_ordered s begins (beginning_kept s begins) })
+reached_ordered s events replies t begins run = Run-keeps IsKeptInOrder step_in_order s events replies t run (beginning_in_order s begins)
 
 -- ---- what a reader sees
 

@@ -19,19 +19,20 @@ use Rattle.delivery_machine.specs.Ticking.{Ticks, pending_positions}
 use Rattle.delivery_machine.specs.Seeking.{length_before, length_before_time, first_live}
 use Rattle.delivery_machine.specs.Dying.{dying_at, first_safe}
 use Rattle.delivery_machine.specs.Run.{Run, Answers, Takes}
-use Rattle.delivery_machine.specs.Snapshot.{Snapshot, Place, snapshot_of, restarted, subscription_from}
-use Rattle.delivery_machine.specs.Laws.{IsSound, IsBeginning}
+use Rattle.delivery_machine.specs.Snapshot.{Snapshot, Place, restarted, subscription_from}
+use Rattle.delivery_machine.specs.WellFormed.{IsSound}
+use Rattle.delivery_machine.specs.Laws.{IsBeginning}
 use Rattle.delivery_machine.specs.declared.event.Event.{Event}
-use Rattle.delivery_machine.specs.declared.event.Event.TheVariants.{AddProducer, DropProducer, Publish, Stored, Progress, Subscribe, Leave, Permit, Ack, AckUpTo, Nack, Tick, Seek, SeekTime, Skip, DropSubscription, Stats, Dispatch, Collect, DeadNext, DeadDone}
+use Rattle.delivery_machine.specs.declared.event.Event.TheVariants.{AddProducer, DropProducer, Publish, Stored, StoredTo, Progress, Subscribe, Leave, Permit, Ack, AckUpTo, Nack, Tick, Seek, SeekTime, Skip, DropSubscription, Stats, Dispatch, Collect, DeadNext, DeadDone}
 use Rattle.delivery_machine.specs.declared.reply.Reply.{Reply}
 use Rattle.delivery_machine.specs.declared.reply.Reply.TheVariants.{Sent, Idle, Quiet, Rewound, Released, Died}
 use Rattle.delivery_machine.proofs.RunSteps.{split, Run-keeps}
 use Rattle.delivery_machine.proofs.Firsts.{some_elim}
-use Rattle.delivery_machine.proofs.Rising.{rising_fresh, rising_restarted, sound_snapshot}
+use Rattle.delivery_machine.proofs.Rising.{rising_fresh, rising_restarted}
 use Rattle.delivery_machine.proofs.Behind.{IsIdle, IsBehindIdle, AllBehindIdle}
 use Rattle.delivery_machine.proofs.Tended.{tended_empty}
 use Rattle.delivery_machine.proofs.Tending.{none_pending}
-use Rattle.delivery_machine.proofs.Kept.{IsKept, not_refused, kept_message, kept_acknowledged, kept_redelivered, kept_taken_over, kept_nacked, kept_members, kept_joined, kept_left, kept_sent, kept_died, kept_moved, kept_sought, kept_stored, kept_dropped}
+use Rattle.delivery_machine.proofs.Kept.{IsKept, not_refused, kept_message, kept_acknowledged, kept_redelivered, kept_taken_over, kept_nacked, kept_members, kept_joined, kept_left, kept_sent, kept_died, kept_moved, kept_sought, kept_stored, kept_stored_to, kept_dropped}
 
 -- the new state is known
 settled : (t u : State) → t ≡ u → IsKept u → IsKept t
@@ -67,6 +68,7 @@ takes_keeps s (Publish producer sequence body now) reply t allowed h kept =
     publish_keeps s (message_of s p sequence body now) t (is_duplicate s p sequence)
     (sym (ap (publishing_refused s sequence) found) ∙ allowed) refl h.1 kept)
 takes_keeps s Stored reply t allowed h kept = settled t _ h.1 (kept_stored s kept)
+takes_keeps s (StoredTo count ordinal) reply t allowed h kept = settled t _ h.1 (kept_stored_to s count ordinal kept)
 takes_keeps s Progress reply t allowed h kept = settled t s h.1 kept
 takes_keeps s (Subscribe name kind level flow ack_timeout nack_delay max_redeliver dead_topic initial) reply t allowed h kept =
     settled t _ h.1 (kept_taken_over _ name (active_at s name) (kept_joined s kind initial _ allowed kept))
@@ -142,7 +144,3 @@ reached_kept s events replies t begins run = Run-keeps IsKept step_keeps s event
 -- positions rise in every reached state
 pub rises : (s : State) (events : List Event) (replies : List Reply) (t : State) → IsBeginning s → Run s events replies t → IsStrictlySortedBy position_cmp (map (λ e. e.position) t.log)
 rises s events replies t begins run = (reached_kept s events replies t begins run).rising.sorted
-
--- a snapshot of every reached state is sound, so that a run may begin from it
-pub reached_sound : (s : State) (events : List Event) (replies : List Reply) (t : State) → IsBeginning s → Run s events replies t → IsSound (snapshot_of t)
-reached_sound s events replies t begins run = sound_snapshot t (reached_kept s events replies t begins run).rising

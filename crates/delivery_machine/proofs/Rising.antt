@@ -14,8 +14,8 @@ use Rattle.position_core.specs.declared.message.Entry.{Entry}
 use Rattle.position_core.specs.Position.{position_cmp, positions_total}
 use Rattle.delivery_machine.specs.State.{State}
 use Rattle.delivery_machine.specs.Words.{next_position}
-use Rattle.delivery_machine.specs.Snapshot.{Snapshot, snapshot_of}
-use Rattle.delivery_machine.specs.Laws.{IsSound}
+use Rattle.delivery_machine.specs.Snapshot.{Snapshot}
+use Rattle.delivery_machine.specs.WellFormed.{IsSound}
 use Rattle.delivery_machine.proofs.Deciding.{within}
 
 -- ---- keys that rise
@@ -29,7 +29,7 @@ sorted_push {A} c f (x ∷ xs) y rising below = (above xs rising.0, sorted_push 
     above [] h = (below.0, tt)
     above (z ∷ zs) h = (h.0, above zs h.1)
 
-keys_above : {A K : Type 0} (c : K → K → Ordering) (f : A → K) (k : K) (xs : List A) (x : A) → AllByRecursion (λ q. c k q ≡ Less) (map f xs) → Contains xs x → c k (f x) ≡ Less
+pub keys_above : {A K : Type 0} (c : K → K → Ordering) (f : A → K) (k : K) (xs : List A) (x : A) → AllByRecursion (λ q. c k q ≡ Less) (map f xs) → Contains xs x → c k (f x) ≡ Less
 keys_above {A} c f k xs x above at = All-contains (λ y. c k (f y) ≡ Less) xs x (All-from_recursion (λ y. c k (f y) ≡ Less) xs (of_keys xs above)) at
   where
     of_keys : (ys : List A) → AllByRecursion (λ q. c k q ≡ Less) (map f ys) → AllByRecursion (λ y. c k (f y) ≡ Less) ys
@@ -68,7 +68,7 @@ pub record IsRising (log : List Entry) (ledger : ℕ) : Type 0 where
   pub below : All (λ e. is_below ledger (used_in ledger log) e.position ≡ true) log
   pub bounded : All (λ e. e.position.ledger ≤ 2 ^ 62) log
 
-abbrev next_of : ℕ → ℕ → ℕ → Position
+abbrev pub next_of : ℕ → ℕ → ℕ → Position
 next_of ledger used size = cond (nat_lt used size) (record { ledger = ledger; entry = used }) (record { ledger = ledger + 1; entry = 0 })
 
 pub before_next : (ledger used size : ℕ) (p : Position) → is_below ledger used p ≡ true → position_cmp p (next_of ledger used size) ≡ Less
@@ -164,20 +164,11 @@ below_restarted ledger kept used p low is =
 
 pub rising_restarted : (kept : Snapshot) → IsSound kept → IsRising kept.log (min (kept.ledger + 1) (2 ^ 62 + 1))
 rising_restarted kept sound = record {
-  sorted = sound.rising;
+  sorted = sound.log.positions;
   below = All-weaker (λ e. (e.position.ledger ≤ kept.ledger) × (e.position.ledger ≤ 2 ^ 62)) (λ e. is_below (min (kept.ledger + 1) (2 ^ 62 + 1)) (used_in (min (kept.ledger + 1) (2 ^ 62 + 1)) kept.log) e.position ≡ true)
-      (λ e low. below_restarted _ kept.ledger _ e.position low refl) kept.log sound.ledgers;
-  bounded = All-weaker (λ e. (e.position.ledger ≤ kept.ledger) × (e.position.ledger ≤ 2 ^ 62)) (λ e. e.position.ledger ≤ 2 ^ 62) (λ e low. low.1) kept.log sound.ledgers;
+      (λ e low. below_restarted _ kept.ledger _ e.position low refl) kept.log sound.log.ledgers;
+  bounded = All-weaker (λ e. (e.position.ledger ≤ kept.ledger) × (e.position.ledger ≤ 2 ^ 62)) (λ e. e.position.ledger ≤ 2 ^ 62) (λ e low. low.1) kept.log sound.log.ledgers;
 }
 
--- ---- what a snapshot keeps
-
-ledgers_below : (ledger used : ℕ) (p : Position) → is_below ledger used p ≡ true → p.ledger ≤ ledger
+pub ledgers_below : (ledger used : ℕ) (p : Position) → is_below ledger used p ≡ true → p.ledger ≤ ledger
 ledgers_below ledger used p low = grind (arith, nat_tests)
-
--- a snapshot of such a log is sound
-pub sound_snapshot : (s : State) → IsRising s.log s.ledger → IsSound (snapshot_of s)
-sound_snapshot s rising = record {
-  rising = rising.sorted;
-  ledgers = λ k d low. (ledgers_below s.ledger (used_in s.ledger s.log) (get_or s.log k d).position (rising.below k d low), rising.bounded k d low);
-}

@@ -1,5 +1,5 @@
 -- What each rule takes from a subscription in which the order is kept.
-use Rattle.std.proofs.Common.{◌≡◌, ℕ, ◌<◌, List, [], ◌∷◌, map, get_or, length, zero, suc, Some, None, Option, Bool, true, false, cond, refl, ap, ◌∙◌, sym, subst, arith, true≢false}
+use Rattle.std.proofs.Common.{◌≡◌, ℕ, ◌<◌, List, [], ◌∷◌, map, get_or, length, zero, suc, Some, None, Option, Bool, true, false, cond, refl, ap, ◌∙◌, sym, arith, true≢false}
 use Rattle.std.specs.Prelude.{not, ◌&&◌, ◌||◌, is_some, nat_lt, drop, slice_get}
 use Rattle.std.specs.List.{list_any, filter, Contains}
 use Rattle.std.specs.Cmp.{Equal-is, tied_itself}
@@ -14,7 +14,7 @@ use Rattle.delivery_machine.specs.State.{State, Subscription, Member}
 use Rattle.delivery_machine.specs.State as state
 use Rattle.delivery_machine.specs.Words.{is_live, is_held_by, has_position}
 use Rattle.delivery_machine.specs.Acknowledging.{acknowledging, is_one_of}
-use Rattle.delivery_machine.specs.Producing.{storing}
+use Rattle.delivery_machine.specs.Producing.{storing, storing_below}
 use Rattle.delivery_machine.specs.Joining.{joining}
 use Rattle.delivery_machine.specs.Delivering.{holding}
 use Rattle.delivery_machine.specs.Ticking.{redelivering, pending_positions}
@@ -22,6 +22,7 @@ use Rattle.delivery_machine.specs.Dying.{moving, first_safe}
 use Rattle.delivery_machine.proofs.Behind.{IsIdle}
 use Rattle.delivery_machine.proofs.Tended.{same_place}
 use Rattle.delivery_machine.proofs.Tending.{part_retained, part_held_again, got_retained}
+use Rattle.delivery_machine.proofs.Messages.{either_way}
 use Rattle.delivery_machine.proofs.Orderly.{is_pending_in, IsTakenFrom, taken_nothing, held_retained, live_acknowledged}
 
 pub taken_acknowledged : (sub : Subscription) (positions : List Position) → IsTakenFrom sub (acknowledging positions sub)
@@ -36,19 +37,7 @@ taken_acknowledged sub positions = record {
 
 -- ---- a dead letter that is moved
 
-same_either_way : (a b : Position) → same_position a b ≡ same_position b a
-same_either_way a b = by (same_position a b) refl (same_position b a) refl
-  where
-    itself : (p q : Position) → p ≡ q → same_position q p ≡ true
-    itself p q e = subst (λ (z : Position). same_position z p ≡ true) e ((Equal-is (position_cmp p p)).1 (tied_itself positions_total p))
-
-    by : (x : Bool) → same_position a b ≡ x → (y : Bool) → same_position b a ≡ y → x ≡ y
-    by true e true f = refl
-    by false e false f = refl
-    by true e false f = sym (itself a b (same_place a b e)) ∙ f
-    by false e true f = sym e ∙ itself b a (same_place b a f)
-
-first_letter : (sub : Subscription) (letter : state.Dead) → first_safe sub ≡ Some letter → (rest : List state.Dead) × (sub.dead ≡ letter ∷ rest)
+pub first_letter : (sub : Subscription) (letter : state.Dead) → first_safe sub ≡ Some letter → (rest : List state.Dead) × (sub.dead ≡ letter ∷ rest)
 first_letter sub letter is = by (nat_lt 0 sub.safe) sub.dead is refl
   where
     by : (b : Bool) (dead : List state.Dead) → cond b (slice_get dead 0) None ≡ Some letter → sub.dead ≡ dead → (rest : List state.Dead) × (sub.dead ≡ letter ∷ rest)
@@ -84,7 +73,7 @@ taken_moved sub letter is = record {
         ∙ ap (λ b. set.contains sub.acknowledged e.position || b) (set.contains-from_list positions_total (letter.position ∷ []) e.position))
         ∙ ap (λ (dead : List state.Dead). not (set.contains sub.acknowledged e.position || (same_position e.position letter.position || false)) && not (list_any (λ (d : state.Dead). same_position d.position e.position) (drop 1 dead))) (found.1)
         ∙ sym (by (set.contains sub.acknowledged e.position) (same_position e.position letter.position) (same_position letter.position e.position)
-        (list_any (λ (d : state.Dead). same_position d.position e.position) (found.0)) (same_either_way e.position letter.position))
+        (list_any (λ (d : state.Dead). same_position d.position e.position) (found.0)) (either_way e.position letter.position))
         ∙ sym (ap (λ (dead : List state.Dead). (not (set.contains sub.acknowledged e.position) && not (list_any (λ (d : state.Dead). same_position d.position e.position) dead)) && not (is_one_of (letter.position ∷ []) e.position)) (found.1))
 
 -- ---- what takes nothing
@@ -94,6 +83,9 @@ taken_joined sub consumer = taken_nothing sub (joining sub.kind consumer sub) re
 
 pub taken_stored : (sub : Subscription) → IsTakenFrom sub (storing sub)
 taken_stored sub = taken_nothing sub (storing sub) refl refl (λ e. refl) (λ e. refl) (λ p h is. (h, is, refl))
+
+pub taken_stored_to : (ordinal : ℕ) (sub : Subscription) → IsTakenFrom sub (storing_below ordinal sub)
+taken_stored_to ordinal sub = taken_nothing sub (storing_below ordinal sub) refl refl (λ e. refl) (λ e. refl) (λ p h is. (h, is, refl))
 
 -- a message that is pending at the consumer falls due at another moment
 pub taken_held_again : (sub : Subscription) (p : Position) (held : Held) → is_held_by held.consumer (map_of.get sub.pending p) ≡ true → IsTakenFrom sub (holding p held sub)

@@ -15,15 +15,17 @@ use Rattle.delivery_machine.specs.declared.reply.Reply.TheVariants.{Done, Dead, 
 -- ---- dying
 
 -- the member redelivers messages so often and no more, which the message was, and an ordinal is left
-abbrev pub is_spent_at : State → Subscription → Position → Member → Bool
-is_spent_at s sub position m =
-    nat_lt 0 m.max_redeliver && nat_le m.max_redeliver (count_of sub position) && nat_lt s.next_ordinal (2 ^ 62)
+abbrev pub is_to_die : ℕ → Subscription → Position → Member → Bool
+is_to_die ordinal sub position m = nat_lt 0 m.max_redeliver && nat_le m.max_redeliver (count_of sub position) && nat_lt ordinal (2 ^ 62)
 
 -- the member at which the message is pending, where it is not to be redelivered again
-abbrev pub dying_at : State → Subscription → Position → Option Member
-dying_at s sub position =
-    option_and_then (λ h. option_and_then (λ m. if is_spent_at s sub position m then Some m else None) (find (is_member h.consumer) s.members))
+abbrev pub dying_in : List Member → ℕ → Subscription → Position → Option Member
+dying_in members ordinal sub position =
+    option_and_then (λ h. option_and_then (λ m. if is_to_die ordinal sub position m then Some m else None) (find (is_member h.consumer) members))
     (map_of.get sub.pending position)
+
+abbrev pub dying_at : State → Subscription → Position → Option Member
+dying_at s sub position = dying_in s.members s.next_ordinal sub position
 
 -- a dead message is neither pending nor counted
 abbrev pub burying : state.Dead → Subscription → Subscription

@@ -1,7 +1,6 @@
 -- Laws over every run: what a service relies on.
-use Rattle.std.specs.Prelude.{◌≡◌, ℕ, ◌+◌, ◌^◌, ◌≤◌, ◌==◌, Bool, false, ◌&&◌, ◌||◌, List, [], ◌∷◌, ◌++◌, map, length, Some, ◌⊎◌, if◌then◌else◌, IsTrue}
-use Rattle.std.specs.List.{find, All, Contains}
-use Rattle.std.specs.List.Sorted.{IsStrictlySortedBy}
+use Rattle.std.specs.Prelude.{◌≡◌, ℕ, ◌+◌, ◌≤◌, ◌==◌, Bool, false, ◌&&◌, ◌||◌, List, [], ◌∷◌, ◌++◌, length, Some, ◌⊎◌, if◌then◌else◌, IsTrue}
+use Rattle.std.specs.List.{find, Contains}
 use Rattle.std.specs.Option.{option_map_or}
 use Rattle.std.specs.Str.{bytes_eq}
 use Rattle.std.specs.FinSet as set
@@ -12,15 +11,18 @@ use Rattle.position_core.specs.declared.message.Entry.{Entry}
 use Rattle.position_core.specs.declared.body.Content.{Content}
 use Rattle.position_core.specs.declared.held.Held.{Held}
 use Rattle.position_core.specs.declared.flow.Flow.TheVariants.{Window, Credit}
-use Rattle.position_core.specs.declared.kind.Kind.TheVariants.{KeyShared}
-use Rattle.position_core.specs.Position.{position_cmp, same_position}
+use Rattle.position_core.specs.declared.kind.Kind.TheVariants.{Shared, KeyShared}
+use Rattle.position_core.specs.Position.{same_position}
 use Rattle.position_core.specs.Kind.{is_in_order}
 use Rattle.delivery_machine.specs.State.{State, Subscription, Member, fresh}
-use Rattle.delivery_machine.specs.Words.{is_named, is_member, hash_of, waits_with_hash, visible, pending_at, active_at}
+use Rattle.delivery_machine.specs.Words.{is_named, is_member, is_held_by, hash_of, waits_with_hash, visible, pending_at, active_at}
 use Rattle.delivery_machine.specs.Acknowledging.{is_one_of}
 use Rattle.delivery_machine.specs.Seeking.{first_live}
 use Rattle.delivery_machine.specs.Ticking.{pending_positions}
-use Rattle.delivery_machine.specs.Snapshot.{Snapshot, restarted}
+use Rattle.delivery_machine.specs.Snapshot.{Snapshot, snapshot_of, restarted}
+use Rattle.delivery_machine.specs.Producing.{stored, stored_to}
+use Rattle.delivery_machine.specs.declared.delivery.Delivery.{Delivery}
+use Rattle.delivery_machine.specs.WellFormed.{IsSound, IsWellFormed}
 use Rattle.delivery_machine.specs.Run.{Answers, Run}
 use Rattle.delivery_machine.specs.declared.event.Event.{Event}
 use Rattle.delivery_machine.specs.declared.event.Event.TheVariants.{Subscribe, Permit, Seek, SeekTime, DropSubscription, Dispatch}
@@ -29,16 +31,15 @@ use Rattle.delivery_machine.specs.declared.reply.Reply.TheVariants.{Subscribed, 
 
 -- ---- where a run begins
 
--- as a topic's snapshots are: positions rise, and no message's ledger is above the topic's, nor above 2^62
-pub record IsSound (kept : Snapshot) : Type 0 where
-  pub rising : IsStrictlySortedBy position_cmp (map (λ e. e.position) kept.log)
-  pub ledgers : All (λ e. (e.position.ledger ≤ kept.ledger) × (e.position.ledger ≤ 2 ^ 62)) kept.log
-
--- a topic with nothing in it, or one that goes on from a snapshot
+-- a topic with nothing in it, or one that goes on from a sound snapshot
 abbrev pub IsBeginning : State → Type 0
 IsBeginning s =
     ((name : TopicName) × (ledger_size : ℕ) × (s ≡ fresh name ledger_size))
     ⊎ ((kept : Snapshot) × IsSound kept × (s ≡ restarted kept))
+
+-- it holds of every state that a run comes to
+abbrev pub HoldsAlways : (State → Type 0) → Type 0
+HoldsAlways P = (s : State) (events : List Event) (replies : List Reply) (t : State) → IsBeginning s → Run s events replies t → P t
 
 -- ---- what was answered in a run
 
@@ -196,3 +197,23 @@ IsPendingInKeyShared body events replies s =
     (name : List ℕ) × (sub : Subscription) × (e : Entry) × (held : Held)
     × (find (is_named name) s.subscriptions ≡ Some sub) × (sub.kind ≡ KeyShared)
     × Contains s.log e × (e.body ≡ body) × (map_of.get sub.pending e.position ≡ Some held)
+
+-- ---- well-formed states
+
+abbrev pub ReachedAreWellFormed : Type 0
+ReachedAreWellFormed = HoldsAlways IsWellFormed
+
+-- so that a run may begin from any of them
+abbrev pub SnapshotsAreSound : Type 0
+SnapshotsAreSound = HoldsAlways (λ t. IsSound (snapshot_of t))
+
+-- to store everything is to store up to the length of the log and the next ordinal
+abbrev pub StoredIsStoredTo : Type 0
+StoredIsStoredTo = HoldsAlways (λ t. stored t ≡ stored_to t (length t.log) t.next_ordinal)
+
+-- the message is pending in a Shared subscription at a consumer, and is what it has not collected
+abbrev pub IsPendingInShared : Content → List Event → List Reply → State → Type 0
+IsPendingInShared body events replies s =
+    (m : Member) × (sub : Subscription) × (d : Delivery) × Contains s.members m × (m.out ≡ d ∷ []) × (d.message.body ≡ body)
+    × (find (is_named m.subscription) s.subscriptions ≡ Some sub) × (sub.kind ≡ Shared)
+    × IsTrue (is_held_by m.number (map_of.get sub.pending d.message.position))

@@ -1,6 +1,7 @@
 pub mod State
 pub mod Codes
 pub mod Shares
+pub mod ShareSets
 pub mod Words
 pub mod Refusals
 pub mod Producing
@@ -12,4 +13,5 @@ pub mod Dying
 pub mod Ticking
 pub mod Run
 pub mod Snapshot
+pub mod WellFormed
 pub mod Laws

@@ -1,6 +1,6 @@
 -- Producers and the log: connecting, leaving, publishing, storing.
-use Rattle.std.specs.Prelude.{◌≡◌, ℕ, ◌+◌, ◌<◌, Bool, true, false, ◌||◌, List, [], ◌∷◌, ◌++◌, map, length, Option, Some, None, if◌then◌else◌, ℤ, codes}
-use Rattle.std.specs.List.{list_any}
+use Rattle.std.specs.Prelude.{◌≡◌, ℕ, ◌+◌, ◌<◌, nat_lt, min, max, Bool, true, false, ◌||◌, List, [], ◌∷◌, ◌++◌, map, length, Option, Some, None, if◌then◌else◌, ℤ, codes}
+use Rattle.std.specs.List.{count_by, list_any}
 use Rattle.std.specs.Fmt.{decimal}
 use Rattle.position_core.specs.declared.body.Content.{Content}
 use Rattle.position_core.specs.declared.message.Entry.{Entry}
@@ -64,6 +64,18 @@ stored s = record s { durable = length s.log; subscriptions = map storing s.subs
 
 abbrev pub Stores : State → Reply → State → Type 0
 Stores s reply t = (reply ≡ Durable (length s.log)) × (t ≡ stored s)
+
+-- the deaths below the ordinal are stored, and those that were
+abbrev pub storing_below : ℕ → Subscription → Subscription
+storing_below ordinal sub = record sub { safe = max sub.safe (count_by (λ d. nat_lt d.ordinal ordinal) sub.dead) }
+
+-- so many messages are stored, at least those that were, and the deaths below the ordinal
+abbrev pub stored_to : State → ℕ → ℕ → State
+stored_to s count ordinal =
+    record s { durable = max s.durable (min count (length s.log)); subscriptions = map (storing_below ordinal) s.subscriptions }
+
+abbrev pub StoresTo : State → ℕ → ℕ → Reply → State → Type 0
+StoresTo s count ordinal reply t = (reply ≡ Durable (max s.durable (min count (length s.log)))) × (t ≡ stored_to s count ordinal)
 
 abbrev pub Progresses : State → Reply → State → Type 0
 Progresses s reply t = (reply ≡ Progress s.durable (length s.log)) × (t ≡ s)

@@ -16,7 +16,7 @@ use Rattle.delivery_machine.specs.Dying.{is_next_letter}
 use Rattle.delivery_machine.specs.declared.event.Target.{Target}
 use Rattle.delivery_machine.specs.declared.event.Target.TheVariants.{Earliest, Latest, At}
 use Rattle.delivery_machine.specs.declared.event.Event.{Event}
-use Rattle.delivery_machine.specs.declared.event.Event.TheVariants.{AddProducer, DropProducer, Publish, Stored, Progress, Subscribe, Leave, Permit, Ack, AckUpTo, Nack, Tick, Seek, SeekTime, Skip, DropSubscription, Stats, Dispatch, Collect, DeadNext, DeadDone}
+use Rattle.delivery_machine.specs.declared.event.Event.TheVariants.{AddProducer, DropProducer, Publish, Stored, StoredTo, Progress, Subscribe, Leave, Permit, Ack, AckUpTo, Nack, Tick, Seek, SeekTime, Skip, DropSubscription, Stats, Dispatch, Collect, DeadNext, DeadDone}
 
 -- a counter has given all its numbers, which end at 2^63-1
 abbrev pub is_spent : ℕ → Bool
@@ -119,12 +119,13 @@ refusal_of s (AddProducer name base) = adding_refused s name
 refusal_of s (DropProducer producer) = producer_refused s producer
 refusal_of s (Publish producer sequence body now) = publishing_refused s sequence (find (is_producer producer) s.producers)
 refusal_of s Stored = None
+refusal_of s (StoredTo count ordinal) = None
 refusal_of s Progress = None
 refusal_of s (Subscribe name kind level flow ack_timeout nack_delay max_redeliver dead_topic initial) =
     subscribing_refused s name kind max_redeliver dead_topic
 refusal_of s (Leave consumer) = session_refused s consumer
-refusal_of s (Ack consumer position) = acking_refused s consumer position
 refusal_of s (Permit consumer permits) = permitting_refused permits (find (is_member consumer) s.members)
+refusal_of s (Ack consumer position) = acking_refused s consumer position
 refusal_of s (AckUpTo consumer position) = acking_up_to_refused s position (find (is_member consumer) s.members)
 refusal_of s (Nack consumer position now) = nacking_refused s consumer position (find (is_member consumer) s.members)
 refusal_of s (Tick name now) = absence_refused s name
@@ -144,11 +145,12 @@ takes_memory (AddProducer name base) = true
 takes_memory (DropProducer producer) = false
 takes_memory (Publish producer sequence body now) = true
 takes_memory Stored = false
+takes_memory (StoredTo count ordinal) = false
 takes_memory Progress = false
 takes_memory (Subscribe name kind level flow ack_timeout nack_delay max_redeliver dead_topic initial) = true
 takes_memory (Leave consumer) = false
-takes_memory (Ack consumer position) = true
 takes_memory (Permit consumer permits) = false
+takes_memory (Ack consumer position) = true
 takes_memory (AckUpTo consumer position) = true
 takes_memory (Nack consumer position now) = false
 takes_memory (Tick name now) = true

@@ -6,7 +6,7 @@ use Rattle.position_core.specs.Flow.{begun}
 use Rattle.delivery_machine.specs.State.{State}
 use Rattle.delivery_machine.specs.Words.{is_producer, is_named}
 use Rattle.delivery_machine.specs.Refusals.{refusal_of, takes_memory}
-use Rattle.delivery_machine.specs.Producing.{AddsProducer, DropsProducer, Publishes, Stores, Progresses}
+use Rattle.delivery_machine.specs.Producing.{AddsProducer, DropsProducer, Publishes, Stores, StoresTo, Progresses}
 use Rattle.delivery_machine.specs.Joining.{Subscribes, Leaves, Permits}
 use Rattle.delivery_machine.specs.Acknowledging.{Acks, positions_up_to}
 use Rattle.delivery_machine.specs.Delivering.{Dispatches, Collects}
@@ -14,7 +14,7 @@ use Rattle.delivery_machine.specs.Ticking.{Nacks, Ticks}
 use Rattle.delivery_machine.specs.Seeking.{Seeks, SeeksTime, Skips, Drops, Counts}
 use Rattle.delivery_machine.specs.Dying.{ShowsLetter, MovesLetter}
 use Rattle.delivery_machine.specs.declared.event.Event.{Event}
-use Rattle.delivery_machine.specs.declared.event.Event.TheVariants.{AddProducer, DropProducer, Publish, Stored, Progress, Subscribe, Leave, Permit, Ack, AckUpTo, Nack, Tick, Seek, SeekTime, Skip, DropSubscription, Stats, Dispatch, Collect, DeadNext, DeadDone}
+use Rattle.delivery_machine.specs.declared.event.Event.TheVariants.{AddProducer, DropProducer, Publish, Stored, StoredTo, Progress, Subscribe, Leave, Permit, Ack, AckUpTo, Nack, Tick, Seek, SeekTime, Skip, DropSubscription, Stats, Dispatch, Collect, DeadNext, DeadDone}
 use Rattle.delivery_machine.specs.declared.reply.Reply.{Reply}
 use Rattle.delivery_machine.specs.declared.reply.Reply.TheVariants.{Refused}
 
@@ -24,6 +24,7 @@ Takes s (AddProducer name base) r t = AddsProducer s name base r t
 Takes s (DropProducer producer) r t = DropsProducer s producer r t
 Takes s (Publish producer sequence body now) r t = IsSomeAnd (find (is_producer producer) s.producers) (λ p. Publishes s p sequence body now r t)
 Takes s Stored r t = Stores s r t
+Takes s (StoredTo count ordinal) r t = StoresTo s count ordinal r t
 Takes s Progress r t = Progresses s r t
 Takes s (Subscribe name kind level flow ack_timeout nack_delay max_redeliver dead_topic initial) r t =
     Subscribes s kind initial (record {
@@ -38,11 +39,11 @@ Takes s (Subscribe name kind level flow ack_timeout nack_delay max_redeliver dea
       out = [];
     }) r t
 Takes s (Leave consumer) r t = Leaves s consumer r t
-Takes s (Ack consumer position) r t = Acks s consumer (position ∷ []) r t
 Takes s (Permit consumer permits) r t = Permits s consumer permits r t
+Takes s (Ack consumer position) r t = Acks s consumer (position ∷ []) r t
+Takes s (AckUpTo consumer position) r t = Acks s consumer (positions_up_to position s.log) r t
 Takes s (Nack consumer position now) r t = Nacks s consumer position now r t
 Takes s (Tick name now) r t = IsSomeAnd (find (is_named name) s.subscriptions) (λ sub. Ticks s name now sub r t)
-Takes s (AckUpTo consumer position) r t = Acks s consumer (positions_up_to position s.log) r t
 Takes s (Seek name target) r t = Seeks s name target r t
 Takes s (SeekTime name time) r t = SeeksTime s name time r t
 Takes s (Skip name count) r t = IsSomeAnd (find (is_named name) s.subscriptions) (λ sub. Skips s name count sub r t)

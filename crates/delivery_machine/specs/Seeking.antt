@@ -50,8 +50,11 @@ SeeksTime s name time reply t = (reply ≡ Done) × (t ≡ sought s name (length
 -- ---- skipping, dropping
 
 -- the positions of the first live messages, so many
+abbrev pub first_live_in : List Entry → Subscription → ℕ → List Position
+first_live_in visible sub count = take count (map (λ e. e.position) (filter (is_live sub) visible))
+
 abbrev pub first_live : State → Subscription → ℕ → List Position
-first_live s sub count = take count (map (λ e. e.position) (filter (is_live sub) (visible s)))
+first_live s sub count = first_live_in (visible s) sub count
 
 abbrev pub Skips : State → List ℕ → ℕ → Subscription → Reply → State → Type 0
 Skips s name count sub reply t = (reply ≡ Done) × (t ≡ acknowledged s name (first_live s sub count))

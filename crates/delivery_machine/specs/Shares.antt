@@ -1,5 +1,5 @@
 -- Shares: the hashes of a Key_Shared subscription, 0 to 65,535, parted among its consumers.
-use Rattle.std.specs.Prelude.{ℕ, ◌+◌, ◌-◌, ◌/◌, ◌==◌, nat_le, nat_lt, max, Bool, ◌&&◌, List, [], ◌∷◌, length, Option, if◌then◌else◌}
+use Rattle.std.specs.Prelude.{◌≡◌, ℕ, ◌+◌, ◌-◌, ◌/◌, ◌==◌, nat_le, nat_lt, max, Bool, ◌&&◌, List, [], ◌∷◌, length, Option, if◌then◌else◌}
 use Rattle.std.specs.List.{find}
 use Rattle.std.specs.Option.{option_map}
 use Rattle.position_core.specs.declared.block.Block.{Block}
@@ -12,6 +12,16 @@ has_hash hash b = nat_le b.from hash && nat_lt hash (b.from + b.size)
 -- the consumer in whose share the hash is
 abbrev pub owner_of : List Block → ℕ → Option ℕ
 owner_of shares hash = option_map (λ b. b.consumer) (find (has_hash hash) shares)
+
+-- the first share begins at the hash, each other where the one before it ends, and the last ends at 65,536
+abbrev pub IsRow : ℕ → List Block → Type 0
+IsRow hash [] = hash ≡ 65536
+IsRow hash (b ∷ bs) = (b.from ≡ hash) × IsRow (hash + b.size) bs
+
+-- the hashes 0 to 65,535, as soon as there are shares
+abbrev pub PartAllHashes : List Block → Type 0
+PartAllHashes [] = Unit {0}
+PartAllHashes (b ∷ bs) = IsRow 0 (b ∷ bs)
 
 -- ---- joining
 

@@ -7,6 +7,7 @@ use Rattle.position_core.specs.declared.position.Position.{Position}
 use Rattle.position_core.specs.declared.held.Held.{Held}
 use Rattle.position_core.specs.Position.{position_cmp}
 use Rattle.position_core.specs.Kind.{is_in_order}
+use Rattle.position_core.specs.declared.message.Entry.{Entry}
 use Rattle.delivery_machine.specs.State.{State, Subscription}
 use Rattle.delivery_machine.specs.Words.{changed, is_member, is_named}
 use Rattle.delivery_machine.specs.Acknowledging.{is_one_of, forgetting}
@@ -55,11 +56,18 @@ abbrev pub is_due : ℕ → Option Held → Bool
 is_due now held = option_map_or (λ h. option_map_or (λ due. nat_le due now) h.due false) held false
 
 -- a pending message is due
+abbrev pub any_due_in : List Entry → Subscription → ℕ → Bool
+any_due_in log sub now = list_any (λ e. is_due now (map_of.get sub.pending e.position)) log
+
 abbrev pub any_due : State → Subscription → ℕ → Bool
-any_due s sub now = list_any (λ e. is_due now (map_of.get sub.pending e.position)) s.log
+any_due s sub now = any_due_in s.log sub now
+
+-- the positions of the log that are pending
+abbrev pub pending_positions_in : List Entry → Subscription → List Position
+pending_positions_in log sub = map (λ e. e.position) (filter (λ e. map_of.contains_key sub.pending e.position) log)
 
 abbrev pub pending_positions : State → Subscription → List Position
-pending_positions s sub = map (λ e. e.position) (filter (λ e. map_of.contains_key sub.pending e.position) s.log)
+pending_positions s sub = pending_positions_in s.log sub
 
 -- where the order is kept, all pending messages are released when one is due; else any one that is due is released or dies
 abbrev pub Ticks : State → List ℕ → ℕ → Subscription → Reply → State → Type 0

@@ -129,12 +129,19 @@ count_of sub position = unwrap_or (map_of.get sub.counts position) 0
 abbrev pub is_held_by : ℕ → Option Held → Bool
 is_held_by consumer held = option_map_or (λ h. h.consumer == consumer) held false
 
--- how many messages are pending at the consumer
+-- how many messages of the log are pending at the consumer
+abbrev pub pending_in : List Entry → Subscription → ℕ → ℕ
+pending_in log sub consumer = count_by (λ e. is_held_by consumer (map_of.get sub.pending e.position)) log
+
 abbrev pub pending_at : State → Subscription → ℕ → ℕ
-pending_at s sub consumer = count_by (λ e. is_held_by consumer (map_of.get sub.pending e.position)) s.log
+pending_at s sub consumer = pending_in s.log sub consumer
+
+-- the member may be sent a further message
+abbrev pub has_room_in : List Entry → Subscription → Member → Bool
+has_room_in log sub m = flow_has_room m.flow (pending_in log sub m.number)
 
 abbrev pub has_room : State → Subscription → Member → Bool
-has_room s sub m = flow_has_room m.flow (pending_at s sub m.number)
+has_room s sub m = has_room_in s.log sub m
 
 -- the message is pending at the consumer of the subscription
 abbrev pub is_held_at : State → List ℕ → ℕ → Position → Bool
@@ -151,16 +158,22 @@ abbrev pub waits_with_hash : Subscription → ℕ → Entry → Bool
 waits_with_hash sub hash e = is_waiting sub e && hash_of e == hash
 
 -- the member in whose share the hash is
+abbrev pub owner_in : List Member → Subscription → ℕ → Option Member
+owner_in members sub hash = option_and_then (λ number. find (λ m. is_at sub.name m && is_member number m) members) (owner_of sub.shares hash)
+
 abbrev pub owner_at : State → Subscription → ℕ → Option Member
-owner_at s sub hash = option_and_then (λ number. find (λ m. is_at sub.name m && is_member number m) s.members) (owner_of sub.shares hash)
+owner_at s sub hash = owner_in s.members sub hash
 
 -- the message is pending at another consumer
 abbrev pub is_held_beside : ℕ → Option Held → Bool
 is_held_beside consumer held = option_map_or (λ h. not (h.consumer == consumer)) held false
 
 -- a message of the hash is pending at another consumer than the owner: the hash drains
+abbrev pub is_draining_in : List Entry → Subscription → ℕ → ℕ → Bool
+is_draining_in log sub hash owner = list_any (λ e. hash_of e == hash && is_held_beside owner (map_of.get sub.pending e.position)) log
+
 abbrev pub is_draining : State → Subscription → ℕ → ℕ → Bool
-is_draining s sub hash owner = list_any (λ e. hash_of e == hash && is_held_beside owner (map_of.get sub.pending e.position)) s.log
+is_draining s sub hash owner = is_draining_in s.log sub hash owner
 
 -- ---- who is served
 
@@ -184,8 +197,11 @@ abbrev pub IsNextInOrder : State → Subscription → Entry → Member → Type 
 IsNextInOrder s sub e m = (first_waiting s sub ≡ Some e) × (active_of (members_of s sub.name) ≡ Some m)
 
 -- the members of the subscription that have room
+abbrev pub with_room_in : List Entry → List Member → Subscription → List Member
+with_room_in log members sub = filter (λ m. is_at sub.name m && has_room_in log sub m) members
+
 abbrev pub with_room : State → Subscription → List Member
-with_room s sub = filter (λ m. is_at sub.name m && has_room s sub m) s.members
+with_room s sub = with_room_in s.log s.members sub
 
 -- the next message in topic order, and a member of the best level among those with room
 abbrev pub IsNextAtBestLevel : State → Subscription → Entry → Member → Type 0
@@ -193,11 +209,14 @@ IsNextAtBestLevel s sub e m =
     (first_waiting s sub ≡ Some e) × Contains (with_room s sub) m × All (λ other. m.level ≤ other.level) (with_room s sub)
 
 -- the next message of its hash in topic order, and the member in whose share the hash is, which does not drain
+abbrev pub IsNextOfItsHashIn : List Entry → List Entry → List Member → Subscription → Entry → Member → Type 0
+IsNextOfItsHashIn log visible members sub e m =
+    (find (waits_with_hash sub (hash_of e)) visible ≡ Some e)
+    × (owner_in members sub (hash_of e) ≡ Some m)
+    × (is_draining_in log sub (hash_of e) m.number ≡ false)
+
 abbrev pub IsNextOfItsHash : State → Subscription → Entry → Member → Type 0
-IsNextOfItsHash s sub e m =
-    (find (waits_with_hash sub (hash_of e)) (visible s) ≡ Some e)
-    × (owner_at s sub (hash_of e) ≡ Some m)
-    × (is_draining s sub (hash_of e) m.number ≡ false)
+IsNextOfItsHash s sub e m = IsNextOfItsHashIn s.log (visible s) s.members sub e m
 
 -- by the subscription's kind, the message may go to the member
 abbrev pub ChoosesBy : Kind → State → Subscription → Entry → Member → Type 0

@@ -45,6 +45,12 @@ pub enum Event {
     },
     /// The store holds all that the log has.
     Stored,
+    /// The store holds the first messages of the log, so many, and the deaths below the ordinal: what
+    /// a snapshot had that was taken before, while the topic went on.
+    StoredTo {
+        length: u64,
+        ordinal: u64,
+    },
     /// How much of the log is stored.
     Progress,
     /// Joins a consumer to a subscription, which the first one makes.

@@ -1,5 +1,6 @@
 // Laws over every run: each holds of whatever a topic was asked, in any order.
-ghost use Rattle.delivery_machine.specs.Laws.{MayCome, AcknowledgedStays, IsSentAndAcknowledged, PermitsAndWindowsBound, PermitsAndWindowsMayBeUsed, OrderAtActive, IsPendingInOrder, OneHashAtOneConsumer, IsPendingInKeyShared};
+ghost use Rattle.delivery_machine.specs.Laws.{MayCome, AcknowledgedStays, IsSentAndAcknowledged, PermitsAndWindowsBound, PermitsAndWindowsMayBeUsed, OrderAtActive, IsPendingInOrder, OneHashAtOneConsumer, IsPendingInKeyShared, ReachedAreWellFormed, IsPendingInShared, SnapshotsAreSound, StoredIsStoredTo};
+ghost use Rattle.delivery_machine.specs.ShareSets.{SharesAreSets};
 
 /// What a subscription has acknowledged it is not sent again, until it is sought or dropped.
 pub fn l1()
@@ -41,4 +42,30 @@ pub fn l4()
 /// The law above speaks of something: any message may come to be pending in Key_Shared.
 pub fn l4_example()
     ensures { MayCome IsPendingInKeyShared }
+{}
+
+/// Every state that a topic comes to is well formed.
+pub fn reached()
+    ensures { ReachedAreWellFormed }
+{}
+
+/// The law above speaks of something: any message may come to be pending in Shared, uncollected.
+pub fn reached_example()
+    ensures { MayCome IsPendingInShared }
+{}
+
+/// A topic may go on from a snapshot of any state that one comes to.
+pub fn snapshots_are_sound()
+    ensures { SnapshotsAreSound }
+{}
+
+/// To store everything is to store up to the length of the log and the next ordinal.
+pub fn stored_is_stored_to()
+    ensures { StoredIsStoredTo }
+{}
+
+/// A consumer that joins takes half of the largest share, and one that leaves gives its share to its
+/// neighbour; nobody else's hashes change, and shares part all hashes as before.
+pub fn shares_are_sets()
+    ensures { SharesAreSets }
 {}

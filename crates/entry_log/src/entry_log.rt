@@ -1,7 +1,8 @@
 // The log of a topic.
-ghost use Rattle.std.specs.Prelude.{◌≡◌, ℕ, false, length, slice_get, IfOk, OnOk, OnErr, is_some};
+ghost use Rattle.std.specs.Prelude.{◌≡◌, ℕ, false, length, map, slice_get, IfOk, OnOk, OnErr, is_some};
 ghost use Rattle.std.specs.Option.{option_copied};
-ghost use Rattle.position_core.specs.Position.{same_position};
+ghost use Rattle.std.specs.List.Sorted.{IsStrictlySortedBy};
+ghost use Rattle.position_core.specs.Position.{position_cmp, same_position};
 ghost use Rattle.delivery_machine.specs.State.{State};
 ghost use Rattle.delivery_machine.specs.Words.{next_position};
 ghost use Rattle.delivery_machine.specs.Refusals.{is_full};
@@ -60,8 +61,10 @@ impl EntryLog {
         }
     }
 
+    /// How many messages the log has. Their positions rise, whatever was done with it.
     pub fn len(&self) -> usize
-        ensures { result ≡ length self.now.log }
+        ensures value { result ≡ length self.now.log }
+        ensures rising { IsStrictlySortedBy position_cmp (map (λ e. e.position) self.now.log) }
     {
         self.pieces.count()
     }

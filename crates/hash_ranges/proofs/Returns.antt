@@ -8,7 +8,7 @@ use Rattle.std.proofs.lemmas.List.Quantifiers.{position-Some}
 use Rattle.delivery_machine.proofs.Places.{fails_everywhere}
 use Rattle.position_core.specs.declared.block.Block.{Block}
 use Rattle.delivery_machine.specs.Shares.{is_share_of, with_lower, with_upper, given_back}
-use Rattle.hash_ranges.specs.Parted.{PartAllHashes}
+use Rattle.delivery_machine.specs.Shares.{PartAllHashes}
 use Rattle.hash_ranges.proofs.Parts.{ends}
 
 -- the share has one after it

@@ -1,7 +1,7 @@
 // The shares in a row, as consumers join and leave.
 ghost use Rattle.std.specs.Prelude.{◌≡◌, OnOk, OnErr};
 ghost use Rattle.delivery_machine.specs.Shares.{shared_out, given_back};
-ghost use Rattle.hash_ranges.specs.Parted.{PartAllHashes};
+ghost use Rattle.delivery_machine.specs.Shares.{PartAllHashes};
 
 use crate::block::{all_hashes, lower_half, upper_half, with_lower, with_upper};
 use crate::places::{place_of, place_of_most};

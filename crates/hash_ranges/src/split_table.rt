@@ -1,7 +1,7 @@
 // The shares of a subscription's consumers.
 ghost use Rattle.std.specs.Prelude.{◌≡◌, [], OnOk, OnErr, IfNone};
 ghost use Rattle.delivery_machine.specs.Shares.{owner_of, shared_out, given_back};
-ghost use Rattle.hash_ranges.specs.Parted.{PartAllHashes};
+ghost use Rattle.delivery_machine.specs.Shares.{PartAllHashes};
 
 use crate::{places, row};
 use position_core::Block;
@@ -19,7 +19,7 @@ impl Model for SplitTable {
     ghost use Rattle.std.specs.Prelude.{List};
     ghost use Rattle.position_core.specs.declared.block.Block.{Block};
     ghost use Rattle.hash_ranges.specs.Codes.{coded_shares};
-    ghost use Rattle.hash_ranges.specs.Parted.{PartAllHashes};
+    ghost use Rattle.delivery_machine.specs.Shares.{PartAllHashes};
 
     ghost Value = { List Block };
 

@@ -1,3 +1,4 @@
 pub mod Found
 pub mod Tied
 pub mod First
+pub mod Machine

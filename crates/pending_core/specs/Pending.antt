@@ -1,11 +1,13 @@
 -- What is pending in a subscription, and how often it was redelivered.
-use Rattle.std.specs.Prelude.{◌≡◌, ℕ, ◌+◌, min, Option, Some, None, if◌then◌else◌}
+use Rattle.std.specs.Prelude.{◌≡◌, ℕ, ◌+◌, min, true, [], ◌∷◌, Option, Some, None, if◌then◌else◌}
 use Rattle.std.specs.Option.{option_map_or, option_and_then, unwrap_or}
 use Rattle.std.specs.FinMap as map_of
 use Rattle.std.specs.BTreeMap.Range.{IsLeBy}
 use Rattle.position_core.specs.Position.{position_cmp}
 use Rattle.position_core.specs.declared.position.Position.{Position}
 use Rattle.position_core.specs.declared.held.Held.{Held}
+use Rattle.delivery_machine.specs.State.{Subscription}
+use Rattle.delivery_machine.specs.Ticking.{redelivering}
 use Rattle.due_tree.specs.declared.due.Due.{Due}
 use Rattle.due_tree.specs.Due.{due_cmp}
 
@@ -52,3 +54,13 @@ IsDue s due = option_and_then (λ held. held.due) (map_of.get s.pending due.posi
 abbrev pub IsFirstDue : Pending → Option Due → Type 0
 IsFirstDue s None = (due : Due) → IsDue s due → ⊥
 IsFirstDue s (Some first) = IsDue s first × ((other : Due) → IsDue s other → IsLeBy due_cmp first other)
+
+-- what is pending and counted is the subscription's
+abbrev pub IsPendingOf : Pending → Subscription → Type 0
+IsPendingOf s sub = (sub.pending ≡ s.pending) × (sub.counts ≡ s.counts)
+
+-- counted once more and released, a pending message is as a tick that releases it leaves it
+abbrev pub CountedAndReleased : Type 0
+CountedAndReleased =
+    (s : Pending) (sub : Subscription) (position : Position) → map_of.contains_key s.pending position ≡ true
+    → IsPendingOf s sub → IsPendingOf (released position (redelivered position s)) (redelivering (position ∷ []) sub)

@@ -8,4 +8,4 @@ mod table;
 mod tests;
 
 pub use due_tree::Due;
-pub use pending_map::PendingMap;
+pub use pending_map::{PendingMap, counted_and_released};

@@ -1,8 +1,15 @@
 // The pending messages of a subscription.
-ghost use Rattle.std.specs.Prelude.{◌≡◌, ◌↔◌, ◌<◌, ◌≤◌, IsTrue, OnOk, OnErr};
+ghost use Rattle.std.specs.Prelude.{◌≡◌, ◌↔◌, ◌<◌, ◌≤◌, ℕ, true, List, [], ◌∷◌, Some, IsTrue, OnOk, OnErr};
 ghost use Rattle.std.specs.Option.{option_map};
 ghost use Rattle.std.specs.FinMap as map_of;
-ghost use Rattle.pending_core.specs.Pending.{nothing_pending, holding, without, released, due_again, redelivered, count_at, most_count, IsFirstDue};
+ghost use Rattle.position_core.specs.declared.message.Entry.{Entry};
+ghost use Rattle.delivery_machine.specs.State.{Subscription, Dead};
+ghost use Rattle.delivery_machine.specs.Words.{is_held_by};
+ghost use Rattle.delivery_machine.specs.Acknowledging.{acknowledging};
+ghost use Rattle.delivery_machine.specs.Delivering as delivering;
+ghost use Rattle.delivery_machine.specs.Dying.{burying};
+ghost use Rattle.delivery_machine.specs.Seeking.{seeking};
+ghost use Rattle.pending_core.specs.Pending.{nothing_pending, holding, without, released, due_again, redelivered, count_at, most_count, CountedAndReleased, IsFirstDue, IsPendingOf};
 
 use crate::kept::Kept;
 use crate::table;
@@ -50,20 +57,25 @@ impl PendingMap {
     pub fn put(&mut self, position: Position, held: Held) -> Result<(), AllocError>
         ensures ok { OnOk result (self.new ≡ holding position held self.old) }
         ensures err { OnErr result (self.new ≡ self.old) }
+        ensures machine { OnOk result ((sub : Subscription) → IsPendingOf self.old sub → IsPendingOf self.new (delivering.holding position held sub)) }
     {
         table::hold(&mut self.kept, &mut self.slots, position, held)
     }
 
     /// Forgets a message, with its count: it was acknowledged, or died.
     pub fn remove(&mut self, position: Position)
-        ensures { self.new ≡ without position self.old }
+        ensures value { self.new ≡ without position self.old }
+        ensures acknowledged { (sub : Subscription) → IsPendingOf self.old sub → IsPendingOf self.new (acknowledging (position ∷ []) sub) }
+        ensures died { (letter : Dead) (sub : Subscription) → letter.position ≡ position → IsPendingOf self.old sub → IsPendingOf self.new (burying letter sub) }
     {
         table::remove(&mut self.kept, &mut self.slots, position);
     }
 
     /// Gives a pending message another due moment. Where it is not pending, nothing changes.
     pub fn set_due(&mut self, position: Position, due: u64)
-        ensures { self.new ≡ due_again position due self.old }
+        ensures value { self.new ≡ due_again position due self.old }
+        ensures machine { (consumer : ℕ) (sub : Subscription) → IsPendingOf self.old sub → is_held_by consumer (map_of.get sub.pending position) ≡ true
+            → IsPendingOf self.new (delivering.holding position (record { consumer = consumer; due = Some due }) sub) }
     {
         table::set_due(&mut self.kept, &mut self.slots, position, due);
     }
@@ -121,9 +133,16 @@ impl PendingMap {
 
     /// Forgets all messages and counts.
     pub fn clear(&mut self)
-        ensures { self.new ≡ nothing_pending }
+        ensures value { self.new ≡ nothing_pending }
+        ensures machine { (before : List Entry) (sub : Subscription) → IsPendingOf self.new (seeking before sub) }
     {
         self.kept.clear();
         self.slots.clear();
     }
 }
+
+/// A tick that releases a message counts it once more and takes it back: `count_redelivery`, and then
+/// `release`.
+pub fn counted_and_released()
+    ensures { CountedAndReleased }
+{}

@@ -1,6 +1,6 @@
 use Rattle.std.proofs.Common.{sym, subst}
-use Rattle.hash_ranges.specs.Parted.{PartAllHashes}
-use Rattle.hash_ranges.proofs.Parts.{parts_given_back}
+use Rattle.delivery_machine.specs.Shares.{PartAllHashes}
+use Rattle.delivery_machine.proofs.Parts.{parts_given_back}
 use Rattle.hash_ranges.proofs.split_table.SplitTable.leave.Goals as goal
 
 pub invariant_of-self : goal.invariant_of-self
