@@ -5,7 +5,8 @@ ghost use Rattle.std.specs.Option.{option_copied};
 ghost use Rattle.delivery_machine.specs.Words.{is_at};
 
 use dispatch_core::{Seen, View};
-use plain_lists::{Member, Subscription, has_room};
+use plain_lists::{Member, Subscription};
+use plain_queries::has_room;
 use position_core::{Message, SubscriptionName};
 
 /// A view over lists, which says in the plainest way what a view shows. Its calls go through the

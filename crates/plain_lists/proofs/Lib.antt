@@ -1,4 +1,2 @@
-pub mod Greatest
-pub mod Active
 pub mod Undone
 pub mod Free

@@ -1,11 +1,8 @@
--- A member as it joins, the one of two that is served, and what a member was sent.
-use Rattle.std.specs.Prelude.{ℕ, ◌-◌, List, [], ◌∷◌, ◌++◌, Option, take, length}
-use Rattle.std.specs.List.{find}
-use Rattle.std.specs.Option.{option_map_or}
+-- A member as it joins, and what it is given.
+use Rattle.std.specs.Prelude.{ℕ, ◌-◌, List, [], ◌∷◌, ◌++◌, take, length}
 use Rattle.position_core.specs.declared.topic_name.TopicName.{TopicName}
 use Rattle.position_core.specs.Flow.{begun, spent}
 use Rattle.delivery_machine.specs.State.{Member}
-use Rattle.delivery_machine.specs.Words.{earlier, is_member}
 use Rattle.delivery_machine.specs.declared.delivery.Delivery.{Delivery}
 use Rattle.plain_lists.specs.declared.member.Terms.{Terms}
 
@@ -21,14 +18,6 @@ joining number name terms dead_topic = record {
   dead_topic = dead_topic;
   out = [];
 }
-
--- of the one so far and the next, the one that is served
-abbrev pub sooner : Option Member → Member → Member
-sooner best m = option_map_or (λ b. earlier b m) best m
-
--- what the consumer was sent and has not collected
-abbrev pub out_in : List Member → ℕ → List Delivery
-out_in members consumer = option_map_or (λ m. m.out) (find (is_member consumer) members) []
 
 -- with one message more to collect
 abbrev pub pushed : Delivery → Member → Member

@@ -4,7 +4,7 @@ ghost use Rattle.std.specs.Option.{option_copied};
 ghost use Rattle.position_core.specs.Position.{same_position};
 ghost use Rattle.delivery_machine.specs.Words.{is_dead};
 ghost use Rattle.delivery_machine.specs.Dying.{burying, first_safe};
-ghost use Rattle.delivery_machine.specs.Producing.{storing};
+ghost use Rattle.delivery_machine.specs.Producing.{storing, storing_below};
 ghost use Rattle.plain_lists.specs.Letters.{moving_first};
 
 use crate::subscription::Subscription;
@@ -42,7 +42,7 @@ impl Subscription {
     }
 
     /// Makes the letter the last one, and takes its message out. Nothing changes where there is no memory.
-    pub(crate) fn bury(&mut self, letter: DeadLetter) -> Result<(), AllocError>
+    pub fn bury(&mut self, letter: DeadLetter) -> Result<(), AllocError>
         ensures ok { OnOk result (self.new ≡ burying letter self.old) }
         ensures err { OnErr result (self.new ≡ self.old) }
     {
@@ -60,9 +60,21 @@ impl Subscription {
         self.safe = self.dead.len();
     }
 
+    /// The deaths below the ordinal are stored, and those that were.
+    pub(crate) fn store_to(&mut self, ordinal: u64)
+        ensures { self.new ≡ storing_below ordinal self.old }
+    {
+        let stored = self
+            .dead
+            .iter()
+            .filter(|letter| letter.ordinal < ordinal)
+            .count();
+        self.safe = self.safe.max(stored);
+    }
+
     /// Takes the first letter out, and acknowledges its message, where its death is stored. Nothing
     /// changes where there is no memory.
-    pub(crate) fn move_first(&mut self) -> Result<(), AllocError>
+    pub fn move_first(&mut self) -> Result<(), AllocError>
         ensures ok { OnOk result (self.new ≡ moving_first self.old) }
         ensures err { OnErr result (self.new ≡ self.old) }
     {

@@ -118,7 +118,7 @@ impl Member {
     }
 
     /// Whether it is served before the other one.
-    pub(crate) fn comes_before(&self, other: &Member) -> bool
+    pub fn comes_before(&self, other: &Member) -> bool
         ensures { result ≡ comes_before self.now other.now }
     {
         let level = self.level.get();
@@ -165,14 +165,15 @@ impl Member {
     }
 
     /// Hands over what it was sent.
-    pub(crate) fn take_out(&mut self, alloc: Global) -> Deliveries
+    pub fn take_out(&mut self, alloc: Global) -> Deliveries
         ensures taken { result ≡ self.old.out }
         ensures left { self.new ≡ emptied self.old }
     {
         std::mem::replace(&mut self.out, Deliveries::new(alloc))
     }
 
-    pub(crate) fn give(&mut self, delivery: Delivery) -> Result<(), AllocError>
+    /// Gives it a message. Nothing changes where there is no memory.
+    pub fn give(&mut self, delivery: Delivery) -> Result<(), AllocError>
         ensures ok { OnOk result (self.new ≡ pushed delivery self.old) }
         ensures err { OnErr result (self.new ≡ self.old) }
     {
@@ -180,20 +181,21 @@ impl Member {
     }
 
     /// Takes back what was given last.
-    pub(crate) fn take_back(&mut self)
+    pub fn take_back(&mut self)
         ensures { self.new ≡ shortened self.old }
     {
         self.out.drop_last();
     }
 
     /// Takes the credit for one message, where it pulls.
-    pub(crate) fn spend(&mut self)
+    pub fn spend(&mut self)
         ensures { self.new ≡ spending self.old }
     {
         self.flow = self.flow.spent();
     }
 
-    pub(crate) fn permit(&mut self, permits: Permits) -> Result<(), Fault>
+    /// Lets it be sent so many further messages.
+    pub fn permit(&mut self, permits: Permits) -> Result<(), Fault>
         ensures ok { OnOk result (self.new ≡ permitted permits self.old) }
         ensures allowed { OnOk result (granting_refused permits self.old.flow ≡ None) }
         ensures refused { IfErr result (λ fault. granting_refused permits self.old.flow ≡ Some fault) }

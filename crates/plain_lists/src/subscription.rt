@@ -112,7 +112,8 @@ impl Subscription {
         self.name.is(name)
     }
 
-    pub(crate) fn join(&mut self, kind: Kind, consumer: u64) -> Result<(), AllocError>
+    /// Lets the consumer in, and takes its kind. Nothing changes where there is no memory.
+    pub fn join(&mut self, kind: Kind, consumer: u64) -> Result<(), AllocError>
         ensures ok { OnOk result (self.new ≡ joining kind consumer self.old) }
         ensures err { OnErr result (self.new ≡ self.old) }
     {
@@ -167,7 +168,8 @@ impl Subscription {
         self.pending.holder(position)
     }
 
-    pub(crate) fn holds_at(&self, consumer: u64, message: &Message) -> bool
+    /// Whether the message is pending at the consumer.
+    pub fn holds_at(&self, consumer: u64, message: &Message) -> bool
         ensures { result ≡ is_held_by consumer (map_of.get self.now.pending message.now.position) }
     {
         self.pending.is_held_by(message.position(), consumer)
@@ -183,7 +185,8 @@ impl Subscription {
         }
     }
 
-    pub(crate) fn hold(&mut self, position: Position, held: Held) -> Result<(), AllocError>
+    /// Makes the message pending. Nothing changes where there is no memory.
+    pub fn hold(&mut self, position: Position, held: Held) -> Result<(), AllocError>
         ensures ok { OnOk result (self.new ≡ holding position held self.old) }
         ensures err { OnErr result (self.new ≡ self.old) }
     {
@@ -207,7 +210,7 @@ impl Subscription {
 
     /// Makes the message due, and answers whether it is pending at the consumer; else nothing
     /// changes.
-    pub(crate) fn set_due(&mut self, consumer: u64, position: Position, due: u64) -> bool
+    pub fn set_due(&mut self, consumer: u64, position: Position, due: u64) -> bool
         ensures known { result ≡ is_held_by consumer (map_of.get self.old.pending position) }
         ensures held { OnTrue result (self.new ≡ holding position (record { consumer = consumer; due = Some due }) self.old) }
         ensures none { OnFalse result (self.new ≡ self.old) }
@@ -225,11 +228,9 @@ impl Subscription {
         true
     }
 
-    pub(crate) fn redeliver(
-        &mut self,
-        alloc: Global,
-        positions: &[Position],
-    ) -> Result<(), AllocError>
+    /// Counts the messages once more and lets them wait again. Nothing changes where there is no
+    /// memory.
+    pub fn redeliver(&mut self, alloc: Global, positions: &[Position]) -> Result<(), AllocError>
         ensures ok { OnOk result (self.new ≡ redelivering positions.now self.old) }
         ensures err { OnErr result (self.new ≡ self.old) }
     {
@@ -238,7 +239,8 @@ impl Subscription {
         Ok(())
     }
 
-    pub(crate) fn acknowledge(&mut self, positions: &[Position]) -> Result<(), AllocError>
+    /// Takes the messages out. Nothing changes where there is no memory.
+    pub fn acknowledge(&mut self, positions: &[Position]) -> Result<(), AllocError>
         ensures ok { OnOk result (self.new ≡ acknowledging positions.now self.old) }
         ensures err { OnErr result (self.new ≡ self.old) }
     {
@@ -248,20 +250,22 @@ impl Subscription {
         Ok(())
     }
 
-    pub(crate) fn leave(&mut self, consumer: u64)
+    /// Lets the consumer out: what is pending at it waits again, and its share goes to another.
+    pub fn leave(&mut self, consumer: u64)
         ensures { self.new ≡ leaving consumer self.old }
     {
         self.pending.release_held_by(consumer);
         self.shares.leave(consumer);
     }
 
-    pub(crate) fn release_all(&mut self)
+    pub fn release_all(&mut self)
         ensures { self.new ≡ releasing_all self.old }
     {
         self.pending.clear();
     }
+
     /// Goes on after the messages, and forgets what was sent. Nothing changes where there is no memory.
-    pub(crate) fn seek(&mut self, alloc: Global, before: &[Message]) -> Result<(), AllocError>
+    pub fn seek(&mut self, alloc: Global, before: &[Message]) -> Result<(), AllocError>
         ensures ok { OnOk result (self.new ≡ seeking before.now self.old) }
         ensures err { OnErr result (self.new ≡ self.old) }
     {

@@ -74,35 +74,29 @@ fn letter(alloc: Global) -> Result<DeadLetter, Fail> {
 }
 
 /// A subscription of the name, in which the first message is pending.
-fn holding(alloc: Global, name: &SubscriptionName) -> Result<Vec<Subscription>, Fail> {
+fn holding(alloc: Global, name: &SubscriptionName) -> Result<Subscription, Fail> {
     let none = PositionSet::new(alloc);
-    let made = Subscription::new(alloc, name.clone()?, Kind::Shared, 1, none)?;
-    let mut subscriptions = vec![in alloc; made]?;
     let held = Held {
         consumer: 1,
         due: Some(2000),
     };
-    hold_at(&mut subscriptions, name, FIRST, held)?;
-    Ok(subscriptions)
-}
-
-fn first(subscriptions: &[Subscription]) -> Result<&Subscription, Fail> {
-    Ok(subscriptions.first().ok_or("no subscription")?)
+    let mut made = Subscription::new(alloc, name.clone()?, Kind::Shared, 1, none)?;
+    made.hold(FIRST, held)?;
+    Ok(made)
 }
 
 /// A subscription of the name, in which the first message died.
-fn burying(alloc: Global, name: &SubscriptionName) -> Result<Vec<Subscription>, Fail> {
-    let mut subscriptions = holding(alloc, name)?;
-    bury_at(&mut subscriptions, name, letter(alloc)?)?;
-    Ok(subscriptions)
+fn burying(alloc: Global, name: &SubscriptionName) -> Result<Subscription, Fail> {
+    let mut subscription = holding(alloc, name)?;
+    subscription.bury(letter(alloc)?)?;
+    Ok(subscription)
 }
 
 #[test]
 fn a_message_dies(rt: HostRuntime) -> Result<(), Fail> {
     let message = message(rt.alloc())?;
     let name = Name::from_text(rt.alloc(), "s")?.ok_or("no name")?;
-    let subscriptions = burying(rt.alloc(), &name)?;
-    let subscription = first(&subscriptions)?;
+    let subscription = burying(rt.alloc(), &name)?;
     assert!(rt; !subscription.is_pending(&message));
     assert!(rt; !subscription.is_live(&message));
     assert!(rt; subscription.first_safe().is_none());
@@ -114,31 +108,31 @@ fn a_message_dies(rt: HostRuntime) -> Result<(), Fail> {
 fn a_letter_is_moved(rt: HostRuntime) -> Result<(), Fail> {
     let message = message(rt.alloc())?;
     let name = Name::from_text(rt.alloc(), "s")?.ok_or("no name")?;
-    let mut subscriptions = burying(rt.alloc(), &name)?;
+    let mut subscriptions = vec![in rt.alloc(); burying(rt.alloc(), &name)?]?;
     store_all(&mut subscriptions);
-    assert!(rt; first(&subscriptions)?.first_safe().is_some());
-    move_first_at(&mut subscriptions, &name)?;
-    assert!(rt; first(&subscriptions)?.first_safe().is_none());
-    assert!(rt; first(&subscriptions)?.is_acknowledged(&message));
+    let subscription = subscriptions.first_mut().ok_or("no subscription")?;
+    assert!(rt; subscription.first_safe().is_some());
+    subscription.move_first()?;
+    assert!(rt; subscription.first_safe().is_none());
+    assert!(rt; subscription.is_acknowledged(&message));
     Ok(())
 }
 
 #[test]
 fn a_seek_releases_what_is_pending(rt: HostRuntime) -> Result<(), Fail> {
-    let log = vec![in rt.alloc(); message(rt.alloc())?]?;
+    let message = message(rt.alloc())?;
     let name = Name::from_text(rt.alloc(), "s")?.ok_or("no name")?;
-    let mut subscriptions = holding(rt.alloc(), &name)?;
-    assert!(rt; first_waiting(&log, first(&subscriptions)?).is_none());
-    seek_at(&mut subscriptions, rt.alloc(), &name, &[])?;
-    assert!(rt; first_waiting(&log, first(&subscriptions)?).is_some());
-    assert!(rt; message_at(&log, FIRST).is_some());
+    let mut subscription = holding(rt.alloc(), &name)?;
+    assert!(rt; !subscription.is_waiting(&message));
+    subscription.seek(rt.alloc(), &[])?;
+    assert!(rt; subscription.is_waiting(&message));
     Ok(())
 }
 
 #[test]
 fn a_subscription_goes(rt: HostRuntime) -> Result<(), Fail> {
     let name = Name::from_text(rt.alloc(), "s")?.ok_or("no name")?;
-    let mut subscriptions = holding(rt.alloc(), &name)?;
+    let mut subscriptions = vec![in rt.alloc(); holding(rt.alloc(), &name)?]?;
     drop_subscription(&mut subscriptions, &name);
     assert_eq!(rt; subscriptions.len(), 0);
     Ok(())

@@ -1,4 +1,6 @@
 pub mod Used
 mod Chosen
+pub mod Placed
+pub mod Handed
 pub mod Joins
 pub mod Moved

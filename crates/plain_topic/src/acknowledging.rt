@@ -5,7 +5,8 @@ ghost use Rattle.delivery_machine.specs.Words.{has_position};
 
 use crate::plain::PlainTopic;
 use delivery_machine::Reply;
-use plain_lists::{acknowledge_at, is_in_order_at, leave_out_at, member_at};
+use plain_lists::{leave_out_at, member_at, place_of_subscription};
+use plain_queries::is_in_order_at;
 use plain_tables::positions_up_to;
 use position_core::{Fault, Message, Position, SubscriptionName};
 use std::alloc::AllocError;
@@ -34,6 +35,7 @@ impl PlainTopic {
     }
 
     /// Takes the messages out of the subscription. Nothing changes where there is no memory.
+    #[tactic(auto, using(crate::proofs::Placed::at_its_place))]
     pub(crate) fn acknowledge(
         &mut self,
         name: &SubscriptionName,
@@ -42,7 +44,9 @@ impl PlainTopic {
         ensures ok { OnOk result (state_of self.new ≡ acknowledged (state_of self.old) name.now positions.now) }
         ensures err { OnErr result (state_of self.new ≡ state_of self.old) }
     {
-        acknowledge_at(&mut self.subscriptions, name, positions)?;
+        if let Some(place) = place_of_subscription(&self.subscriptions, name) {
+            self.subscriptions[place].acknowledge(positions)?;
+        }
         leave_out_at(&mut self.members, name, positions);
         Ok(())
     }

@@ -20,6 +20,7 @@ impl Topic for PlainTopic {
                 now,
             } => self.publish(*producer, *sequence, body, *now),
             Event::Stored => self.stored(),
+            Event::StoredTo { length, ordinal } => self.stored_to(*length, *ordinal),
             Event::Progress => self.progress(),
             Event::Subscribe {
                 subscription,
@@ -45,9 +46,9 @@ impl Topic for PlainTopic {
                 *initial,
             ),
             Event::Leave { consumer } => self.leave(*consumer),
+            Event::Permit { consumer, permits } => self.permit(*consumer, *permits),
             Event::Ack { consumer, position } => self.ack(*consumer, *position),
             Event::AckUpTo { consumer, position } => self.ack_up_to(*consumer, *position),
-            Event::Permit { consumer, permits } => self.permit(*consumer, *permits),
             Event::Nack {
                 consumer,
                 position,

@@ -1,46 +1,10 @@
 // Dispatching a message to a consumer, and collecting.
-ghost use Rattle.std.specs.Prelude.{◌≡◌, OnOk, OnErr};
-ghost use Rattle.delivery_machine.specs.Words.{changed, is_member, is_named};
-ghost use Rattle.delivery_machine.specs.Delivering.{given, holding};
-
 use crate::plain::PlainTopic;
 use delivery_machine::{Deliveries, Delivery, Kind, Reply};
-use plain_choices::{next_in_turn, next_of_any_hash};
-use plain_lists::{
-    Member, Subscription, active_at, first_waiting, give_to, has_room, hold_at, member_at,
-    spend_at, subscription_at, take_back_from, take_out_of,
-};
+use plain_lists::{Member, Subscription, member_at, place_of_member, place_of_subscription};
+use plain_queries::{active_at, first_waiting, has_room, next_in_turn, next_of_any_hash};
 use position_core::{Fault, Held, Message, Moment, Position, SubscriptionName};
 use std::alloc::AllocError;
-
-/// Gives a message to the consumer that holds it from now on. Nothing changes where there is no
-/// memory.
-fn hand_over(
-    members: &mut Vec<Member>,
-    subscriptions: &mut Vec<Subscription>,
-    name: &SubscriptionName,
-    position: Position,
-    consumer: u64,
-    held: Held,
-    delivery: Delivery,
-) -> Result<(), AllocError>
-    ensures given { OnOk result (members.new.items ≡ changed (is_member consumer) (given delivery) members.old.items) }
-    ensures held { OnOk result (subscriptions.new.items ≡ changed (is_named name.now) (holding position held) subscriptions.old.items) }
-    ensures members_same { OnErr result (members.new.items ≡ members.old.items) }
-    ensures subscriptions_same { OnErr result (subscriptions.new.items ≡ subscriptions.old.items) }
-{
-    give_to(members, consumer, delivery)?;
-    match hold_at(subscriptions, name, position, held) {
-        Ok(()) => {
-            spend_at(members, consumer);
-            Ok(())
-        }
-        Err(error) => {
-            take_back_from(members, consumer);
-            Err(error)
-        }
-    }
-}
 
 impl PlainTopic {
     ghost use Rattle.std.specs.Prelude.{◌≡◌, IfSome, IfNone, IfOk, IfErr};
@@ -91,12 +55,14 @@ impl PlainTopic {
         }
     }
 
+    #[tactic(auto, using(crate::proofs::Placed::at_its_place))]
     pub(crate) fn dispatch(&mut self, name: &SubscriptionName, now: Moment) -> Reply
         ensures { Answers (state_of self.old) (Dispatch name.now now) result (state_of self.new) }
     {
-        let Some(subscription) = subscription_at(&self.subscriptions, name) else {
+        let Some(place) = place_of_subscription(&self.subscriptions, name) else {
             return Reply::Refused(Fault::NoSuchSubscription);
         };
+        let subscription = &self.subscriptions[place];
         let Some((message, member)) = self.choose(subscription) else {
             return Reply::Idle;
         };
@@ -110,20 +76,20 @@ impl PlainTopic {
         let Ok(message) = message.clone() else {
             return Reply::Refused(Fault::NoMemory);
         };
-        let delivery = Delivery { message, count };
-        if hand_over(
-            &mut self.members,
-            &mut self.subscriptions,
-            name,
-            position,
-            consumer,
-            held,
-            delivery,
-        )
-        .is_err()
+        let Some(seat) = place_of_member(&self.members, consumer) else {
+            unreachable!();
+        };
+        if self.members[seat]
+            .give(Delivery { message, count })
+            .is_err()
         {
             return Reply::Refused(Fault::NoMemory);
         }
+        if self.subscriptions[place].hold(position, held).is_err() {
+            self.members[seat].take_back();
+            return Reply::Refused(Fault::NoMemory);
+        }
+        self.members[seat].spend();
         Reply::Sent {
             consumer,
             position,
@@ -131,13 +97,14 @@ impl PlainTopic {
         }
     }
 
+    #[tactic(auto, using(crate::proofs::Placed::at_its_place))]
     pub(crate) fn collect(&mut self, consumer: u64) -> Reply
         ensures { Answers (state_of self.old) (Collect consumer) result (state_of self.new) }
     {
-        match take_out_of(&mut self.members, self.alloc, consumer) {
-            Some(copies) => Reply::Copies(copies),
-            None => Reply::Refused(Fault::NoSession),
-        }
+        let Some(seat) = place_of_member(&self.members, consumer) else {
+            return Reply::Refused(Fault::NoSession);
+        };
+        Reply::Copies(self.members[seat].take_out(self.alloc))
     }
 
     pub(crate) fn out_of(&self, consumer: u64) -> Result<Deliveries, Fault>

@@ -3,9 +3,8 @@ ghost use Rattle.std.specs.Prelude.{◌≡◌, IfOk};
 
 use crate::plain::PlainTopic;
 use delivery_machine::{DeadLetter, Reply};
-use plain_lists::{
-    Member, Subscription, bury_at, leave_out_at, message_at, move_first_at, subscription_at,
-};
+use plain_lists::{Member, Subscription, leave_out_at, place_of_subscription, subscription_at};
+use plain_queries::message_at;
 use position_core::{Fault, Message, Position, SubscriptionName};
 use std::alloc::AllocError;
 
@@ -34,6 +33,7 @@ impl PlainTopic {
 
     /// The letter's message dies under the topic's next ordinal. Nothing changes where there is no
     /// memory.
+    #[tactic(auto, using(crate::proofs::Placed::at_its_place))]
     pub(crate) fn bury(
         &mut self,
         name: &SubscriptionName,
@@ -44,7 +44,9 @@ impl PlainTopic {
         ensures err { OnErr result (state_of self.new ≡ state_of self.old) }
     {
         let position = letter.position;
-        bury_at(&mut self.subscriptions, name, letter)?;
+        if let Some(place) = place_of_subscription(&self.subscriptions, name) {
+            self.subscriptions[place].bury(letter)?;
+        }
         leave_out_at(&mut self.members, name, &[position]);
         self.next_ordinal += 1;
         Ok(())
@@ -88,11 +90,14 @@ impl PlainTopic {
 
     /// Takes out the first letter that is safe, and acknowledges its message. Nothing changes where
     /// there is no memory.
+    #[tactic(auto, using(crate::proofs::Placed::at_its_place))]
     fn move_first(&mut self, name: &SubscriptionName, position: Position) -> Result<(), AllocError>
         ensures ok { OnOk result (state_of self.new ≡ first_moved (state_of self.old) name.now position) }
         ensures err { OnErr result (state_of self.new ≡ state_of self.old) }
     {
-        move_first_at(&mut self.subscriptions, name)?;
+        if let Some(place) = place_of_subscription(&self.subscriptions, name) {
+            self.subscriptions[place].move_first()?;
+        }
         leave_out_at(&mut self.members, name, &[position]);
         Ok(())
     }

@@ -1,9 +1,8 @@
 // Joining a subscription.
 use crate::plain::PlainTopic;
 use delivery_machine::{Initial, Reply};
-use plain_lists::{
-    Member, Subscription, Terms, count_at, has_kind, join_at, place_for, subscription_at,
-};
+use plain_lists::{Member, Subscription, Terms, place_for, place_of_subscription, subscription_at};
+use plain_queries::{count_at, has_kind};
 use plain_tables::PositionSet;
 use position_core::{Fault, Kind, RedeliverLimit, SubscriptionName, TopicName};
 use std::alloc::AllocError;
@@ -71,6 +70,7 @@ impl PlainTopic {
     }
 
     /// Makes the subscription, or lets the consumer into it. Nothing changes where there is no memory.
+    #[tactic(auto, using(crate::proofs::Placed::at_its_place))]
     fn enter(
         &mut self,
         name: &SubscriptionName,
@@ -82,8 +82,8 @@ impl PlainTopic {
         ensures err { OnErr result (state_of self.new ≡ state_of self.old) }
         ensures room { vec_capacity self.new.members ≡ vec_capacity self.old.members }
     {
-        if subscription_at(&self.subscriptions, name).is_some() {
-            return join_at(&mut self.subscriptions, name, kind, consumer);
+        if let Some(place) = place_of_subscription(&self.subscriptions, name) {
+            return self.subscriptions[place].join(kind, consumer);
         }
         let acknowledged = self.first_acknowledged(initial)?;
         let made = Subscription::new(self.alloc, name.clone()?, kind, consumer, acknowledged)?;

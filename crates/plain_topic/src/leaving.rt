@@ -1,7 +1,7 @@
 // Leaving a subscription.
 use crate::plain::PlainTopic;
 use delivery_machine::Reply;
-use plain_lists::{leave_at, member_at, take_member};
+use plain_lists::{member_at, place_of_subscription, take_member};
 use position_core::Fault;
 
 impl PlainTopic {
@@ -23,6 +23,7 @@ impl PlainTopic {
         }
     }
 
+    #[tactic(auto, using(crate::proofs::Placed::at_its_place))]
     pub(crate) fn leave(&mut self, consumer: u64) -> Reply
         ensures { Answers (state_of self.old) (Leave consumer) result (state_of self.new) }
     {
@@ -30,7 +31,9 @@ impl PlainTopic {
         let Some(member) = take_member(&mut self.members, consumer) else {
             return Reply::Refused(Fault::NoSession);
         };
-        leave_at(&mut self.subscriptions, member.subscription(), consumer);
+        if let Some(place) = place_of_subscription(&self.subscriptions, member.subscription()) {
+            self.subscriptions[place].leave(consumer);
+        }
         self.take_over(member.subscription(), active);
         Reply::Done
     }

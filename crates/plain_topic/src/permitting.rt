@@ -1,8 +1,8 @@
 // Permits for consumers that pull.
 use crate::plain::PlainTopic;
 use delivery_machine::Reply;
-use plain_lists::permit_to;
-use position_core::Permits;
+use plain_lists::place_of_member;
+use position_core::{Fault, Permits};
 
 impl PlainTopic {
     ghost use Rattle.std.specs.Prelude.{◌≡◌};
@@ -10,10 +10,14 @@ impl PlainTopic {
     ghost use Rattle.delivery_machine.specs.declared.event.Event.TheVariants.{Permit};
     ghost use Rattle.plain_topic.specs.StateOf.{state_of};
 
+    #[tactic(auto, using(crate::proofs::Placed::at_its_place))]
     pub(crate) fn permit(&mut self, consumer: u64, permits: Permits) -> Reply
         ensures { Answers (state_of self.old) (Permit consumer permits) result (state_of self.new) }
     {
-        match permit_to(&mut self.members, consumer, permits) {
+        let Some(seat) = place_of_member(&self.members, consumer) else {
+            return Reply::Refused(Fault::NoSession);
+        };
+        match self.members[seat].permit(permits) {
             Ok(()) => Reply::Done,
             Err(fault) => Reply::Refused(fault),
         }

@@ -4,9 +4,10 @@ ghost use Rattle.std.specs.Prelude.{◌≡◌, ◌++◌, IfOk, OnOk, map};
 use crate::plain::PlainTopic;
 use delivery_machine::Reply;
 use plain_lists::{
-    Producer, auto_name, drop_producer, is_connected, last_sequence, least_free, producer_at,
-    store_all, used_in,
+    Producer, auto_name, drop_producer, is_connected, least_free, producer_at, store_all,
+    store_all_to,
 };
+use plain_queries::{last_sequence, used_in};
 use position_core::{Base, Body, Entry, Fault, Message, Moment, Position, ProducerName};
 use std::alloc::{AllocError, Global};
 
@@ -55,7 +56,7 @@ impl PlainTopic {
     ghost use Rattle.delivery_machine.specs.Words.{last_sequence, next_position};
     ghost use Rattle.delivery_machine.specs.Refusals.{adding_refused, is_busy, is_full};
     ghost use Rattle.delivery_machine.specs.Producing.{IsGiven, IsLeastFree, with_producer};
-    ghost use Rattle.delivery_machine.specs.declared.event.Event.TheVariants.{AddProducer, DropProducer, Progress, Publish, Stored};
+    ghost use Rattle.delivery_machine.specs.declared.event.Event.TheVariants.{AddProducer, DropProducer, Progress, Publish, Stored, StoredTo};
     ghost use Rattle.plain_topic.specs.StateOf.{state_of};
     ghost use Rattle.plain_topic.specs.Names.{names_used};
 
@@ -220,6 +221,15 @@ impl PlainTopic {
     {
         self.durable = self.log.len();
         store_all(&mut self.subscriptions);
+        Reply::Durable(self.durable as u64)
+    }
+
+    pub(crate) fn stored_to(&mut self, length: u64, ordinal: u64) -> Reply
+        ensures { Answers (state_of self.old) (StoredTo length ordinal) result (state_of self.new) }
+    {
+        let kept = length.min(self.log.len() as u64) as usize;
+        self.durable = self.durable.max(kept);
+        store_all_to(&mut self.subscriptions, ordinal);
         Reply::Durable(self.durable as u64)
     }
 

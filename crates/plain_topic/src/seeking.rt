@@ -1,8 +1,8 @@
 // Where a subscription goes on from: seeking and skipping. Dropping it.
 use crate::plain::PlainTopic;
 use delivery_machine::{Reply, Target};
-use plain_choices::{first_live, place_of, place_of_time};
-use plain_lists::{count_at, drop_subscription, empty_at, seek_at, subscription_at};
+use plain_lists::{drop_subscription, empty_at, place_of_subscription, subscription_at};
+use plain_queries::{count_at, first_live, place_of, place_of_time};
 use position_core::{Fault, Moment, SkipLength, SubscriptionName};
 use std::alloc::AllocError;
 
@@ -45,13 +45,16 @@ impl PlainTopic {
     }
 
     /// Lets the subscription go on after the first messages. Nothing changes where there is no memory.
+    #[tactic(auto, using(crate::proofs::Placed::at_its_place))]
     fn go_on_after(&mut self, name: &SubscriptionName, count: usize) -> Result<(), AllocError>
         requires { count ≤ length (state_of self.old).log }
         ensures ok { OnOk result (state_of self.new ≡ sought (state_of self.old) name.now count) }
         ensures err { OnErr result (state_of self.new ≡ state_of self.old) }
     {
-        let before = &self.log[..count];
-        seek_at(&mut self.subscriptions, self.alloc, name, before)?;
+        if let Some(place) = place_of_subscription(&self.subscriptions, name) {
+            let before = &self.log[..count];
+            self.subscriptions[place].seek(self.alloc, before)?;
+        }
         empty_at(&mut self.members, name);
         Ok(())
     }

@@ -1,8 +1,8 @@
 // How far a subscription is.
 use crate::plain::PlainTopic;
 use delivery_machine::Reply;
-use plain_choices::{mark_delete, number_acknowledged, number_live, number_pending};
-use plain_lists::{count_at, subscription_at};
+use plain_lists::subscription_at;
+use plain_queries::{count_at, mark_delete, number_acknowledged, number_live, number_pending};
 use position_core::{Fault, SubscriptionName};
 
 impl PlainTopic {

@@ -1,6 +1,7 @@
 // Which member of a Failover is active, and what happens when another one is.
 use crate::plain::PlainTopic;
-use plain_lists::{active_at, empty_at, has_kind, release_all_at};
+use plain_lists::{empty_at, place_of_subscription};
+use plain_queries::{active_at, has_kind};
 use position_core::{Kind, SubscriptionName};
 
 impl PlainTopic {
@@ -23,11 +24,14 @@ impl PlainTopic {
     }
 
     /// Releases everything that is pending where another member is active than before.
+    #[tactic(auto, using(crate::proofs::Placed::at_its_place))]
     pub(crate) fn take_over(&mut self, name: &SubscriptionName, before: Option<u64>)
         ensures { state_of self.new ≡ taken_over name.now before (state_of self.old) }
     {
         if self.is_taken_over(name, before) {
-            release_all_at(&mut self.subscriptions, name);
+            if let Some(place) = place_of_subscription(&self.subscriptions, name) {
+                self.subscriptions[place].release_all();
+            }
             empty_at(&mut self.members, name);
         }
     }

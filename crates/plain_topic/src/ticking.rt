@@ -2,8 +2,8 @@
 use crate::dying::letter_of;
 use crate::plain::PlainTopic;
 use delivery_machine::Reply;
-use plain_choices::{dying_at, first_due, pending_positions};
-use plain_lists::{leave_out_at, member_at, redeliver_at, set_due_at, subscription_at};
+use plain_lists::{leave_out_at, member_at, place_of_subscription, subscription_at};
+use plain_queries::{dying_at, first_due, pending_positions};
 use position_core::{Fault, Moment, Position, SubscriptionName};
 use std::alloc::AllocError;
 
@@ -14,6 +14,7 @@ impl PlainTopic {
     ghost use Rattle.delivery_machine.specs.declared.event.Event.TheVariants.{Nack, Tick};
     ghost use Rattle.plain_topic.specs.StateOf.{state_of};
 
+    #[tactic(auto, using(crate::proofs::Placed::at_its_place))]
     pub(crate) fn nack(&mut self, consumer: u64, position: Position, now: Moment) -> Reply
         ensures { Answers (state_of self.old) (Nack consumer position now) result (state_of self.new) }
     {
@@ -21,8 +22,10 @@ impl PlainTopic {
             return Reply::Refused(Fault::NoSession);
         };
         let due = now.millis() + u64::from(member.nack_delay().get());
-        let name = member.subscription();
-        if set_due_at(&mut self.subscriptions, name, consumer, position, due) {
+        let Some(place) = place_of_subscription(&self.subscriptions, member.subscription()) else {
+            return Reply::Refused(Fault::NotPending);
+        };
+        if self.subscriptions[place].set_due(consumer, position, due) {
             Reply::Done
         } else {
             Reply::Refused(Fault::NotPending)
@@ -31,6 +34,7 @@ impl PlainTopic {
 
     /// Counts the messages once more and lets them wait again. Nothing changes where there is no
     /// memory.
+    #[tactic(auto, using(crate::proofs::Placed::at_its_place))]
     fn redeliver(
         &mut self,
         name: &SubscriptionName,
@@ -39,7 +43,9 @@ impl PlainTopic {
         ensures ok { OnOk result (state_of self.new ≡ redelivered (state_of self.old) name.now positions.now) }
         ensures err { OnErr result (state_of self.new ≡ state_of self.old) }
     {
-        redeliver_at(&mut self.subscriptions, self.alloc, name, positions)?;
+        if let Some(place) = place_of_subscription(&self.subscriptions, name) {
+            self.subscriptions[place].redeliver(self.alloc, positions)?;
+        }
         leave_out_at(&mut self.members, name, positions);
         Ok(())
     }

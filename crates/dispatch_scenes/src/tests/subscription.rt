@@ -5,7 +5,7 @@ ghost use Rattle.delivery_machine.specs.declared.event.Initial.TheVariants.{Earl
 
 use super::message::position_at;
 use crate::ListView;
-use plain_lists::{Subscription, acknowledge_at, hold_at, join_at, leave_at};
+use plain_lists::Subscription;
 use plain_tables::PositionSet;
 use position_core::{Held, Kind, Name};
 use std::alloc::Global;
@@ -32,7 +32,7 @@ impl Only {
     {
         let acknowledged = PositionSet::new(alloc);
         let subscription = Subscription::new(alloc, name(alloc)?, kind, 1, acknowledged)?;
-        Only { subscription }.without(alloc, 1)
+        Ok(Only { subscription }.without(1))
     }
 
     /// Seen without messages and members.
@@ -49,51 +49,43 @@ impl Only {
     }
 
     /// With a further consumer.
-    pub(super) fn with(self, alloc: Global, consumer: u64) -> Result<Self, Fail>
+    pub(super) fn with(self, consumer: u64) -> Result<Self, Fail>
         ensures { IfOk result (λ only. only.subscription ≡ joining self.subscription.kind consumer self.subscription) }
     {
-        let Only { subscription } = self;
+        let Only { mut subscription } = self;
         let kind = subscription.kind();
-        let mut subscriptions = vec![in alloc; subscription]?;
-        join_at(&mut subscriptions, &name(alloc)?, kind, consumer)?;
-        let subscription = subscriptions.pop().ok_or("no subscription")?;
+        subscription.join(kind, consumer)?;
         Ok(Only { subscription })
     }
 
     /// Without the consumer, whose messages wait again.
-    pub(super) fn without(self, alloc: Global, consumer: u64) -> Result<Self, Fail>
-        ensures { IfOk result (λ only. only.subscription ≡ leaving consumer self.subscription) }
+    pub(super) fn without(self, consumer: u64) -> Self
+        ensures { result.subscription ≡ leaving consumer self.subscription }
     {
-        let Only { subscription } = self;
-        let mut subscriptions = vec![in alloc; subscription]?;
-        leave_at(&mut subscriptions, &name(alloc)?, consumer);
-        let subscription = subscriptions.pop().ok_or("no subscription")?;
-        Ok(Only { subscription })
+        let Only { mut subscription } = self;
+        subscription.leave(consumer);
+        Only { subscription }
     }
 
     /// With the message pending at the consumer.
-    pub(super) fn holding(self, alloc: Global, place: u64, consumer: u64) -> Result<Self, Fail>
+    pub(super) fn holding(self, place: u64, consumer: u64) -> Result<Self, Fail>
         ensures { IfOk result (λ only. (only.subscription.kind ≡ self.subscription.kind) × (only.subscription.shares ≡ self.subscription.shares)) }
     {
-        let Only { subscription } = self;
+        let Only { mut subscription } = self;
         let held = Held {
             consumer,
             due: None,
         };
-        let mut subscriptions = vec![in alloc; subscription]?;
-        hold_at(&mut subscriptions, &name(alloc)?, position_at(place), held)?;
-        let subscription = subscriptions.pop().ok_or("no subscription")?;
+        subscription.hold(position_at(place), held)?;
         Ok(Only { subscription })
     }
 
     /// With the message acknowledged.
-    pub(super) fn acknowledging(self, alloc: Global, place: u64) -> Result<Self, Fail>
+    pub(super) fn acknowledging(self, place: u64) -> Result<Self, Fail>
         ensures { IfOk result (λ only. (only.subscription.kind ≡ self.subscription.kind) × (only.subscription.shares ≡ self.subscription.shares)) }
     {
-        let Only { subscription } = self;
-        let mut subscriptions = vec![in alloc; subscription]?;
-        acknowledge_at(&mut subscriptions, &name(alloc)?, &[position_at(place)])?;
-        let subscription = subscriptions.pop().ok_or("no subscription")?;
+        let Only { mut subscription } = self;
+        subscription.acknowledge(&[position_at(place)])?;
         Ok(Only { subscription })
     }
 }

@@ -8,7 +8,7 @@ use super::scene::{Change, Scene};
 use super::subscription::Only;
 use crate::ListView;
 use dispatch_core::Offer;
-use plain_lists::{Member, permit_to, spend_at, take_member};
+use plain_lists::{Member, place_of_member, take_member};
 use position_core::{Kind, Message, Permits};
 use std::alloc::Global;
 use std::test::Fail;
@@ -54,7 +54,7 @@ impl Topic {
     {
         let mut members = self.members;
         members.push(new_member(alloc, consumer, 0, Takes::Pushed(window))?)?;
-        let only = self.only.with(alloc, consumer)?;
+        let only = self.only.with(consumer)?;
         Ok(Topic {
             members,
             only,
@@ -62,34 +62,35 @@ impl Topic {
         })
     }
 
-    pub(super) fn leave(self, alloc: Global, consumer: u64) -> Result<Self, Fail>
-        ensures { IfOk result (λ topic. topic.only.subscription ≡ leaving consumer self.only.subscription) }
+    pub(super) fn leave(self, consumer: u64) -> Self
+        ensures { result.only.subscription ≡ leaving consumer self.only.subscription }
     {
         let mut members = self.members;
         let _ = take_member(&mut members, consumer);
-        let only = self.only.without(alloc, consumer)?;
-        Ok(Topic {
+        let only = self.only.without(consumer);
+        Topic {
             members,
             only,
             ..self
-        })
+        }
     }
 
-    pub(super) fn hold(self, alloc: Global, place: u64, consumer: u64) -> Result<Self, Fail>
+    pub(super) fn hold(self, place: u64, consumer: u64) -> Result<Self, Fail>
         ensures { IfOk result (λ topic. (topic.only.subscription.kind ≡ self.only.subscription.kind) × (topic.only.subscription.shares ≡ self.only.subscription.shares)) }
     {
-        let only = self.only.holding(alloc, place, consumer)?;
+        let only = self.only.holding(place, consumer)?;
         Ok(Topic { only, ..self })
     }
 
     /// The message is pending at the consumer, which may be sent one message less.
-    pub(super) fn send(self, alloc: Global, offer: Option<Offer>) -> Result<Self, Fail>
+    pub(super) fn send(self, offer: Option<Offer>) -> Result<Self, Fail>
         ensures { IfOk result (λ topic. (topic.only.subscription.kind ≡ self.only.subscription.kind) × (topic.only.subscription.shares ≡ self.only.subscription.shares)) }
     {
         let Offer { index, consumer } = offer.ok_or("nothing is offered")?;
         let mut members = self.members;
-        spend_at(&mut members, consumer);
-        let only = self.only.holding(alloc, index, consumer)?;
+        let place = place_of_member(&members, consumer).ok_or("no member")?;
+        members[place].spend();
+        let only = self.only.holding(index, consumer)?;
         Ok(Topic {
             members,
             only,
@@ -97,10 +98,10 @@ impl Topic {
         })
     }
 
-    pub(super) fn acknowledge(self, alloc: Global, place: u64) -> Result<Self, Fail>
+    pub(super) fn acknowledge(self, place: u64) -> Result<Self, Fail>
         ensures { IfOk result (λ topic. (topic.only.subscription.kind ≡ self.only.subscription.kind) × (topic.only.subscription.shares ≡ self.only.subscription.shares)) }
     {
-        let only = self.only.acknowledging(alloc, place)?;
+        let only = self.only.acknowledging(place)?;
         Ok(Topic { only, ..self })
     }
 
@@ -109,7 +110,8 @@ impl Topic {
     {
         let mut members = self.members;
         let permits = Permits::new(number).ok_or("no permits")?;
-        permit_to(&mut members, consumer, permits)?;
+        let place = place_of_member(&members, consumer).ok_or("no member")?;
+        members[place].permit(permits)?;
         Ok(Topic { members, ..self })
     }
 
@@ -122,10 +124,10 @@ impl Topic {
         match change {
             Change::Begun => Ok(self),
             Change::Joined(consumer, window) => self.join(alloc, consumer, window),
-            Change::Left(consumer) => self.leave(alloc, consumer),
-            Change::Sent | Change::SentUntold => self.send(alloc, offer),
-            Change::Held(place, consumer) => self.hold(alloc, place, consumer),
-            Change::Acknowledged(place) => self.acknowledge(alloc, place),
+            Change::Left(consumer) => Ok(self.leave(consumer)),
+            Change::Sent | Change::SentUntold => self.send(offer),
+            Change::Held(place, consumer) => self.hold(place, consumer),
+            Change::Acknowledged(place) => self.acknowledge(place),
             Change::Permitted(consumer, number) => self.permit(consumer, number),
         }
     }

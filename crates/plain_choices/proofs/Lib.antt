@@ -1,4 +1,0 @@
-pub mod Turns
-pub mod Hashes
-mod Marks
-mod Lives

@@ -1,0 +1,5 @@
+pub mod Raised
+pub mod Members
+pub mod Due
+pub mod Turn
+pub mod Keyed

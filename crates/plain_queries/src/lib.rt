@@ -1,0 +1,22 @@
+//! What is asked of the lists of the plain topic: what is found, chosen and counted among them.
+#![tactic(auto)]
+
+mod due;
+mod dying;
+mod keyed;
+mod kinds;
+mod log;
+mod members;
+mod places;
+mod statistics;
+mod turn;
+
+pub use due::{first_due, pending_positions};
+pub use dying::dying_at;
+pub use keyed::next_of_any_hash;
+pub use kinds::{has_kind, is_in_order_at};
+pub use log::{first_waiting, has_room, last_sequence, message_at, used_in};
+pub use members::{active_at, count_at};
+pub use places::{first_live, place_of, place_of_time};
+pub use statistics::{mark_delete, number_acknowledged, number_live, number_pending};
+pub use turn::next_in_turn;

@@ -1,0 +1,94 @@
+// What is found by looking through the log.
+ghost use Rattle.std.specs.Prelude.{◌≡◌, ◌==◌};
+ghost use Rattle.std.specs.List.{count_by, find};
+ghost use Rattle.std.specs.Option.{option_copied};
+ghost use Rattle.position_core.specs.Flow.{flow_has_room};
+ghost use Rattle.delivery_machine.specs.Words.{has_position, has_room_in, is_by, is_waiting, last_sequence, pending_in};
+ghost use Rattle.plain_queries.specs.Raised.{raised};
+
+use plain_lists::{Member, Subscription};
+use position_core::{Flow, Message, Position, ProducerName};
+
+fn is_by(message: &Message, name: &ProducerName) -> bool
+    ensures { result ≡ is_by name.now message.now }
+{
+    message.entry().producer.is(name)
+}
+
+fn raised(greatest: Option<i64>, number: i64) -> i64
+    ensures { result ≡ raised greatest number }
+{
+    match greatest {
+        Some(greatest) => greatest.max(number),
+        None => number,
+    }
+}
+
+/// The greatest sequence number of the producer's messages, or the base where there are none.
+pub fn last_sequence(log: &[Message], name: &ProducerName, base: i64) -> i64
+    ensures { result ≡ last_sequence log.now name.now base }
+{
+    let mut last = None;
+    for message in log {
+        if is_by(message, name) {
+            last = Some(raised(last, message.entry().sequence));
+        }
+    }
+    match last {
+        Some(number) => number,
+        None => base,
+    }
+}
+
+/// How many messages of the log are of the ledger.
+pub fn used_in(log: &[Message], ledger: u64) -> usize
+    ensures { result ≡ count_by (λ e. e.position.ledger == ledger) log.now }
+{
+    log.iter()
+        .filter(|message| message.position().ledger == ledger)
+        .count()
+}
+
+/// The message at the position.
+pub fn message_at(log: &[Message], position: Position) -> Option<&Message>
+    ensures { option_copied result ≡ find (has_position position) log.now }
+{
+    log.iter().find(|message| message.position().is(position))
+}
+
+/// The first message that waits in the subscription.
+pub fn first_waiting<'a>(visible: &'a [Message], subscription: &Subscription) -> Option<&'a Message>
+    ensures { option_copied result ≡ find (is_waiting subscription.now) visible.now }
+{
+    visible
+        .iter()
+        .find(|message| subscription.is_waiting(message))
+}
+
+/// How many messages are pending at the consumer.
+pub fn pending_at(log: &[Message], subscription: &Subscription, consumer: u64) -> usize
+    ensures { result ≡ pending_in log.now subscription.now consumer }
+{
+    log.iter()
+        .filter(|message| subscription.holds_at(consumer, message))
+        .count()
+}
+
+fn flow_has_room(flow: Flow, held: usize) -> bool
+    ensures { result ≡ flow_has_room flow held }
+{
+    match flow {
+        Flow::Window(size) => held < size.get() as usize,
+        Flow::Credit(left) => left.get() > 0,
+    }
+}
+
+/// Whether the member may be sent a further message.
+pub fn has_room(log: &[Message], subscription: &Subscription, member: &Member) -> bool
+    ensures { result ≡ has_room_in log.now subscription.now member.now }
+{
+    flow_has_room(
+        member.flow(),
+        pending_at(log, subscription, member.number()),
+    )
+}
