@@ -43,31 +43,31 @@ impl KeyedStage {
         Ok(KeyedStage { topic, dispatcher })
     }
 
-    fn leave(self, alloc: Global, consumer: u64) -> Result<Self, Fail> {
+    fn leave(self, consumer: u64) -> Self {
         let KeyedStage {
             topic,
             mut dispatcher,
         } = self;
-        let topic = topic.leave(alloc, consumer)?;
+        let topic = topic.leave(consumer);
         dispatcher.on_leave(&topic.view(), consumer);
+        KeyedStage { topic, dispatcher }
+    }
+
+    fn send(self, offer: Option<Offer>) -> Result<Self, Fail> {
+        let KeyedStage { topic, dispatcher } = self;
+        let topic = topic.send(offer)?;
         Ok(KeyedStage { topic, dispatcher })
     }
 
-    fn send(self, alloc: Global, offer: Option<Offer>) -> Result<Self, Fail> {
+    fn hold(self, place: u64, consumer: u64) -> Result<Self, Fail> {
         let KeyedStage { topic, dispatcher } = self;
-        let topic = topic.send(alloc, offer)?;
+        let topic = topic.hold(place, consumer)?;
         Ok(KeyedStage { topic, dispatcher })
     }
 
-    fn hold(self, alloc: Global, place: u64, consumer: u64) -> Result<Self, Fail> {
+    fn acknowledge(self, place: u64) -> Result<Self, Fail> {
         let KeyedStage { topic, dispatcher } = self;
-        let topic = topic.hold(alloc, place, consumer)?;
-        Ok(KeyedStage { topic, dispatcher })
-    }
-
-    fn acknowledge(self, alloc: Global, place: u64) -> Result<Self, Fail> {
-        let KeyedStage { topic, dispatcher } = self;
-        let topic = topic.acknowledge(alloc, place)?;
+        let topic = topic.acknowledge(place)?;
         Ok(KeyedStage { topic, dispatcher })
     }
 
@@ -88,10 +88,10 @@ impl Stage for KeyedStage {
         match change {
             Change::Begun => Ok(self),
             Change::Joined(consumer, window) => self.join(alloc, consumer, window),
-            Change::Left(consumer) => self.leave(alloc, consumer),
-            Change::Sent | Change::SentUntold => self.send(alloc, offer),
-            Change::Held(place, consumer) => self.hold(alloc, place, consumer),
-            Change::Acknowledged(place) => self.acknowledge(alloc, place),
+            Change::Left(consumer) => Ok(self.leave(consumer)),
+            Change::Sent | Change::SentUntold => self.send(offer),
+            Change::Held(place, consumer) => self.hold(place, consumer),
+            Change::Acknowledged(place) => self.acknowledge(place),
             Change::Permitted(consumer, number) => self.permit(consumer, number),
         }
     }

@@ -54,7 +54,7 @@ fn expect_law<D: Dispatcher + Drop>(rt: &impl Abort, alloc: Global, kind: Kind) 
 {
     let log = new_log(alloc, [None; 3])?;
     let before = Only::new(alloc, kind)?;
-    let after = Only::new(alloc, kind)?.with(alloc, 1)?;
+    let after = Only::new(alloc, kind)?.with(1)?;
     let members = [new_member(alloc, 1, 0, Takes::Pushed(10))?];
     let empty = ListView {
         log: log.as_slice(),

@@ -22,7 +22,7 @@ fn expect_scene<V: View>(rt: &impl Abort, view: &V) {
 fn a_view_shows_its_lists(rt: HostRuntime) -> Result<(), Fail> {
     let alloc = rt.alloc();
     let log = new_log(alloc, [None, Some("k"), None])?;
-    let Only { subscription } = Only::new(alloc, Kind::Failover)?.holding(alloc, 1, 4)?;
+    let Only { subscription } = Only::new(alloc, Kind::Failover)?.holding(1, 4)?;
     let view = ListView {
         log: log.as_slice(),
         durable: 2,
