@@ -2,25 +2,25 @@
 use Rattle.std.specs.Prelude.{◌≡◌, ℕ, ◌-◌, ◌==◌, nat_lt, List, [], ◌∷◌, ◌++◌, length, drop, Bool, false, Option, None, if◌then◌else◌}
 use Rattle.std.specs.List.{slice_get}
 use Rattle.std.specs.Option.{option_map_or}
-use Rattle.delivery_machine.specs.State.{Dead, Subscription}
+use Rattle.delivery_machine.specs.State.{DeadLetter, Subscription}
 
 -- in the order of dying; the first `safe` of them are stored
 pub record Letters : Type 0 where
-  pub dead : List Dead
+  pub dead : List DeadLetter
   pub safe : ℕ
 
 abbrev pub none_dead : Letters
 none_dead = record { dead = []; safe = 0 }
 
 -- a further one, not yet safe
-abbrev pub ending_with : Dead → Letters → Letters
+abbrev pub ending_with : DeadLetter → Letters → Letters
 ending_with letter q = record { dead = q.dead ++ letter ∷ []; safe = q.safe }
 
 abbrev pub all_safe : Letters → Letters
 all_safe q = record { dead = q.dead; safe = length q.dead }
 
 -- the first one, where it is safe
-abbrev pub next_safe : Letters → Option Dead
+abbrev pub next_safe : Letters → Option DeadLetter
 next_safe q = if nat_lt 0 q.safe then slice_get q.dead 0 else None
 
 -- the first one is safe, and of this ordinal

@@ -12,7 +12,7 @@ use Rattle.position_core.specs.declared.held.Held.{Held}
 use Rattle.position_core.specs.declared.block.Block.{Block}
 use Rattle.position_core.specs.declared.kind.Kind.{Kind}
 use Rattle.position_core.specs.Position.{position_cmp, same_position, positions_total}
-use Rattle.delivery_machine.specs.State.{Subscription, Dead}
+use Rattle.delivery_machine.specs.State.{Subscription, DeadLetter}
 use Rattle.delivery_machine.specs.Words.{is_dead, is_held_by}
 use Rattle.delivery_machine.specs.Joining.{new_subscription, releasing_all, leaving}
 use Rattle.delivery_machine.specs.Acknowledging.{acknowledging, is_one_of}
@@ -28,7 +28,7 @@ use Rattle.delivery_machine.proofs.Tended.{got_inserted}
 use Rattle.delivery_machine.proofs.Tending.{got_retained, none_pending}
 use Rattle.delivery_machine.proofs.Messages.{either_way, message_taken, one_listed, one_of_itself}
 use Rattle.delivery_machine.proofs.Letters.{none_dead, dead_in_more, dead_pushed, dead_dropped}
-use Rattle.delivery_machine.proofs.Orderly.{held_retained}
+use Rattle.delivery_machine.proofs.InOrder.{held_retained}
 use Rattle.delivery_machine.proofs.Taking.{first_letter}
 
 -- neither acknowledged nor dead
@@ -176,7 +176,7 @@ module _ (log : List Entry) (durable : ℕ) where
   -- ---- sought
 
   -- where nothing is pending or counted
-  pub formed_begun : (name : List ℕ) (kind : Kind) (acknowledged : set.FinSet position_cmp) (shares : List Block) (dead : List Dead) (safe : ℕ) → AreMessagesOf log acknowledged → AreDeadLettersOf log dead → safe ≤ length dead
+  pub formed_begun : (name : List ℕ) (kind : Kind) (acknowledged : set.FinSet position_cmp) (shares : List Block) (dead : List DeadLetter) (safe : ℕ) → AreMessagesOf log acknowledged → AreDeadLettersOf log dead → safe ≤ length dead
       → IsFormed log durable (record { name = name; kind = kind; acknowledged = acknowledged; pending = map_of.empty; counts = map_of.empty; shares = shares; dead = dead; safe = safe })
   formed_begun name kind acknowledged shares dead safe there letters low = record {
     acknowledged = there;
@@ -200,7 +200,7 @@ module _ (log : List Entry) (durable : ℕ) where
 
   -- ---- dead
 
-  pub formed_burying : (letter : Dead) (h : Held) (sub : Subscription) → map_of.get sub.pending letter.position ≡ Some h → AllByRecursion (λ (d : Dead). d.ordinal < letter.ordinal) sub.dead → IsFormed log durable sub → IsFormed log durable (burying letter sub)
+  pub formed_burying : (letter : DeadLetter) (h : Held) (sub : Subscription) → map_of.get sub.pending letter.position ≡ Some h → AllByRecursion (λ (d : DeadLetter). d.ordinal < letter.ordinal) sub.dead → IsFormed log durable sub → IsFormed log durable (burying letter sub)
   formed_burying letter held sub there below formed = record {
     acknowledged = formed.acknowledged;
     visible = λ p h is. formed.visible p h (got_retained sub.pending keeps p h is).1;
@@ -216,7 +216,7 @@ module _ (log : List Entry) (durable : ℕ) where
       keeps : Position → Bool
       keeps p = not (is_one_of (letter.position ∷ []) p)
 
-      more : (ds : List Dead) → length (ds ++ letter ∷ []) ≡ length ds + 1
+      more : (ds : List DeadLetter) → length (ds ++ letter ∷ []) ≡ length ds + 1
       more [] = refl
       more (d ∷ ds) = let rest = more ds in omega (arith, rest)
 
@@ -227,13 +227,13 @@ module _ (log : List Entry) (durable : ℕ) where
           by true e = absurd (true≢false (sym e))
           by false e = refl
 
-      last : (ds : List Dead) (p : Position) → list_any (λ d. same_position d.position p) ds ≡ false → same_position letter.position p ≡ false → list_any (λ d. same_position d.position p) (ds ++ letter ∷ []) ≡ false
+      last : (ds : List DeadLetter) (p : Position) → list_any (λ d. same_position d.position p) ds ≡ false → same_position letter.position p ≡ false → list_any (λ d. same_position d.position p) (ds ++ letter ∷ []) ≡ false
       last [] p none new = ap (λ b. b || false) new
       last (d ∷ ds) p none new =
           let both = or_false (same_position d.position p) (list_any (λ d. same_position d.position p) ds) none in
           ap (λ b. b || list_any (λ d. same_position d.position p) (ds ++ letter ∷ [])) both.0 ∙ last ds p both.1 new
 
-  pub formed_moving : (letter : Dead) (sub : Subscription) → first_safe sub ≡ Some letter → IsFormed log durable sub → IsFormed log durable (moving letter sub)
+  pub formed_moving : (letter : DeadLetter) (sub : Subscription) → first_safe sub ≡ Some letter → IsFormed log durable sub → IsFormed log durable (moving letter sub)
   formed_moving letter sub first formed =
       let done = formed_acknowledging (letter.position ∷ []) sub in_log formed in
       record {
@@ -245,18 +245,18 @@ module _ (log : List Entry) (durable : ℕ) where
         safe = fewer sub.dead sub.safe formed.safe;
       }
     where
-      rest : (rest : List Dead) × (sub.dead ≡ letter ∷ rest)
+      rest : (rest : List DeadLetter) × (sub.dead ≡ letter ∷ rest)
       rest = first_letter sub letter first
 
       in_log : (p : Position) → is_one_of (letter.position ∷ []) p ≡ true → has_message log p ≡ true
       in_log p one =
           subst (λ (q : Position). has_message log q ≡ true) (one_of_itself letter.position p one)
-          (All-head (λ (d : Dead). has_message log d.position ≡ true) letter rest.0 (subst (λ (ds : List Dead). All (λ (d : Dead). has_message log d.position ≡ true) ds) rest.1 formed.dead.messages))
+          (All-head (λ (d : DeadLetter). has_message log d.position ≡ true) letter rest.0 (subst (λ (ds : List DeadLetter). All (λ (d : DeadLetter). has_message log d.position ≡ true) ds) rest.1 formed.dead.messages))
 
-      later : (ds : List Dead) (p : Position) → list_any (λ (d : Dead). same_position d.position p) ds ≡ false → list_any (λ (d : Dead). same_position d.position p) (drop 1 ds) ≡ false
+      later : (ds : List DeadLetter) (p : Position) → list_any (λ (d : DeadLetter). same_position d.position p) ds ≡ false → list_any (λ (d : DeadLetter). same_position d.position p) (drop 1 ds) ≡ false
       later [] p none = refl
-      later (d ∷ ds) p none = (or_false (same_position d.position p) (list_any (λ (d : Dead). same_position d.position p) ds) none).1
+      later (d ∷ ds) p none = (or_false (same_position d.position p) (list_any (λ (d : DeadLetter). same_position d.position p) ds) none).1
 
-      fewer : (ds : List Dead) (safe : ℕ) → safe ≤ length ds → safe - 1 ≤ length (drop 1 ds)
+      fewer : (ds : List DeadLetter) (safe : ℕ) → safe ≤ length ds → safe - 1 ≤ length (drop 1 ds)
       fewer [] safe low = omega arith
       fewer (d ∷ ds) safe low = omega arith

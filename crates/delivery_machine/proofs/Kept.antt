@@ -20,7 +20,7 @@ use Rattle.delivery_machine.specs.Words.{changed, removed, is_named, is_at, is_m
 use Rattle.delivery_machine.specs.Refusals.{is_full, subscribing_refused, nacking_refused}
 use Rattle.delivery_machine.specs.Producing.{with_message, storing, stored, storing_below, stored_to}
 use Rattle.delivery_machine.specs.Joining.{releasing_all, all_released, is_taken_over, taken_over, joining, new_subscription, placed, with_member, leaving, without_member}
-use Rattle.delivery_machine.specs.Acknowledging.{acknowledging, acknowledged, forgetting, without, is_one_of}
+use Rattle.delivery_machine.specs.Acknowledging.{acknowledging, with_acknowledged, forgetting, without, is_one_of}
 use Rattle.delivery_machine.specs.Delivering.{holding, given, sent, due_after}
 use Rattle.delivery_machine.specs.Ticking.{redelivering, redelivered}
 use Rattle.delivery_machine.specs.Seeking.{seeking, sought}
@@ -75,7 +75,7 @@ kept_taking s name f g name_stays kind_stays part same kept = record {
   tended = tended_taken s.log s.members (map g s.members) name f s.subscriptions name_stays kind_stays (λ sub _. part sub) (seats_mapped g same s.members) kept.tended;
 }
 
-pub kept_acknowledged : (s : State) (name : List ℕ) (positions : List Position) → IsKept s → IsKept (acknowledged s name positions)
+pub kept_acknowledged : (s : State) (name : List ℕ) (positions : List Position) → IsKept s → IsKept (with_acknowledged s name positions)
 kept_acknowledged s name positions kept =
     kept_taking s name (acknowledging positions) (forgetting name positions) (λ _. refl) (λ _. refl)
     (λ sub. part_retained sub.pending (λ p. not (is_one_of positions p))) (forgotten_seats name positions) kept
@@ -92,7 +92,7 @@ kept_died s name position m kept =
     (λ sub. part_retained sub.pending (λ p. not (is_one_of (position ∷ []) p))) (forgotten_seats name (position ∷ [])) kept in
     record { rising = taken.rising; tended = taken.tended }
 
-pub kept_moved : (s : State) (name : List ℕ) (letter : state.Dead) → IsKept s → IsKept (moved s name letter)
+pub kept_moved : (s : State) (name : List ℕ) (letter : state.DeadLetter) → IsKept s → IsKept (moved s name letter)
 kept_moved s name letter kept =
     kept_taking s name (moving letter) (forgetting name (letter.position ∷ [])) (λ _. refl) (λ _. refl)
     (λ sub. part_retained sub.pending (λ p. not (is_one_of (letter.position ∷ []) p))) (forgotten_seats name (letter.position ∷ [])) kept

@@ -12,16 +12,16 @@ use Rattle.std.proofs.lemmas.Map.Keys.{IsDistinct-push, IsDistinct-tail, sorted_
 use Rattle.position_core.specs.declared.position.Position.{Position}
 use Rattle.position_core.specs.declared.message.Entry.{Entry}
 use Rattle.position_core.specs.Position.{same_position, positions_total}
-use Rattle.delivery_machine.specs.State.{Dead}
+use Rattle.delivery_machine.specs.State.{DeadLetter}
 use Rattle.delivery_machine.specs.WellFormed.{has_message, AreDeadLettersOf}
 use Rattle.delivery_machine.proofs.Rising.{sorted_push}
 use Rattle.delivery_machine.proofs.Messages.{either_way}
 
-abbrev pub ordinals : List Dead → List ℕ
+abbrev pub ordinals : List DeadLetter → List ℕ
 ordinals dead = map (λ d. d.ordinal) dead
 
 -- where the log has more
-pub dead_in_more : (log more : List Entry) (dead : List Dead) → ((p : Position) → has_message log p ≡ true → has_message more p ≡ true) → AreDeadLettersOf log dead → AreDeadLettersOf more dead
+pub dead_in_more : (log more : List Entry) (dead : List DeadLetter) → ((p : Position) → has_message log p ≡ true → has_message more p ≡ true) → AreDeadLettersOf log dead → AreDeadLettersOf more dead
 dead_in_more log more dead grows all = record {
   messages = All-weaker (λ d. has_message log d.position ≡ true) (λ d. has_message more d.position ≡ true) (λ d there. grows d.position there) dead all.messages;
   once = all.once;
@@ -33,32 +33,32 @@ unfolding IsDistinct
 none_dead log = record { messages = All-nil (λ d. has_message log d.position ≡ true); once = tt; ordinals = λ k low. absurd (omega arith) }
 
 -- where one more dies that was not dead, under an ordinal above those of the others
-pub dead_pushed : (log : List Entry) (dead : List Dead) (letter : Dead) → has_message log letter.position ≡ true → list_any (λ d. same_position d.position letter.position) dead ≡ false → AllByRecursion (λ d. d.ordinal < letter.ordinal) dead
+pub dead_pushed : (log : List Entry) (dead : List DeadLetter) (letter : DeadLetter) → has_message log letter.position ≡ true → list_any (λ d. same_position d.position letter.position) dead ≡ false → AllByRecursion (λ d. d.ordinal < letter.ordinal) dead
     → AreDeadLettersOf log dead → AreDeadLettersOf log (dead ++ letter ∷ [])
 dead_pushed log dead letter there new below all = record {
   messages = All-push (λ d. has_message log d.position ≡ true) dead letter all.messages there;
-  once = subst (IsDistinct same_position) (sym (map-append (λ (d : Dead). d.position) dead (letter ∷ [])))
-      (IsDistinct-push (eq_by_cmp_equiv positions_total) (map (λ (d : Dead). d.position) dead) letter.position all.once (unlike dead ∙ new));
+  once = subst (IsDistinct same_position) (sym (map-append (λ (d : DeadLetter). d.position) dead (letter ∷ [])))
+      (IsDistinct-push (eq_by_cmp_equiv positions_total) (map (λ (d : DeadLetter). d.position) dead) letter.position all.once (unlike dead ∙ new));
   ordinals = IsStrictlyIncreasing-from_sorted (ordinals (dead ++ letter ∷ []))
-      (sorted_push nat_cmp (λ (d : Dead). d.ordinal) dead letter (sorted_from_strictly_increasing (ordinals dead) all.ordinals) (less dead below));
+      (sorted_push nat_cmp (λ (d : DeadLetter). d.ordinal) dead letter (sorted_from_strictly_increasing (ordinals dead) all.ordinals) (less dead below));
 }
   where
-    unlike : (ds : List Dead) → list_any (same_position letter.position) (map (λ (d : Dead). d.position) ds) ≡ list_any (λ d. same_position d.position letter.position) ds
+    unlike : (ds : List DeadLetter) → list_any (same_position letter.position) (map (λ (d : DeadLetter). d.position) ds) ≡ list_any (λ d. same_position d.position letter.position) ds
     unlike [] = refl
-    unlike (d ∷ ds) = ap (λ b. b || list_any (same_position letter.position) (map (λ (d : Dead). d.position) ds)) (either_way letter.position d.position) ∙ ap (λ b. same_position d.position letter.position || b) (unlike ds)
+    unlike (d ∷ ds) = ap (λ b. b || list_any (same_position letter.position) (map (λ (d : DeadLetter). d.position) ds)) (either_way letter.position d.position) ∙ ap (λ b. same_position d.position letter.position || b) (unlike ds)
 
     below_is : (a b : ℕ) → a < b → nat_cmp a b ≡ Less
     below_is a b low = grind (arith, nat_tests)
 
-    less : (ds : List Dead) → AllByRecursion (λ d. d.ordinal < letter.ordinal) ds → AllByRecursion (λ d. nat_cmp d.ordinal letter.ordinal ≡ Less) ds
+    less : (ds : List DeadLetter) → AllByRecursion (λ d. d.ordinal < letter.ordinal) ds → AllByRecursion (λ d. nat_cmp d.ordinal letter.ordinal ≡ Less) ds
     less [] low = tt
     less (d ∷ ds) low = (below_is d.ordinal letter.ordinal low.0, less ds low.1)
 
 -- where the first is moved
-pub dead_dropped : (log : List Entry) (dead : List Dead) → AreDeadLettersOf log dead → AreDeadLettersOf log (drop 1 dead)
+pub dead_dropped : (log : List Entry) (dead : List DeadLetter) → AreDeadLettersOf log dead → AreDeadLettersOf log (drop 1 dead)
 dead_dropped log [] all = all
 dead_dropped log (d ∷ ds) all = record {
   messages = All-drop (λ d. has_message log d.position ≡ true) 1 (d ∷ ds) all.messages;
-  once = IsDistinct-tail same_position d.position (map (λ (d : Dead). d.position) ds) all.once;
+  once = IsDistinct-tail same_position d.position (map (λ (d : DeadLetter). d.position) ds) all.once;
   ordinals = IsStrictlyIncreasing-from_sorted (ordinals ds) (sorted_tail nat_cmp d.ordinal (ordinals ds) (sorted_from_strictly_increasing (ordinals (d ∷ ds)) all.ordinals));
 }

@@ -12,8 +12,8 @@ use Rattle.delivery_machine.proofs.Kept.{IsKept}
 use Rattle.delivery_machine.proofs.Reached.{step_keeps}
 use Rattle.delivery_machine.proofs.Seats.{seats, has_number, Rises, rises_pushed, rises_removed, rises_changed}
 use Rattle.delivery_machine.proofs.Deciding.{both_false, number_is, apart_above}
-use Rattle.delivery_machine.proofs.Moves.{Moves, Moves.stays, Moves.appends, Moves.joins, Moves.leaves, Moves.permits, Moves.sends, granting, spending, pulls_if, pushes_if, joins_to_push}
-use Rattle.delivery_machine.proofs.Moving.{moves}
+use Rattle.delivery_machine.proofs.FlowSteps.{Moves, Moves.stays, Moves.appends, Moves.joins, Moves.leaves, Moves.permits, Moves.sends, granting, spending, pulls_if, pushes_if, joins_to_push}
+use Rattle.delivery_machine.proofs.FlowStepped.{moves}
 
 -- members' numbers rise, and are below the next one
 abbrev pub IsNumbered : State → Type 0

@@ -4,34 +4,34 @@ use Rattle.std.specs.Prelude.{◌==◌, ◌^◌}
 use Rattle.std.specs.List.{AllByRecursion, IsDistinct, flat_map, insert}
 use Rattle.std.proofs.lemmas.Bool.Decides.{nat_tests}
 use Rattle.std.proofs.lemmas.List.Elements.{All-from_recursion, recursion_from_All}
-use Rattle.delivery_machine.specs.State.{Dead}
+use Rattle.delivery_machine.specs.State.{DeadLetter}
 use Rattle.delivery_machine.specs.WellFormed.{HaveOrdinals}
 use Rattle.delivery_machine.specs.Words.{changed, removed}
 use Rattle.delivery_machine.proofs.Among.{contained_cases}
 
-abbrev pub times : ℕ → List Dead → ℕ
+abbrev pub times : ℕ → List DeadLetter → ℕ
 times n [] = 0
 times n (d ∷ ds) = cond {A = ℕ} (d.ordinal == n) 1 0 + times n ds
 
-pub times_append : (n : ℕ) (ds es : List Dead) → times n (ds ++ es) ≡ times n ds + times n es
+pub times_append : (n : ℕ) (ds es : List DeadLetter) → times n (ds ++ es) ≡ times n ds + times n es
 times_append n [] es = omega arith
 times_append n (d ∷ ds) es = let rest = times_append n ds es in omega (arith, rest)
 
-pub times_dropped : (n : ℕ) (ds : List Dead) → times n (drop 1 ds) ≤ times n ds
+pub times_dropped : (n : ℕ) (ds : List DeadLetter) → times n (drop 1 ds) ≤ times n ds
 times_dropped n [] = omega arith
 times_dropped n (d ∷ ds) = omega arith
 
 -- ---- none twice
 
-absent : (n : ℕ) (ds : List Dead) → times n ds ≡ 0 → AllByRecursion (λ m. (n == m) ≡ false) (map (λ (d : Dead). d.ordinal) ds)
+absent : (n : ℕ) (ds : List DeadLetter) → times n ds ≡ 0 → AllByRecursion (λ m. (n == m) ≡ false) (map (λ (d : DeadLetter). d.ordinal) ds)
 absent n [] none = tt
 absent n (d ∷ ds) none = (grind (arith, nat_tests), absent n ds (omega (arith, none)))
 
-never : (n : ℕ) (ds : List Dead) → AllByRecursion (λ m. (n == m) ≡ false) (map (λ (d : Dead). d.ordinal) ds) → times n ds ≡ 0
+never : (n : ℕ) (ds : List DeadLetter) → AllByRecursion (λ m. (n == m) ≡ false) (map (λ (d : DeadLetter). d.ordinal) ds) → times n ds ≡ 0
 never n [] all = refl
 never n (d ∷ ds) all = let rest = never n ds all.1 in let other = all.0 in grind (arith, nat_tests)
 
-pub distinct_once : (ds : List Dead) → ((n : ℕ) → times n ds ≤ 1) → IsDistinct (λ a b. a == b) (map (λ (d : Dead). d.ordinal) ds)
+pub distinct_once : (ds : List DeadLetter) → ((n : ℕ) → times n ds ≤ 1) → IsDistinct (λ a b. a == b) (map (λ (d : DeadLetter). d.ordinal) ds)
 unfolding IsDistinct
 distinct_once [] once = tt
 distinct_once (d ∷ ds) once = (absent d.ordinal ds (none d.ordinal (times d.ordinal ds) (once d.ordinal)), distinct_once ds (λ n. less (cond {A = ℕ} (d.ordinal == n) 1 0) (times n ds) (once n)))
@@ -42,7 +42,7 @@ distinct_once (d ∷ ds) once = (absent d.ordinal ds (none d.ordinal (times d.or
     less : (a k : ℕ) → a + k ≤ 1 → k ≤ 1
     less a k low = omega arith
 
-pub once_distinct : (ds : List Dead) → IsDistinct (λ a b. a == b) (map (λ (d : Dead). d.ordinal) ds) → (n : ℕ) → times n ds ≤ 1
+pub once_distinct : (ds : List DeadLetter) → IsDistinct (λ a b. a == b) (map (λ (d : DeadLetter). d.ordinal) ds) → (n : ℕ) → times n ds ≤ 1
 unfolding IsDistinct
 once_distinct [] distinct n = omega arith
 once_distinct (d ∷ ds) distinct n = by (d.ordinal == n) refl (once_distinct ds distinct.1 n)
@@ -53,7 +53,7 @@ once_distinct (d ∷ ds) distinct n = by (d.ordinal == n) refl (once_distinct ds
 
 -- ---- those that are not given yet
 
-pub each_below : (next : ℕ) (ds : List Dead) → ((n : ℕ) → next ≤ n → times n ds ≡ 0) → AllByRecursion (λ (d : Dead). d.ordinal < next) ds
+pub each_below : (next : ℕ) (ds : List DeadLetter) → ((n : ℕ) → next ≤ n → times n ds ≡ 0) → AllByRecursion (λ (d : DeadLetter). d.ordinal < next) ds
 each_below next [] free = tt
 each_below next (d ∷ ds) free = (given next d.ordinal (times d.ordinal ds) (free d.ordinal), each_below next ds (λ n low. less (cond {A = ℕ} (d.ordinal == n) 1 0) (times n ds) (free n low)))
   where
@@ -63,18 +63,18 @@ each_below next (d ∷ ds) free = (given next d.ordinal (times d.ordinal ds) (fr
     less : (a k : ℕ) → a + k ≡ 0 → k ≡ 0
     less a k none = omega arith
 
-pub free_above : (next : ℕ) (ds : List Dead) → AllByRecursion (λ (d : Dead). d.ordinal < next) ds → (n : ℕ) → next ≤ n → times n ds ≡ 0
+pub free_above : (next : ℕ) (ds : List DeadLetter) → AllByRecursion (λ (d : DeadLetter). d.ordinal < next) ds → (n : ℕ) → next ≤ n → times n ds ≡ 0
 free_above next [] all n low = refl
 free_above next (d ∷ ds) all n low = let rest = free_above next ds all.1 n low in let first = all.0 in grind (arith, nat_tests)
 
 -- ---- in all lists of dead letters
 
 -- where the lists are those of other things
-pub letters_mapped : {A B : Type 0} (dead : A → List Dead) (other : B → List Dead) (f : B → A) → ((x : B) → dead (f x) ≡ other x) → (xs : List B) → flat_map dead (map f xs) ≡ flat_map other xs
+pub letters_mapped : {A B : Type 0} (dead : A → List DeadLetter) (other : B → List DeadLetter) (f : B → A) → ((x : B) → dead (f x) ≡ other x) → (xs : List B) → flat_map dead (map f xs) ≡ flat_map other xs
 letters_mapped dead other f same [] = refl
 letters_mapped dead other f same (x ∷ xs) = ap (λ ds. ds ++ flat_map dead (map f xs)) (same x) ∙ ap (λ ds. other x ++ ds) (letters_mapped dead other f same xs)
 
-module _ {A : Type 0} (dead : A → List Dead) where
+module _ {A : Type 0} (dead : A → List DeadLetter) where
   abbrev pub times_among : ℕ → List A → ℕ
   times_among n [] = 0
   times_among n (x ∷ xs) = times n (dead x) + times_among n xs
@@ -157,17 +157,17 @@ module _ {A : Type 0} (dead : A → List Dead) where
   pub ordinals_once : (next : ℕ) (xs : List A) → AreOnce next xs → HaveOrdinals next (flat_map dead xs)
   ordinals_once next xs all = record {
     distinct = distinct_once (flat_map dead xs) (λ n. subst (λ (k : ℕ). k ≤ 1) (sym (among_all n xs)) (all.once n));
-    below = All-from_recursion (λ (d : Dead). d.ordinal < next) (flat_map dead xs) (each_below next (flat_map dead xs) (λ n low. among_all n xs ∙ all.free n low));
+    below = All-from_recursion (λ (d : DeadLetter). d.ordinal < next) (flat_map dead xs) (each_below next (flat_map dead xs) (λ n low. among_all n xs ∙ all.free n low));
     last_ordinal = all.last_ordinal;
   }
 
   pub once_ordinals : (next : ℕ) (xs : List A) → HaveOrdinals next (flat_map dead xs) → AreOnce next xs
   once_ordinals next xs have = record {
     once = λ n. subst (λ (k : ℕ). k ≤ 1) (among_all n xs) (once_distinct (flat_map dead xs) have.distinct n);
-    free = λ n low. sym (among_all n xs) ∙ free_above next (flat_map dead xs) (recursion_from_All (λ (d : Dead). d.ordinal < next) (flat_map dead xs) have.below) n low;
+    free = λ n low. sym (among_all n xs) ∙ free_above next (flat_map dead xs) (recursion_from_All (λ (d : DeadLetter). d.ordinal < next) (flat_map dead xs) have.below) n low;
     last_ordinal = have.last_ordinal;
   }
 
   -- the ordinals of one list are below the next
-  pub below_next : (next : ℕ) (xs : List A) (x : A) → Contains xs x → AreOnce next xs → AllByRecursion (λ (d : Dead). d.ordinal < next) (dead x)
+  pub below_next : (next : ℕ) (xs : List A) (x : A) → Contains xs x → AreOnce next xs → AllByRecursion (λ (d : DeadLetter). d.ordinal < next) (dead x)
   below_next next xs x at all = each_below next (dead x) (λ n low. let part = among_part n xs x at in let none = all.free n low in omega arith)

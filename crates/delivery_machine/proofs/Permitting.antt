@@ -19,8 +19,8 @@ use Rattle.delivery_machine.proofs.Chosen.{chosen_member}
 use Rattle.delivery_machine.proofs.Seats.{Seat, seat_of, seats, has_number, numbers_apart, seat_contained, found_itself, found_before}
 use Rattle.delivery_machine.proofs.Deciding.{or_false, number_is}
 use Rattle.delivery_machine.proofs.Finding.{found_pushed}
-use Rattle.delivery_machine.proofs.Moves.{Moves, Moves.stays, Moves.appends, Moves.joins, Moves.leaves, Moves.permits, Moves.sends, Joins, Permits, Sends, granting, spending, pushes_if, joins_to_push}
-use Rattle.delivery_machine.proofs.Moving.{moves}
+use Rattle.delivery_machine.proofs.FlowSteps.{Moves, Moves.stays, Moves.appends, Moves.joins, Moves.leaves, Moves.permits, Moves.sends, Joins, Permits, Sends, granting, spending, pushes_if, joins_to_push}
+use Rattle.delivery_machine.proofs.FlowStepped.{moves}
 use Rattle.delivery_machine.proofs.Numbers.{IsNumbered, numbered, beginning_empty, beginning_numbered, pulls_alone}
 
 module _ (c : ℕ) where

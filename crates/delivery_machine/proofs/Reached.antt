@@ -19,7 +19,7 @@ use Rattle.delivery_machine.specs.Ticking.{Ticks, pending_positions}
 use Rattle.delivery_machine.specs.Seeking.{length_before, length_before_time, first_live}
 use Rattle.delivery_machine.specs.Dying.{dying_at, first_safe}
 use Rattle.delivery_machine.specs.Run.{Run, Answers, Takes}
-use Rattle.delivery_machine.specs.Snapshot.{Snapshot, Place, restarted, subscription_from}
+use Rattle.delivery_machine.specs.Snapshot.{Snapshot, KeptSubscription, restarted, subscription_from}
 use Rattle.delivery_machine.specs.WellFormed.{IsSound}
 use Rattle.delivery_machine.specs.Laws.{IsBeginning}
 use Rattle.delivery_machine.specs.declared.event.Event.{Event}
@@ -107,7 +107,7 @@ step_keeps s event reply t h kept =
 -- ---- where a run begins
 
 -- what a snapshot keeps of subscriptions is idle
-found_idle : (places : List Place) (name : List ℕ) (sub : Subscription) → find (is_named name) (map subscription_from places) ≡ Some sub → IsIdle sub
+found_idle : (places : List KeptSubscription) (name : List ℕ) (sub : Subscription) → find (is_named name) (map subscription_from places) ≡ Some sub → IsIdle sub
 found_idle [] name sub found = cc
 found_idle (place ∷ places) name sub found = by (is_named name (subscription_from place)) found (found_idle places name sub)
   where
@@ -117,11 +117,11 @@ found_idle (place ∷ places) name sub found = by (is_named name (subscription_f
         subst IsIdle same none_pending
     by false is rest = rest is
 
-all_idle : (places : List Place) → AllBehindIdle (map subscription_from places)
+all_idle : (places : List KeptSubscription) → AllBehindIdle (map subscription_from places)
 all_idle [] = tt
 all_idle (place ∷ places) = (each places, all_idle places)
   where
-    each : (others : List Place) → AllByRecursion (IsBehindIdle (subscription_from place)) (map subscription_from others)
+    each : (others : List KeptSubscription) → AllByRecursion (IsBehindIdle (subscription_from place)) (map subscription_from others)
     each [] = tt
     each (other ∷ others) = (λ _. none_pending, each others)
 

@@ -23,7 +23,7 @@ use Rattle.delivery_machine.proofs.Behind.{IsIdle}
 use Rattle.delivery_machine.proofs.Tended.{same_place}
 use Rattle.delivery_machine.proofs.Tending.{part_retained, part_held_again, got_retained}
 use Rattle.delivery_machine.proofs.Messages.{either_way}
-use Rattle.delivery_machine.proofs.Orderly.{is_pending_in, IsTakenFrom, taken_nothing, held_retained, live_acknowledged}
+use Rattle.delivery_machine.proofs.InOrder.{is_pending_in, IsTakenFrom, taken_nothing, held_retained, live_acknowledged}
 
 pub taken_acknowledged : (sub : Subscription) (positions : List Position) → IsTakenFrom sub (acknowledging positions sub)
 taken_acknowledged sub positions = record {
@@ -37,15 +37,15 @@ taken_acknowledged sub positions = record {
 
 -- ---- a dead letter that is moved
 
-pub first_letter : (sub : Subscription) (letter : state.Dead) → first_safe sub ≡ Some letter → (rest : List state.Dead) × (sub.dead ≡ letter ∷ rest)
+pub first_letter : (sub : Subscription) (letter : state.DeadLetter) → first_safe sub ≡ Some letter → (rest : List state.DeadLetter) × (sub.dead ≡ letter ∷ rest)
 first_letter sub letter is = by (nat_lt 0 sub.safe) sub.dead is refl
   where
-    by : (b : Bool) (dead : List state.Dead) → cond b (slice_get dead 0) None ≡ Some letter → sub.dead ≡ dead → (rest : List state.Dead) × (sub.dead ≡ letter ∷ rest)
+    by : (b : Bool) (dead : List state.DeadLetter) → cond b (slice_get dead 0) None ≡ Some letter → sub.dead ≡ dead → (rest : List state.DeadLetter) × (sub.dead ≡ letter ∷ rest)
     by true [] is e = cc
     by true (d ∷ rest) is e = let same : d ≡ letter = cc in (rest, e ∙ ap (λ z. z ∷ rest) same)
     by false dead is e = cc
 
-pub taken_moved : (sub : Subscription) (letter : state.Dead) → first_safe sub ≡ Some letter → IsTakenFrom sub (moving letter sub)
+pub taken_moved : (sub : Subscription) (letter : state.DeadLetter) → first_safe sub ≡ Some letter → IsTakenFrom sub (moving letter sub)
 taken_moved sub letter is = record {
   name = refl;
   kind = refl;
@@ -55,7 +55,7 @@ taken_moved sub letter is = record {
   part = part_retained sub.pending (λ p. not (is_one_of (letter.position ∷ []) p));
 }
   where
-    found : (rest : List state.Dead) × (sub.dead ≡ letter ∷ rest)
+    found : (rest : List state.DeadLetter) × (sub.dead ≡ letter ∷ rest)
     found = first_letter sub letter is
 
     by : (a x y r : Bool) → x ≡ y → ((not a && not (y || r)) && not (x || false)) ≡ (not (a || (x || false)) && not r)
@@ -68,13 +68,13 @@ taken_moved sub letter is = record {
 
     live : (e : Entry) → is_live (moving letter sub) e ≡ (is_live sub e && not (is_one_of (letter.position ∷ []) e.position))
     live e =
-        ap (λ b. not b && not (list_any (λ (d : state.Dead). same_position d.position e.position) (drop 1 sub.dead)))
+        ap (λ b. not b && not (list_any (λ (d : state.DeadLetter). same_position d.position e.position) (drop 1 sub.dead)))
         (set.contains-union positions_total sub.acknowledged (set.from_list (letter.position ∷ [])) e.position
         ∙ ap (λ b. set.contains sub.acknowledged e.position || b) (set.contains-from_list positions_total (letter.position ∷ []) e.position))
-        ∙ ap (λ (dead : List state.Dead). not (set.contains sub.acknowledged e.position || (same_position e.position letter.position || false)) && not (list_any (λ (d : state.Dead). same_position d.position e.position) (drop 1 dead))) (found.1)
+        ∙ ap (λ (dead : List state.DeadLetter). not (set.contains sub.acknowledged e.position || (same_position e.position letter.position || false)) && not (list_any (λ (d : state.DeadLetter). same_position d.position e.position) (drop 1 dead))) (found.1)
         ∙ sym (by (set.contains sub.acknowledged e.position) (same_position e.position letter.position) (same_position letter.position e.position)
-        (list_any (λ (d : state.Dead). same_position d.position e.position) (found.0)) (either_way e.position letter.position))
-        ∙ sym (ap (λ (dead : List state.Dead). (not (set.contains sub.acknowledged e.position) && not (list_any (λ (d : state.Dead). same_position d.position e.position) dead)) && not (is_one_of (letter.position ∷ []) e.position)) (found.1))
+        (list_any (λ (d : state.DeadLetter). same_position d.position e.position) (found.0)) (either_way e.position letter.position))
+        ∙ sym (ap (λ (dead : List state.DeadLetter). (not (set.contains sub.acknowledged e.position) && not (list_any (λ (d : state.DeadLetter). same_position d.position e.position) dead)) && not (is_one_of (letter.position ∷ []) e.position)) (found.1))
 
 -- ---- what takes nothing
 

@@ -7,7 +7,7 @@ use Rattle.std.proofs.lemmas.Bool.Decides.{nat_tests}
 use Rattle.std.proofs.lemmas.List.Elements.{All-push, Contains-append_left}
 use Rattle.position_core.specs.declared.position.Position.{Position}
 use Rattle.position_core.specs.declared.message.Entry.{Entry}
-use Rattle.delivery_machine.specs.State.{State, Producer, Member, Subscription, Dead}
+use Rattle.delivery_machine.specs.State.{State, Producer, Member, Subscription, DeadLetter}
 use Rattle.delivery_machine.specs.Words.{changed, removed, is_named, is_connected, has_position, next_position}
 use Rattle.delivery_machine.specs.Refusals.{is_full}
 use Rattle.delivery_machine.specs.Producing.{with_message, with_producer}
@@ -39,7 +39,7 @@ numbers_of members = map (λ m. m.number) members
 abbrev pub places_of : List Member → List (List ℕ)
 places_of members = map (λ m. m.subscription) members
 
-abbrev pub letters : Subscription → List Dead
+abbrev pub letters : Subscription → List DeadLetter
 letters sub = sub.dead
 
 pub record IsWellKept (s : State) : Type 0 where

@@ -15,7 +15,7 @@ use Rattle.position_core.specs.declared.topic_name.TopicName.{TopicName}
 use Rattle.position_core.specs.declared.held.Held.{Held}
 use Rattle.position_core.specs.declared.fault.Fault.TheVariants.{ProducerBusy, NoSession, NoSuchMessage, TopicFull}
 use Rattle.position_core.specs.Position.{position_cmp}
-use Rattle.delivery_machine.specs.State.{State, Member, Subscription, Dead, fresh}
+use Rattle.delivery_machine.specs.State.{State, Member, Subscription, DeadLetter, fresh}
 use Rattle.delivery_machine.specs.Words.{count_of, is_named, is_member, is_producer, is_connected, is_live, has_member, has_position, next_position, visible, emptied, active_at}
 use Rattle.delivery_machine.specs.Refusals.{refusal_of, adding_refused, publishing_refused, acking_refused, nacking_refused, dropping_refused, is_full, is_duplicate}
 use Rattle.delivery_machine.specs.Producing.{IsGiven, auto_name, with_message, message_of}
@@ -25,9 +25,9 @@ use Rattle.delivery_machine.specs.Delivering.{Dispatches}
 use Rattle.delivery_machine.specs.Ticking.{Ticks, is_due, pending_positions}
 use Rattle.delivery_machine.specs.Seeking.{length_before, length_before_time, first_live}
 use Rattle.delivery_machine.specs.Dying.{dying_at, is_to_die, first_safe}
-use Rattle.delivery_machine.specs.WellFormed.{has_message, HaveOrdinals, NamesRise, IsSound, IsSoundPlace}
+use Rattle.delivery_machine.specs.WellFormed.{has_message, HaveOrdinals, NamesRise, IsSound, IsSoundSubscription}
 use Rattle.delivery_machine.specs.Run.{Run, Answers, Takes}
-use Rattle.delivery_machine.specs.Snapshot.{Snapshot, Place, restarted, subscription_from}
+use Rattle.delivery_machine.specs.Snapshot.{Snapshot, KeptSubscription, restarted, subscription_from}
 use Rattle.delivery_machine.specs.Laws.{IsBeginning}
 use Rattle.delivery_machine.specs.declared.event.Event.{Event}
 use Rattle.delivery_machine.specs.declared.event.Event.TheVariants.{AddProducer, DropProducer, Publish, Stored, StoredTo, Progress, Subscribe, Leave, Permit, Ack, AckUpTo, Nack, Tick, Seek, SeekTime, Skip, DropSubscription, Stats, Dispatch, Collect, DeadNext, DeadDone}
@@ -38,7 +38,7 @@ use Rattle.delivery_machine.proofs.Deciding.{or_false}
 use Rattle.delivery_machine.proofs.Firsts.{some_elim, filter_contained}
 use Rattle.delivery_machine.proofs.Sending.{taken_contained}
 use Rattle.delivery_machine.proofs.Kept.{not_refused, not_refused_next}
-use Rattle.delivery_machine.proofs.Orders.{IsKeptInOrder, step_in_order, beginning_in_order, nobody_there}
+use Rattle.delivery_machine.proofs.OrderReached.{IsKeptInOrder, step_in_order, beginning_in_order, nobody_there}
 use Rattle.delivery_machine.proofs.Messages.{message_taken, one_of_itself, one_listed, one_of_first}
 use Rattle.delivery_machine.proofs.Keyed.{keys_mapped}
 use Rattle.delivery_machine.proofs.Given.{none_given}
@@ -142,7 +142,7 @@ takes_well s (Publish producer sequence body now) reply t allowed h order well =
 takes_well s Stored reply t allowed h order well = settled t _ h.1 (well_stored s (λ sub. length sub.dead) (length s.log) (λ sub _. omega arith) order.all.durable well)
 takes_well s (StoredTo count ordinal) reply t allowed h order well =
     settled t _ h.1 (well_stored s (λ sub. max sub.safe (count_by (λ d. nat_lt d.ordinal ordinal) sub.dead)) (max s.durable (min count (length s.log)))
-    (λ sub low. let less = count_by-le-length (λ (d : Dead). nat_lt d.ordinal ordinal) sub.dead in omega arith) (omega arith) well)
+    (λ sub low. let less = count_by-le-length (λ (d : DeadLetter). nat_lt d.ordinal ordinal) sub.dead in omega arith) (omega arith) well)
 takes_well s Progress reply t allowed h order well = settled t s h.1 well
 takes_well s (Subscribe name kind level flow ack_timeout nack_delay max_redeliver dead_topic initial) reply t allowed h order well =
     settled t _ h.1 (well_taken_over _ name (active_at s name) (well_joined s kind initial _ refl refl well))
@@ -204,10 +204,10 @@ well_restarted kept sound = record {
   there = tt;
   named = subst NamesRise (sym (keys_mapped (λ (sub : Subscription). sub.name) subscription_from (λ _. refl) kept.subscriptions)) sound.names;
   ordinals = once_ordinals letters kept.next_ordinal (map subscription_from kept.subscriptions)
-      (subst (HaveOrdinals kept.next_ordinal) (sym (letters_mapped letters (λ (place : Place). place.dead) subscription_from (λ _. refl) kept.subscriptions)) sound.ordinals);
+      (subst (HaveOrdinals kept.next_ordinal) (sym (letters_mapped letters (λ (place : KeptSubscription). place.dead) subscription_from (λ _. refl) kept.subscriptions)) sound.ordinals);
   each = each_from_all (IsFormed kept.log (length kept.log)) (map subscription_from kept.subscriptions)
       (All-map (IsFormed kept.log (length kept.log)) subscription_from kept.subscriptions
-      (All-weaker (IsSoundPlace kept.log) (λ place. IsFormed kept.log (length kept.log) (subscription_from place))
+      (All-weaker (IsSoundSubscription kept.log) (λ place. IsFormed kept.log (length kept.log) (subscription_from place))
       (λ place one. formed_begun kept.log (length kept.log) place.name place.kind place.acknowledged [] place.dead (length place.dead) one.acknowledged one.dead (omega arith)) kept.subscriptions sound.subscriptions));
   uncollected = λ m at. absurd (none_out m at);
 }

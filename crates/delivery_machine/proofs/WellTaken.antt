@@ -9,7 +9,7 @@ use Rattle.delivery_machine.specs.State.{State, Member, Subscription}
 use Rattle.delivery_machine.specs.State as state
 use Rattle.delivery_machine.specs.Words.{changed, is_named, is_at, emptied, emptied_at}
 use Rattle.delivery_machine.specs.Joining.{releasing_all, all_released, is_taken_over, taken_over}
-use Rattle.delivery_machine.specs.Acknowledging.{acknowledging, acknowledged, forgetting, is_one_of, without}
+use Rattle.delivery_machine.specs.Acknowledging.{acknowledging, with_acknowledged, forgetting, is_one_of, without}
 use Rattle.delivery_machine.specs.Ticking.{redelivering, redelivered}
 use Rattle.delivery_machine.specs.Seeking.{seeking, sought}
 use Rattle.delivery_machine.specs.Dying.{burying, letter_of, died, first_safe, moving, moved}
@@ -60,7 +60,7 @@ module _ (s : State) (n : List ℕ) where
 
   -- ---- messages are taken out
 
-  pub well_acknowledged : (positions : List Position) → AreLogged s positions → IsWellKept s → IsWellKept (acknowledged s n positions)
+  pub well_acknowledged : (positions : List Position) → AreLogged s positions → IsWellKept s → IsWellKept (with_acknowledged s n positions)
   well_acknowledged positions there well =
       well_changed s n (acknowledging positions) (map (forgetting n positions) s.members) s.next_ordinal
       (record {
@@ -100,10 +100,10 @@ module _ (s : State) (n : List ℕ) where
         uncollected = uncollected_taken s.log s.members s.subscriptions n (position ∷ []) (burying letter) (λ _. refl) (λ _. refl) well.uncollected;
       }) well
     where
-      letter : state.Dead
+      letter : state.DeadLetter
       letter = letter_of s position m
 
-  pub well_moved : (sub : Subscription) (letter : state.Dead) → find (is_named n) s.subscriptions ≡ Some sub → first_safe sub ≡ Some letter → IsWellKept s → IsWellKept (moved s n letter)
+  pub well_moved : (sub : Subscription) (letter : state.DeadLetter) → find (is_named n) s.subscriptions ≡ Some sub → first_safe sub ≡ Some letter → IsWellKept s → IsWellKept (moved s n letter)
   well_moved sub letter found first well =
       well_changed s n (moving letter) (map (forgetting n (letter.position ∷ [])) s.members) s.next_ordinal
       (record {

@@ -29,8 +29,8 @@ use Rattle.delivery_machine.proofs.Seats.{Seat, seat_of, seats, has_number, numb
 use Rattle.delivery_machine.proofs.Deciding.{and_second, number_is, apart_below}
 use Rattle.delivery_machine.proofs.Finding.{found_pushed}
 use Rattle.delivery_machine.proofs.Shrinking.{Shrinks}
-use Rattle.delivery_machine.proofs.Moves.{Moves, Moves.stays, Moves.appends, Moves.joins, Moves.leaves, Moves.permits, Moves.sends, Sends, granting, spending}
-use Rattle.delivery_machine.proofs.Moving.{moves}
+use Rattle.delivery_machine.proofs.FlowSteps.{Moves, Moves.stays, Moves.appends, Moves.joins, Moves.leaves, Moves.permits, Moves.sends, Sends, granting, spending}
+use Rattle.delivery_machine.proofs.FlowStepped.{moves}
 use Rattle.delivery_machine.proofs.Numbers.{IsNumbered, numbered, beginning_empty, beginning_numbered}
 use Rattle.delivery_machine.proofs.Counting.{held_at, held_idle, held_part, held_more, held_beside, held_appended}
 

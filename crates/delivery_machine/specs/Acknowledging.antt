@@ -31,8 +31,8 @@ acknowledging positions sub = record sub {
 abbrev pub forgetting : List ℕ → List Position → Member → Member
 forgetting name positions m = if is_at name m then record m { out = without positions m.out } else m
 
-abbrev pub acknowledged : State → List ℕ → List Position → State
-acknowledged s name positions = record s {
+abbrev pub with_acknowledged : State → List ℕ → List Position → State
+with_acknowledged s name positions = record s {
   subscriptions = changed (is_named name) (acknowledging positions) s.subscriptions;
   members = map (forgetting name positions) s.members;
 }
@@ -40,7 +40,7 @@ acknowledged s name positions = record s {
 -- the messages leave the subscription of the member that acknowledges them
 abbrev pub Acks : State → ℕ → List Position → Reply → State → Type 0
 Acks s consumer positions reply t =
-    (reply ≡ Done) × IsSomeAnd (find (is_member consumer) s.members) (λ m. t ≡ acknowledged s m.subscription positions)
+    (reply ≡ Done) × IsSomeAnd (find (is_member consumer) s.members) (λ m. t ≡ with_acknowledged s m.subscription positions)
 
 -- the position, and each before it in the log
 abbrev pub positions_up_to : Position → List Entry → List Position

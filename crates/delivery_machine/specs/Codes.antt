@@ -5,7 +5,7 @@ use Rattle.std.specs.Coded.{Coded, code_by, coded×, coded_ℕ, coded_list}
 use Rattle.position_core.specs.declared.position.Position.{Position}
 use Rattle.position_core.specs.declared.topic_name.TopicName.{TopicName}
 use Rattle.position_core.specs.Position.{coded_position}
-use Rattle.delivery_machine.specs.State.{Dead}
+use Rattle.delivery_machine.specs.State.{DeadLetter}
 
 abbrev pub coded_text : Coded (List ℕ)
 coded_text = coded_list coded_ℕ
@@ -13,5 +13,5 @@ coded_text = coded_list coded_ℕ
 abbrev pub coded_topic : Coded TopicName
 coded_topic = code_by ((List ℕ × List ℕ) × List ℕ) (coded× (coded× coded_text coded_text) coded_text) (λ t. ((t.tenant, t.namespace), t.topic)) (λ p. record { tenant = p.0.0; namespace = p.0.1; topic = p.1 }) (λ _. refl)
 
-abbrev pub coded_dead : Coded Dead
+abbrev pub coded_dead : Coded DeadLetter
 coded_dead = code_by ((Position × TopicName) × ℕ) (coded× (coded× coded_position coded_topic) coded_ℕ) (λ d. ((d.position, d.target), d.ordinal)) (λ p. record { position = p.0.0; target = p.0.1; ordinal = p.1 }) (λ _. refl)

@@ -28,14 +28,14 @@ abbrev pub dying_at : State → Subscription → Position → Option Member
 dying_at s sub position = dying_in s.members s.next_ordinal sub position
 
 -- a dead message is neither pending nor counted
-abbrev pub burying : state.Dead → Subscription → Subscription
+abbrev pub burying : state.DeadLetter → Subscription → Subscription
 burying letter sub = record sub {
   pending = map_of.retain_keys sub.pending (λ p. not (is_one_of (letter.position ∷ []) p));
   counts = map_of.retain_keys sub.counts (λ p. not (is_one_of (letter.position ∷ []) p));
   dead = sub.dead ++ letter ∷ [];
 }
 
-abbrev pub letter_of : State → Position → Member → state.Dead
+abbrev pub letter_of : State → Position → Member → state.DeadLetter
 letter_of s position m = record { position = position; target = m.dead_topic; ordinal = s.next_ordinal }
 
 -- the message is the last dead letter, under the topic's next ordinal
@@ -49,11 +49,11 @@ died s name position m = record s {
 -- ---- moving
 
 -- what is stored of the dead letters is safe to be moved
-abbrev pub first_safe : Subscription → Option state.Dead
+abbrev pub first_safe : Subscription → Option state.DeadLetter
 first_safe sub = if nat_lt 0 sub.safe then slice_get sub.dead 0 else None
 
 -- the first letter that is safe, with its message
-abbrev pub next_letter : State → Subscription → Option (state.Dead × Entry)
+abbrev pub next_letter : State → Subscription → Option (state.DeadLetter × Entry)
 next_letter s sub = option_and_then (λ d. option_map (λ e. (d, e)) (find (has_position d.position) s.log)) (first_safe sub)
 
 abbrev pub ShowsLetter : State → Subscription → Reply → State → Type 0
@@ -64,10 +64,10 @@ abbrev pub is_next_letter : ℕ → Subscription → Bool
 is_next_letter ordinal sub = option_map_or (λ d. d.ordinal == ordinal) (first_safe sub) false
 
 -- the first letter is gone, and its message acknowledged
-abbrev pub moving : state.Dead → Subscription → Subscription
+abbrev pub moving : state.DeadLetter → Subscription → Subscription
 moving letter sub = record (acknowledging (letter.position ∷ []) sub) { dead = drop 1 sub.dead; safe = sub.safe - 1 }
 
-abbrev pub moved : State → List ℕ → state.Dead → State
+abbrev pub moved : State → List ℕ → state.DeadLetter → State
 moved s name letter = record s {
   subscriptions = changed (is_named name) (moving letter) s.subscriptions;
   members = map (forgetting name (letter.position ∷ [])) s.members;

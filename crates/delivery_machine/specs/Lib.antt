@@ -9,6 +9,7 @@ pub mod Joining
 pub mod Acknowledging
 pub mod Delivering
 pub mod Seeking
+pub mod Statistics
 pub mod Dying
 pub mod Ticking
 pub mod Run

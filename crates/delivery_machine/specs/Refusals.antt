@@ -19,8 +19,8 @@ use Rattle.delivery_machine.specs.declared.event.Event.{Event}
 use Rattle.delivery_machine.specs.declared.event.Event.TheVariants.{AddProducer, DropProducer, Publish, Stored, StoredTo, Progress, Subscribe, Leave, Permit, Ack, AckUpTo, Nack, Tick, Seek, SeekTime, Skip, DropSubscription, Stats, Dispatch, Collect, DeadNext, DeadDone}
 
 -- a counter has given all its numbers, which end at 2^63-1
-abbrev pub is_spent : ℕ → Bool
-is_spent next = nat_le (2 ^ 63) next
+abbrev pub is_used_up : ℕ → Bool
+is_used_up next = nat_le (2 ^ 63) next
 
 -- the name that is asked for, if any, is connected
 abbrev pub is_busy : State → Option (List ℕ) → Bool
@@ -30,7 +30,7 @@ is_busy s (Some name) = is_connected s name
 abbrev pub adding_refused : State → Option (List ℕ) → Option Fault
 adding_refused s name =
     if is_busy s name then Some ProducerBusy
-    else if nat_le 256 (length s.producers) || is_spent s.next_producer then Some TooMany
+    else if nat_le 256 (length s.producers) || is_used_up s.next_producer then Some TooMany
     else None
 
 -- a producer that is not there is refused, and no other
@@ -60,7 +60,7 @@ subscribing_refused s name kind max_redeliver dead_topic =
     else if nat_lt 0 (length (members_of s name)) && same_kind kind Exclusive then Some ConsumerBusy
     else if nat_le 64 (length (members_of s name)) then Some TooMany
     else if nat_le 64 (length s.subscriptions) && not (has_subscription s name) then Some TooMany
-    else if is_spent s.next_consumer then Some TooMany
+    else if is_used_up s.next_consumer then Some TooMany
     else if dies_into_itself s kind max_redeliver dead_topic then Some DeadLetterSelf
     else None
 

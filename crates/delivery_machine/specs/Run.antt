@@ -11,7 +11,8 @@ use Rattle.delivery_machine.specs.Joining.{Subscribes, Leaves, Permits}
 use Rattle.delivery_machine.specs.Acknowledging.{Acks, positions_up_to}
 use Rattle.delivery_machine.specs.Delivering.{Dispatches, Collects}
 use Rattle.delivery_machine.specs.Ticking.{Nacks, Ticks}
-use Rattle.delivery_machine.specs.Seeking.{Seeks, SeeksTime, Skips, Drops, Counts}
+use Rattle.delivery_machine.specs.Seeking.{Seeks, SeeksTime, Skips, Drops}
+use Rattle.delivery_machine.specs.Statistics.{ShowsStatistics}
 use Rattle.delivery_machine.specs.Dying.{ShowsLetter, MovesLetter}
 use Rattle.delivery_machine.specs.declared.event.Event.{Event}
 use Rattle.delivery_machine.specs.declared.event.Event.TheVariants.{AddProducer, DropProducer, Publish, Stored, StoredTo, Progress, Subscribe, Leave, Permit, Ack, AckUpTo, Nack, Tick, Seek, SeekTime, Skip, DropSubscription, Stats, Dispatch, Collect, DeadNext, DeadDone}
@@ -48,7 +49,7 @@ Takes s (Seek name target) r t = Seeks s name target r t
 Takes s (SeekTime name time) r t = SeeksTime s name time r t
 Takes s (Skip name count) r t = IsSomeAnd (find (is_named name) s.subscriptions) (λ sub. Skips s name count sub r t)
 Takes s (DropSubscription name) r t = Drops s name r t
-Takes s (Stats name) r t = IsSomeAnd (find (is_named name) s.subscriptions) (λ sub. Counts s name sub r t)
+Takes s (Stats name) r t = IsSomeAnd (find (is_named name) s.subscriptions) (λ sub. ShowsStatistics s name sub r t)
 Takes s (Dispatch name now) r t = IsSomeAnd (find (is_named name) s.subscriptions) (λ sub. Dispatches s name now sub r t)
 Takes s (Collect consumer) r t = Collects s consumer r t
 Takes s (DeadNext name) r t = IsSomeAnd (find (is_named name) s.subscriptions) (λ sub. ShowsLetter s sub r t)

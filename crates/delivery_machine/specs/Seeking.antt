@@ -1,4 +1,4 @@
--- Where a subscription goes on from: seeking, by position or by time, and skipping. Dropping it, and its statistics.
+-- Where a subscription goes on from: seeking, by position or by time, and skipping. Dropping it.
 use Rattle.std.specs.Prelude.{◌≡◌, ℕ, nat_le, List, [], ◌∷◌, map, take, length, Option, Some, None, if◌then◌else◌}
 use Rattle.std.specs.List.{filter, count_by, position_or_len}
 use Rattle.std.specs.Option.{unwrap_or}
@@ -8,7 +8,7 @@ use Rattle.position_core.specs.declared.position.Position.{Position}
 use Rattle.position_core.specs.declared.message.Entry.{Entry}
 use Rattle.delivery_machine.specs.State.{State, Subscription}
 use Rattle.delivery_machine.specs.Words.{changed, removed, is_named, members_of, is_live, has_position, visible, emptied_at}
-use Rattle.delivery_machine.specs.Acknowledging.{acknowledged}
+use Rattle.delivery_machine.specs.Acknowledging.{with_acknowledged}
 use Rattle.delivery_machine.specs.declared.event.Target.{Target}
 use Rattle.delivery_machine.specs.declared.event.Target.TheVariants.{Earliest, Latest, At}
 use Rattle.delivery_machine.specs.declared.reply.Reply.{Reply}
@@ -57,25 +57,7 @@ abbrev pub first_live : State → Subscription → ℕ → List Position
 first_live s sub count = first_live_in (visible s) sub count
 
 abbrev pub Skips : State → List ℕ → ℕ → Subscription → Reply → State → Type 0
-Skips s name count sub reply t = (reply ≡ Done) × (t ≡ acknowledged s name (first_live s sub count))
+Skips s name count sub reply t = (reply ≡ Done) × (t ≡ with_acknowledged s name (first_live s sub count))
 
 abbrev pub Drops : State → List ℕ → Reply → State → Type 0
 Drops s name reply t = (reply ≡ Done) × (t ≡ record s { subscriptions = removed (is_named name) s.subscriptions })
-
--- ---- statistics
-
--- the greatest position of the log up to which all is acknowledged
-abbrev pub mark_delete : Subscription → List Entry → Option Position
-mark_delete sub [] = None
-mark_delete sub (e ∷ es) = if set.contains sub.acknowledged e.position then Some (unwrap_or (mark_delete sub es) e.position) else None
-
-abbrev pub Counts : State → List ℕ → Subscription → Reply → State → Type 0
-Counts s name sub reply t =
-    (reply ≡ Stats sub.kind
-    (length (members_of s name))
-    (mark_delete sub s.log)
-    (count_by (λ e. set.contains sub.acknowledged e.position) s.log)
-    (count_by (is_live sub) (visible s))
-    (count_by (λ e. map_of.contains_key sub.pending e.position) s.log)
-    (length sub.dead))
-    × (t ≡ s)

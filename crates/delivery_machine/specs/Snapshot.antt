@@ -6,14 +6,14 @@ use Rattle.position_core.specs.declared.topic_name.TopicName.{TopicName}
 use Rattle.position_core.specs.declared.message.Entry.{Entry}
 use Rattle.position_core.specs.declared.kind.Kind.{Kind}
 use Rattle.position_core.specs.Position.{position_cmp}
-use Rattle.delivery_machine.specs.State.{State, Subscription, Dead}
+use Rattle.delivery_machine.specs.State.{State, Subscription, DeadLetter}
 
 -- what is kept of a subscription
-pub record Place : Type 0 where
+pub record KeptSubscription : Type 0 where
   pub name : List ℕ
   pub kind : Kind
   pub acknowledged : set.FinSet position_cmp
-  pub dead : List Dead
+  pub dead : List DeadLetter
 
 pub record Snapshot : Type 0 where
   pub name : TopicName
@@ -21,10 +21,10 @@ pub record Snapshot : Type 0 where
   pub ledger : ℕ
   pub next_ordinal : ℕ
   pub log : List Entry
-  pub subscriptions : List Place
+  pub subscriptions : List KeptSubscription
 
-abbrev pub place_of : Subscription → Place
-place_of sub = record { name = sub.name; kind = sub.kind; acknowledged = sub.acknowledged; dead = sub.dead }
+abbrev pub kept_of : Subscription → KeptSubscription
+kept_of sub = record { name = sub.name; kind = sub.kind; acknowledged = sub.acknowledged; dead = sub.dead }
 
 abbrev pub snapshot_of : State → Snapshot
 snapshot_of s = record {
@@ -33,11 +33,11 @@ snapshot_of s = record {
   ledger = s.ledger;
   next_ordinal = s.next_ordinal;
   log = s.log;
-  subscriptions = map place_of s.subscriptions;
+  subscriptions = map kept_of s.subscriptions;
 }
 
 -- a subscription without members, in which nothing is pending
-abbrev pub subscription_from : Place → Subscription
+abbrev pub subscription_from : KeptSubscription → Subscription
 subscription_from kept = record {
   name = kept.name;
   kind = kept.kind;

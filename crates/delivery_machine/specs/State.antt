@@ -31,7 +31,7 @@ pub record Member : Type 0 where
   pub out : List Delivery
 
 -- a message that was redelivered too often, and the topic that it goes to
-pub record Dead : Type 0 where
+pub record DeadLetter : Type 0 where
   pub position : Position
   pub target : TopicName
   pub ordinal : ℕ
@@ -45,7 +45,7 @@ pub record Subscription : Type 0 where
   pub pending : FinMap position_cmp Held
   pub counts : FinMap position_cmp ℕ
   pub shares : List Block
-  pub dead : List Dead
+  pub dead : List DeadLetter
   pub safe : ℕ
 
 -- producers and members stand in order of joining, subscriptions in order of their names;

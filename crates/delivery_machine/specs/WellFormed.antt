@@ -10,9 +10,9 @@ use Rattle.position_core.specs.declared.message.Entry.{Entry}
 use Rattle.position_core.specs.declared.held.Held.{Held}
 use Rattle.position_core.specs.Position.{position_cmp, same_position}
 use Rattle.position_core.specs.Name.{name_order}
-use Rattle.delivery_machine.specs.State.{State, Member, Dead, Subscription}
+use Rattle.delivery_machine.specs.State.{State, Member, DeadLetter, Subscription}
 use Rattle.delivery_machine.specs.Words.{has_position, has_subscription, is_member, is_live, is_held_at, members_of, visible}
-use Rattle.delivery_machine.specs.Snapshot.{Place, Snapshot}
+use Rattle.delivery_machine.specs.Snapshot.{KeptSubscription, Snapshot}
 
 -- ---- parts of both
 
@@ -31,13 +31,13 @@ abbrev pub AreMessagesOf : List Entry → set.FinSet position_cmp → Type 0
 AreMessagesOf log positions = (position : Position) → IsTrue (set.contains positions position) → IsTrue (has_message log position)
 
 -- a subscription's dead letters are messages of the log, none of them twice, in the order in which they died
-pub record AreDeadLettersOf (log : List Entry) (dead : List Dead) : Type 0 where
+pub record AreDeadLettersOf (log : List Entry) (dead : List DeadLetter) : Type 0 where
   pub messages : All (λ d. IsTrue (has_message log d.position)) dead
   pub once : IsDistinct same_position (map (λ d. d.position) dead)
   pub ordinals : IsStrictlyIncreasing (map (λ d. d.ordinal) dead)
 
 -- no two dead letters of a topic have one ordinal, and the next ordinal is above them all; 2^62 is given to none
-pub record HaveOrdinals (next : ℕ) (dead : List Dead) : Type 0 where
+pub record HaveOrdinals (next : ℕ) (dead : List DeadLetter) : Type 0 where
   pub distinct : IsDistinct (λ a b. a == b) (map (λ d. d.ordinal) dead)
   pub below : All (λ d. d.ordinal < next) dead
   pub last_ordinal : next ≤ 2 ^ 62
@@ -83,12 +83,12 @@ pub record IsWellFormed (s : State) : Type 0 where
 
 -- ---- snapshots
 
-pub record IsSoundPlace (log : List Entry) (place : Place) : Type 0 where
+pub record IsSoundSubscription (log : List Entry) (place : KeptSubscription) : Type 0 where
   pub acknowledged : AreMessagesOf log place.acknowledged
   pub dead : AreDeadLettersOf log place.dead
 
 pub record IsSound (kept : Snapshot) : Type 0 where
   pub log : IsWellFormedLog kept.ledger_size kept.ledger kept.log
   pub names : NamesRise (map (λ place. place.name) kept.subscriptions)
-  pub subscriptions : All (IsSoundPlace kept.log) kept.subscriptions
+  pub subscriptions : All (IsSoundSubscription kept.log) kept.subscriptions
   pub ordinals : HaveOrdinals kept.next_ordinal (flat_map (λ place. place.dead) kept.subscriptions)

@@ -12,10 +12,10 @@ pub struct DeadLetter {
 }
 
 impl Model for DeadLetter {
-    ghost use Rattle.delivery_machine.specs.State.{Dead};
+    ghost use Rattle.delivery_machine.specs.State.{DeadLetter};
     ghost use Rattle.delivery_machine.specs.Codes.{coded_dead};
 
-    ghost Value = { Dead };
+    ghost Value = { DeadLetter };
 
     ghost coded = { coded_dead };
 

@@ -3,7 +3,7 @@ use Rattle.std.proofs.Common.{◌≡◌, ℕ, Bool, true, false, cond, [], ◌�
 use Rattle.std.specs.FinMap as map_of
 use Rattle.position_core.specs.declared.position.Position.{Position}
 use Rattle.position_core.specs.Position.{position_cmp}
-use Rattle.delivery_machine.specs.State.{Subscription, Dead}
+use Rattle.delivery_machine.specs.State.{Subscription, DeadLetter}
 use Rattle.delivery_machine.specs.Acknowledging.{acknowledging}
 use Rattle.delivery_machine.specs.Dying.{burying}
 use Rattle.delivery_machine.specs.Ticking.{redelivering}
@@ -16,7 +16,7 @@ acknowledged_one s new position is sub agrees = (
   sym (removed_one sub.counts position) ∙ ap (λ m. map_of.remove m position) agrees.1 ∙ sym (ap (λ (p : Pending). p.counts) is),
 )
 
-pub dead_one : (s new : Pending) (position : Position) → new ≡ without position s → (letter : Dead) (sub : Subscription) → letter.position ≡ position → IsPendingOf s sub → IsPendingOf new (burying letter sub)
+pub dead_one : (s new : Pending) (position : Position) → new ≡ without position s → (letter : DeadLetter) (sub : Subscription) → letter.position ≡ position → IsPendingOf s sub → IsPendingOf new (burying letter sub)
 dead_one s new position is letter sub at agrees =
     acknowledged_one s new letter.position (is ∙ ap (λ (p : Position). without p s) (sym at)) sub agrees
 

@@ -3,7 +3,7 @@ ghost use Rattle.std.specs.Prelude.{◌≡◌, ◌↔◌, ◌<◌, ◌≤◌, �
 ghost use Rattle.std.specs.Option.{option_map};
 ghost use Rattle.std.specs.FinMap as map_of;
 ghost use Rattle.position_core.specs.declared.message.Entry.{Entry};
-ghost use Rattle.delivery_machine.specs.State.{Subscription, Dead};
+ghost use Rattle.delivery_machine.specs.State.{Subscription, DeadLetter};
 ghost use Rattle.delivery_machine.specs.Words.{is_held_by};
 ghost use Rattle.delivery_machine.specs.Acknowledging.{acknowledging};
 ghost use Rattle.delivery_machine.specs.Delivering as delivering;
@@ -66,7 +66,7 @@ impl PendingMap {
     pub fn remove(&mut self, position: Position)
         ensures value { self.new ≡ without position self.old }
         ensures acknowledged { (sub : Subscription) → IsPendingOf self.old sub → IsPendingOf self.new (acknowledging (position ∷ []) sub) }
-        ensures died { (letter : Dead) (sub : Subscription) → letter.position ≡ position → IsPendingOf self.old sub → IsPendingOf self.new (burying letter sub) }
+        ensures died { (letter : DeadLetter) (sub : Subscription) → letter.position ≡ position → IsPendingOf self.old sub → IsPendingOf self.new (burying letter sub) }
     {
         table::remove(&mut self.kept, &mut self.slots, position);
     }

@@ -7,7 +7,7 @@ use Rattle.std.proofs.lemmas.List.{drop_more}
 use Rattle.position_core.specs.declared.position.Position.{Position}
 use Rattle.position_core.specs.declared.message.Entry.{Entry}
 use Rattle.delivery_machine.specs.State.{Subscription}
-use Rattle.delivery_machine.specs.Seeking.{mark_delete}
+use Rattle.delivery_machine.specs.Statistics.{mark_delete}
 
 -- what is marked once the rest of the log is gone through
 abbrev pub marked : Subscription → Option Position → List Entry → Option Position

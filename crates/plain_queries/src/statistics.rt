@@ -4,7 +4,7 @@ ghost use Rattle.std.specs.List.{count_by};
 ghost use Rattle.std.specs.FinSet as set;
 ghost use Rattle.std.specs.FinMap as map_of;
 ghost use Rattle.delivery_machine.specs.Words.{is_live};
-ghost use Rattle.delivery_machine.specs.Seeking.{mark_delete};
+ghost use Rattle.delivery_machine.specs.Statistics.{mark_delete};
 
 use plain_lists::Subscription;
 use position_core::{Message, Position};

@@ -9,7 +9,7 @@ use Rattle.position_core.specs.declared.fault.Fault.{Fault}
 use Rattle.position_core.specs.declared.fault.Fault.TheVariants.{WrongKind, ConsumerBusy, TooMany, DeadLetterSelf}
 use Rattle.delivery_machine.specs.State.{State}
 use Rattle.delivery_machine.specs.Words.{members_of, has_subscription}
-use Rattle.delivery_machine.specs.Refusals.{subscribing_refused, is_spent, dies_into_itself}
+use Rattle.delivery_machine.specs.Refusals.{subscribing_refused, is_used_up, dies_into_itself}
 use Rattle.delivery_machine.specs.Run.{Answers}
 use Rattle.delivery_machine.specs.declared.event.Initial.{Initial}
 use Rattle.delivery_machine.specs.declared.event.Event.TheVariants.{Subscribe}
@@ -53,11 +53,11 @@ pub turned_away : (s : State) (name : List ℕ) (kind : Kind) (level : ℕ) (flo
     → Answers s (Subscribe name kind level flow ack_timeout nack_delay max_redeliver dead_topic initial) (Refused fault) s
 turned_away s name kind level flow ack_timeout nack_delay max_redeliver dead_topic initial fault is =
     one_of_these (λ f. subscribing_refused s name kind max_redeliver dead_topic ≡ Some f → Answers s (Subscribe name kind level flow ack_timeout nack_delay max_redeliver dead_topic initial) (Refused f) s)
-    _ _ (nat_le 64 (length (members_of s name))) (nat_le 64 (length s.subscriptions) && not (has_subscription s name)) (is_spent s.next_consumer) (dies_into_itself s kind max_redeliver dead_topic) fault is (λ e. (e, refl)) (λ e. (e, refl)) (λ e. (e, refl)) (λ e. (e, refl)) is
+    _ _ (nat_le 64 (length (members_of s name))) (nat_le 64 (length s.subscriptions) && not (has_subscription s name)) (is_used_up s.next_consumer) (dies_into_itself s kind max_redeliver dead_topic) fault is (λ e. (e, refl)) (λ e. (e, refl)) (λ e. (e, refl)) (λ e. (e, refl)) is
 
 -- a consumer that is let in has a number
 pub number_left : (s : State) (name : List ℕ) (kind : Kind) (max_redeliver : ℕ) (dead_topic : TopicName) → subscribing_refused s name kind max_redeliver dead_topic ≡ None → s.next_consumer < 2 ^ 63
-number_left s name kind max_redeliver dead_topic is = below s.next_consumer (fifth_passes _ _ (nat_le 64 (length (members_of s name))) (nat_le 64 (length s.subscriptions) && not (has_subscription s name)) (is_spent s.next_consumer) (dies_into_itself s kind max_redeliver dead_topic) is)
+number_left s name kind max_redeliver dead_topic is = below s.next_consumer (fifth_passes _ _ (nat_le 64 (length (members_of s name))) (nat_le 64 (length s.subscriptions) && not (has_subscription s name)) (is_used_up s.next_consumer) (dies_into_itself s kind max_redeliver dead_topic) is)
   where
-    below : (n : ℕ) → is_spent n ≡ false → n < 2 ^ 63
+    below : (n : ℕ) → is_used_up n ≡ false → n < 2 ^ 63
     below n not_spent = grind (arith, nat_tests)

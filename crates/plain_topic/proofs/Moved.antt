@@ -5,7 +5,7 @@ use Rattle.std.specs.List.{find}
 use Rattle.std.specs.Option.{option_map_or}
 use Rattle.std.proofs.lemmas.Bool.Decides.{nat_tests}
 use Rattle.position_core.specs.declared.fault.Fault.TheVariants.{NoSuchMessage}
-use Rattle.delivery_machine.specs.State.{State, Subscription, Dead}
+use Rattle.delivery_machine.specs.State.{State, Subscription, DeadLetter}
 use Rattle.delivery_machine.specs.Words.{changed, is_named}
 use Rattle.delivery_machine.specs.Acknowledging.{forgetting}
 use Rattle.delivery_machine.specs.Dying.{first_safe, moving, moved, is_next_letter, MovesLetter}
@@ -34,13 +34,13 @@ at_some o x P is holds = subst (λ (z : Option _). IsSomeAnd z P) (sym is) holds
 same_number : (a b : ℕ) → a ≡ b → (a == b) ≡ true
 same_number a b is = grind (arith, nat_tests)
 
-pub moves_letter : (s : State) (name : List ℕ) (ordinal : ℕ) (sub : Subscription) (d : Dead)
+pub moves_letter : (s : State) (name : List ℕ) (ordinal : ℕ) (sub : Subscription) (d : DeadLetter)
     → find (is_named name) s.subscriptions ≡ Some sub → first_safe sub ≡ Some d → d.ordinal ≡ ordinal
     → Answers s (DeadDone name ordinal) Done (first_moved s name d.position)
 moves_letter s name ordinal sub d there first same = (allowed, taken)
   where
     is_next : is_next_letter ordinal sub ≡ true
-    is_next = ap (λ (o : Option Dead). option_map_or (λ d. d.ordinal == ordinal) o false) first ∙ same_number d.ordinal ordinal same
+    is_next = ap (λ (o : Option DeadLetter). option_map_or (λ d. d.ordinal == ordinal) o false) first ∙ same_number d.ordinal ordinal same
 
     allowed : moving_refused ordinal (find (is_named name) s.subscriptions) ≡ None
     allowed = ap (moving_refused ordinal) there ∙ ap (λ b. if b then None else Some NoSuchMessage) is_next
@@ -48,7 +48,7 @@ moves_letter s name ordinal sub d there first same = (allowed, taken)
     is_moved : first_moved s name d.position ≡ moved s name d
     is_moved =
         ap (λ (subs : List Subscription). record s { subscriptions = subs; members = map (forgetting name (d.position ∷ [])) s.members })
-        (changed_alike (is_named name) moving_first (moving d) s.subscriptions sub there (ap (λ (o : Option Dead). option_map_or (λ d. moving d sub) o sub) first))
+        (changed_alike (is_named name) moving_first (moving d) s.subscriptions sub there (ap (λ (o : Option DeadLetter). option_map_or (λ d. moving d sub) o sub) first))
 
     taken : IsSomeAnd (find (is_named name) s.subscriptions) (λ sub. MovesLetter s name sub Done (first_moved s name d.position))
     taken =

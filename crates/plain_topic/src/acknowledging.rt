@@ -24,7 +24,7 @@ impl PlainTopic {
     ghost use Rattle.std.specs.List.{list_any};
     ghost use Rattle.delivery_machine.specs.Words.{has_position, visible};
     ghost use Rattle.delivery_machine.specs.Run.{Answers};
-    ghost use Rattle.delivery_machine.specs.Acknowledging.{acknowledged};
+    ghost use Rattle.delivery_machine.specs.Acknowledging.{with_acknowledged};
     ghost use Rattle.delivery_machine.specs.declared.event.Event.TheVariants.{Ack, AckUpTo};
     ghost use Rattle.plain_topic.specs.StateOf.{state_of};
 
@@ -41,7 +41,7 @@ impl PlainTopic {
         name: &SubscriptionName,
         positions: &[Position],
     ) -> Result<(), AllocError>
-        ensures ok { OnOk result (state_of self.new ≡ acknowledged (state_of self.old) name.now positions.now) }
+        ensures ok { OnOk result (state_of self.new ≡ with_acknowledged (state_of self.old) name.now positions.now) }
         ensures err { OnErr result (state_of self.new ≡ state_of self.old) }
     {
         if let Some(place) = place_of_subscription(&self.subscriptions, name) {

@@ -4,7 +4,7 @@ use Rattle.std.specs.FinSet as set
 use Rattle.position_core.specs.declared.flow.Flow.TheVariants.{Window}
 use Rattle.position_core.specs.declared.kind.Kind.TheVariants.{Exclusive}
 use Rattle.position_core.specs.Position.{position_cmp, positions_total}
-use Rattle.delivery_machine.specs.Acknowledging.{acknowledged}
+use Rattle.delivery_machine.specs.Acknowledging.{with_acknowledged}
 use Rattle.delivery_machine.specs.Laws.{MayCome, IsSentAndAcknowledged}
 use Rattle.delivery_machine.specs.declared.event.Event.TheVariants.{Ack}
 use Rattle.delivery_machine.specs.declared.reply.Reply.TheVariants.{Done}
@@ -21,7 +21,7 @@ has =
 comes : MayCome IsSentAndAcknowledged
 comes name body =
     let before = done name body Exclusive (Window 1) in
-    let t = acknowledged before (codes "s") (first ∷ []) in (
+    let t = with_acknowledged before (codes "s") (first ∷ []) in (
       joins name body Exclusive (Window 1) (dispatch ∷ Ack 1 first ∷ []),
       answered (to_one ∷ Done ∷ []),
       t,

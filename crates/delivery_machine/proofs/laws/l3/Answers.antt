@@ -1,4 +1,4 @@
-use Rattle.delivery_machine.proofs.Orders.{reached_ordered, in_order_at_active, sends_next_live}
+use Rattle.delivery_machine.proofs.OrderReached.{reached_ordered, in_order_at_active, sends_next_live}
 use Rattle.delivery_machine.proofs.laws.l3.Goals as goal
 
 pub returns : goal.returns

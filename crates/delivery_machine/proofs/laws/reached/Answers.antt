@@ -1,5 +1,5 @@
 use Rattle.delivery_machine.proofs.WellReached.{reached_all}
-use Rattle.delivery_machine.proofs.Forms.{well_formed}
+use Rattle.delivery_machine.proofs.WellFormedStates.{well_formed}
 use Rattle.delivery_machine.proofs.laws.reached.Goals as goal
 
 pub returns : goal.returns

@@ -1,5 +1,5 @@
 use Rattle.delivery_machine.proofs.WellReached.{reached_all}
-use Rattle.delivery_machine.proofs.Forms.{sound_snapshot}
+use Rattle.delivery_machine.proofs.WellFormedStates.{sound_snapshot}
 use Rattle.delivery_machine.proofs.laws.snapshots_are_sound.Goals as goal
 
 pub returns : goal.returns

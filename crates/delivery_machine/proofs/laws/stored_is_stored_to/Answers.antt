@@ -1,5 +1,5 @@
 use Rattle.delivery_machine.proofs.WellReached.{reached_all}
-use Rattle.delivery_machine.proofs.Forms.{stored_is}
+use Rattle.delivery_machine.proofs.WellFormedStates.{stored_is}
 use Rattle.delivery_machine.proofs.laws.stored_is_stored_to.Goals as goal
 
 pub returns : goal.returns

@@ -2,7 +2,7 @@ use Rattle.std.proofs.Common.{◌≡◌, ◌∙◌, ◌+◌, drop, sym, ap, Opti
 use Rattle.std.specs.Option.{option_or}
 use Rattle.std.proofs.lemmas.List.{drop_all}
 use Rattle.position_core.specs.declared.position.Position.{Position}
-use Rattle.delivery_machine.specs.Seeking.{mark_delete}
+use Rattle.delivery_machine.specs.Statistics.{mark_delete}
 use Rattle.plain_queries.proofs.Marks.{marked, marked_once_more, marked_no_more}
 use Rattle.plain_queries.proofs.statistics.mark_delete.Goals as goal
 

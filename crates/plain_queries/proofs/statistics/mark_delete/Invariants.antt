@@ -1,5 +1,5 @@
 use Rattle.std.proofs.Common.{◌≡◌, drop}
-use Rattle.delivery_machine.specs.Seeking.{mark_delete}
+use Rattle.delivery_machine.specs.Statistics.{mark_delete}
 use Rattle.plain_queries.proofs.Marks.{marked}
 use Rattle.plain_queries.proofs.statistics.mark_delete.Given as goal
 

@@ -35,7 +35,7 @@ use Rattle.delivery_machine.proofs.Tending.{part_retained, part_empty, part_held
 use Rattle.delivery_machine.proofs.Kept.{IsKept}
 use Rattle.delivery_machine.proofs.Seats.{seat_of, seats, has_number, seats_of_changed, seats_stay, seats_of_mapped, seats_of_removed, seats_of_pushed}
 use Rattle.delivery_machine.proofs.Shrinking.{Shrinks, shrinks_not, shrinks_then, shrinks_changed, shrinks_mapped, shrinks_placed, shrinks_removed, part_itself}
-use Rattle.delivery_machine.proofs.Moves.{SendsNone, JoinsNone, Moves, Moves.stays, Moves.appends, Moves.joins, Moves.leaves, Moves.permits, Moves.sends, joins_to_push, pulls_if, pushes_if, granting, spending}
+use Rattle.delivery_machine.proofs.FlowSteps.{SendsNone, JoinsNone, Moves, Moves.stays, Moves.appends, Moves.joins, Moves.leaves, Moves.permits, Moves.sends, joins_to_push, pulls_if, pushes_if, granting, spending}
 use Rattle.delivery_machine.proofs.Deciding.{holds_unless_refused}
 
 -- ---- members that keep their seats

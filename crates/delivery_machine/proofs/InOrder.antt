@@ -16,7 +16,7 @@ use Rattle.delivery_machine.specs.Words.{is_live}
 use Rattle.delivery_machine.specs.Acknowledging.{acknowledging, is_one_of}
 use Rattle.delivery_machine.proofs.Behind.{IsIdle}
 use Rattle.delivery_machine.proofs.Tended.{IsPartOf}
-use Rattle.delivery_machine.proofs.Ordered.{is_ordered, ordered_none, ordered_part}
+use Rattle.delivery_machine.proofs.HeldFirst.{is_ordered, ordered_none, ordered_part}
 use Rattle.delivery_machine.proofs.Ranks.{KeepsRanks, active_number, seats_at, same_active, same_seats}
 
 abbrev pub is_pending_in : Subscription → Entry → Bool
@@ -106,7 +106,7 @@ live_acknowledged sub positions e =
     ∙ by (set.contains sub.acknowledged e.position) (is_one_of positions e.position) dead
   where
     dead : Bool
-    dead = not (list_any (λ (d : state.Dead). same_position d.position e.position) sub.dead)
+    dead = not (list_any (λ (d : state.DeadLetter). same_position d.position e.position) sub.dead)
 
     by : (a b d : Bool) → (not (a || b) && d) ≡ ((not a && d) && not b)
     by true b d = refl

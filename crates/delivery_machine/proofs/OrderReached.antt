@@ -23,7 +23,7 @@ use Rattle.delivery_machine.specs.Words.{changed, removed, is_named, is_at, is_m
 use Rattle.delivery_machine.specs.Refusals.{refusal_of, nacking_refused, dropping_refused, is_duplicate}
 use Rattle.delivery_machine.specs.Producing.{with_message, message_of, storing, storing_below}
 use Rattle.delivery_machine.specs.Joining.{permitted, without_member, taken_over, all_released, is_taken_over}
-use Rattle.delivery_machine.specs.Acknowledging.{Acks, acknowledging, acknowledged, forgetting, without, positions_up_to}
+use Rattle.delivery_machine.specs.Acknowledging.{Acks, acknowledging, with_acknowledged, forgetting, without, positions_up_to}
 use Rattle.delivery_machine.specs.Delivering.{Dispatches, holding, given, sent, due_after}
 use Rattle.delivery_machine.specs.Ticking.{Ticks, redelivering, redelivered, pending_positions}
 use Rattle.delivery_machine.specs.Seeking.{seeking, sought, length_before, length_before_time, first_live}
@@ -44,11 +44,11 @@ use Rattle.delivery_machine.proofs.Tending.{none_pending}
 use Rattle.delivery_machine.proofs.Kept.{IsKept}
 use Rattle.delivery_machine.proofs.Reached.{step_keeps, beginning_kept}
 use Rattle.delivery_machine.proofs.EachFirst.{EachFirst, each_kept, each_changed, each_mapped, each_removed}
-use Rattle.delivery_machine.proofs.Ordered.{ordered_push, ordered_longer, held_are_first, PassOnce, ordered_next, IsOrderedWith}
+use Rattle.delivery_machine.proofs.HeldFirst.{ordered_push, ordered_longer, held_are_first, PassOnce, ordered_next, IsOrderedWith}
 use Rattle.delivery_machine.proofs.Ranks.{rank_of, KeepsRanks, ranks_changed, ranks_mapped, same_rank_if, same_active, same_seats, seats_at, active_number}
-use Rattle.delivery_machine.proofs.Orderly.{is_pending_in, IsOrderly, IsOrderlyIn, IsTakenFrom, taken_nothing, orderly_idle, orderly_taken}
+use Rattle.delivery_machine.proofs.InOrder.{is_pending_in, IsOrderly, IsOrderlyIn, IsTakenFrom, taken_nothing, orderly_idle, orderly_taken}
 use Rattle.delivery_machine.proofs.Taking.{taken_acknowledged, taken_moved, taken_stored, taken_stored_to, taken_held_again, pending_listed, idle_redelivered}
-use Rattle.delivery_machine.proofs.Ordering.{IsOrderlyBut, each_taken_over, each_joined, each_left, emptied_ranks}
+use Rattle.delivery_machine.proofs.OrderOverMembers.{IsOrderlyBut, each_taken_over, each_joined, each_left, emptied_ranks}
 use Rattle.delivery_machine.proofs.Deciding.{holds_unless_refused, none_below}
 
 pub record AllOrderly (s : State) : Type 0 where
@@ -92,7 +92,7 @@ forgetting_ranks n positions members = ranks_mapped (forgetting n positions) (λ
 
 -- ---- the events
 
-order_acknowledged : (s : State) (n : List ℕ) (positions : List Position) → AllOrderly s → AllOrderly (acknowledged s n positions)
+order_acknowledged : (s : State) (n : List ℕ) (positions : List Position) → AllOrderly s → AllOrderly (with_acknowledged s n positions)
 order_acknowledged s n positions all = record {
   durable = all.durable;
   each = each_taken s n (acknowledging positions) (map (forgetting n positions) s.members) (λ _. refl) (λ sub _. taken_acknowledged sub positions) (forgetting_ranks n positions s.members) all;
@@ -104,7 +104,7 @@ order_sought s n count all = record {
   each = each_emptied s n (seeking (take count s.log)) (map (emptied_at n) s.members) (λ _. refl) (λ _. refl) (λ sub _ _. none_pending) (emptied_ranks n s.members) all;
 }
 
-order_moved : (s : State) (n : List ℕ) (sub : Subscription) (letter : state.Dead) → find (is_named n) s.subscriptions ≡ Some sub → first_safe sub ≡ Some letter → AllOrderly s → AllOrderly (moved s n letter)
+order_moved : (s : State) (n : List ℕ) (sub : Subscription) (letter : state.DeadLetter) → find (is_named n) s.subscriptions ≡ Some sub → first_safe sub ≡ Some letter → AllOrderly s → AllOrderly (moved s n letter)
 order_moved s n sub letter found first all = record {
   durable = all.durable;
   each = each_taken s n (moving letter) (map (forgetting n (letter.position ∷ [])) s.members) (λ _. refl)

@@ -8,11 +8,11 @@ use Rattle.std.proofs.lemmas.List.Sums.{sum_by-cons}
 use Rattle.position_core.specs.declared.message.Entry.{Entry}
 use Rattle.position_core.specs.declared.position.Position.{Position}
 use Rattle.position_core.specs.Position.{same_position}
-use Rattle.delivery_machine.specs.State.{State, Member, Subscription, Dead}
+use Rattle.delivery_machine.specs.State.{State, Member, Subscription, DeadLetter}
 use Rattle.delivery_machine.specs.Words.{visible, has_position, is_named, is_at, is_member, is_live, has_subscription}
 use Rattle.delivery_machine.specs.Producing.{storing, storing_below, stored, stored_to}
-use Rattle.delivery_machine.specs.Snapshot.{Place, place_of, snapshot_of}
-use Rattle.delivery_machine.specs.WellFormed.{has_message, IsWellFormedLog, IsWellFormed, IsWellFormedIn, IsSound, IsSoundPlace, HaveOrdinals, NamesRise}
+use Rattle.delivery_machine.specs.Snapshot.{KeptSubscription, kept_of, snapshot_of}
+use Rattle.delivery_machine.specs.WellFormed.{has_message, IsWellFormedLog, IsWellFormed, IsWellFormedIn, IsSound, IsSoundSubscription, HaveOrdinals, NamesRise}
 use Rattle.delivery_machine.proofs.Firsts.{any_contained, found_contained}
 use Rattle.delivery_machine.proofs.Messages.{message_there, place_itself}
 use Rattle.delivery_machine.proofs.Rising.{used_in, IsRising, ledgers_below}
@@ -89,27 +89,27 @@ well_formed t all = record {
 pub sound_snapshot : (t : State) → IsAllKept t → IsSound (snapshot_of t)
 sound_snapshot t all = record {
   log = log_formed t.ledger_size t.ledger t.log all.order.kept.rising all.well.ledgered;
-  names = subst NamesRise (sym (keys_mapped (λ (place : Place). place.name) place_of (λ _. refl) t.subscriptions)) all.well.named;
-  subscriptions = All-map (IsSoundPlace t.log) place_of t.subscriptions
-      (all_from_each (λ sub. IsSoundPlace t.log (place_of sub)) t.subscriptions all.well.named
+  names = subst NamesRise (sym (keys_mapped (λ (place : KeptSubscription). place.name) kept_of (λ _. refl) t.subscriptions)) all.well.named;
+  subscriptions = All-map (IsSoundSubscription t.log) kept_of t.subscriptions
+      (all_from_each (λ sub. IsSoundSubscription t.log (kept_of sub)) t.subscriptions all.well.named
       (λ name sub found. let formed = all.well.each name sub found in record { acknowledged = formed.acknowledged; dead = formed.dead }));
-  ordinals = subst (HaveOrdinals t.next_ordinal) (sym (letters_mapped (λ (place : Place). place.dead) letters place_of (λ _. refl) t.subscriptions)) (ordinals_once letters t.next_ordinal t.subscriptions all.well.ordinals);
+  ordinals = subst (HaveOrdinals t.next_ordinal) (sym (letters_mapped (λ (place : KeptSubscription). place.dead) letters kept_of (λ _. refl) t.subscriptions)) (ordinals_once letters t.next_ordinal t.subscriptions all.well.ordinals);
 }
 
 -- ---- what is stored
 
-all_counted : (next : ℕ) (dead : List Dead) → AllByRecursion (λ (d : Dead). d.ordinal < next) dead → count_by (λ d. nat_lt d.ordinal next) dead ≡ length dead
+all_counted : (next : ℕ) (dead : List DeadLetter) → AllByRecursion (λ (d : DeadLetter). d.ordinal < next) dead → count_by (λ d. nat_lt d.ordinal next) dead ≡ length dead
 all_counted next [] below = refl
 all_counted next (d ∷ dead) below =
     let rest = all_counted next dead below.1 in
     let one : cond {A = ℕ} (nat_lt d.ordinal next) 1 0 ≡ 1 = counts d.ordinal next below.0 in
-    let more = sum_by-cons (λ (d : Dead). cond {A = ℕ} (nat_lt d.ordinal next) 1 0) d dead in
+    let more = sum_by-cons (λ (d : DeadLetter). cond {A = ℕ} (nat_lt d.ordinal next) 1 0) d dead in
     omega (arith, rest, one, more)
   where
     counts : (a b : ℕ) → a < b → cond {A = ℕ} (nat_lt a b) 1 0 ≡ 1
     counts a b low = grind (arith, nat_tests)
 
-all_stored : (next : ℕ) (sub : Subscription) → AllByRecursion (λ (d : Dead). d.ordinal < next) sub.dead → sub.safe ≤ length sub.dead → storing sub ≡ storing_below next sub
+all_stored : (next : ℕ) (sub : Subscription) → AllByRecursion (λ (d : DeadLetter). d.ordinal < next) sub.dead → sub.safe ≤ length sub.dead → storing sub ≡ storing_below next sub
 all_stored next sub below low = let all = all_counted next sub.dead below in ap (λ (n : ℕ). record sub { safe = n }) (omega (arith, all, low))
 
 same_map : (f g : Subscription → Subscription) (subs : List Subscription) → AllByRecursion (λ sub. f sub ≡ g sub) subs → map f subs ≡ map g subs

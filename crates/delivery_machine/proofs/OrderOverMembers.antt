@@ -26,9 +26,9 @@ use Rattle.delivery_machine.proofs.Tended.{is_seat, is_seated}
 use Rattle.delivery_machine.proofs.Tending.{IsTendedIn, none_pending, part_retained, got_retained}
 use Rattle.delivery_machine.proofs.Kept.{IsKept, nothing_pending, kinds_agree, tended_leaving}
 use Rattle.delivery_machine.proofs.EachFirst.{EachFirst, each_changed, each_placed}
-use Rattle.delivery_machine.proofs.Ordered.{is_ordered, ordered_part}
+use Rattle.delivery_machine.proofs.HeldFirst.{is_ordered, ordered_part}
 use Rattle.delivery_machine.proofs.Ranks.{KeepsRanks, ranks_mapped, same_rank_if, active_number, seats_at, same_seats, those_pushed, those_removed, those_with, one_less}
-use Rattle.delivery_machine.proofs.Orderly.{is_pending_in, IsOrderly, IsOrderlyIn, taken_nothing, orderly_idle, orderly_taken, leads_idle, held_retained}
+use Rattle.delivery_machine.proofs.InOrder.{is_pending_in, IsOrderly, IsOrderlyIn, taken_nothing, orderly_idle, orderly_taken, leads_idle, held_retained}
 
 -- ---- kinds
 
