@@ -6,6 +6,7 @@ ghost use Rattle.delivery_machine.specs.Producing.{storing};
 ghost use Rattle.delivery_machine.specs.Dying.{burying, first_safe, is_next_letter, moving};
 ghost use Rattle.dead_core.specs.Letters.{AreLettersOf, none_dead, ending_with, all_safe, next_safe, is_next, without_first};
 
+use position_core::Ordinal;
 use delivery_machine::DeadLetter;
 use std::alloc::{AllocError, Global};
 use std::collections::VecDeque;
@@ -75,7 +76,7 @@ impl DeadQueue {
         self.letters.front()
     }
 
-    fn is_next(&self, ordinal: u64) -> bool
+    fn is_next(&self, ordinal: Ordinal) -> bool
         ensures { result ≡ is_next ordinal self.now }
     {
         match self.next_safe() {
@@ -86,7 +87,7 @@ impl DeadQueue {
 
     /// Takes the first letter out where it is safe and of this ordinal: it was published. Else nothing
     /// changes.
-    pub fn done(&mut self, ordinal: u64) -> Option<DeadLetter>
+    pub fn done(&mut self, ordinal: Ordinal) -> Option<DeadLetter>
         ensures letter { result ≡ (if is_next ordinal self.old then next_safe self.old else None) }
         ensures others { self.new ≡ (if is_next ordinal self.old then without_first self.old else self.old) }
         ensures next { (sub : Subscription) → AreLettersOf self.old sub → is_some result ≡ is_next_letter ordinal sub }

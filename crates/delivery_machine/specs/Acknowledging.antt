@@ -7,6 +7,7 @@ use Rattle.std.specs.FinMap as map_of
 use Rattle.position_core.specs.declared.position.Position.{Position}
 use Rattle.position_core.specs.declared.message.Entry.{Entry}
 use Rattle.position_core.specs.Position.{position_cmp, same_position}
+use Rattle.position_core.specs.Numbers.{ConsumerNumber}
 use Rattle.delivery_machine.specs.State.{State, Member, Subscription}
 use Rattle.delivery_machine.specs.Words.{changed, is_member, is_named, is_at}
 use Rattle.delivery_machine.specs.declared.delivery.Delivery.{Delivery}
@@ -38,7 +39,7 @@ with_acknowledged s name positions = record s {
 }
 
 -- the messages leave the subscription of the member that acknowledges them
-abbrev pub Acks : State → ℕ → List Position → Reply → State → Type 0
+abbrev pub Acks : State → ConsumerNumber → List Position → Reply → State → Type 0
 Acks s consumer positions reply t =
     (reply ≡ Done) × IsSomeAnd (find (is_member consumer) s.members) (λ m. t ≡ with_acknowledged s m.subscription positions)
 

@@ -7,6 +7,7 @@ use Rattle.position_core.specs.declared.position.Position.{Position}
 use Rattle.position_core.specs.declared.message.Entry.{Entry}
 use Rattle.position_core.specs.declared.held.Held.{Held}
 use Rattle.position_core.specs.Flow.{spent}
+use Rattle.position_core.specs.Numbers.{ConsumerNumber, DueMoment}
 use Rattle.delivery_machine.specs.State.{State, Member, Subscription}
 use Rattle.delivery_machine.specs.Words.{changed, is_member, is_named, count_of, emptied, IsEligible, NoneEligible}
 use Rattle.delivery_machine.specs.declared.delivery.Delivery.{Delivery}
@@ -16,7 +17,7 @@ use Rattle.delivery_machine.specs.declared.reply.Reply.TheVariants.{Sent, Idle, 
 -- ---- dispatch
 
 -- when a message that is sent now may be released; a timeout of 0 is none
-abbrev pub due_after : ℕ → ℕ → Option ℕ
+abbrev pub due_after : ℕ → ℕ → Option DueMoment
 due_after now timeout = if timeout == 0 then None else Some (now + timeout)
 
 abbrev pub holding : Position → Held → Subscription → Subscription
@@ -44,9 +45,9 @@ Dispatches s name now sub reply t = ⊥
 -- ---- collecting
 
 -- what the consumer was sent and has not collected; nothing where there is no such consumer
-abbrev pub out_of : State → ℕ → List Delivery
+abbrev pub out_of : State → ConsumerNumber → List Delivery
 out_of s consumer = option_map_or (λ m. m.out) (find (is_member consumer) s.members) []
 
-abbrev pub Collects : State → ℕ → Reply → State → Type 0
+abbrev pub Collects : State → ConsumerNumber → Reply → State → Type 0
 Collects s consumer reply t =
     (reply ≡ Copies (out_of s consumer)) × (t ≡ record s { members = changed (is_member consumer) emptied s.members })

@@ -5,6 +5,7 @@ use Rattle.std.specs.Option.{option_map, option_map_or, option_and_then}
 use Rattle.std.specs.FinMap as map_of
 use Rattle.position_core.specs.declared.position.Position.{Position}
 use Rattle.position_core.specs.declared.message.Entry.{Entry}
+use Rattle.position_core.specs.Numbers.{Ordinal}
 use Rattle.delivery_machine.specs.State.{State, Subscription, Member}
 use Rattle.delivery_machine.specs.State as state
 use Rattle.delivery_machine.specs.Words.{changed, is_member, is_named, has_position, count_of}
@@ -15,11 +16,11 @@ use Rattle.delivery_machine.specs.declared.reply.Reply.TheVariants.{Done, Dead, 
 -- ---- dying
 
 -- the member redelivers messages so often and no more, which the message was, and an ordinal is left
-abbrev pub is_to_die : ℕ → Subscription → Position → Member → Bool
+abbrev pub is_to_die : Ordinal → Subscription → Position → Member → Bool
 is_to_die ordinal sub position m = nat_lt 0 m.max_redeliver && nat_le m.max_redeliver (count_of sub position) && nat_lt ordinal (2 ^ 62)
 
 -- the member at which the message is pending, where it is not to be redelivered again
-abbrev pub dying_in : List Member → ℕ → Subscription → Position → Option Member
+abbrev pub dying_in : List Member → Ordinal → Subscription → Position → Option Member
 dying_in members ordinal sub position =
     option_and_then (λ h. option_and_then (λ m. if is_to_die ordinal sub position m then Some m else None) (find (is_member h.consumer) members))
     (map_of.get sub.pending position)
@@ -60,7 +61,7 @@ abbrev pub ShowsLetter : State → Subscription → Reply → State → Type 0
 ShowsLetter s sub reply t = (reply ≡ option_map_or (λ p. Dead p.1 p.0.target p.0.ordinal) (next_letter s sub) NoDead) × (t ≡ s)
 
 -- the first letter that is safe has the ordinal
-abbrev pub is_next_letter : ℕ → Subscription → Bool
+abbrev pub is_next_letter : Ordinal → Subscription → Bool
 is_next_letter ordinal sub = option_map_or (λ d. d.ordinal == ordinal) (first_safe sub) false
 
 -- the first letter is gone, and its message acknowledged

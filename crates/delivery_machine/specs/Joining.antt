@@ -11,6 +11,7 @@ use Rattle.position_core.specs.declared.kind.Kind.TheVariants.{Failover}
 use Rattle.position_core.specs.Position.{position_cmp}
 use Rattle.position_core.specs.Name.{name_order}
 use Rattle.position_core.specs.Flow.{granted}
+use Rattle.position_core.specs.Numbers.{ConsumerNumber}
 use Rattle.delivery_machine.specs.State.{State, Member, Subscription}
 use Rattle.delivery_machine.specs.Shares.{shares_with, given_back}
 use Rattle.delivery_machine.specs.Words.{changed, removed, is_member, is_named, is_held_by, has_subscription, has_kind, active_at, emptied_at}
@@ -24,7 +25,7 @@ abbrev pub acknowledged_at_first : Initial → List Entry → set.FinSet positio
 acknowledged_at_first Earliest log = set.empty
 acknowledged_at_first Latest log = set.from_list (map (λ e. e.position) log)
 
-abbrev pub new_subscription : List ℕ → Kind → ℕ → Initial → List Entry → Subscription
+abbrev pub new_subscription : List ℕ → Kind → ConsumerNumber → Initial → List Entry → Subscription
 new_subscription name kind consumer initial log = record {
   name = name;
   kind = kind;
@@ -41,10 +42,10 @@ abbrev pub placed : Subscription → List Subscription → List Subscription
 placed sub subs = insert subs (position_or_len (λ other. is_lt (name_order sub.name other.name)) subs) sub
 
 -- the subscription takes the kind of the new member, which gets its share
-abbrev pub joining : Kind → ℕ → Subscription → Subscription
+abbrev pub joining : Kind → ConsumerNumber → Subscription → Subscription
 joining kind consumer sub = record sub { kind = kind; shares = shares_with kind consumer sub.shares }
 
-abbrev pub joined : State → List ℕ → Kind → ℕ → Initial → List Subscription
+abbrev pub joined : State → List ℕ → Kind → ConsumerNumber → Initial → List Subscription
 joined s name kind consumer initial =
     if has_subscription s name
     then changed (is_named name) (joining kind consumer) s.subscriptions
@@ -63,11 +64,11 @@ all_released name s = record s {
 }
 
 -- the Failover's active member is not the one of the number, which it was before
-abbrev pub is_taken_over : List ℕ → Option ℕ → State → Bool
+abbrev pub is_taken_over : List ℕ → Option ConsumerNumber → State → Bool
 is_taken_over name before s = has_kind s name Failover && not (option_eq (λ a b. a == b) before (active_at s name))
 
 -- the next active member begins with the first message that is not acknowledged
-abbrev pub taken_over : List ℕ → Option ℕ → State → State
+abbrev pub taken_over : List ℕ → Option ConsumerNumber → State → State
 taken_over name before s = if is_taken_over name before s then all_released name s else s
 
 -- ---- joining, leaving, permits
@@ -81,19 +82,19 @@ Subscribes s kind initial m reply t =
     (reply ≡ Subscribed m.number) × (t ≡ taken_over m.subscription (active_at s m.subscription) (with_member s kind initial m))
 
 -- what is pending at the consumer waits again, and its share goes to another; no count rises
-abbrev pub leaving : ℕ → Subscription → Subscription
+abbrev pub leaving : ConsumerNumber → Subscription → Subscription
 leaving consumer sub = record sub {
   pending = map_of.retain_keys sub.pending (λ p. not (is_held_by consumer (map_of.get sub.pending p)));
   shares = given_back consumer sub.shares;
 }
 
-abbrev pub without_member : State → ℕ → List ℕ → State
+abbrev pub without_member : State → ConsumerNumber → List ℕ → State
 without_member s consumer name = record s {
   subscriptions = changed (is_named name) (leaving consumer) s.subscriptions;
   members = removed (is_member consumer) s.members;
 }
 
-abbrev pub Leaves : State → ℕ → Reply → State → Type 0
+abbrev pub Leaves : State → ConsumerNumber → Reply → State → Type 0
 Leaves s consumer reply t =
     (reply ≡ Done)
     × IsSomeAnd (find (is_member consumer) s.members) (λ m. t ≡ taken_over m.subscription (active_at s m.subscription) (without_member s consumer m.subscription))
@@ -101,5 +102,5 @@ Leaves s consumer reply t =
 abbrev pub permitted : ℕ → Member → Member
 permitted n m = record m { flow = granted n m.flow }
 
-abbrev pub Permits : State → ℕ → ℕ → Reply → State → Type 0
+abbrev pub Permits : State → ConsumerNumber → ℕ → Reply → State → Type 0
 Permits s consumer n reply t = (reply ≡ Done) × (t ≡ record s { members = changed (is_member consumer) (permitted n) s.members })

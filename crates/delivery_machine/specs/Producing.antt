@@ -4,6 +4,7 @@ use Rattle.std.specs.List.{count_by, list_any}
 use Rattle.std.specs.Fmt.{decimal}
 use Rattle.position_core.specs.declared.body.Content.{Content}
 use Rattle.position_core.specs.declared.message.Entry.{Entry}
+use Rattle.position_core.specs.Numbers.{ProducerNumber, Ordinal}
 use Rattle.delivery_machine.specs.State.{State, Producer, Subscription}
 use Rattle.delivery_machine.specs.Words.{removed, is_producer, is_connected, is_by, last_sequence, next_position}
 use Rattle.delivery_machine.specs.Refusals.{is_duplicate}
@@ -51,7 +52,7 @@ Publishes s p sequence body now reply t =
     (reply ≡ (if is_duplicate s p sequence then Duplicate (length s.log) else Published (next_position s) (length s.log + 1)))
     × (t ≡ (if is_duplicate s p sequence then s else with_message s (message_of s p sequence body now)))
 
-abbrev pub DropsProducer : State → ℕ → Reply → State → Type 0
+abbrev pub DropsProducer : State → ProducerNumber → Reply → State → Type 0
 DropsProducer s producer reply t = (reply ≡ Done) × (t ≡ record s { producers = removed (is_producer producer) s.producers })
 
 -- all deaths are stored
@@ -66,15 +67,15 @@ abbrev pub Stores : State → Reply → State → Type 0
 Stores s reply t = (reply ≡ Durable (length s.log)) × (t ≡ stored s)
 
 -- the deaths below the ordinal are stored, and those that were
-abbrev pub storing_below : ℕ → Subscription → Subscription
+abbrev pub storing_below : Ordinal → Subscription → Subscription
 storing_below ordinal sub = record sub { safe = max sub.safe (count_by (λ d. nat_lt d.ordinal ordinal) sub.dead) }
 
 -- so many messages are stored, at least those that were, and the deaths below the ordinal
-abbrev pub stored_to : State → ℕ → ℕ → State
+abbrev pub stored_to : State → ℕ → Ordinal → State
 stored_to s count ordinal =
     record s { durable = max s.durable (min count (length s.log)); subscriptions = map (storing_below ordinal) s.subscriptions }
 
-abbrev pub StoresTo : State → ℕ → ℕ → Reply → State → Type 0
+abbrev pub StoresTo : State → ℕ → Ordinal → Reply → State → Type 0
 StoresTo s count ordinal reply t = (reply ≡ Durable (max s.durable (min count (length s.log)))) × (t ≡ stored_to s count ordinal)
 
 abbrev pub Progresses : State → Reply → State → Type 0

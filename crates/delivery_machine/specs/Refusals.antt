@@ -10,6 +10,7 @@ use Rattle.position_core.specs.declared.topic_name.TopicName.{TopicName}
 use Rattle.position_core.specs.Kind.{same_kind, is_in_order}
 use Rattle.position_core.specs.TopicName.{same_topic}
 use Rattle.position_core.specs.Flow.{granting_refused}
+use Rattle.position_core.specs.Numbers.{ProducerNumber, ConsumerNumber, Ordinal}
 use Rattle.delivery_machine.specs.State.{State, Producer, Member, Subscription}
 use Rattle.delivery_machine.specs.Words.{is_producer, is_named, has_member, has_subscription, has_kind, is_in_order_at, is_held_at, is_member, is_connected, members_of, last_sequence, next_position, has_position, visible}
 use Rattle.delivery_machine.specs.Dying.{is_next_letter}
@@ -34,7 +35,7 @@ adding_refused s name =
     else None
 
 -- a producer that is not there is refused, and no other
-abbrev pub producer_refused : State → ℕ → Option Fault
+abbrev pub producer_refused : State → ProducerNumber → Option Fault
 producer_refused s producer = if is_some (find (is_producer producer) s.producers) then None else Some NoSession
 
 -- a number that is not above the producer's last one was published before
@@ -64,7 +65,7 @@ subscribing_refused s name kind max_redeliver dead_topic =
     else if dies_into_itself s kind max_redeliver dead_topic then Some DeadLetterSelf
     else None
 
-abbrev pub acking_refused : State → ℕ → Position → Option Fault
+abbrev pub acking_refused : State → ConsumerNumber → Position → Option Fault
 acking_refused s consumer position =
     if not (has_member s consumer) then Some NoSession
     else if not (list_any (has_position position) (visible s)) then Some NoSuchMessage
@@ -78,7 +79,7 @@ acking_up_to_refused s position (Some m) =
     else if not (list_any (has_position position) (visible s)) then Some NoSuchMessage
     else None
 
-abbrev pub nacking_refused : State → ℕ → Position → Option Member → Option Fault
+abbrev pub nacking_refused : State → ConsumerNumber → Position → Option Member → Option Fault
 nacking_refused s consumer position None = Some NoSession
 nacking_refused s consumer position (Some m) = if is_held_at s m.subscription consumer position then None else Some NotPending
 
@@ -106,12 +107,12 @@ dropping_refused s name None = Some NoSuchSubscription
 dropping_refused s name (Some sub) = if nat_lt 0 (length (members_of s name)) || nat_lt 0 (length sub.dead) then Some SubscriptionBusy else None
 
 -- only the first letter that is safe may be done with
-abbrev pub moving_refused : ℕ → Option Subscription → Option Fault
+abbrev pub moving_refused : Ordinal → Option Subscription → Option Fault
 moving_refused ordinal None = Some NoSuchSubscription
 moving_refused ordinal (Some sub) = if is_next_letter ordinal sub then None else Some NoSuchMessage
 
 -- a consumer that is not there is refused, and no other
-abbrev pub session_refused : State → ℕ → Option Fault
+abbrev pub session_refused : State → ConsumerNumber → Option Fault
 session_refused s consumer = if has_member s consumer then None else Some NoSession
 
 abbrev pub refusal_of : State → Event → Option Fault

@@ -1,4 +1,9 @@
 -- The state of a topic: what the machine knows, and no more.
+--
+-- How the words of these definitions are made: a word in -ing changes a subscription or a member (`holding`, `leaving`);
+-- a participle, or a word with `with_` or `without_`, changes a state (`sent`, `stored`, `with_message`); a capital letter
+-- begins a relation or a fact (`Acks`, `IsEligible`); a word that ends in `_in` speaks of a log or of members alone, and the
+-- same word of a state has no such end (`has_room_in`, `has_room`).
 use Rattle.std.specs.Prelude.{ℕ, List, [], ℤ}
 use Rattle.std.specs.FinSet.{FinSet}
 use Rattle.std.specs.FinMap.{FinMap}
@@ -10,17 +15,18 @@ use Rattle.position_core.specs.declared.held.Held.{Held}
 use Rattle.position_core.specs.declared.kind.Kind.{Kind}
 use Rattle.position_core.specs.declared.flow.Flow.{Flow}
 use Rattle.position_core.specs.Position.{position_cmp}
+use Rattle.position_core.specs.Numbers.{ProducerNumber, ConsumerNumber, Ordinal}
 use Rattle.delivery_machine.specs.declared.delivery.Delivery.{Delivery}
 
 -- a connected producer; `base` stands for its last sequence number where the log has none of its messages
 pub record Producer : Type 0 where
-  pub number : ℕ
+  pub number : ProducerNumber
   pub name : List ℕ
   pub base : ℤ
 
 -- a consumer of a subscription; `out` is what it was sent and has not collected
 pub record Member : Type 0 where
-  pub number : ℕ
+  pub number : ConsumerNumber
   pub subscription : List ℕ
   pub level : ℕ
   pub flow : Flow
@@ -34,7 +40,7 @@ pub record Member : Type 0 where
 pub record DeadLetter : Type 0 where
   pub position : Position
   pub target : TopicName
-  pub ordinal : ℕ
+  pub ordinal : Ordinal
 
 -- `counts` has the messages that were redelivered; `shares` has the hashes of a Key_Shared subscription in their order,
 -- each block with the consumer in whose share it is; the first `safe` dead letters are stored
@@ -54,9 +60,9 @@ pub record State : Type 0 where
   pub name : TopicName
   pub ledger_size : ℕ
   pub ledger : ℕ
-  pub next_ordinal : ℕ
-  pub next_producer : ℕ
-  pub next_consumer : ℕ
+  pub next_ordinal : Ordinal
+  pub next_producer : ProducerNumber
+  pub next_consumer : ConsumerNumber
   pub log : List Entry
   pub durable : ℕ
   pub producers : List Producer

@@ -8,6 +8,7 @@ use Rattle.position_core.specs.declared.held.Held.{Held}
 use Rattle.position_core.specs.Position.{position_cmp}
 use Rattle.position_core.specs.Kind.{is_in_order}
 use Rattle.position_core.specs.declared.message.Entry.{Entry}
+use Rattle.position_core.specs.Numbers.{ConsumerNumber}
 use Rattle.delivery_machine.specs.State.{State, Subscription}
 use Rattle.delivery_machine.specs.Words.{changed, is_member, is_named}
 use Rattle.delivery_machine.specs.Acknowledging.{is_one_of, forgetting}
@@ -19,7 +20,7 @@ use Rattle.delivery_machine.specs.declared.reply.Reply.TheVariants.{Done, Releas
 -- ---- negative acknowledgement
 
 -- the message falls due after the member's delay, and not when it was to before
-abbrev pub Nacks : State → ℕ → Position → ℕ → Reply → State → Type 0
+abbrev pub Nacks : State → ConsumerNumber → Position → ℕ → Reply → State → Type 0
 Nacks s consumer position now reply t =
     (reply ≡ Done)
     × IsSomeAnd (find (is_member consumer) s.members) (λ m. t ≡ record s {

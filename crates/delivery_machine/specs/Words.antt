@@ -14,6 +14,7 @@ use Rattle.position_core.specs.declared.kind.Kind.TheVariants.{Exclusive, Failov
 use Rattle.position_core.specs.Position.{same_position}
 use Rattle.position_core.specs.Kind.{same_kind, is_in_order}
 use Rattle.position_core.specs.Flow.{flow_has_room}
+use Rattle.position_core.specs.Numbers.{ProducerNumber, ConsumerNumber}
 use Rattle.murmur_core.specs.Sticky.{sticky_hash}
 use Rattle.delivery_machine.specs.State.{State, Producer, Member, Subscription}
 use Rattle.delivery_machine.specs.Shares.{owner_of}
@@ -37,10 +38,10 @@ best_by pick (x ∷ xs) = Some (option_map_or (pick x) (best_by pick xs) x)
 
 -- ---- who is there
 
-abbrev pub is_producer : ℕ → Producer → Bool
+abbrev pub is_producer : ProducerNumber → Producer → Bool
 is_producer number p = p.number == number
 
-abbrev pub is_member : ℕ → Member → Bool
+abbrev pub is_member : ConsumerNumber → Member → Bool
 is_member number m = m.number == number
 
 abbrev pub is_named : List ℕ → Subscription → Bool
@@ -53,7 +54,7 @@ is_at name m = bytes_eq m.subscription name
 abbrev pub members_of : State → List ℕ → List Member
 members_of s name = filter (is_at name) s.members
 
-abbrev pub has_member : State → ℕ → Bool
+abbrev pub has_member : State → ConsumerNumber → Bool
 has_member s consumer = is_some (find (is_member consumer) s.members)
 
 abbrev pub has_subscription : State → List ℕ → Bool
@@ -126,14 +127,14 @@ count_of sub position = unwrap_or (map_of.get sub.counts position) 0
 
 -- ---- room
 
-abbrev pub is_held_by : ℕ → Option Held → Bool
+abbrev pub is_held_by : ConsumerNumber → Option Held → Bool
 is_held_by consumer held = option_map_or (λ h. h.consumer == consumer) held false
 
 -- how many messages of the log are pending at the consumer
-abbrev pub pending_in : List Entry → Subscription → ℕ → ℕ
+abbrev pub pending_in : List Entry → Subscription → ConsumerNumber → ℕ
 pending_in log sub consumer = count_by (λ e. is_held_by consumer (map_of.get sub.pending e.position)) log
 
-abbrev pub pending_at : State → Subscription → ℕ → ℕ
+abbrev pub pending_at : State → Subscription → ConsumerNumber → ℕ
 pending_at s sub consumer = pending_in s.log sub consumer
 
 -- the member may be sent a further message
@@ -144,7 +145,7 @@ abbrev pub has_room : State → Subscription → Member → Bool
 has_room s sub m = has_room_in s.log sub m
 
 -- the message is pending at the consumer of the subscription
-abbrev pub is_held_at : State → List ℕ → ℕ → Position → Bool
+abbrev pub is_held_at : State → List ℕ → ConsumerNumber → Position → Bool
 is_held_at s name consumer position =
     option_map_or (λ sub. is_held_by consumer (map_of.get sub.pending position)) (find (is_named name) s.subscriptions) false
 
@@ -165,14 +166,14 @@ abbrev pub owner_at : State → Subscription → ℕ → Option Member
 owner_at s sub hash = owner_in s.members sub hash
 
 -- the message is pending at another consumer
-abbrev pub is_held_beside : ℕ → Option Held → Bool
+abbrev pub is_held_beside : ConsumerNumber → Option Held → Bool
 is_held_beside consumer held = option_map_or (λ h. not (h.consumer == consumer)) held false
 
 -- a message of the hash is pending at another consumer than the owner: the hash drains
-abbrev pub is_draining_in : List Entry → Subscription → ℕ → ℕ → Bool
+abbrev pub is_draining_in : List Entry → Subscription → ℕ → ConsumerNumber → Bool
 is_draining_in log sub hash owner = list_any (λ e. hash_of e == hash && is_held_beside owner (map_of.get sub.pending e.position)) log
 
-abbrev pub is_draining : State → Subscription → ℕ → ℕ → Bool
+abbrev pub is_draining : State → Subscription → ℕ → ConsumerNumber → Bool
 is_draining s sub hash owner = is_draining_in s.log sub hash owner
 
 -- ---- who is served
@@ -189,7 +190,7 @@ abbrev pub active_of : List Member → Option Member
 active_of members = best_by earlier members
 
 -- the number of the active member
-abbrev pub active_at : State → List ℕ → Option ℕ
+abbrev pub active_at : State → List ℕ → Option ConsumerNumber
 active_at s name = option_map (λ m. m.number) (active_of (members_of s name))
 
 -- the next message in topic order, and the active member

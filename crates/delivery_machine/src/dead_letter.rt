@@ -1,5 +1,5 @@
 // A message that was redelivered too often.
-use position_core::{Position, TopicName};
+use position_core::{Ordinal, Position, TopicName};
 use std::marker::Model;
 
 /// A message that was redelivered too often, and the topic that it goes to. The ordinal is the number of
@@ -8,7 +8,7 @@ use std::marker::Model;
 pub struct DeadLetter {
     pub position: Position,
     pub target: TopicName,
-    pub ordinal: u64,
+    pub ordinal: Ordinal,
 }
 
 impl Model for DeadLetter {

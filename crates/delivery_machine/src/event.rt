@@ -1,7 +1,7 @@
 // What may be asked of a topic.
 use position_core::{
-    Base, Body, Flow, Kind, Level, Millis, Moment, Permits, Position, ProducerName, RedeliverLimit,
-    SkipLength, SubscriptionName, TopicName,
+    Base, Body, ConsumerNumber, Flow, Kind, Level, Millis, Moment, Ordinal, Permits, Position,
+    ProducerName, ProducerNumber, RedeliverLimit, SkipLength, SubscriptionName, TopicName,
 };
 
 /// What a new subscription begins with.
@@ -34,11 +34,11 @@ pub enum Event {
     },
     /// The producer goes. Its messages stay.
     DropProducer {
-        producer: u64,
+        producer: ProducerNumber,
     },
     /// Hands in a message under the producer's sequence number.
     Publish {
-        producer: u64,
+        producer: ProducerNumber,
         sequence: i64,
         body: Body,
         now: Moment,
@@ -49,7 +49,7 @@ pub enum Event {
     /// a snapshot had that was taken before, while the topic went on.
     StoredTo {
         length: u64,
-        ordinal: u64,
+        ordinal: Ordinal,
     },
     /// How much of the log is stored.
     Progress,
@@ -67,26 +67,26 @@ pub enum Event {
     },
     /// The consumer leaves its subscription.
     Leave {
-        consumer: u64,
+        consumer: ConsumerNumber,
     },
     /// Lets the consumer be sent so many further messages.
     Permit {
-        consumer: u64,
+        consumer: ConsumerNumber,
         permits: Permits,
     },
     /// The consumer has done with the message.
     Ack {
-        consumer: u64,
+        consumer: ConsumerNumber,
         position: Position,
     },
     /// The consumer has done with the message and all before it.
     AckUpTo {
-        consumer: u64,
+        consumer: ConsumerNumber,
         position: Position,
     },
     /// The consumer wants the message again, after its delay.
     Nack {
-        consumer: u64,
+        consumer: ConsumerNumber,
         position: Position,
         now: Moment,
     },
@@ -125,7 +125,7 @@ pub enum Event {
     },
     /// Hands the consumer what it was sent.
     Collect {
-        consumer: u64,
+        consumer: ConsumerNumber,
     },
     /// Shows the first dead letter whose death is stored.
     DeadNext {
@@ -134,6 +134,6 @@ pub enum Event {
     /// That dead letter stands in its topic.
     DeadDone {
         subscription: SubscriptionName,
-        ordinal: u64,
+        ordinal: Ordinal,
     },
 }

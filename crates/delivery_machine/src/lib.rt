@@ -14,7 +14,11 @@ mod topic;
 pub use dead_letter::DeadLetter;
 pub use delivery::{Deliveries, Delivery, is_one_of};
 pub use event::{Event, Initial, Target};
-pub use position_core::{Fault, Flow, Kind};
+pub use position_core::{
+    Base, Body, ConsumerNumber, DueMoment, Fault, Flow, Kind, Level, LogIndex, Message, Millis,
+    Moment, Ordinal, Permits, Position, ProducerName, ProducerNumber, RedeliverLimit, SkipLength,
+    SubscriptionName, TopicName,
+};
 pub use reply::Reply;
 pub use runs::run;
 pub use topic::Topic;

@@ -1,6 +1,8 @@
 // What a topic answers.
 use crate::delivery::Deliveries;
-use position_core::{Fault, Kind, Message, Position, TopicName};
+use position_core::{
+    ConsumerNumber, Fault, Kind, Message, Ordinal, Position, ProducerNumber, TopicName,
+};
 
 /// What a topic answers.
 #[derive(Drop)]
@@ -8,7 +10,7 @@ pub enum Reply {
     /// `auto` is the number in the name that the topic made; `last` is the last sequence number
     /// under the producer's name.
     ProducerAdded {
-        producer: u64,
+        producer: ProducerNumber,
         auto: Option<u64>,
         last: i64,
     },
@@ -29,12 +31,12 @@ pub enum Reply {
         length: u64,
     },
     Subscribed {
-        consumer: u64,
+        consumer: ConsumerNumber,
     },
     Done,
     /// `count` is how often the message was redelivered before.
     Sent {
-        consumer: u64,
+        consumer: ConsumerNumber,
         position: Position,
         count: u32,
     },
@@ -48,7 +50,7 @@ pub enum Reply {
     /// The message is a dead letter, and so is not sent again.
     Died {
         position: Position,
-        ordinal: u64,
+        ordinal: Ordinal,
     },
     /// All messages that were pending wait again: so many.
     Rewound {
@@ -71,7 +73,7 @@ pub enum Reply {
     Dead {
         message: Message,
         target: TopicName,
-        ordinal: u64,
+        ordinal: Ordinal,
     },
     /// No death that is stored is left to be moved.
     NoDead,

@@ -8,7 +8,7 @@ ghost use Rattle.delivery_machine.specs.Run.{Answers};
 use crate::delivery::Deliveries;
 use crate::event::Event;
 use crate::reply::Reply;
-use position_core::Fault;
+use position_core::{ConsumerNumber, Fault};
 
 /// A topic, however it is kept.
 pub trait Topic {
@@ -20,7 +20,7 @@ pub trait Topic {
         ensures { Answers (state self.old) event.now result (state self.new) };
 
     /// What the consumer was sent and has not collected: nothing where there is no such consumer.
-    fn out_copy(&self, consumer: u64) -> Result<Deliveries, Fault>
+    fn out_copy(&self, consumer: ConsumerNumber) -> Result<Deliveries, Fault>
         ensures ok { IfOk result (λ copies. copies ≡ out_of (state self.now) consumer) }
         ensures err { IfErr result (λ fault. fault ≡ NoMemory) };
 }

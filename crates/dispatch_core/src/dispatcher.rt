@@ -8,14 +8,14 @@ ghost use Rattle.dispatch_core.specs.Offers.{IsGoodOffer};
 ghost use Rattle.dispatch_core.specs.Changes.{Appended, TakenBack, Joined, Left, Sent, Gone, Released, Reset, Kept, AgreesAfter, WillAgree};
 
 use crate::view::View;
-use position_core::Fault;
+use position_core::{ConsumerNumber, Fault, LogIndex};
 use std::alloc::Global;
 
 /// A message, by its place in the log, and a consumer that it may be sent to.
 #[derive(Clone, Copy, Debug, PartialEq, Eq)]
 pub struct Offer {
-    pub index: u64,
-    pub consumer: u64,
+    pub index: LogIndex,
+    pub consumer: ConsumerNumber,
 }
 
 /// Says for one subscription which message may be sent to whom next. It may keep tables of its own,
@@ -60,31 +60,31 @@ pub trait Dispatcher {
             (V.state view.now) (V.subscription view.now) };
 
     /// The consumer joined.
-    fn on_join<V: View>(&mut self, view: &V, consumer: u64) -> Result<(), Fault>
+    fn on_join<V: View>(&mut self, view: &V, consumer: ConsumerNumber) -> Result<(), Fault>
         ensures ok { OnOk result (AgreesAfter (Joined consumer) (agrees self.old) (agrees self.new)
             (V.state view.now) (V.subscription view.now)) }
         ensures err { IfErr result (λ fault. fault ≡ NoMemory) }
         ensures unchanged { OnErr result (self.new ≡ self.old) };
 
     /// The consumer left.
-    fn on_leave<V: View>(&mut self, view: &V, consumer: u64)
+    fn on_leave<V: View>(&mut self, view: &V, consumer: ConsumerNumber)
         ensures { AgreesAfter (Left consumer) (agrees self.old) (agrees self.new)
             (V.state view.now) (V.subscription view.now) };
 
     /// The message was sent to the consumer.
-    fn on_sent<V: View>(&mut self, view: &V, index: u64, consumer: u64) -> Result<(), Fault>
+    fn on_sent<V: View>(&mut self, view: &V, index: LogIndex, consumer: ConsumerNumber) -> Result<(), Fault>
         ensures ok { OnOk result (AgreesAfter (Sent index consumer) (agrees self.old) (agrees self.new)
             (V.state view.now) (V.subscription view.now)) }
         ensures err { IfErr result (λ fault. fault ≡ NoMemory) }
         ensures unchanged { OnErr result (self.new ≡ self.old) };
 
     /// The message was acknowledged, or died.
-    fn on_gone<V: View>(&mut self, view: &V, index: u64)
+    fn on_gone<V: View>(&mut self, view: &V, index: LogIndex)
         ensures { AgreesAfter (Gone index) (agrees self.old) (agrees self.new)
             (V.state view.now) (V.subscription view.now) };
 
     /// The message was pending, and waits again.
-    fn on_released<V: View>(&mut self, view: &V, index: u64)
+    fn on_released<V: View>(&mut self, view: &V, index: LogIndex)
         ensures { AgreesAfter (Released index) (agrees self.old) (agrees self.new)
             (V.state view.now) (V.subscription view.now) };
 

@@ -7,12 +7,12 @@ ghost use Rattle.dispatch_core.specs.Places.{holder_at, key_at, IsNextReady, Non
 ghost use Rattle.dispatch_core.specs.Offers.{seen_at, seen_members};
 
 use crate::members::Members;
-use position_core::Level;
+use position_core::{ConsumerNumber, Level, LogIndex};
 
 /// A member of a subscription.
 #[derive(Clone, Copy, Debug, PartialEq, Eq)]
 pub struct Seen {
-    pub consumer: u64,
+    pub consumer: ConsumerNumber,
     pub level: Level,
     /// It may be sent a further message.
     pub room: bool,
@@ -35,7 +35,7 @@ pub trait View {
         ensures { result ≡ length (state self.now).log };
 
     /// The key of the message at the place. None where it has none, or there is no such place.
-    fn key(&self, index: u64) -> Option<&str>
+    fn key(&self, index: LogIndex) -> Option<&str>
         ensures { option_copied result ≡ key_at (state self.now) index };
 
     /// The first place, from the given one on, of a visible message that waits.
@@ -44,7 +44,7 @@ pub trait View {
         ensures none { IfNone result (NoneReady (state self.now) (subscription self.now) from) };
 
     /// The consumer at which the message at the place is pending.
-    fn holder(&self, index: u64) -> Option<u64>
+    fn holder(&self, index: LogIndex) -> Option<u64>
         ensures { result ≡ holder_at (state self.now) (subscription self.now) index };
 
     /// The member at the place.

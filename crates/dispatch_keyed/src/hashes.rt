@@ -7,26 +7,27 @@ ghost use Rattle.delivery_machine.specs.Words.{is_draining, is_member, members_o
 ghost use Rattle.dispatch_core.specs.Offers.{seen_of, IsGoodOffer};
 ghost use Rattle.dispatch_keyed.specs.Hashes.{hash_at, drains_at, IsFreeFor, NoneFree};
 
+use position_core::{ConsumerNumber, LogIndex};
 use dispatch_core::{Offer, Seen, View};
 use hash_ranges::SplitTable;
 use murmur_core::sticky_hash;
 
 /// The hash of the key of the message at the place.
-fn hash_at<V: View>(view: &V, index: u64) -> u16
+fn hash_at<V: View>(view: &V, index: LogIndex) -> u16
     ensures { result ≡ hash_at (V.state view.now) index }
 {
     sticky_hash(view.key(index))
 }
 
 /// The member of the number.
-fn member_of<V: View>(view: &V, consumer: u64) -> Option<Seen>
+fn member_of<V: View>(view: &V, consumer: ConsumerNumber) -> Option<Seen>
     ensures { result ≡ option_map (seen_of (V.state view.now) (V.subscription view.now)) (find (is_member consumer) (members_of (V.state view.now) (V.subscription view.now).name)) }
 {
     view.members().find(|seen| seen.consumer == consumer)
 }
 
 /// Whether the message at the place has the hash, and is pending at another consumer.
-fn drains_at<V: View>(view: &V, index: u64, hash: u16, owner: u64) -> bool
+fn drains_at<V: View>(view: &V, index: LogIndex, hash: u16, owner: ConsumerNumber) -> bool
     ensures { result ≡ drains_at (V.state view.now) (V.subscription view.now) hash owner index }
 {
     match view.holder(index) {
@@ -36,7 +37,7 @@ fn drains_at<V: View>(view: &V, index: u64, hash: u16, owner: u64) -> bool
 }
 
 /// Whether a message of the hash is pending at another consumer than its owner (PIP-379).
-fn is_draining<V: View>(view: &V, hash: u16, owner: u64) -> bool
+fn is_draining<V: View>(view: &V, hash: u16, owner: ConsumerNumber) -> bool
     ensures { result ≡ is_draining (V.state view.now) (V.subscription view.now) hash owner }
 {
     for index in 0..view.length() {

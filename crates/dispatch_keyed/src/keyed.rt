@@ -2,7 +2,7 @@
 use crate::hashes::first_free;
 use dispatch_core::{Dispatcher, Offer, View};
 use hash_ranges::SplitTable;
-use position_core::Fault;
+use position_core::{ConsumerNumber, Fault, LogIndex};
 use std::alloc::Global;
 use std::marker::Model;
 
@@ -50,7 +50,7 @@ impl Dispatcher for Keyed {
 
     fn undo_append<V: View>(&mut self, _view: &V) {}
 
-    fn on_join<V: View>(&mut self, _view: &V, consumer: u64) -> Result<(), Fault>
+    fn on_join<V: View>(&mut self, _view: &V, consumer: ConsumerNumber) -> Result<(), Fault>
         ensures ok { OnOk result (self.new ≡ shared_out consumer self.old) }
         ensures err { IfErr result (λ fault. fault ≡ NoMemory) }
         ensures unchanged { OnErr result (self.new ≡ self.old) }
@@ -61,19 +61,19 @@ impl Dispatcher for Keyed {
         }
     }
 
-    fn on_leave<V: View>(&mut self, _view: &V, consumer: u64)
+    fn on_leave<V: View>(&mut self, _view: &V, consumer: ConsumerNumber)
         ensures { self.new ≡ given_back consumer self.old }
     {
         self.shares.leave(consumer);
     }
 
-    fn on_sent<V: View>(&mut self, _view: &V, _index: u64, _consumer: u64) -> Result<(), Fault> {
+    fn on_sent<V: View>(&mut self, _view: &V, _index: LogIndex, _consumer: ConsumerNumber) -> Result<(), Fault> {
         Ok(())
     }
 
-    fn on_gone<V: View>(&mut self, _view: &V, _index: u64) {}
+    fn on_gone<V: View>(&mut self, _view: &V, _index: LogIndex) {}
 
-    fn on_released<V: View>(&mut self, _view: &V, _index: u64) {}
+    fn on_released<V: View>(&mut self, _view: &V, _index: LogIndex) {}
 
     fn on_reset<V: View>(&mut self, _view: &V) -> Result<(), Fault> {
         Ok(())

@@ -7,7 +7,7 @@ ghost use Rattle.delivery_machine.specs.Words.{is_at};
 use dispatch_core::{Seen, View};
 use plain_lists::{Member, Subscription};
 use plain_queries::has_room;
-use position_core::{Message, SubscriptionName};
+use position_core::{LogIndex, Message, SubscriptionName};
 
 /// A view over lists, which says in the plainest way what a view shows. Its calls go through the
 /// whole log, so it serves tests.
@@ -48,7 +48,7 @@ impl View for ListView<'_> {
     }
 
     #[tactic(auto, unfolding(dispatch_core::specs::Places::key_at))]
-    fn key(&self, index: u64) -> Option<&str> {
+    fn key(&self, index: LogIndex) -> Option<&str> {
         let message = self.log.get(index as usize)?;
         match &message.entry().body.content().key {
             Some(key) => Some(key.as_str()),
@@ -66,7 +66,7 @@ impl View for ListView<'_> {
     }
 
     #[tactic(auto, unfolding(dispatch_core::specs::Places::holder_at))]
-    fn holder(&self, index: u64) -> Option<u64> {
+    fn holder(&self, index: LogIndex) -> Option<u64> {
         let message = self.log.get(index as usize)?;
         self.subscription.holder(message.position())
     }

@@ -1,7 +1,7 @@
 // The dispatcher of the kinds that have one active member.
 use crate::active::active;
 use dispatch_core::{Dispatcher, Offer, Seen, View};
-use position_core::Fault;
+use position_core::{ConsumerNumber, Fault, LogIndex};
 use std::alloc::Global;
 
 /// Offers the first waiting message to the active member. It keeps no tables.
@@ -32,19 +32,19 @@ impl Dispatcher for Single {
 
     fn undo_append<V: View>(&mut self, _view: &V) {}
 
-    fn on_join<V: View>(&mut self, _view: &V, _consumer: u64) -> Result<(), Fault> {
+    fn on_join<V: View>(&mut self, _view: &V, _consumer: ConsumerNumber) -> Result<(), Fault> {
         Ok(())
     }
 
-    fn on_leave<V: View>(&mut self, _view: &V, _consumer: u64) {}
+    fn on_leave<V: View>(&mut self, _view: &V, _consumer: ConsumerNumber) {}
 
-    fn on_sent<V: View>(&mut self, _view: &V, _index: u64, _consumer: u64) -> Result<(), Fault> {
+    fn on_sent<V: View>(&mut self, _view: &V, _index: LogIndex, _consumer: ConsumerNumber) -> Result<(), Fault> {
         Ok(())
     }
 
-    fn on_gone<V: View>(&mut self, _view: &V, _index: u64) {}
+    fn on_gone<V: View>(&mut self, _view: &V, _index: LogIndex) {}
 
-    fn on_released<V: View>(&mut self, _view: &V, _index: u64) {}
+    fn on_released<V: View>(&mut self, _view: &V, _index: LogIndex) {}
 
     fn on_reset<V: View>(&mut self, _view: &V) -> Result<(), Fault> {
         Ok(())

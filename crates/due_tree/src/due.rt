@@ -1,5 +1,5 @@
 // When a position is due.
-use position_core::Position;
+use position_core::{DueMoment, Position};
 
 /// When a position is due, in milliseconds since 1970. In order of the moments, and of the positions
 /// where these are the same.
@@ -13,7 +13,7 @@ pub struct Due {
 #[derive(Clone, Copy, Debug, PartialEq, Eq)]
 pub struct Slot {
     pub position: Position,
-    pub due: Option<u64>,
+    pub due: Option<DueMoment>,
 }
 
 impl Slot {

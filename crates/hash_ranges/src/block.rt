@@ -2,7 +2,7 @@
 ghost use Rattle.std.specs.Prelude.{◌≡◌, ◌+◌, ◌<◌, ◌^◌};
 ghost use Rattle.delivery_machine.specs.Shares.{has_hash, all_hashes, half, lower_half, upper_half, with_lower, with_upper};
 
-use position_core::Block;
+use position_core::{Block, ConsumerNumber};
 
 pub(crate) fn has_hash(share: Block, hash: u32) -> bool
     ensures { result ≡ has_hash hash share }
@@ -11,7 +11,7 @@ pub(crate) fn has_hash(share: Block, hash: u32) -> bool
 }
 
 /// The share of a consumer that is alone.
-pub(crate) fn all_hashes(consumer: u64) -> Block
+pub(crate) fn all_hashes(consumer: ConsumerNumber) -> Block
     ensures { result ≡ all_hashes consumer }
 {
     Block {
@@ -28,7 +28,7 @@ fn half(size: u32) -> u32
 }
 
 /// What a consumer that joins takes of the share.
-pub(crate) fn lower_half(share: Block, consumer: u64) -> Block
+pub(crate) fn lower_half(share: Block, consumer: ConsumerNumber) -> Block
     ensures { result ≡ lower_half consumer share }
 {
     Block {

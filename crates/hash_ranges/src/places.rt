@@ -4,7 +4,7 @@ ghost use Rattle.std.specs.List.{position};
 ghost use Rattle.delivery_machine.specs.Shares.{owner_of, most_hashes, is_share_of};
 
 use crate::block::has_hash;
-use position_core::Block;
+use position_core::{Block, ConsumerNumber};
 
 pub(crate) fn owner_of(shares: &[Block], hash: u16) -> Option<u64>
     ensures { result ≡ owner_of shares.now hash }
@@ -16,7 +16,7 @@ pub(crate) fn owner_of(shares: &[Block], hash: u16) -> Option<u64>
         .map(|share| share.consumer)
 }
 
-pub(crate) fn place_of(shares: &[Block], consumer: u64) -> Option<usize>
+pub(crate) fn place_of(shares: &[Block], consumer: ConsumerNumber) -> Option<usize>
     ensures { result ≡ position (is_share_of consumer) shares.now }
 {
     shares.iter().position(|share| share.consumer == consumer)

@@ -5,10 +5,10 @@ ghost use Rattle.delivery_machine.specs.Shares.{PartAllHashes};
 
 use crate::block::{all_hashes, lower_half, upper_half, with_lower, with_upper};
 use crate::places::{place_of, place_of_most};
-use position_core::Block;
+use position_core::{Block, ConsumerNumber};
 use std::alloc::AllocError;
 
-pub(crate) fn share_out(shares: &mut Vec<Block>, consumer: u64) -> Result<(), AllocError>
+pub(crate) fn share_out(shares: &mut Vec<Block>, consumer: ConsumerNumber) -> Result<(), AllocError>
     requires { PartAllHashes shares.old.items }
     ensures ok { OnOk result (shares.new.items ≡ shared_out consumer shares.old.items) }
     ensures err { OnErr result (shares.new.items ≡ shares.old.items) }
@@ -24,7 +24,7 @@ pub(crate) fn share_out(shares: &mut Vec<Block>, consumer: u64) -> Result<(), Al
     Ok(())
 }
 
-pub(crate) fn give_back(shares: &mut Vec<Block>, consumer: u64)
+pub(crate) fn give_back(shares: &mut Vec<Block>, consumer: ConsumerNumber)
     requires { PartAllHashes shares.old.items }
     ensures { shares.new.items ≡ given_back consumer shares.old.items }
 {

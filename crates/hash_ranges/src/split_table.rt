@@ -4,7 +4,7 @@ ghost use Rattle.delivery_machine.specs.Shares.{owner_of, shared_out, given_back
 ghost use Rattle.delivery_machine.specs.Shares.{PartAllHashes};
 
 use crate::{places, row};
-use position_core::Block;
+use position_core::{Block, ConsumerNumber};
 use std::alloc::{AllocError, Global};
 use std::marker::Model;
 
@@ -42,7 +42,7 @@ impl SplitTable {
 
     /// A consumer that is not there joins, and takes the lower half of the largest share, or all hashes
     /// where it is alone.
-    pub fn join(&mut self, consumer: u64) -> Result<(), AllocError>
+    pub fn join(&mut self, consumer: ConsumerNumber) -> Result<(), AllocError>
         ensures ok { OnOk result (self.new ≡ shared_out consumer self.old) }
         ensures err { OnErr result (self.new ≡ self.old) }
     {
@@ -51,7 +51,7 @@ impl SplitTable {
 
     /// A consumer leaves, and the share beside its own has its hashes then. Where it has no share,
     /// nothing changes.
-    pub fn leave(&mut self, consumer: u64)
+    pub fn leave(&mut self, consumer: ConsumerNumber)
         ensures { self.new ≡ given_back consumer self.old }
     {
         row::give_back(&mut self.shares, consumer);

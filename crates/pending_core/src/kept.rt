@@ -1,6 +1,6 @@
 // What is kept of a position.
 use due_tree::Slot;
-use position_core::{Held, Position};
+use position_core::{DueMoment, Held, Position};
 
 /// What is kept of a position: the number of its slot, who holds it, and how often it was redelivered.
 #[derive(Clone, Copy)]
@@ -25,7 +25,7 @@ impl Kept {
     }
 
     /// The holder, with another due moment.
-    pub(crate) fn held_until(self, due: u64) -> Option<Held>
+    pub(crate) fn held_until(self, due: DueMoment) -> Option<Held>
         ensures { result ≡ held_until due self }
     {
         let due = Some(due);

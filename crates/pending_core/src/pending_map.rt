@@ -14,7 +14,7 @@ ghost use Rattle.pending_core.specs.Pending.{nothing_pending, holding, without, 
 use crate::kept::Kept;
 use crate::table;
 use due_tree::{Due, DueTree};
-use position_core::{Held, Position};
+use position_core::{DueMoment, Held, Position};
 use std::alloc::{AllocError, Global};
 use std::collections::BTreeMap;
 use std::marker::Model;
@@ -72,7 +72,7 @@ impl PendingMap {
     }
 
     /// Gives a pending message another due moment. Where it is not pending, nothing changes.
-    pub fn set_due(&mut self, position: Position, due: u64)
+    pub fn set_due(&mut self, position: Position, due: DueMoment)
         ensures value { self.new ≡ due_again position due self.old }
         ensures machine { (consumer : ℕ) (sub : Subscription) → IsPendingOf self.old sub → is_held_by consumer (map_of.get sub.pending position) ≡ true
             → IsPendingOf self.new (delivering.holding position (record { consumer = consumer; due = Some due }) sub) }

@@ -6,7 +6,7 @@ ghost use Rattle.pending_core.specs.Kept.{kept_at, pending_in, slot_of, ChangesA
 
 use crate::kept::Kept;
 use due_tree::DueTree;
-use position_core::{Held, Position};
+use position_core::{DueMoment, Held, Position};
 use std::alloc::AllocError;
 use std::collections::BTreeMap;
 
@@ -87,7 +87,7 @@ pub(crate) fn release(table: &mut Table, slots: &mut DueTree, position: Position
     }
 }
 
-pub(crate) fn set_due(table: &mut Table, slots: &mut DueTree, position: Position, due: u64)
+pub(crate) fn set_due(table: &mut Table, slots: &mut DueTree, position: Position, due: DueMoment)
     requires { AreTied table.old.entries slots.old }
     ensures tied { AreTied table.new.entries slots.new }
     ensures seen { pending_in table.new.entries ≡ due_again position due (pending_in table.old.entries) }

@@ -9,7 +9,7 @@ ghost use Rattle.plain_lists.specs.Letters.{moving_first};
 
 use crate::subscription::Subscription;
 use delivery_machine::DeadLetter;
-use position_core::Position;
+use position_core::{Ordinal, Position};
 use std::alloc::AllocError;
 
 fn is_of(letter: &DeadLetter, position: Position) -> bool
@@ -61,7 +61,7 @@ impl Subscription {
     }
 
     /// The deaths below the ordinal are stored, and those that were.
-    pub(crate) fn store_to(&mut self, ordinal: u64)
+    pub(crate) fn store_to(&mut self, ordinal: Ordinal)
         ensures { self.new ≡ storing_below ordinal self.old }
     {
         let stored = self

@@ -8,17 +8,14 @@ ghost use Rattle.delivery_machine.specs.Delivering.{due_after};
 ghost use Rattle.plain_lists.specs.Members.{joining, pushed, shortened, spending};
 
 use delivery_machine::{Deliveries, Delivery};
-use position_core::{
-    Fault, Flow, Level, Millis, Moment, Permits, Position, RedeliverLimit, SubscriptionName,
-    TopicName,
-};
+use position_core::{ConsumerNumber, Fault, Flow, Level, Millis, Moment, Permits, Position, RedeliverLimit, SubscriptionName, TopicName};
 use std::alloc::{AllocError, Global};
 use std::marker::Model;
 
 /// A consumer at a subscription.
 #[derive(Drop)]
 pub struct Member {
-    number: u64,
+    number: ConsumerNumber,
     subscription: SubscriptionName,
     level: Level,
     flow: Flow,
@@ -61,7 +58,7 @@ pub struct Terms {
 impl Member {
     pub fn new(
         alloc: Global,
-        number: u64,
+        number: ConsumerNumber,
         subscription: SubscriptionName,
         terms: Terms,
         dead_topic: TopicName,
@@ -81,13 +78,13 @@ impl Member {
         }
     }
 
-    pub fn number(&self) -> u64
+    pub fn number(&self) -> ConsumerNumber
         ensures { result ≡ self.now.number }
     {
         self.number
     }
 
-    pub(crate) fn is_number(&self, number: u64) -> bool
+    pub(crate) fn is_number(&self, number: ConsumerNumber) -> bool
         ensures { result ≡ is_member number self.now }
     {
         self.number == number

@@ -6,15 +6,15 @@ ghost use Rattle.delivery_machine.specs.Words.{is_member, is_at, removed, emptie
 ghost use Rattle.delivery_machine.specs.Acknowledging.{forgetting};
 
 use crate::member::Member;
-use position_core::{Position, SubscriptionName};
+use position_core::{ConsumerNumber, Position, SubscriptionName};
 
-pub fn member_at(members: &[Member], number: u64) -> Option<&Member>
+pub fn member_at(members: &[Member], number: ConsumerNumber) -> Option<&Member>
     ensures { option_copied result ≡ find (is_member number) members.now }
 {
     members.iter().find(|m| m.is_number(number))
 }
 
-pub fn place_of_member(members: &[Member], number: u64) -> Option<usize>
+pub fn place_of_member(members: &[Member], number: ConsumerNumber) -> Option<usize>
     ensures { result ≡ position (is_member number) members.now }
 {
     members.iter().position(|m| m.is_number(number))
@@ -39,7 +39,7 @@ pub fn empty_at(members: &mut [Member], name: &SubscriptionName)
 }
 
 /// Takes the consumer out of the members.
-pub fn take_member(members: &mut Vec<Member>, number: u64) -> Option<Member>
+pub fn take_member(members: &mut Vec<Member>, number: ConsumerNumber) -> Option<Member>
     ensures taken { result ≡ find (is_member number) members.old.items }
     ensures left { members.new.items ≡ removed (is_member number) members.old.items }
     ensures none { IfNone result (members.new.items ≡ members.old.items) }

@@ -6,13 +6,13 @@ ghost use Rattle.std.specs.List.{find, list_any, position};
 ghost use Rattle.std.specs.Str.{bytes_eq};
 ghost use Rattle.delivery_machine.specs.Words.{is_producer, removed};
 
-use position_core::{Base, ProducerName};
+use position_core::{Base, ProducerName, ProducerNumber};
 use std::marker::Model;
 
 /// A connected producer.
 #[derive(Drop)]
 pub struct Producer {
-    number: u64,
+    number: ProducerNumber,
     name: ProducerName,
     base: Base,
 }
@@ -26,13 +26,13 @@ impl Model for Producer {
 }
 
 impl Producer {
-    pub fn new(number: u64, name: ProducerName, base: Base) -> Self
+    pub fn new(number: ProducerNumber, name: ProducerName, base: Base) -> Self
         ensures { result ≡ record { number = number; name = name; base = base } }
     {
         Producer { number, name, base }
     }
 
-    fn is_number(&self, number: u64) -> bool
+    fn is_number(&self, number: ProducerNumber) -> bool
         ensures { result ≡ is_producer number self.now }
     {
         self.number == number
@@ -58,7 +58,7 @@ impl Producer {
 }
 
 /// The producer of the number.
-pub fn producer_at(producers: &[Producer], number: u64) -> Option<&Producer>
+pub fn producer_at(producers: &[Producer], number: ProducerNumber) -> Option<&Producer>
     ensures { option_copied result ≡ find (is_producer number) producers.now }
 {
     producers.iter().find(|producer| producer.is_number(number))
@@ -71,7 +71,7 @@ pub fn is_connected(producers: &[Producer], name: &ProducerName) -> bool
     producers.iter().any(|producer| producer.is_named(name))
 }
 
-fn place_of_producer(producers: &[Producer], number: u64) -> Option<usize>
+fn place_of_producer(producers: &[Producer], number: ProducerNumber) -> Option<usize>
     ensures { result ≡ position (is_producer number) producers.now }
 {
     producers
@@ -80,7 +80,7 @@ fn place_of_producer(producers: &[Producer], number: u64) -> Option<usize>
 }
 
 /// Takes the producer out, and answers whether it was there.
-pub fn drop_producer(producers: &mut Vec<Producer>, number: u64) -> bool
+pub fn drop_producer(producers: &mut Vec<Producer>, number: ProducerNumber) -> bool
     ensures known { result ≡ is_some (find (is_producer number) producers.old.items) }
     ensures none { OnFalse result (producers.new.items ≡ producers.old.items) }
     ensures left { producers.new.items ≡ removed (is_producer number) producers.old.items }

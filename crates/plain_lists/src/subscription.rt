@@ -15,7 +15,7 @@ ghost use Rattle.delivery_machine.specs.Ticking.{redelivering};
 use delivery_machine::DeadLetter;
 use hash_ranges::SplitTable;
 use plain_tables::{CountTable, PendingTable, PositionSet};
-use position_core::{Held, Kind, Message, Position, SubscriptionName};
+use position_core::{ConsumerNumber, DueMoment, Held, Kind, Message, Position, SubscriptionName};
 use std::alloc::{AllocError, Global};
 use std::marker::Model;
 
@@ -56,7 +56,7 @@ impl Model for Subscription {
 }
 
 /// Gives the consumer its share, where hashes are shared out.
-fn share_out(shares: &mut SplitTable, kind: Kind, consumer: u64) -> Result<(), AllocError>
+fn share_out(shares: &mut SplitTable, kind: Kind, consumer: ConsumerNumber) -> Result<(), AllocError>
     ensures ok { OnOk result (shares.new ≡ shares_with kind consumer shares.old) }
     ensures err { OnErr result (shares.new ≡ shares.old) }
 {
@@ -74,7 +74,7 @@ impl Subscription {
         alloc: Global,
         name: SubscriptionName,
         kind: Kind,
-        consumer: u64,
+        consumer: ConsumerNumber,
         acknowledged: PositionSet,
     ) -> Result<Self, AllocError>
         ensures { IfOk result (λ sub. sub ≡ record { name = name; kind = kind; acknowledged = acknowledged; pending = map_of.empty; counts = map_of.empty; shares = shares_with kind consumer []; dead = []; safe = 0 }) }
@@ -113,7 +113,7 @@ impl Subscription {
     }
 
     /// Lets the consumer in, and takes its kind. Nothing changes where there is no memory.
-    pub fn join(&mut self, kind: Kind, consumer: u64) -> Result<(), AllocError>
+    pub fn join(&mut self, kind: Kind, consumer: ConsumerNumber) -> Result<(), AllocError>
         ensures ok { OnOk result (self.new ≡ joining kind consumer self.old) }
         ensures err { OnErr result (self.new ≡ self.old) }
     {
@@ -169,14 +169,14 @@ impl Subscription {
     }
 
     /// Whether the message is pending at the consumer.
-    pub fn holds_at(&self, consumer: u64, message: &Message) -> bool
+    pub fn holds_at(&self, consumer: ConsumerNumber, message: &Message) -> bool
         ensures { result ≡ is_held_by consumer (map_of.get self.now.pending message.now.position) }
     {
         self.pending.is_held_by(message.position(), consumer)
     }
 
     /// Whether the message is pending at another consumer.
-    pub fn holds_beside(&self, consumer: u64, message: &Message) -> bool
+    pub fn holds_beside(&self, consumer: ConsumerNumber, message: &Message) -> bool
         ensures { result ≡ is_held_beside consumer (map_of.get self.now.pending message.now.position) }
     {
         match self.holder(message.position()) {
@@ -210,7 +210,7 @@ impl Subscription {
 
     /// Makes the message due, and answers whether it is pending at the consumer; else nothing
     /// changes.
-    pub fn set_due(&mut self, consumer: u64, position: Position, due: u64) -> bool
+    pub fn set_due(&mut self, consumer: ConsumerNumber, position: Position, due: DueMoment) -> bool
         ensures known { result ≡ is_held_by consumer (map_of.get self.old.pending position) }
         ensures held { OnTrue result (self.new ≡ holding position (record { consumer = consumer; due = Some due }) self.old) }
         ensures none { OnFalse result (self.new ≡ self.old) }
@@ -251,7 +251,7 @@ impl Subscription {
     }
 
     /// Lets the consumer out: what is pending at it waits again, and its share goes to another.
-    pub fn leave(&mut self, consumer: u64)
+    pub fn leave(&mut self, consumer: ConsumerNumber)
         ensures { self.new ≡ leaving consumer self.old }
     {
         self.pending.release_held_by(consumer);

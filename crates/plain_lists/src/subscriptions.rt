@@ -8,7 +8,7 @@ ghost use Rattle.delivery_machine.specs.Words.{is_named, removed};
 ghost use Rattle.delivery_machine.specs.Producing.{storing, storing_below};
 
 use crate::subscription::Subscription;
-use position_core::SubscriptionName;
+use position_core::{Ordinal, SubscriptionName};
 
 /// The subscription of the name.
 pub fn subscription_at<'a>(
@@ -63,7 +63,7 @@ pub fn store_all(subscriptions: &mut [Subscription])
 }
 
 /// The deaths below the ordinal are stored, and those that were.
-pub fn store_all_to(subscriptions: &mut [Subscription], ordinal: u64)
+pub fn store_all_to(subscriptions: &mut [Subscription], ordinal: Ordinal)
     ensures { subscriptions.new ≡ map (storing_below ordinal) subscriptions.old }
 {
     for subscription in subscriptions.iter_mut() {

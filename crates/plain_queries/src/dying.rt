@@ -4,12 +4,12 @@ ghost use Rattle.std.specs.Option.{option_copied};
 ghost use Rattle.delivery_machine.specs.Dying.{dying_in, is_to_die};
 
 use plain_lists::{Member, Subscription, member_at};
-use position_core::Position;
+use position_core::{Ordinal, Position};
 
 /// Ordinals end below this.
 const ORDINALS: u64 = 1 << 62;
 
-fn is_to_die(ordinal: u64, subscription: &Subscription, position: Position, member: &Member) -> bool
+fn is_to_die(ordinal: Ordinal, subscription: &Subscription, position: Position, member: &Member) -> bool
     ensures { result ≡ is_to_die ordinal subscription.now position member.now }
 {
     let most = member.max_redeliver().get();
@@ -22,7 +22,7 @@ pub fn dying_at<'a>(
     members: &'a [Member],
     subscription: &Subscription,
     position: Position,
-    ordinal: u64,
+    ordinal: Ordinal,
 ) -> Option<&'a Member>
     ensures { option_copied result ≡ dying_in members.now ordinal subscription.now position }
 {

@@ -7,7 +7,7 @@ ghost use Rattle.delivery_machine.specs.Words.{has_position, has_room_in, is_by,
 ghost use Rattle.plain_queries.specs.Raised.{raised};
 
 use plain_lists::{Member, Subscription};
-use position_core::{Flow, Message, Position, ProducerName};
+use position_core::{ConsumerNumber, Flow, Message, Position, ProducerName};
 
 fn is_by(message: &Message, name: &ProducerName) -> bool
     ensures { result ≡ is_by name.now message.now }
@@ -66,7 +66,7 @@ pub fn first_waiting<'a>(visible: &'a [Message], subscription: &Subscription) ->
 }
 
 /// How many messages are pending at the consumer.
-pub fn pending_at(log: &[Message], subscription: &Subscription, consumer: u64) -> usize
+pub fn pending_at(log: &[Message], subscription: &Subscription, consumer: ConsumerNumber) -> usize
     ensures { result ≡ pending_in log.now subscription.now consumer }
 {
     log.iter()

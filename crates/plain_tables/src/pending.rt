@@ -9,7 +9,7 @@ ghost use Rattle.delivery_machine.specs.Words.{changed, is_held_by};
 ghost use Rattle.delivery_machine.specs.Ticking.{is_due};
 
 use crate::table::{find_at, leave_out, place_at};
-use position_core::{Held, Moment, Position};
+use position_core::{ConsumerNumber, Held, Moment, Position};
 use std::alloc::{AllocError, Global};
 use std::marker::Model;
 
@@ -63,7 +63,7 @@ impl PendingTable {
         self.get(position).map(|held| held.consumer)
     }
 
-    pub fn is_held_by(&self, position: Position, consumer: u64) -> bool
+    pub fn is_held_by(&self, position: Position, consumer: ConsumerNumber) -> bool
         ensures { result ≡ is_held_by consumer (map_of.get self.now position) }
     {
         match self.get(position) {
@@ -106,7 +106,7 @@ impl PendingTable {
     }
 
     /// Takes out what is pending at the consumer.
-    pub fn release_held_by(&mut self, consumer: u64)
+    pub fn release_held_by(&mut self, consumer: ConsumerNumber)
         ensures { self.new ≡ map_of.retain_keys self.old (λ p. not (is_held_by consumer (map_of.get self.old p))) }
     {
         release_held_by(&mut self.entries, consumer);
@@ -128,7 +128,7 @@ fn rehold(entries: &mut Vec<(Position, Held)>, position: Position, held: Held)
     }
 }
 
-fn release_held_by(entries: &mut Vec<(Position, Held)>, consumer: u64)
+fn release_held_by(entries: &mut Vec<(Position, Held)>, consumer: ConsumerNumber)
     ensures { entries.new.items ≡ filter (λ e. not (e.1.consumer == consumer)) entries.old.items }
 {
     entries.retain(|entry| entry.1.consumer != consumer);

@@ -8,7 +8,7 @@ use delivery_machine::Reply;
 use plain_lists::{leave_out_at, member_at, place_of_subscription};
 use plain_queries::is_in_order_at;
 use plain_tables::positions_up_to;
-use position_core::{Fault, Message, Position, SubscriptionName};
+use position_core::{ConsumerNumber, Fault, Message, Position, SubscriptionName};
 use std::alloc::AllocError;
 
 fn has_position(messages: &[Message], position: Position) -> bool
@@ -51,7 +51,7 @@ impl PlainTopic {
         Ok(())
     }
 
-    pub(crate) fn ack(&mut self, consumer: u64, position: Position) -> Reply
+    pub(crate) fn ack(&mut self, consumer: ConsumerNumber, position: Position) -> Reply
         ensures { Answers (state_of self.old) (Ack consumer position) result (state_of self.new) }
     {
         let Some(member) = member_at(&self.members, consumer) else {
@@ -69,7 +69,7 @@ impl PlainTopic {
         Reply::Done
     }
 
-    pub(crate) fn ack_up_to(&mut self, consumer: u64, position: Position) -> Reply
+    pub(crate) fn ack_up_to(&mut self, consumer: ConsumerNumber, position: Position) -> Reply
         ensures { Answers (state_of self.old) (AckUpTo consumer position) result (state_of self.new) }
     {
         let is_seen = self.has_visible(position);

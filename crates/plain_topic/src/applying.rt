@@ -2,7 +2,7 @@
 use crate::plain::PlainTopic;
 use delivery_machine::{Deliveries, Event, Reply, Topic};
 use plain_lists::Terms;
-use position_core::Fault;
+use position_core::{ConsumerNumber, Fault};
 
 impl Topic for PlainTopic {
     ghost use Rattle.plain_topic.specs.StateOf.{state_of};
@@ -76,7 +76,7 @@ impl Topic for PlainTopic {
         }
     }
 
-    fn out_copy(&self, consumer: u64) -> Result<Deliveries, Fault> {
+    fn out_copy(&self, consumer: ConsumerNumber) -> Result<Deliveries, Fault> {
         self.out_of(consumer)
     }
 }

@@ -3,7 +3,7 @@ use crate::plain::PlainTopic;
 use delivery_machine::{Deliveries, Delivery, Kind, Reply};
 use plain_lists::{Member, Subscription, member_at, place_of_member, place_of_subscription};
 use plain_queries::{active_at, first_waiting, has_room, next_in_turn, next_of_any_hash};
-use position_core::{Fault, Held, Message, Moment, Position, SubscriptionName};
+use position_core::{ConsumerNumber, Fault, Held, Message, Moment, Position, SubscriptionName};
 use std::alloc::AllocError;
 
 impl PlainTopic {
@@ -98,7 +98,7 @@ impl PlainTopic {
     }
 
     #[tactic(auto, using(crate::proofs::Placed::at_its_place))]
-    pub(crate) fn collect(&mut self, consumer: u64) -> Reply
+    pub(crate) fn collect(&mut self, consumer: ConsumerNumber) -> Reply
         ensures { Answers (state_of self.old) (Collect consumer) result (state_of self.new) }
     {
         let Some(seat) = place_of_member(&self.members, consumer) else {
@@ -107,7 +107,7 @@ impl PlainTopic {
         Reply::Copies(self.members[seat].take_out(self.alloc))
     }
 
-    pub(crate) fn out_of(&self, consumer: u64) -> Result<Deliveries, Fault>
+    pub(crate) fn out_of(&self, consumer: ConsumerNumber) -> Result<Deliveries, Fault>
         ensures ok { IfOk result (λ copies. copies ≡ out_of (state_of self.now) consumer) }
         ensures err { IfErr result (λ fault. fault ≡ NoMemory) }
     {

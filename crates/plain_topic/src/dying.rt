@@ -5,14 +5,14 @@ use crate::plain::PlainTopic;
 use delivery_machine::{DeadLetter, Reply};
 use plain_lists::{Member, Subscription, leave_out_at, place_of_subscription, subscription_at};
 use plain_queries::message_at;
-use position_core::{Fault, Message, Position, SubscriptionName};
+use position_core::{Fault, Message, Ordinal, Position, SubscriptionName};
 use std::alloc::AllocError;
 
 /// The letter of a message that dies at the member.
 pub(crate) fn letter_of(
     position: Position,
     member: &Member,
-    ordinal: u64,
+    ordinal: Ordinal,
 ) -> Result<DeadLetter, AllocError>
     ensures { IfOk result (λ d. d ≡ record { position = position; target = member.now.dead_topic; ordinal = ordinal }) }
 {
@@ -102,7 +102,7 @@ impl PlainTopic {
         Ok(())
     }
 
-    pub(crate) fn dead_done(&mut self, name: &SubscriptionName, ordinal: u64) -> Reply
+    pub(crate) fn dead_done(&mut self, name: &SubscriptionName, ordinal: Ordinal) -> Reply
         ensures { Answers (state_of self.old) (DeadDone name.now ordinal) result (state_of self.new) }
     {
         let Some(subscription) = subscription_at(&self.subscriptions, name) else {

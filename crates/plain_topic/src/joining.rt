@@ -4,7 +4,7 @@ use delivery_machine::{Initial, Reply};
 use plain_lists::{Member, Subscription, Terms, place_for, place_of_subscription, subscription_at};
 use plain_queries::{count_at, has_kind};
 use plain_tables::PositionSet;
-use position_core::{Fault, Kind, RedeliverLimit, SubscriptionName, TopicName};
+use position_core::{ConsumerNumber, Fault, Kind, RedeliverLimit, SubscriptionName, TopicName};
 use std::alloc::AllocError;
 
 impl PlainTopic {
@@ -75,7 +75,7 @@ impl PlainTopic {
         &mut self,
         name: &SubscriptionName,
         kind: Kind,
-        consumer: u64,
+        consumer: ConsumerNumber,
         initial: Initial,
     ) -> Result<(), AllocError>
         ensures ok { OnOk result (state_of self.new ≡ record (state_of self.old) { subscriptions = joined (state_of self.old) name.now kind consumer initial }) }

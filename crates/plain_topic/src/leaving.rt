@@ -2,7 +2,7 @@
 use crate::plain::PlainTopic;
 use delivery_machine::Reply;
 use plain_lists::{member_at, place_of_subscription, take_member};
-use position_core::Fault;
+use position_core::{ConsumerNumber, Fault};
 
 impl PlainTopic {
     ghost use Rattle.std.specs.Prelude.{◌≡◌};
@@ -14,7 +14,7 @@ impl PlainTopic {
     ghost use Rattle.plain_topic.specs.StateOf.{state_of};
 
     /// The number of the member that is active at the consumer's subscription.
-    fn active_beside(&self, consumer: u64) -> Option<u64>
+    fn active_beside(&self, consumer: ConsumerNumber) -> Option<u64>
         ensures { result ≡ option_and_then (λ m. active_at (state_of self.now) m.subscription) (find (is_member consumer) (state_of self.now).members) }
     {
         match member_at(&self.members, consumer) {
@@ -24,7 +24,7 @@ impl PlainTopic {
     }
 
     #[tactic(auto, using(crate::proofs::Placed::at_its_place))]
-    pub(crate) fn leave(&mut self, consumer: u64) -> Reply
+    pub(crate) fn leave(&mut self, consumer: ConsumerNumber) -> Reply
         ensures { Answers (state_of self.old) (Leave consumer) result (state_of self.new) }
     {
         let active = self.active_beside(consumer);

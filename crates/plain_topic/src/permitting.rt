@@ -2,7 +2,7 @@
 use crate::plain::PlainTopic;
 use delivery_machine::Reply;
 use plain_lists::place_of_member;
-use position_core::{Fault, Permits};
+use position_core::{ConsumerNumber, Fault, Permits};
 
 impl PlainTopic {
     ghost use Rattle.std.specs.Prelude.{◌≡◌};
@@ -11,7 +11,7 @@ impl PlainTopic {
     ghost use Rattle.plain_topic.specs.StateOf.{state_of};
 
     #[tactic(auto, using(crate::proofs::Placed::at_its_place))]
-    pub(crate) fn permit(&mut self, consumer: u64, permits: Permits) -> Reply
+    pub(crate) fn permit(&mut self, consumer: ConsumerNumber, permits: Permits) -> Reply
         ensures { Answers (state_of self.old) (Permit consumer permits) result (state_of self.new) }
     {
         let Some(seat) = place_of_member(&self.members, consumer) else {

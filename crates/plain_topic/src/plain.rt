@@ -2,7 +2,7 @@
 ghost use Rattle.std.specs.Prelude.{◌≤◌, ◌+◌, ◌^◌, vec_len};
 
 use plain_lists::{Member, Producer, Subscription};
-use position_core::{LedgerSize, Message, TopicName};
+use position_core::{ConsumerNumber, LedgerSize, Message, Ordinal, ProducerNumber, TopicName};
 use std::alloc::Global;
 
 /// A topic over lists. It is slow on purpose: each event looks through whole lists, as the machine's
@@ -13,9 +13,9 @@ pub struct PlainTopic {
     pub(crate) name: TopicName,
     pub(crate) ledger_size: LedgerSize,
     pub(crate) ledger: u64,
-    pub(crate) next_ordinal: u64,
-    pub(crate) next_producer: u64,
-    pub(crate) next_consumer: u64,
+    pub(crate) next_ordinal: Ordinal,
+    pub(crate) next_producer: ProducerNumber,
+    pub(crate) next_consumer: ConsumerNumber,
     pub(crate) log: Vec<Message>,
     pub(crate) durable: usize,
     pub(crate) producers: Vec<Producer>,

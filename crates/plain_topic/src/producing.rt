@@ -8,7 +8,7 @@ use plain_lists::{
     store_all_to,
 };
 use plain_queries::{last_sequence, used_in};
-use position_core::{Base, Body, Entry, Fault, Message, Moment, Position, ProducerName};
+use position_core::{Base, Body, Entry, Fault, Message, Moment, Ordinal, Position, ProducerName, ProducerNumber};
 use std::alloc::{AllocError, Global};
 
 fn connected_names(alloc: Global, producers: &[Producer]) -> Result<Vec<ProducerName>, AllocError>
@@ -148,7 +148,7 @@ impl PlainTopic {
         }
     }
 
-    pub(crate) fn drop_producer(&mut self, producer: u64) -> Reply
+    pub(crate) fn drop_producer(&mut self, producer: ProducerNumber) -> Reply
         ensures { Answers (state_of self.old) (DropProducer producer) result (state_of self.new) }
     {
         if drop_producer(&mut self.producers, producer) {
@@ -183,7 +183,7 @@ impl PlainTopic {
 
     pub(crate) fn publish(
         &mut self,
-        producer: u64,
+        producer: ProducerNumber,
         sequence: i64,
         body: &Body,
         now: Moment,
@@ -224,7 +224,7 @@ impl PlainTopic {
         Reply::Durable(self.durable as u64)
     }
 
-    pub(crate) fn stored_to(&mut self, length: u64, ordinal: u64) -> Reply
+    pub(crate) fn stored_to(&mut self, length: u64, ordinal: Ordinal) -> Reply
         ensures { Answers (state_of self.old) (StoredTo length ordinal) result (state_of self.new) }
     {
         let kept = length.min(self.log.len() as u64) as usize;

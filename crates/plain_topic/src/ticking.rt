@@ -4,7 +4,7 @@ use crate::plain::PlainTopic;
 use delivery_machine::Reply;
 use plain_lists::{leave_out_at, member_at, place_of_subscription, subscription_at};
 use plain_queries::{dying_at, first_due, pending_positions};
-use position_core::{Fault, Moment, Position, SubscriptionName};
+use position_core::{ConsumerNumber, Fault, Moment, Position, SubscriptionName};
 use std::alloc::AllocError;
 
 impl PlainTopic {
@@ -15,7 +15,7 @@ impl PlainTopic {
     ghost use Rattle.plain_topic.specs.StateOf.{state_of};
 
     #[tactic(auto, using(crate::proofs::Placed::at_its_place))]
-    pub(crate) fn nack(&mut self, consumer: u64, position: Position, now: Moment) -> Reply
+    pub(crate) fn nack(&mut self, consumer: ConsumerNumber, position: Position, now: Moment) -> Reply
         ensures { Answers (state_of self.old) (Nack consumer position now) result (state_of self.new) }
     {
         let Some(member) = member_at(&self.members, consumer) else {

@@ -6,3 +6,4 @@ pub mod Id
 pub mod Name
 pub mod TopicName
 pub mod Properties
+pub mod Numbers

@@ -1,9 +1,10 @@
 // At whom a message is pending.
+use crate::numbers::{ConsumerNumber, DueMoment};
 
 /// At whom a message is pending, and from when on it may be released: in milliseconds since 1970,
 /// possibly past the last moment; none for never.
 #[derive(Clone, Copy, Debug, PartialEq, Eq)]
 pub struct Held {
-    pub consumer: u64,
-    pub due: Option<u64>,
+    pub consumer: ConsumerNumber,
+    pub due: Option<DueMoment>,
 }

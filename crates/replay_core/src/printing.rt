@@ -6,7 +6,7 @@ ghost use Rattle.replay_core.specs.Printing.{producer_name, copy_text, target_te
 
 use crate::names::{append_name, append_target};
 use delivery_machine::{Delivery, Event, Reply};
-use position_core::{Fault, Kind, Message, Position, TopicName};
+use position_core::{ConsumerNumber, Fault, Kind, Message, Ordinal, Position, ProducerNumber, TopicName};
 use replay_lines::append_payload;
 use std::alloc::AllocError;
 
@@ -88,7 +88,7 @@ fn append_counted(out: &mut String, word: &str, number: u64) -> Result<(), Alloc
 fn append_added(
     out: &mut String,
     event: &Event,
-    producer: u64,
+    producer: ProducerNumber,
     auto: Option<u64>,
     last: i64,
 ) -> Result<(), AllocError>
@@ -119,7 +119,7 @@ fn append_progress(out: &mut String, durable: u64, length: u64) -> Result<(), Al
     append_counted(out, " ", length)
 }
 
-fn append_died(out: &mut String, position: Position, ordinal: u64) -> Result<(), AllocError>
+fn append_died(out: &mut String, position: Position, ordinal: Ordinal) -> Result<(), AllocError>
     ensures { OnOk result (string_bytes out.new
         ≡ string_bytes out.old ++ (codes "died " ++ text_of position ++ codes " " ++ decimal ordinal)) }
 {
@@ -132,7 +132,7 @@ fn append_dead(
     out: &mut String,
     message: &Message,
     target: &TopicName,
-    ordinal: u64,
+    ordinal: Ordinal,
 ) -> Result<(), AllocError>
     ensures { OnOk result (string_bytes out.new
         ≡ string_bytes out.old ++ (codes "dead " ++ decimal ordinal ++ codes " " ++ text_of message.now.position ++ codes " " ++ target_text target.now)) }
@@ -223,7 +223,7 @@ fn append_released(out: &mut String, position: Position) -> Result<(), AllocErro
 
 fn append_sent(
     out: &mut String,
-    consumer: u64,
+    consumer: ConsumerNumber,
     position: Position,
     count: u32,
 ) -> Result<(), AllocError>

@@ -1,0 +1,16 @@
+// Numbers that name something.
+
+/// The number of a producer: a topic counts its producers from 1 on, in the order of connecting.
+pub type ProducerNumber = u64;
+
+/// The number of a consumer: a topic counts its consumers from 1 on, in the order of joining.
+pub type ConsumerNumber = u64;
+
+/// The number of a death: a topic counts its deaths from 0 on.
+pub type Ordinal = u64;
+
+/// A message's place in the log, from 0 on.
+pub type LogIndex = u64;
+
+/// From when on a pending message may be released: milliseconds since 1970, possibly past the last moment.
+pub type DueMoment = u64;
