@@ -2,11 +2,11 @@
 use Rattle.std.proofs.Common.{◌≡◌, ℕ, ◌<◌, List, [], ◌∷◌, map, length, zero, suc, Some, Bool, true, false, cond, get_or, refl, ap, ◌∙◌, sym, arith, ◌⊎◌, inl, inr, true≢false}
 use Rattle.std.specs.List.{Contains, find}
 use Rattle.std.specs.List.Sorted.{IsStrictlySortedBy}
+use Rattle.std.specs.Cmp.{IsTotalOrder}
 use Rattle.std.specs.declared.cmp.Ordering.{Ordering}
-use Rattle.std.specs.declared.cmp.Ordering.TheVariants.{Less}
 use Rattle.delivery_machine.specs.Words.{changed, removed}
 use Rattle.delivery_machine.proofs.Firsts.{found_contained}
-use Rattle.delivery_machine.proofs.Rising.{keys_above}
+use Rattle.delivery_machine.proofs.Rising.{keys_above, below_itself}
 
 module _ {A : Type 0} where
   pub contained_later : (x : A) (xs : List A) (y : A) → Contains xs y → Contains (x ∷ xs) y
@@ -52,32 +52,32 @@ module _ {A : Type 0} where
       ]
 
   -- of two keys that rise, what is left has another key than the one that was taken out
-  pub key_differs : {K : Type 0} (c : K → K → Ordering) → ((k : K) → c k k ≡ Less → ⊥) → (key : A → K) (q : A → Bool) (xs : List A) (x y : A) → IsStrictlySortedBy c (map key xs)
+  pub key_differs : {K : Type 0} (c : K → K → Ordering) → IsTotalOrder c → (key : A → K) (q : A → Bool) (xs : List A) (x y : A) → IsStrictlySortedBy c (map key xs)
       → find q xs ≡ Some x → Contains (removed q xs) y → key y ≡ key x → ⊥
   unfolding IsStrictlySortedBy
-  key_differs c never key q [] x y rising found at same = cc
-  key_differs {K} c never key q (z ∷ zs) x y rising found at same = by (q z) found at (λ found at. key_differs c never key q zs x y rising.1 found at same)
+  key_differs c total key q [] x y rising found at same = cc
+  key_differs {K} c total key q (z ∷ zs) x y rising found at same = by (q z) found at (λ found at. key_differs c total key q zs x y rising.1 found at same)
     where
       by : (b : Bool) → cond b (Some z) (find q zs) ≡ Some x → Contains (cond b zs (z ∷ removed q zs)) y → (find q zs ≡ Some x → Contains (removed q zs) y → ⊥) → ⊥
       by true found at rest =
           let is : z ≡ x = cc in
-          never (key z) (ap (c (key z)) (ap key is ∙ sym same) ∙ keys_above c key (key z) zs y rising.0 at)
+          below_itself total (key z) (ap (c (key z)) (ap key is ∙ sym same) ∙ keys_above c key (key z) zs y rising.0 at)
       by false found at rest = elim (contained_cases z (removed q zs) y at) [
-        | inl is ↦ never (key z) (ap (c (key z)) (ap key is ∙ same) ∙ keys_above c key (key z) zs x rising.0 (found_contained q zs x found))
+        | inl is ↦ below_itself total (key z) (ap (c (key z)) (ap key is ∙ same) ∙ keys_above c key (key z) zs x rising.0 (found_contained q zs x found))
         | inr later ↦ rest found later
       ]
 
   -- each is the first that is found by its key
-  pub found_by_key : {K : Type 0} (c : K → K → Ordering) → ((k : K) → c k k ≡ Less → ⊥) → (key : A → K) (q : A → Bool) (xs : List A) (y : A) → ((z : A) → q z ≡ true → key z ≡ key y) → IsStrictlySortedBy c (map key xs)
+  pub found_by_key : {K : Type 0} (c : K → K → Ordering) → IsTotalOrder c → (key : A → K) (q : A → Bool) (xs : List A) (y : A) → ((z : A) → q z ≡ true → key z ≡ key y) → IsStrictlySortedBy c (map key xs)
       → q y ≡ true → Contains xs y → find q xs ≡ Some y
   unfolding IsStrictlySortedBy
-  found_by_key c never key q [] y tests rising passes at = let below = at.1 in absurd (omega arith)
-  found_by_key {K} c never key q (z ∷ zs) y tests rising passes at = by (q z) refl (found_by_key c never key q zs y tests rising.1 passes)
+  found_by_key c total key q [] y tests rising passes at = let below = at.1 in absurd (omega arith)
+  found_by_key {K} c total key q (z ∷ zs) y tests rising passes at = by (q z) refl (found_by_key c total key q zs y tests rising.1 passes)
     where
       by : (b : Bool) → q z ≡ b → (Contains zs y → find q zs ≡ Some y) → cond b (Some z) (find q zs) ≡ Some y
       by true t rest = elim (contained_cases z zs y at) [
         | inl is ↦ ap Some is
-        | inr later ↦ absurd (never (key z) (ap (c (key z)) (tests z t) ∙ keys_above c key (key z) zs y rising.0 later))
+        | inr later ↦ absurd (below_itself total (key z) (ap (c (key z)) (tests z t) ∙ keys_above c key (key z) zs y rising.0 later))
       ]
       by false f rest = elim (contained_cases z zs y at) [
         | inl is ↦ absurd (true≢false (sym passes ∙ sym (ap q is) ∙ f))

@@ -35,6 +35,14 @@ names_differ a b differ = by (bytes_eq b a) refl
     by false f = refl
     by true t = sym (is_same_name a b (sym (same_name b a t))) ∙ differ
 
+-- what has the one name has not the other
+pub other_name : (name n : List ℕ) (sub : Subscription) → bytes_eq name n ≡ false → is_named n sub ≡ true → is_named name sub ≡ false
+other_name name n sub differ is = by (is_named name sub) refl
+  where
+    by : (b : Bool) → is_named name sub ≡ b → b ≡ false
+    by false f = refl
+    by true t = sym (is_same_name name n (sym (same_name sub.name name t) ∙ same_name sub.name n is)) ∙ differ
+
 -- ---- lists of which each element has a property
 
 module _ {A : Type 0} (P : A → Type 0) where

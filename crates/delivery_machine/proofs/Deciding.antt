@@ -1,6 +1,6 @@
 -- Tests of two parts, of numbers, and of refusals.
-use Rattle.std.proofs.Common.{◌≡◌, ℕ, ◌<◌, ◌≤◌, Bool, true, false, refl, ap, ◌∙◌, arith, true≢false, Some, None}
-use Rattle.std.specs.Prelude.{◌&&◌, ◌||◌, ◌==◌, nat_lt, if◌then◌else◌}
+use Rattle.std.proofs.Common.{◌≡◌, ℕ, ◌<◌, ◌≤◌, Bool, true, false, refl, ap, ◌∙◌, arith, true≢false, sym, Some, None}
+use Rattle.std.specs.Prelude.{not, ◌&&◌, ◌||◌, ◌==◌, nat_lt, if◌then◌else◌}
 use Rattle.std.proofs.lemmas.Bool.Decides.{nat_tests}
 
 pub and_first : (a b : Bool) → (a && b) ≡ true → a ≡ true
@@ -15,6 +15,10 @@ and_second false false e = e
 pub or_false : (a b : Bool) → (a || b) ≡ false → (a ≡ false) × (b ≡ false)
 or_false true b e = absurd (true≢false e)
 or_false false b e = (refl, e)
+
+pub or_second : (a b : Bool) → b ≡ true → (a || b) ≡ true
+or_second true b e = refl
+or_second false b e = e
 
 pub both_false : (a b : Bool) → a ≡ false → b ≡ false → (a || b) ≡ false
 both_false a b e f = ap (λ c. c || b) e ∙ f
@@ -36,6 +40,11 @@ none_below n e = grind (arith, nat_tests)
 
 pub within : (most n : ℕ) → nat_lt most n ≡ false → n ≤ most
 within most n e = grind (arith, nat_tests)
+
+-- what fails turned about
+pub turned : (b : Bool) → not b ≡ true → b ≡ false
+turned true e = absurd (true≢false (sym e))
+turned false e = refl
 
 -- where a test alone keeps from a refusal, it holds where nothing is refused
 pub holds_unless_refused : {A : Type 0} (b : Bool) (fault : A) → (if b then None else Some fault) ≡ None → b ≡ true

@@ -6,7 +6,7 @@ use Rattle.delivery_machine.specs.State.{Subscription}
 use Rattle.delivery_machine.specs.Words.{changed, removed, is_named}
 use Rattle.delivery_machine.specs.Joining.{placed}
 use Rattle.delivery_machine.proofs.Firsts.{found_changed, found_mapped, found_inserted, found_passes}
-use Rattle.delivery_machine.proofs.Behind.{IsIdle, AllBehindIdle, same_name, is_same_name, found_removed}
+use Rattle.delivery_machine.proofs.Behind.{IsIdle, AllBehindIdle, other_name, same_name, found_removed}
 use Rattle.delivery_machine.proofs.Finding.{find_removed}
 use Rattle.delivery_machine.proofs.Tending.{names_apart}
 
@@ -52,15 +52,8 @@ pub each_removed : (P Q : Subscription → Type 0) (n : List ℕ) (subs : List S
     → ((sub : Subscription) → P sub → Q sub) → ((sub : Subscription) → sub.name ≡ n → IsIdle sub → Q sub) → EachFirst P subs → EachFirst Q (removed (is_named n) subs)
 each_removed P Q n subs behind others next all name sub found = by (bytes_eq name n) refl
   where
-    apart : bytes_eq name n ≡ false → (x : Subscription) → is_named n x ≡ true → is_named name x ≡ false
-    apart differs x t = by_test (is_named name x) refl
-      where
-        by_test : (b : Bool) → is_named name x ≡ b → b ≡ false
-        by_test false e = refl
-        by_test true e = sym (is_same_name name n (sym (same_name x.name name e) ∙ same_name x.name n t)) ∙ differs
-
     by : (b : Bool) → bytes_eq name n ≡ b → Q sub
-    by false differs = others sub (all name sub (sym (find_removed (is_named name) (is_named n) (apart differs) subs) ∙ found))
+    by false differs = others sub (all name sub (sym (find_removed (is_named name) (is_named n) (λ x. other_name name n x differs) subs) ∙ found))
     by true same = elim (found_removed name n subs sub behind found) [
       | inl a ↦ others sub (all name sub a)
       | inr idle ↦ next sub (same_name sub.name name (found_passes (is_named name) (removed (is_named n) subs) sub found) ∙ same_name name n same) idle

@@ -4,6 +4,7 @@ use Rattle.std.specs.Prelude.{◌||◌, nat_lt, IsSomeAnd, slice_get}
 use Rattle.std.specs.List.{find, filter, insert, list_any, Contains, position_or_len}
 use Rattle.std.proofs.lemmas.Bool.Decides.{nat_tests}
 use Rattle.delivery_machine.specs.Words.{changed, removed}
+use Rattle.delivery_machine.proofs.Deciding.{or_second}
 use Rattle.std.proofs.lemmas.List.Folds.{find_at}
 use Rattle.std.proofs.lemmas.List.Sums.{passes_at_first}
 use Rattle.std.proofs.lemmas.Option.{slice_get_within, get_or_from_slice_get}
@@ -104,13 +105,9 @@ module _ {A : Type 0} where
   any_contained p [] x at t = let below = at.1 in absurd (omega arith)
   any_contained p (y ∷ ys) x at t = by at.0 at.1 at.2 (λ later. any_contained p ys x later t)
     where
-      either : (b c : Bool) → c ≡ true → (b || c) ≡ true
-      either true c e = refl
-      either false c e = e
-
       by : (k : ℕ) → k < length (y ∷ ys) → get_or (y ∷ ys) k x ≡ x → (Contains ys x → list_any p ys ≡ true) → list_any p (y ∷ ys) ≡ true
       by zero below is rest = ap (λ b. b || list_any p ys) (ap p is ∙ t)
-      by (suc k) below is rest = either (p y) (list_any p ys) (rest (k, omega arith, is))
+      by (suc k) below is rest = or_second (p y) (list_any p ys) (rest (k, omega arith, is))
 
   -- where none passes, what is contained fails
   pub none_contained : (p : A → Bool) (xs : List A) (x : A) → list_any p xs ≡ false → Contains xs x → p x ≡ false

@@ -1,5 +1,5 @@
 -- What each subscription of a reached state has, whatever becomes of it: messages of the log, and live ones pending.
-use Rattle.std.proofs.Common.{◌≡◌, ℕ, ◌+◌, ◌-◌, ◌<◌, ◌≤◌, List, [], ◌∷◌, ◌++◌, map, length, take, drop, Some, Bool, true, false, cond, refl, ap, ◌∙◌, sym, subst, arith, inl, inr, ◌⊎◌, Contains, true≢false}
+use Rattle.std.proofs.Common.{◌≡◌, ℕ, ◌-◌, ◌<◌, ◌≤◌, List, [], ◌∷◌, ◌++◌, map, length, take, drop, Some, Bool, true, false, cond, refl, ap, ◌∙◌, sym, subst, arith, inl, inr, ◌⊎◌, Contains, true≢false, length-append}
 use Rattle.std.specs.Prelude.{◌||◌, not, is_some}
 use Rattle.std.specs.List.{All, AllByRecursion, list_any}
 use Rattle.std.specs.FinSet as set
@@ -23,7 +23,7 @@ use Rattle.delivery_machine.specs.Dying.{burying, moving, first_safe}
 use Rattle.delivery_machine.specs.WellFormed.{has_message, AreMessagesOf, AreDeadLettersOf}
 use Rattle.delivery_machine.specs.declared.event.Initial.{Initial}
 use Rattle.delivery_machine.specs.declared.event.Initial.TheVariants.{Earliest, Latest}
-use Rattle.delivery_machine.proofs.Deciding.{or_false, and_first}
+use Rattle.delivery_machine.proofs.Deciding.{turned, or_false, and_first}
 use Rattle.delivery_machine.proofs.Tended.{got_inserted}
 use Rattle.delivery_machine.proofs.Tending.{got_retained, none_pending}
 use Rattle.delivery_machine.proofs.Messages.{either_way, message_taken, one_listed, one_of_itself}
@@ -210,22 +210,14 @@ module _ (log : List Entry) (durable : ℕ) where
         (lives.0, last sub.dead p lives.1 (other p was.0));
     counted = λ p is. formed.counted p (kept_counted sub.counts keeps p is);
     dead = dead_pushed log sub.dead letter (held_logged log durable sub formed letter.position held there) (formed.live letter.position held there).1 below formed.dead;
-    safe = let low = formed.safe in let longer = more sub.dead in omega arith;
+    safe = let low = formed.safe in let longer = length-append sub.dead (letter ∷ []) in omega arith;
   }
     where
       keeps : Position → Bool
       keeps p = not (is_one_of (letter.position ∷ []) p)
 
-      more : (ds : List DeadLetter) → length (ds ++ letter ∷ []) ≡ length ds + 1
-      more [] = refl
-      more (d ∷ ds) = let rest = more ds in omega (arith, rest)
-
       other : (p : Position) → not (is_one_of (letter.position ∷ []) p) ≡ true → same_position letter.position p ≡ false
-      other p differs = either_way letter.position p ∙ by (same_position p letter.position) differs
-        where
-          by : (b : Bool) → not (b || false) ≡ true → b ≡ false
-          by true e = absurd (true≢false (sym e))
-          by false e = refl
+      other p differs = either_way letter.position p ∙ (or_false (same_position p letter.position) false (turned (same_position p letter.position || false) differs)).0
 
       last : (ds : List DeadLetter) (p : Position) → list_any (λ d. same_position d.position p) ds ≡ false → same_position letter.position p ≡ false → list_any (λ d. same_position d.position p) (ds ++ letter ∷ []) ≡ false
       last [] p none new = ap (λ b. b || false) new

@@ -23,6 +23,10 @@ module _ {A K : Type 0} (key : A → K) where
   keys_mapped f same [] = refl
   keys_mapped {other = other} f same (x ∷ xs) = ap (λ k. k ∷ map key (map f xs)) (same x) ∙ ap (λ ks. other x ∷ ks) (keys_mapped f same xs)
 
+  pub kept_if : (b : Bool) (x y : A) → key y ≡ key x → key (cond b y x) ≡ key x
+  kept_if true x y same = same
+  kept_if false x y same = refl
+
   -- what holds of each key
   pub each_key_removed : (P : K → Type 0) (q : A → Bool) (xs : List A) → AllByRecursion P (map key xs) → AllByRecursion P (map key (removed q xs))
   each_key_removed P q [] all = tt

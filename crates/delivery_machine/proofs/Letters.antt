@@ -1,24 +1,18 @@
 -- A subscription's dead letters stay in their order, and none of them twice.
-use Rattle.std.proofs.Common.{◌≡◌, ℕ, ◌<◌, List, [], ◌∷◌, ◌++◌, map, drop, true, false, refl, ap, ◌∙◌, sym, subst, arith}
+use Rattle.std.proofs.Common.{◌≡◌, ◌<◌, List, [], ◌∷◌, ◌++◌, map, drop, true, false, refl, ap, ◌∙◌, sym, subst, arith}
 use Rattle.std.specs.Prelude.{◌||◌}
 use Rattle.std.specs.List.{AllByRecursion, list_any, IsDistinct}
 use Rattle.std.specs.Cmp.{eq_by_cmp_equiv}
-use Rattle.std.specs.Ordering.{nat_cmp}
-use Rattle.std.specs.declared.cmp.Ordering.TheVariants.{Less}
-use Rattle.std.proofs.lemmas.Bool.Decides.{nat_tests}
 use Rattle.std.proofs.lemmas.List.{map-append}
 use Rattle.std.proofs.lemmas.List.Elements.{All-nil, All-weaker, All-push, All-drop}
-use Rattle.std.proofs.lemmas.Map.Keys.{IsDistinct-push, IsDistinct-tail, sorted_tail, sorted_from_strictly_increasing, IsStrictlyIncreasing-from_sorted}
+use Rattle.std.proofs.lemmas.Map.Keys.{IsDistinct-push, IsDistinct-tail}
 use Rattle.position_core.specs.declared.position.Position.{Position}
 use Rattle.position_core.specs.declared.message.Entry.{Entry}
 use Rattle.position_core.specs.Position.{same_position, positions_total}
 use Rattle.delivery_machine.specs.State.{DeadLetter}
 use Rattle.delivery_machine.specs.WellFormed.{has_message, AreDeadLettersOf}
-use Rattle.delivery_machine.proofs.Rising.{sorted_push}
+use Rattle.delivery_machine.proofs.Given.{increasing_pushed, increasing_later}
 use Rattle.delivery_machine.proofs.Messages.{either_way}
-
-abbrev pub ordinals : List DeadLetter → List ℕ
-ordinals dead = map (λ d. d.ordinal) dead
 
 -- where the log has more
 pub dead_in_more : (log more : List Entry) (dead : List DeadLetter) → ((p : Position) → has_message log p ≡ true → has_message more p ≡ true) → AreDeadLettersOf log dead → AreDeadLettersOf more dead
@@ -39,20 +33,12 @@ dead_pushed log dead letter there new below all = record {
   messages = All-push (λ d. has_message log d.position ≡ true) dead letter all.messages there;
   once = subst (IsDistinct same_position) (sym (map-append (λ (d : DeadLetter). d.position) dead (letter ∷ [])))
       (IsDistinct-push (eq_by_cmp_equiv positions_total) (map (λ (d : DeadLetter). d.position) dead) letter.position all.once (unlike dead ∙ new));
-  ordinals = IsStrictlyIncreasing-from_sorted (ordinals (dead ++ letter ∷ []))
-      (sorted_push nat_cmp (λ (d : DeadLetter). d.ordinal) dead letter (sorted_from_strictly_increasing (ordinals dead) all.ordinals) (less dead below));
+  ordinals = increasing_pushed (λ (d : DeadLetter). d.ordinal) dead letter below all.ordinals;
 }
   where
     unlike : (ds : List DeadLetter) → list_any (same_position letter.position) (map (λ (d : DeadLetter). d.position) ds) ≡ list_any (λ d. same_position d.position letter.position) ds
     unlike [] = refl
     unlike (d ∷ ds) = ap (λ b. b || list_any (same_position letter.position) (map (λ (d : DeadLetter). d.position) ds)) (either_way letter.position d.position) ∙ ap (λ b. same_position d.position letter.position || b) (unlike ds)
-
-    below_is : (a b : ℕ) → a < b → nat_cmp a b ≡ Less
-    below_is a b low = grind (arith, nat_tests)
-
-    less : (ds : List DeadLetter) → AllByRecursion (λ d. d.ordinal < letter.ordinal) ds → AllByRecursion (λ d. nat_cmp d.ordinal letter.ordinal ≡ Less) ds
-    less [] low = tt
-    less (d ∷ ds) low = (below_is d.ordinal letter.ordinal low.0, less ds low.1)
 
 -- where the first is moved
 pub dead_dropped : (log : List Entry) (dead : List DeadLetter) → AreDeadLettersOf log dead → AreDeadLettersOf log (drop 1 dead)
@@ -60,5 +46,5 @@ dead_dropped log [] all = all
 dead_dropped log (d ∷ ds) all = record {
   messages = All-drop (λ d. has_message log d.position ≡ true) 1 (d ∷ ds) all.messages;
   once = IsDistinct-tail same_position d.position (map (λ (d : DeadLetter). d.position) ds) all.once;
-  ordinals = IsStrictlyIncreasing-from_sorted (ordinals ds) (sorted_tail nat_cmp d.ordinal (ordinals ds) (sorted_from_strictly_increasing (ordinals (d ∷ ds)) all.ordinals));
+  ordinals = increasing_later (λ (d : DeadLetter). d.ordinal) d ds all.ordinals;
 }

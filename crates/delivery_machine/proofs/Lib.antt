@@ -1,8 +1,8 @@
 pub mod RunSteps
-pub mod Keyed
 pub mod Example
 pub mod Deciding
 pub mod Finding
+pub mod Keyed
 pub mod Acknowledged
 pub mod Seats
 pub mod Shrinking
@@ -28,10 +28,11 @@ pub mod Reached
 pub mod HeldFirst
 pub mod Ranks
 pub mod EachFirst
+pub mod Named
 pub mod Messages
+pub mod Given
 pub mod Letters
 pub mod InOrder
-pub mod Named
 pub mod Ordinals
 pub mod Taking
 pub mod OrderOverMembers
@@ -41,7 +42,6 @@ pub mod Sharing
 pub mod Halving
 pub mod ShareLaws
 pub mod Retained
-pub mod Given
 pub mod Uncollected
 pub mod Seated
 pub mod Formed

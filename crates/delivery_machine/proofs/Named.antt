@@ -2,9 +2,7 @@
 use Rattle.std.proofs.Common.{◌≡◌, ℕ, List, map, Some, None, Bool, true, false, get_or, refl, ◌∙◌, sym, subst, All, Contains}
 use Rattle.std.specs.List.{find}
 use Rattle.std.specs.Ordering.{is_eq}
-use Rattle.std.specs.Cmp.{tied_itself}
 use Rattle.std.specs.Cmp.Lexicographic.{nat_list_cmp_total}
-use Rattle.std.specs.declared.cmp.Ordering.TheVariants.{Less}
 use Rattle.std.proofs.lemmas.Map.Text.{is_eq-slice_cmp}
 use Rattle.std.proofs.lemmas.List.Elements.{All-contains, Contains-get_or}
 use Rattle.position_core.specs.Name.{name_order}
@@ -21,9 +19,6 @@ use Rattle.delivery_machine.proofs.Among.{contained_removed, key_differs, found_
 abbrev pub AreNamed : List Subscription → Type 0
 AreNamed subs = NamesRise (map (λ sub. sub.name) subs)
 
-not_before_itself : (name : List ℕ) → name_order name name ≡ Less → ⊥
-not_before_itself name e = let same = tied_itself nat_list_cmp_total name in cc
-
 pub named_placed : (new : Subscription) (subs : List Subscription) → find (is_named new.name) subs ≡ None → AreNamed subs → AreNamed (placed new subs)
 named_placed new subs none named =
     sorted_inserted (λ (sub : Subscription). sub.name) name_order nat_list_cmp_total new subs
@@ -39,7 +34,7 @@ named_mapped f subs same named = subst NamesRise (sym (keys_mapped (λ (sub : Su
 -- each is found by its name
 pub named_found : (name : List ℕ) (subs : List Subscription) (sub : Subscription) → AreNamed subs → is_named name sub ≡ true → Contains subs sub → find (is_named name) subs ≡ Some sub
 named_found name subs sub named is at =
-    found_by_key name_order not_before_itself (λ sub. sub.name) (is_named name) subs sub (λ other t. same_name other.name name t ∙ sym (same_name sub.name name is)) named is at
+    found_by_key name_order nat_list_cmp_total (λ sub. sub.name) (is_named name) subs sub (λ other t. same_name other.name name t ∙ sym (same_name sub.name name is)) named is at
 
 pub all_from_each : (P : Subscription → Type 0) (subs : List Subscription) → AreNamed subs → EachFirst P subs → All P subs
 all_from_each P subs named each k d below =
@@ -64,4 +59,4 @@ found_left name n subs sub named found = (named_found name subs sub named passes
 
     by : (b : Bool) → is_named n sub ≡ b → b ≡ false
     by false f = refl
-    by true t = absurd (key_differs name_order not_before_itself (λ sub. sub.name) (is_named n) subs sub sub named (named_found n subs sub named t was) left refl)
+    by true t = absurd (key_differs name_order nat_list_cmp_total (λ sub. sub.name) (is_named n) subs sub sub named (named_found n subs sub named t was) left refl)

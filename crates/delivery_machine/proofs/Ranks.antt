@@ -6,6 +6,7 @@ use Rattle.std.specs.Option.{option_map, option_map_or}
 use Rattle.std.specs.Str.{bytes_eq}
 use Rattle.delivery_machine.specs.State.{Member}
 use Rattle.delivery_machine.specs.Words.{changed, removed, best_by, is_at, comes_before, earlier, active_of}
+use Rattle.delivery_machine.proofs.Keyed.{keys_changed, keys_mapped, kept_if}
 
 pub record Rank : Type 0 where
   pub number : ℕ
@@ -21,21 +22,14 @@ KeepsRanks before after = map rank_of after ≡ map rank_of before
 -- ---- what changes no rank
 
 pub ranks_changed : (q : Member → Bool) (f : Member → Member) → ((m : Member) → rank_of (f m) ≡ rank_of m) → (members : List Member) → KeepsRanks members (changed q f members)
-ranks_changed q f same [] = refl
-ranks_changed q f same (m ∷ members) = by (q m) (ranks_changed q f same members)
-  where
-    by : (b : Bool) → map rank_of (changed q f members) ≡ map rank_of members → map rank_of (cond b (f m ∷ members) (m ∷ changed q f members)) ≡ map rank_of (m ∷ members)
-    by true rest = ap (λ x. x ∷ map rank_of members) (same m)
-    by false rest = ap (λ xs. rank_of m ∷ xs) rest
+ranks_changed q f same members = keys_changed rank_of q f same members
 
 pub ranks_mapped : (f : Member → Member) → ((m : Member) → rank_of (f m) ≡ rank_of m) → (members : List Member) → KeepsRanks members (map f members)
-ranks_mapped f same [] = refl
-ranks_mapped f same (m ∷ members) = ap (λ x. x ∷ map rank_of (map f members)) (same m) ∙ ap (λ xs. rank_of m ∷ xs) (ranks_mapped f same members)
+ranks_mapped f same members = keys_mapped rank_of f same members
 
 -- where a member changes at the subscription of a name alone, and only in what is no rank
 pub same_rank_if : (b : Bool) (m n : Member) → rank_of n ≡ rank_of m → rank_of (cond b n m) ≡ rank_of m
-same_rank_if true m n same = same
-same_rank_if false m n same = refl
+same_rank_if b m n same = kept_if rank_of b m n same
 
 -- ---- the active member by ranks
 

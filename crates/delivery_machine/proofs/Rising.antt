@@ -3,7 +3,7 @@ use Rattle.std.proofs.Common.{◌≡◌, ℕ, ◌+◌, ◌<◌, ◌≤◌, ◌^�
 use Rattle.std.specs.Prelude.{◌&&◌, ◌||◌, ◌==◌}
 use Rattle.std.specs.List.{AllByRecursion}
 use Rattle.std.specs.List.Sorted.{IsStrictlySortedBy}
-use Rattle.std.specs.Cmp.{tied_itself}
+use Rattle.std.specs.Cmp.{IsTotalOrder, tied_itself}
 use Rattle.std.specs.declared.cmp.Ordering.{Ordering}
 use Rattle.std.specs.declared.cmp.Ordering.TheVariants.{Less}
 use Rattle.std.proofs.lemmas.Bool.Decides.{nat_tests}
@@ -35,6 +35,9 @@ keys_above {A} c f k xs x above at = All-contains (λ y. c k (f y) ≡ Less) xs 
     of_keys : (ys : List A) → AllByRecursion (λ q. c k q ≡ Less) (map f ys) → AllByRecursion (λ y. c k (f y) ≡ Less) ys
     of_keys [] h = tt
     of_keys (y ∷ ys) h = (h.0, of_keys ys h.1)
+
+pub below_itself : {K : Type 0} {c : K → K → Ordering} → IsTotalOrder c → (k : K) → c k k ≡ Less → ⊥
+below_itself total k e = let same = tied_itself total k in cc
 
 -- two elements of one key are one
 one_of_each : {A K : Type 0} (c : K → K → Ordering) → ((k : K) → c k k ≡ Less → ⊥) → (f : A → K) (xs : List A) → IsStrictlySortedBy c (map f xs) → (x y : A) → Contains xs x → Contains xs y → f x ≡ f y → x ≡ y
@@ -79,7 +82,7 @@ before_next ledger used size p low = by (nat_lt used size)
     by false = grind (arith, nat_tests)
 
 pub not_below_itself : (p : Position) → position_cmp p p ≡ Less → ⊥
-not_below_itself p e = let same = tied_itself positions_total p in cc
+not_below_itself = below_itself positions_total
 
 pub one_of_position : (log : List Entry) (ledger : ℕ) → IsRising log ledger → (x y : Entry) → Contains log x → Contains log y → x.position ≡ y.position → x ≡ y
 one_of_position log ledger rising = one_of_each position_cmp not_below_itself (λ e. e.position) log rising.sorted

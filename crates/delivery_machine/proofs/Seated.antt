@@ -3,6 +3,7 @@ use Rattle.std.proofs.Common.{◌≡◌, ℕ, zero, suc, List, [], ◌∷◌, So
 use Rattle.std.specs.Prelude.{◌||◌, is_some}
 use Rattle.std.specs.List.{AllByRecursion, find, insert, list_any}
 use Rattle.delivery_machine.specs.State.{Subscription}
+use Rattle.delivery_machine.proofs.Deciding.{or_second}
 use Rattle.delivery_machine.specs.Words.{is_named}
 
 -- there is a subscription of the name
@@ -25,11 +26,7 @@ any_found p (x ∷ xs) = by (p x) (any_found p xs)
     by false rest = rest
 
 pub any_inserted : {A : Type 0} (p : A → Bool) (xs : List A) (i : ℕ) (y : A) → list_any p xs ≡ true → list_any p (insert xs i y) ≡ true
-any_inserted p xs zero y any = last (p y) (list_any p xs) any
-  where
-    last : (a b : Bool) → b ≡ true → (a || b) ≡ true
-    last true b e = refl
-    last false b e = e
+any_inserted p xs zero y any = or_second (p y) (list_any p xs) any
 any_inserted p [] (suc i) y any = cc
 any_inserted p (x ∷ xs) (suc i) y any = by (p x) any (any_inserted p xs i y)
   where
@@ -40,8 +37,4 @@ any_inserted p (x ∷ xs) (suc i) y any = by (p x) any (any_inserted p xs i y)
 pub inserted_there : {A : Type 0} (p : A → Bool) (xs : List A) (i : ℕ) (y : A) → p y ≡ true → list_any p (insert xs i y) ≡ true
 inserted_there p xs zero y t = ap (λ b. b || list_any p xs) t
 inserted_there p [] (suc i) y t = ap (λ b. b || false) t
-inserted_there p (x ∷ xs) (suc i) y t = last (p x) (list_any p (insert xs i y)) (inserted_there p xs i y t)
-  where
-    last : (a b : Bool) → b ≡ true → (a || b) ≡ true
-    last true b e = refl
-    last false b e = e
+inserted_there p (x ∷ xs) (suc i) y t = or_second (p x) (list_any p (insert xs i y)) (inserted_there p xs i y t)

@@ -8,6 +8,7 @@ use Rattle.position_core.specs.declared.flow.Flow.{Flow}
 use Rattle.delivery_machine.specs.State.{Member}
 use Rattle.delivery_machine.specs.Words.{changed, removed, is_member}
 use Rattle.delivery_machine.proofs.Deciding.{itself, number_is, apart_below, apart_above}
+use Rattle.delivery_machine.proofs.Keyed.{keys_changed, keys_mapped}
 use Rattle.delivery_machine.proofs.Finding.{find_removed}
 
 pub record Seat : Type 0 where
@@ -46,16 +47,10 @@ seats_of_changed q r f g tests same (m ∷ members) = by (q m) refl (seats_of_ch
 
 -- where the seat stays
 pub seats_stay : (q : Member → Bool) (f : Member → Member) → ((m : Member) → seat_of (f m) ≡ seat_of m) → (members : List Member) → seats (changed q f members) ≡ seats members
-seats_stay q f same [] = refl
-seats_stay q f same (m ∷ members) = by (q m) (seats_stay q f same members)
-  where
-    by : (b : Bool) → seats (changed q f members) ≡ seats members → seats (cond b (f m ∷ members) (m ∷ changed q f members)) ≡ seats (m ∷ members)
-    by true rest = ap (λ x. x ∷ seats members) (same m)
-    by false rest = ap (λ xs. seat_of m ∷ xs) rest
+seats_stay q f same members = keys_changed seat_of q f same members
 
 pub seats_of_mapped : (f : Member → Member) → ((m : Member) → seat_of (f m) ≡ seat_of m) → (members : List Member) → seats (map f members) ≡ seats members
-seats_of_mapped f same [] = refl
-seats_of_mapped f same (m ∷ members) = ap (λ x. x ∷ seats (map f members)) (same m) ∙ ap (λ xs. seat_of m ∷ xs) (seats_of_mapped f same members)
+seats_of_mapped f same members = keys_mapped seat_of f same members
 
 pub seats_of_removed : (number : ℕ) (members : List Member) → seats (removed (is_member number) members) ≡ removed (has_number number) (seats members)
 seats_of_removed number [] = refl

@@ -11,6 +11,7 @@ use Rattle.position_core.specs.Position.{position_cmp, exact_positions}
 use Rattle.delivery_machine.specs.State.{Member, Subscription}
 use Rattle.delivery_machine.specs.Words.{changed, removed, is_named, is_held_by}
 use Rattle.delivery_machine.specs.Joining.{placed}
+use Rattle.delivery_machine.proofs.Keyed.{kept_if}
 use Rattle.delivery_machine.proofs.Firsts.{found_changed, found_mapped, found_inserted, any_changed, any_mapped, any_pushed}
 use Rattle.delivery_machine.proofs.Behind.{IsIdle, AllBehindIdle, same_name, is_same_name, behind_changed, behind_mapped, behind_placed, behind_removed, found_removed}
 use Rattle.delivery_machine.proofs.Tended.{tended_empty, IsTended, IsPartOf, KeepsSeats, is_seat, tended_part, tended_seats, got_inserted}
@@ -50,8 +51,7 @@ part_held_again pending p held was q h is = elim (got_inserted pending p held q 
 -- ---- members that stay
 
 pub same_seat_if : (b : Bool) (name : List ℕ) (number : ℕ) (m n : Member) → is_seat name number n ≡ is_seat name number m → is_seat name number (cond b n m) ≡ is_seat name number m
-same_seat_if true name number m n same = same
-same_seat_if false name number m n same = refl
+same_seat_if b name number m n same = kept_if (is_seat name number) b m n same
 
 pub seats_changed : (q : Member → Bool) (f : Member → Member) → ((name : List ℕ) (number : ℕ) (m : Member) → is_seat name number (f m) ≡ is_seat name number m) → (members : List Member) → KeepsSeats members (changed q f members)
 seats_changed q f same members name number t = any_changed (is_seat name number) q f (same name number) members ∙ t

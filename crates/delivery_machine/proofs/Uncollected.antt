@@ -20,7 +20,7 @@ use Rattle.delivery_machine.specs.declared.delivery.Delivery.{Delivery}
 use Rattle.delivery_machine.proofs.Firsts.{filter_contained, found_contained}
 use Rattle.delivery_machine.proofs.Passes.{passes}
 use Rattle.delivery_machine.proofs.Finding.{find_inserted, find_removed, still_changed, still_mapped, found_itself_changed}
-use Rattle.delivery_machine.proofs.Behind.{same_name, is_same_name}
+use Rattle.delivery_machine.proofs.Behind.{same_name, is_same_name, other_name}
 use Rattle.delivery_machine.proofs.Among.{contained_mapped, contained_changed, contained_removed}
 use Rattle.delivery_machine.proofs.Tended.{same_place, some_is}
 use Rattle.delivery_machine.proofs.Messages.{place_itself}
@@ -218,11 +218,4 @@ holds_placed name consumer p new subs none held = ap (λ o. option_map_or (λ (s
 
 -- where the subscription of another name goes
 pub holds_removed : (n name : List ℕ) (consumer : ℕ) (p : Position) (subs : List Subscription) → bytes_eq name n ≡ false → holds_in (removed (is_named n) subs) name consumer p ≡ holds_in subs name consumer p
-holds_removed n name consumer p subs differ = ap (λ o. option_map_or (λ (sub : Subscription). is_held_by consumer (map_of.get sub.pending p)) o false) (find_removed (is_named name) (is_named n) apart subs)
-  where
-    apart : (sub : Subscription) → is_named n sub ≡ true → is_named name sub ≡ false
-    apart sub t = by (is_named name sub) refl
-      where
-        by : (b : Bool) → is_named name sub ≡ b → b ≡ false
-        by false f = refl
-        by true s = absurd (true≢false (sym (is_same_name name n (sym (same_name sub.name name s) ∙ same_name sub.name n t)) ∙ differ))
+holds_removed n name consumer p subs differ = ap (λ o. option_map_or (λ (sub : Subscription). is_held_by consumer (map_of.get sub.pending p)) o false) (find_removed (is_named name) (is_named n) (λ sub. other_name name n sub differ) subs)

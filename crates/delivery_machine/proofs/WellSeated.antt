@@ -4,10 +4,9 @@ use Rattle.std.specs.Prelude.{◌==◌, not, is_some}
 use Rattle.std.specs.List.{AllByRecursion, find, filter}
 use Rattle.std.specs.Option.{option_map_or}
 use Rattle.std.specs.Ordering.{nat_cmp}
-use Rattle.std.specs.Cmp.{tied_itself, nat_cmp_total}
+use Rattle.std.specs.Cmp.{nat_cmp_total}
 use Rattle.std.specs.FinMap as map_of
 use Rattle.std.specs.FinSet as set
-use Rattle.std.specs.declared.cmp.Ordering.TheVariants.{Less}
 use Rattle.std.proofs.lemmas.List.{map-append}
 use Rattle.std.proofs.lemmas.List.Elements.{All-contains, All-from_recursion}
 use Rattle.std.proofs.lemmas.Map.Keys.{sorted_from_strictly_increasing}
@@ -25,9 +24,9 @@ use Rattle.delivery_machine.specs.Delivering.{holding, given, sent, due_after}
 use Rattle.delivery_machine.specs.WellFormed.{AreGiven}
 use Rattle.delivery_machine.specs.declared.delivery.Delivery.{Delivery}
 use Rattle.delivery_machine.specs.declared.event.Initial.{Initial}
-use Rattle.delivery_machine.proofs.Deciding.{and_first, and_second, number_is, itself, holds_unless_refused}
+use Rattle.delivery_machine.proofs.Deciding.{turned, and_first, and_second, number_is, itself, holds_unless_refused}
 use Rattle.delivery_machine.proofs.Firsts.{any_changed, any_removed, found_contained, found_passes}
-use Rattle.delivery_machine.proofs.Behind.{same_name, is_same_name}
+use Rattle.delivery_machine.proofs.Behind.{same_name, is_same_name, other_name}
 use Rattle.delivery_machine.proofs.Sending.{taken_contained}
 use Rattle.delivery_machine.proofs.Chosen.{chosen_member}
 use Rattle.delivery_machine.proofs.Tended.{some_is}
@@ -44,13 +43,10 @@ use Rattle.delivery_machine.proofs.Formed.{IsFormed, IsLiveAt, formed_new, forme
 use Rattle.delivery_machine.proofs.Uncollected.{holds_in, uncollected_held, uncollected_sent, uncollected_changed, uncollected_pushed, uncollected_left, uncollected_same, holds_kept, holds_placed, holds_removed}
 use Rattle.delivery_machine.proofs.WellKept.{IsWellKept, well_changed, ordinals_stay, letters, numbers_of, places_of}
 
-not_below_itself : (n : ℕ) → nat_cmp n n ≡ Less → ⊥
-not_below_itself n e = let same = tied_itself nat_cmp_total n in cc
-
 -- each member is found by its number
 pub found_by_number : (next : ℕ) (members : List Member) (m : Member) → AreGiven next (numbers_of members) → Contains members m → find (is_member m.number) members ≡ Some m
 found_by_number next members m given at =
-    found_by_key nat_cmp not_below_itself (λ m. m.number) (is_member m.number) members m (λ other t. number_is other.number m.number t)
+    found_by_key nat_cmp nat_cmp_total (λ m. m.number) (is_member m.number) members m (λ other t. number_is other.number m.number t)
     (sorted_from_strictly_increasing (numbers_of members) given.rising) (itself m.number) at
 
 -- none of its number is left
@@ -60,7 +56,7 @@ others_left next consumer members m given found other left = by (other.number ==
     by : (b : Bool) → (other.number == consumer) ≡ b → b ≡ false
     by false differs = refl
     by true same =
-        absurd (key_differs nat_cmp not_below_itself (λ (m : Member). m.number) (is_member consumer) members m other (sorted_from_strictly_increasing (numbers_of members) given.rising) found left
+        absurd (key_differs nat_cmp nat_cmp_total (λ (m : Member). m.number) (is_member consumer) members m other (sorted_from_strictly_increasing (numbers_of members) given.rising) found left
         (number_is other.number consumer same ∙ sym (number_is m.number consumer (found_passes (is_member consumer) members m found))))
 
 -- ---- a message is held
@@ -99,10 +95,6 @@ chosen_waits KeyShared s sub e m h = (
   found_contained (waits_with_hash sub (hash_of e)) (visible s) e h.0,
   and_first (is_waiting sub e) (hash_of e == hash_of e) (found_passes (waits_with_hash sub (hash_of e)) (visible s) e h.0),
 )
-
-turned : (b : Bool) → not b ≡ true → b ≡ false
-turned true e = absurd (true≢false (sym e))
-turned false e = refl
 
 -- a live message is neither acknowledged nor dead
 pub lives : (sub : Subscription) (e : Entry) → is_live sub e ≡ true → IsLiveAt sub e.position
@@ -229,13 +221,10 @@ none_at n (m ∷ members) nobody = by (is_at n m) refl nobody (none_at n members
 
 still_there : (n : List ℕ) (subs : List Subscription) (sub : Subscription) → find (is_named n) subs ≡ Some sub → (members : List Member) → AllByRecursion (λ m. is_at n m ≡ false) members → AllThere (places_of members) subs → AllThere (places_of members) (removed (is_named n) subs)
 still_there n subs sub found [] none all = tt
-still_there n subs sub found (m ∷ members) none all = (any_removed (is_named m.subscription) (is_named n) subs sub found (by (is_named m.subscription sub) refl) ∙ all.0, still_there n subs sub found members none.1 all.1)
-  where
-    by : (b : Bool) → is_named m.subscription sub ≡ b → b ≡ false
-    by false f = refl
-    by true t =
-        let same : m.subscription ≡ n = sym (same_name sub.name m.subscription t) ∙ same_name sub.name n (found_passes (is_named n) subs sub found) in
-        sym (is_same_name m.subscription n same) ∙ none.0
+still_there n subs sub found (m ∷ members) none all = (
+  any_removed (is_named m.subscription) (is_named n) subs sub found (other_name m.subscription n sub none.0 (found_passes (is_named n) subs sub found)) ∙ all.0,
+  still_there n subs sub found members none.1 all.1,
+)
 
 pub well_dropped : (s : State) (n : List ℕ) (sub : Subscription) → find (is_named n) s.subscriptions ≡ Some sub → seats_at s.members n ≡ 0 → IsWellKept s → IsWellKept (record s { subscriptions = removed (is_named n) s.subscriptions })
 well_dropped s n sub found nobody well =

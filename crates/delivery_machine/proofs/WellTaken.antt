@@ -17,7 +17,7 @@ use Rattle.delivery_machine.specs.WellFormed.{has_message}
 use Rattle.delivery_machine.proofs.Firsts.{found_contained}
 use Rattle.delivery_machine.proofs.Sending.{taken_contained}
 use Rattle.delivery_machine.proofs.Tended.{some_is}
-use Rattle.delivery_machine.proofs.Keyed.{keys_mapped}
+use Rattle.delivery_machine.proofs.Keyed.{keys_mapped, kept_if}
 use Rattle.delivery_machine.proofs.Ordinals.{times_append, times_dropped, among_changed, once_more, below_next}
 use Rattle.delivery_machine.proofs.Formed.{formed_acknowledging, formed_redelivering, formed_burying, formed_moving, formed_seeking, formed_released}
 use Rattle.delivery_machine.proofs.Uncollected.{uncollected_taken, uncollected_emptied}
@@ -29,34 +29,24 @@ AreLogged s positions = (p : Position) → is_one_of positions p ≡ true → ha
 
 -- ---- members that forget what they were sent
 
+abbrev number : Member → ℕ
+number m = m.number
+
+abbrev place : Member → List ℕ
+place m = m.subscription
+
 module _ (s : State) (n : List ℕ) where
   forgotten_numbers : (positions : List Position) → numbers_of (map (forgetting n positions) s.members) ≡ numbers_of s.members
-  forgotten_numbers positions = keys_mapped (λ (m : Member). m.number) (forgetting n positions) (λ m. by m (is_at n m)) s.members
-    where
-      by : (m : Member) (b : Bool) → (cond b (record m { out = without positions m.out }) m).number ≡ m.number
-      by m true = refl
-      by m false = refl
+  forgotten_numbers positions = keys_mapped number (forgetting n positions) (λ m. kept_if number (is_at n m) m (record m { out = without positions m.out }) refl) s.members
 
   forgotten_places : (positions : List Position) → places_of (map (forgetting n positions) s.members) ≡ places_of s.members
-  forgotten_places positions = keys_mapped (λ (m : Member). m.subscription) (forgetting n positions) (λ m. by m (is_at n m)) s.members
-    where
-      by : (m : Member) (b : Bool) → (cond b (record m { out = without positions m.out }) m).subscription ≡ m.subscription
-      by m true = refl
-      by m false = refl
+  forgotten_places positions = keys_mapped place (forgetting n positions) (λ m. kept_if place (is_at n m) m (record m { out = without positions m.out }) refl) s.members
 
   emptied_numbers : numbers_of (map (emptied_at n) s.members) ≡ numbers_of s.members
-  emptied_numbers = keys_mapped (λ (m : Member). m.number) (emptied_at n) (λ m. by m (is_at n m)) s.members
-    where
-      by : (m : Member) (b : Bool) → (cond b (emptied m) m).number ≡ m.number
-      by m true = refl
-      by m false = refl
+  emptied_numbers = keys_mapped number (emptied_at n) (λ m. kept_if number (is_at n m) m (emptied m) refl) s.members
 
   emptied_places : places_of (map (emptied_at n) s.members) ≡ places_of s.members
-  emptied_places = keys_mapped (λ (m : Member). m.subscription) (emptied_at n) (λ m. by m (is_at n m)) s.members
-    where
-      by : (m : Member) (b : Bool) → (cond b (emptied m) m).subscription ≡ m.subscription
-      by m true = refl
-      by m false = refl
+  emptied_places = keys_mapped place (emptied_at n) (λ m. kept_if place (is_at n m) m (emptied m) refl) s.members
 
   -- ---- messages are taken out
 
