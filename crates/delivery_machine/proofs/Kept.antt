@@ -193,7 +193,7 @@ kept_joined s kind initial m allowed kept = record { rising = kept.rising; tende
         tended_placed s.log s.members (s.members ++ m ∷ []) (new_subscription m.subscription kind m.number initial s.log) s.subscriptions none_pending none (seats_pushed s.members m) kept.tended
 
 -- a member that leaves is no other one
-other_number : (consumer number : ℕ) (name : List ℕ) (m : Member) → is_member consumer m ≡ true → not (number == consumer) ≡ true → is_seat name number m ≡ false
+pub other_number : (consumer number : ℕ) (name : List ℕ) (m : Member) → is_member consumer m ≡ true → not (number == consumer) ≡ true → is_seat name number m ≡ false
 other_number consumer number name m is differs = by (is_at name m)
   where
     apart : (a b c : ℕ) → (a == b) ≡ true → not (c == b) ≡ true → (a == c) ≡ false

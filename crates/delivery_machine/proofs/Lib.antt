@@ -48,5 +48,7 @@ pub mod Formed
 pub mod WellKept
 pub mod WellTaken
 pub mod WellSeated
+pub mod SharedOut
+pub mod SharesReached
 pub mod WellReached
 pub mod WellFormedStates

@@ -1,13 +1,13 @@
 -- Shares stay shares as consumers join and leave, and change hands by the rule.
-use Rattle.std.proofs.Common.{◌≡◌, ℕ, ◌+◌, ◌-◌, ◌*◌, ◌<◌, ◌≤◌, zero, suc, Bool, true, false, cond, eqb, List, [], ◌∷◌, map, length, Some, inl, inr, refl, sym, ap, ◌∙◌, subst, arith, All}
-use Rattle.std.specs.Prelude.{◌≢◌, ◌||◌, ◌&&◌, ◌==◌, nat_eq}
+use Rattle.std.proofs.Common.{◌≡◌, ℕ, ◌+◌, ◌*◌, ◌<◌, ◌≤◌, zero, suc, Bool, true, false, cond, eqb, List, [], ◌∷◌, map, length, Some, inl, inr, refl, sym, subst, arith, All}
+use Rattle.std.specs.Prelude.{◌≢◌, ◌||◌, ◌&&◌, nat_eq}
 use Rattle.std.specs.List.{AllByRecursion, IsDistinct, list_any}
 use Rattle.std.proofs.lemmas.Bool.{cases_lt}
 use Rattle.std.proofs.lemmas.Bool.Decides.{nat_tests}
 use Rattle.std.proofs.lemmas.Map.Keys.{IsDistinct-cons, IsDistinct-head, IsDistinct-tail}
 use Rattle.position_core.specs.declared.block.Block.{Block}
-use Rattle.delivery_machine.specs.Shares.{owner_of, half, lower_half, upper_half, halving, most_hashes, shared_out, all_hashes, is_share_of, with_lower, with_upper, given_back, IsRow, PartAllHashes}
-use Rattle.delivery_machine.specs.ShareSets.{AreShares, IsLargest, TakesHalf, GivesBack, Joins, Leaves, SharesAreSets}
+use Rattle.delivery_machine.specs.Shares.{owner_of, lower_half, upper_half, halving, most_hashes, shared_out, all_hashes, is_share_of, with_lower, with_upper, given_back, PartAllHashes}
+use Rattle.delivery_machine.specs.ShareSets.{AreShares, TakesHalf, GivesBack, Joins, Leaves, SharesAreSets}
 use Rattle.delivery_machine.proofs.Parts.{parts_shared_out, parts_given_back}
 use Rattle.delivery_machine.proofs.Sharing.{goes, inside, owner_here}
 use Rattle.delivery_machine.proofs.Halving.{halves, HalvesFrom, within_most, largest_there, row_total}

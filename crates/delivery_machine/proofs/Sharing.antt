@@ -1,14 +1,14 @@
 -- Who has which hash after a consumer joins or leaves.
-use Rattle.std.proofs.Common.{◌≡◌, ℕ, ◌+◌, ◌-◌, ◌<◌, ◌≤◌, zero, suc, Bool, true, false, cond, eqb, List, [], ◌∷◌, length, get_or, Option, Some, None, ⊎_elim, ◌⊎◌, inl, inr, refl, sym, ap, ◌∙◌, subst, arith, All, Contains}
-use Rattle.std.specs.Prelude.{◌&&◌, ◌||◌, ◌==◌, max}
+use Rattle.std.proofs.Common.{◌≡◌, ℕ, ◌+◌, ◌-◌, ◌<◌, ◌≤◌, suc, Bool, true, false, cond, eqb, List, [], ◌∷◌, length, Option, Some, None, ⊎_elim, ◌⊎◌, inl, inr, refl, sym, ap, ◌∙◌, arith, Contains}
+use Rattle.std.specs.Prelude.{◌&&◌, ◌||◌}
 use Rattle.std.specs.List.{AllByRecursion, find, list_any}
 use Rattle.std.specs.Option.{option_map}
 use Rattle.std.proofs.lemmas.Bool.{cases_lt, cases_Bool}
 use Rattle.std.proofs.lemmas.Bool.Decides.{nat_tests}
 use Rattle.position_core.specs.declared.block.Block.{Block}
-use Rattle.delivery_machine.specs.Shares.{has_hash, owner_of, half, lower_half, upper_half, halving, most_hashes, shared_out, is_share_of, with_lower, with_upper, given_back, IsRow, PartAllHashes}
+use Rattle.delivery_machine.specs.Shares.{has_hash, owner_of, is_share_of, with_lower, with_upper, given_back, IsRow}
 use Rattle.delivery_machine.proofs.Parts.{begins_within, ends_within}
-use Rattle.delivery_machine.specs.ShareSets.{AreShares, IsLargest, TakesHalf, heir, GivesBack}
+use Rattle.delivery_machine.specs.ShareSets.{heir}
 
 -- ---- hashes and blocks
 

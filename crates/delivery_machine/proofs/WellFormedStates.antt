@@ -7,7 +7,9 @@ use Rattle.std.proofs.lemmas.List.Elements.{All-map, All-from_recursion, recursi
 use Rattle.std.proofs.lemmas.List.Sums.{sum_by-cons}
 use Rattle.position_core.specs.declared.message.Entry.{Entry}
 use Rattle.position_core.specs.declared.position.Position.{Position}
+use Rattle.position_core.specs.declared.kind.Kind.TheVariants.{KeyShared}
 use Rattle.position_core.specs.Position.{same_position}
+use Rattle.position_core.specs.Kind.{same_kind}
 use Rattle.delivery_machine.specs.State.{State, Member, Subscription, DeadLetter}
 use Rattle.delivery_machine.specs.Words.{visible, has_position, is_named, is_at, is_member, is_live, has_subscription}
 use Rattle.delivery_machine.specs.Producing.{storing, storing_below, stored, stored_to}
@@ -62,6 +64,8 @@ subscription_formed t all name sub found =
       counted = formed.counted;
       dead = formed.dead;
       safe = formed.safe;
+      shares = (all.shared name sub found).are;
+      sharers = λ number. (all.shared name sub found).owners number ∙ sym (ap (λ b. same_kind sub.kind KeyShared && b) (among_those (is_member number) (is_at sub.name) t.members));
     }
 
 at_subscriptions : (t : State) (members : List Member) → AllThere (places_of members) t.subscriptions → AllByRecursion (λ m. has_subscription t m.subscription ≡ true) members

@@ -48,6 +48,7 @@ use Rattle.delivery_machine.proofs.Formed.{IsFormed, held_logged, formed_begun}
 use Rattle.delivery_machine.proofs.Uncollected.{none_out}
 use Rattle.delivery_machine.proofs.WellKept.{IsWellKept, letters, well_stored, well_published, well_connected, well_disconnected}
 use Rattle.delivery_machine.proofs.WellTaken.{AreLogged, well_acknowledged, well_redelivered, well_died, well_moved, well_sought, well_taken_over}
+use Rattle.delivery_machine.proofs.SharesReached.{AreShared, step_shared, beginning_shared}
 use Rattle.delivery_machine.proofs.WellSeated.{well_nacked, well_sent, well_members, well_joined, well_left, well_dropped}
 
 settled : (t u : State) → t ≡ u → IsWellKept u → IsWellKept t
@@ -222,8 +223,9 @@ well_beginning s begins = elim begins [
 pub record IsAllKept (s : State) : Type 0 where
   pub order : IsKeptInOrder s
   pub well : IsWellKept s
+  pub shared : AreShared s
 
 pub reached_all : (s : State) (events : List Event) (replies : List Reply) (t : State) → IsBeginning s → Run s events replies t → IsAllKept t
 reached_all s events replies t begins run =
-    Run-keeps IsAllKept (λ s event reply t step all. record { order = step_in_order s event reply t step all.order; well = step_well s event reply t step all.order all.well }) s events replies t run
-    (record { order = beginning_in_order s begins; well = well_beginning s begins })
+    Run-keeps IsAllKept (λ s event reply t step all. record { order = step_in_order s event reply t step all.order; well = step_well s event reply t step all.order all.well; shared = step_shared s event reply t step all.well all.shared }) s events replies t run
+    (record { order = beginning_in_order s begins; well = well_beginning s begins; shared = beginning_shared s begins })

@@ -1,18 +1,17 @@
 -- Where a subscription goes on from: seeking, by position or by time, and skipping. Dropping it.
-use Rattle.std.specs.Prelude.{◌≡◌, ℕ, nat_le, List, [], ◌∷◌, map, take, length, Option, Some, None, if◌then◌else◌}
-use Rattle.std.specs.List.{filter, count_by, position_or_len}
-use Rattle.std.specs.Option.{unwrap_or}
+use Rattle.std.specs.Prelude.{◌≡◌, ℕ, nat_le, List, map, take, length}
+use Rattle.std.specs.List.{filter, position_or_len}
 use Rattle.std.specs.FinSet as set
 use Rattle.std.specs.FinMap as map_of
 use Rattle.position_core.specs.declared.position.Position.{Position}
 use Rattle.position_core.specs.declared.message.Entry.{Entry}
 use Rattle.delivery_machine.specs.State.{State, Subscription}
-use Rattle.delivery_machine.specs.Words.{changed, removed, is_named, members_of, is_live, has_position, visible, emptied_at}
+use Rattle.delivery_machine.specs.Words.{changed, removed, is_named, is_live, has_position, visible, emptied_at}
 use Rattle.delivery_machine.specs.Acknowledging.{with_acknowledged}
 use Rattle.delivery_machine.specs.declared.event.Target.{Target}
 use Rattle.delivery_machine.specs.declared.event.Target.TheVariants.{Earliest, Latest, At}
 use Rattle.delivery_machine.specs.declared.reply.Reply.{Reply}
-use Rattle.delivery_machine.specs.declared.reply.Reply.TheVariants.{Done, Stats}
+use Rattle.delivery_machine.specs.declared.reply.Reply.TheVariants.{Done}
 
 -- ---- seeking
 

@@ -1,5 +1,5 @@
 -- Well-formed states and sound snapshots: what holds of every state that a run comes to, and of every snapshot of one.
-use Rattle.std.specs.Prelude.{◌≡◌, ℕ, ◌+◌, ◌^◌, ◌<◌, ◌≤◌, ◌==◌, List, map, length, Bool, Some, IsTrue}
+use Rattle.std.specs.Prelude.{◌≡◌, ℕ, ◌+◌, ◌^◌, ◌<◌, ◌≤◌, ◌==◌, ◌&&◌, List, map, length, Bool, Some, IsTrue}
 use Rattle.std.specs.List.{filter, list_any, flat_map, All, Contains, IsDistinct}
 use Rattle.std.specs.List.Sorted.{IsStrictlyIncreasing, IsStrictlySortedBy}
 use Rattle.std.specs.Str.{bytes_eq}
@@ -8,10 +8,14 @@ use Rattle.std.specs.FinMap as map_of
 use Rattle.position_core.specs.declared.position.Position.{Position}
 use Rattle.position_core.specs.declared.message.Entry.{Entry}
 use Rattle.position_core.specs.declared.held.Held.{Held}
+use Rattle.position_core.specs.declared.kind.Kind.TheVariants.{KeyShared}
+use Rattle.position_core.specs.Kind.{same_kind}
 use Rattle.position_core.specs.Position.{position_cmp, same_position}
 use Rattle.position_core.specs.Name.{name_order}
 use Rattle.delivery_machine.specs.State.{State, Member, DeadLetter, Subscription}
 use Rattle.delivery_machine.specs.Words.{has_position, has_subscription, is_member, is_live, is_held_at, members_of, visible}
+use Rattle.delivery_machine.specs.Shares.{is_share_of}
+use Rattle.delivery_machine.specs.ShareSets.{AreShares}
 use Rattle.delivery_machine.specs.Snapshot.{KeptSubscription, Snapshot}
 
 -- ---- parts of both
@@ -58,12 +62,15 @@ pub record IsPendingWell (s : State) (sub : Subscription) (position : Position) 
   pub message : IsTrue (has_message (filter (is_live sub) (visible s)) position)
   pub member : IsTrue (list_any (is_member consumer) (members_of s sub.name))
 
+-- what a subscription keeps is of the log and of its members; in Key_Shared each of them has a share, and nobody else
 pub record IsWellFormedIn (s : State) (sub : Subscription) : Type 0 where
   pub acknowledged : AreMessagesOf s.log sub.acknowledged
   pub pending : (position : Position) (held : Held) → map_of.get sub.pending position ≡ Some held → IsPendingWell s sub position held.consumer
   pub counted : (position : Position) → IsTrue (map_of.contains_key sub.counts position) → IsTrue (has_message s.log position)
   pub dead : AreDeadLettersOf s.log sub.dead
   pub safe : sub.safe ≤ length sub.dead
+  pub shares : AreShares sub.shares
+  pub sharers : (number : ℕ) → list_any (is_share_of number) sub.shares ≡ (same_kind sub.kind KeyShared && list_any (is_member number) (members_of s sub.name))
 
 -- what the member was sent and has not collected are messages of the log, pending at it
 abbrev pub IsSentWell : State → Member → Type 0
