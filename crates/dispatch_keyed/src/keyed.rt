@@ -24,7 +24,7 @@ impl Model for Keyed {
 }
 
 impl Dispatcher for Keyed {
-    ghost use Rattle.std.specs.Prelude.{◌≡◌, OnOk, OnErr, IfErr};
+    ghost use Rattle.std.specs.Prelude.{◌≡◌, [], IsOk, OnOk, OnErr, IfErr};
     ghost use Rattle.position_core.specs.declared.fault.Fault.TheVariants.{NoMemory};
     ghost use Rattle.position_core.specs.Kind.{same_kind};
     ghost use Rattle.position_core.specs.declared.kind.Kind.TheVariants.{KeyShared};
@@ -34,7 +34,9 @@ impl Dispatcher for Keyed {
 
     ghost agrees = { λ d _ sub. (sub.kind ≡ KeyShared) × (d ≡ sub.shares) };
 
-    fn begin<V: View>(alloc: Global, _view: &V) -> Result<Self, Fault> {
+    fn begin<V: View>(alloc: Global, _view: &V) -> Result<Self, Fault>
+        ensures { result ≡ Ok [] }
+    {
         Ok(Keyed {
             shares: SplitTable::new(alloc),
         })
@@ -44,11 +46,16 @@ impl Dispatcher for Keyed {
         first_free(view, &self.shares)
     }
 
-    fn on_append<V: View>(&mut self, _view: &V) -> Result<(), Fault> {
+    fn on_append<V: View>(&mut self, _view: &V) -> Result<(), Fault>
+        ensures ok { IsOk result }
+        ensures same { self.new ≡ self.old }
+    {
         Ok(())
     }
 
-    fn undo_append<V: View>(&mut self, _view: &V) {}
+    fn undo_append<V: View>(&mut self, _view: &V)
+        ensures { self.new ≡ self.old }
+    {}
 
     fn on_join<V: View>(&mut self, _view: &V, consumer: ConsumerNumber) -> Result<(), Fault>
         ensures ok { OnOk result (self.new ≡ shared_out consumer self.old) }
@@ -67,15 +74,25 @@ impl Dispatcher for Keyed {
         self.shares.leave(consumer);
     }
 
-    fn on_sent<V: View>(&mut self, _view: &V, _index: LogIndex, _consumer: ConsumerNumber) -> Result<(), Fault> {
+    fn on_sent<V: View>(&mut self, _view: &V, _index: LogIndex, _consumer: ConsumerNumber) -> Result<(), Fault>
+        ensures ok { IsOk result }
+        ensures same { self.new ≡ self.old }
+    {
         Ok(())
     }
 
-    fn on_gone<V: View>(&mut self, _view: &V, _index: LogIndex) {}
+    fn on_gone<V: View>(&mut self, _view: &V, _index: LogIndex)
+        ensures { self.new ≡ self.old }
+    {}
 
-    fn on_released<V: View>(&mut self, _view: &V, _index: LogIndex) {}
+    fn on_released<V: View>(&mut self, _view: &V, _index: LogIndex)
+        ensures { self.new ≡ self.old }
+    {}
 
-    fn on_reset<V: View>(&mut self, _view: &V) -> Result<(), Fault> {
+    fn on_reset<V: View>(&mut self, _view: &V) -> Result<(), Fault>
+        ensures ok { IsOk result }
+        ensures same { self.new ≡ self.old }
+    {
         Ok(())
     }
 

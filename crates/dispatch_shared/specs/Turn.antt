@@ -5,6 +5,7 @@ use Rattle.delivery_machine.specs.State.{State, Subscription}
 use Rattle.dispatch_core.specs.Turn.{is_sooner}
 use Rattle.dispatch_core.specs.Offers.{seen_members}
 use Rattle.dispatch_core.specs.declared.view.Seen.{Seen}
+use Rattle.dispatch_core.specs.declared.dispatcher.Offer.{Offer}
 
 -- those with room, as they are seen
 abbrev pub roomy : State → Subscription → List Seen
@@ -22,3 +23,7 @@ in_turn last best seen = if goes_first last seen best then seen else best
 abbrev pub IsFirst : ℕ → List Seen → Option Seen → Type 0
 IsFirst last members None = members ≡ []
 IsFirst last members (Some first) = Contains members first × All (λ other. goes_first last other first ≡ false) members
+
+-- the consumer is seen to go first among those with room
+abbrev pub IsInTurn : ℕ → State → Subscription → Offer → Type 0
+IsInTurn last s sub offer = (seen : Seen) × (seen.consumer ≡ offer.consumer) × IsFirst last (roomy s sub) (Some seen)

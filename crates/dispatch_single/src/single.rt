@@ -9,14 +9,16 @@ use std::alloc::Global;
 pub struct Single;
 
 impl Dispatcher for Single {
-    ghost use Rattle.std.specs.Prelude.{IsTrue};
+    ghost use Rattle.std.specs.Prelude.{◌≡◌, IsTrue, IsOk};
     ghost use Rattle.position_core.specs.Kind.{is_in_order};
 
     ghost serves = { is_in_order };
 
     ghost agrees = { λ _ s sub. IsTrue (is_in_order sub.kind) };
 
-    fn begin<V: View>(_alloc: Global, _view: &V) -> Result<Self, Fault> {
+    fn begin<V: View>(_alloc: Global, _view: &V) -> Result<Self, Fault>
+        ensures { IsOk result }
+    {
         Ok(Single)
     }
 
@@ -26,19 +28,25 @@ impl Dispatcher for Single {
         room.then_some(Offer { index, consumer })
     }
 
-    fn on_append<V: View>(&mut self, _view: &V) -> Result<(), Fault> {
+    fn on_append<V: View>(&mut self, _view: &V) -> Result<(), Fault>
+        ensures { IsOk result }
+    {
         Ok(())
     }
 
     fn undo_append<V: View>(&mut self, _view: &V) {}
 
-    fn on_join<V: View>(&mut self, _view: &V, _consumer: ConsumerNumber) -> Result<(), Fault> {
+    fn on_join<V: View>(&mut self, _view: &V, _consumer: ConsumerNumber) -> Result<(), Fault>
+        ensures { IsOk result }
+    {
         Ok(())
     }
 
     fn on_leave<V: View>(&mut self, _view: &V, _consumer: ConsumerNumber) {}
 
-    fn on_sent<V: View>(&mut self, _view: &V, _index: LogIndex, _consumer: ConsumerNumber) -> Result<(), Fault> {
+    fn on_sent<V: View>(&mut self, _view: &V, _index: LogIndex, _consumer: ConsumerNumber) -> Result<(), Fault>
+        ensures { IsOk result }
+    {
         Ok(())
     }
 
@@ -46,7 +54,9 @@ impl Dispatcher for Single {
 
     fn on_released<V: View>(&mut self, _view: &V, _index: LogIndex) {}
 
-    fn on_reset<V: View>(&mut self, _view: &V) -> Result<(), Fault> {
+    fn on_reset<V: View>(&mut self, _view: &V) -> Result<(), Fault>
+        ensures { IsOk result }
+    {
         Ok(())
     }
 
