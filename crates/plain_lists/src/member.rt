@@ -1,6 +1,6 @@
 // What a consumer of a subscription asked for, and what it was sent.
-ghost use Rattle.std.specs.Prelude.{◌≡◌, OnOk, OnErr, IfOk, IfErr, None, Some, if◌then◌else◌};
-ghost use Rattle.delivery_machine.specs.Words.{is_member, is_at, comes_before, emptied};
+ghost use Rattle.std.specs.Prelude.{◌≡◌, OnOk, OnErr, IfOk, IfErr, None, Some};
+ghost use Rattle.delivery_machine.specs.Words.{is_member, is_at, comes_before, emptied, emptied_at};
 ghost use Rattle.position_core.specs.Flow.{granting_refused};
 ghost use Rattle.delivery_machine.specs.Joining.{permitted};
 ghost use Rattle.delivery_machine.specs.Acknowledging.{forgetting};
@@ -213,7 +213,7 @@ impl Member {
 
     /// Leaves nothing to be collected, where it is at the subscription.
     pub(crate) fn forget_all(&mut self, name: &SubscriptionName)
-        ensures { self.new ≡ (if is_at name.now self.old then emptied self.old else self.old) }
+        ensures { self.new ≡ emptied_at name.now self.old }
     {
         if self.subscription.is(name) {
             self.out.clear();

@@ -1,8 +1,8 @@
 // The consumers of the subscriptions: the one of a number, and what is done with those of a subscription.
-ghost use Rattle.std.specs.Prelude.{◌≡◌, IfNone, map, if◌then◌else◌};
+ghost use Rattle.std.specs.Prelude.{◌≡◌, IfNone, map};
 ghost use Rattle.std.specs.List.{find, position};
 ghost use Rattle.std.specs.Option.{option_copied};
-ghost use Rattle.delivery_machine.specs.Words.{is_member, is_at, removed, emptied};
+ghost use Rattle.delivery_machine.specs.Words.{emptied_at, is_member, removed};
 ghost use Rattle.delivery_machine.specs.Acknowledging.{forgetting};
 
 use crate::member::Member;
@@ -31,7 +31,7 @@ pub fn leave_out_at(members: &mut [Member], name: &SubscriptionName, positions: 
 
 /// Leaves the members of the subscription nothing to collect.
 pub fn empty_at(members: &mut [Member], name: &SubscriptionName)
-    ensures { members.new ≡ map (λ m. if is_at name.now m then emptied m else m) members.old }
+    ensures { members.new ≡ map (emptied_at name.now) members.old }
 {
     for member in members.iter_mut() {
         member.forget_all(name);

@@ -79,10 +79,8 @@ impl PlainTopic {
         let Some(seat) = place_of_member(&self.members, consumer) else {
             unreachable!();
         };
-        if self.members[seat]
-            .give(Delivery { message, count })
-            .is_err()
-        {
+        let delivery = Delivery { message, count };
+        if self.members[seat].give(delivery).is_err() {
             return Reply::Refused(Fault::NoMemory);
         }
         if self.subscriptions[place].hold(position, held).is_err() {

@@ -1,7 +1,6 @@
 use Rattle.std.proofs.Common.{◌≡◌, ◌++◌, take, drop, map}
-use Rattle.std.specs.Prelude.{if◌then◌else◌}
-use Rattle.delivery_machine.specs.Words.{is_at, emptied}
+use Rattle.delivery_machine.specs.Words.{emptied_at}
 use Rattle.plain_lists.proofs.members.empty_at.Given as goal
 
 abbrev pub invariant-loop-member : goal.invariant-loop-member
-invariant-loop-member l = l.members ≡ map (λ m. if is_at l.name m then emptied m else m) (take l.member-index l.initial.members) ++ drop l.member-index l.initial.members
+invariant-loop-member l = l.members ≡ map (emptied_at l.name) (take l.member-index l.initial.members) ++ drop l.member-index l.initial.members
