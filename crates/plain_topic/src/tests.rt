@@ -2,3 +2,4 @@
 mod copies;
 mod ends;
 mod scene;
+mod stored;
