@@ -1,4 +1,4 @@
--- Why each event is refused, in the order of the tests. Want of memory comes after all of them.
+-- Why each event is refused, in the order of the tests. Being out of memory comes after all of them.
 use Rattle.std.specs.Prelude.{ℕ, ◌^◌, nat_lt, nat_le, Bool, true, false, not, ◌&&◌, ◌||◌, length, List, Option, Some, None, is_some, if◌then◌else◌, ℤ, int_le}
 use Rattle.std.specs.List.{list_any, find}
 use Rattle.position_core.specs.declared.position.Position.{Position}
@@ -140,7 +140,7 @@ refusal_of s (Collect consumer) = session_refused s consumer
 refusal_of s (DeadNext name) = absence_refused s name
 refusal_of s (DeadDone name ordinal) = moving_refused ordinal (find (is_named name) s.subscriptions)
 
--- the event may meet want of memory
+-- the event takes memory, and may be refused it
 abbrev pub takes_memory : Event → Bool
 takes_memory (AddProducer name base) = true
 takes_memory (DropProducer producer) = false

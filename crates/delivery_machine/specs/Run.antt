@@ -60,7 +60,7 @@ abbrev pub Step : State → Event → Reply → State → Type 0
 Step s event (Refused fault) t = (refusal_of s event ≡ Some fault) × (t ≡ s)
 Step s event reply t = (refusal_of s event ≡ None) × Takes s event reply t
 
--- want of memory is no step: it comes only from an event that takes memory and is not refused, and leaves the state as it was
+-- being out of memory is no step: it comes only from an event that takes memory and is not refused, and leaves the state as it was
 abbrev pub Answers : State → Event → Reply → State → Type 0
 Answers s event (Refused NoMemory) t = IsTrue (takes_memory event) × (refusal_of s event ≡ None) × (t ≡ s)
 Answers s event reply t = Step s event reply t

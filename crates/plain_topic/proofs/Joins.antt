@@ -1,4 +1,4 @@
--- Why a consumer is turned away: the first test that fails says so, and it is never want of memory.
+-- Why a consumer is turned away: the first test that fails says so, and it is never for lack of memory.
 use Rattle.std.proofs.Common.{◌≡◌, ◌^◌, ◌<◌, ℕ, List, Bool, true, false, Option, Some, None, refl, subst, arith}
 use Rattle.std.specs.Prelude.{not, ◌&&◌, nat_le, length, if◌then◌else◌}
 use Rattle.std.proofs.lemmas.Bool.Decides.{nat_tests}

@@ -83,6 +83,7 @@ impl PlainTopic {
         if self.members[seat].give(delivery).is_err() {
             return Reply::Refused(Fault::NoMemory);
         }
+        // The copy first, since taking it back needs no memory; the credit last, since it is not given back.
         if self.subscriptions[place].hold(position, held).is_err() {
             self.members[seat].take_back();
             return Reply::Refused(Fault::NoMemory);

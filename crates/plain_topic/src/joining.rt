@@ -112,9 +112,11 @@ impl PlainTopic {
         let Ok(dead_topic) = dead_topic.clone() else {
             return Reply::Refused(Fault::NoMemory);
         };
+        // Room for the member before `enter`: the subscription would stay changed if there were none after it.
         if self.members.reserve(1).is_err() {
             return Reply::Refused(Fault::NoMemory);
         }
+        // Who is active is read before the consumer is among the members, since a takeover is told by the change.
         let active = self.active_at(name);
         if self.enter(name, kind, number, initial).is_err() {
             return Reply::Refused(Fault::NoMemory);

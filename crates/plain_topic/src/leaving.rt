@@ -27,6 +27,7 @@ impl PlainTopic {
     pub(crate) fn leave(&mut self, consumer: ConsumerNumber) -> Reply
         ensures { Answers (state_of self.old) (Leave consumer) result (state_of self.new) }
     {
+        // Read before the member goes: afterwards nobody could tell whether it was the active one.
         let active = self.active_beside(consumer);
         let Some(member) = take_member(&mut self.members, consumer) else {
             return Reply::Refused(Fault::NoSession);

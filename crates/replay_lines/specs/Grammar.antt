@@ -91,7 +91,7 @@ abbrev pub IsById : (Position → Event) → List ℕ → Line → Type 0
 IsById event_at id (lines.Event event) = (position : Position) × IsIdOf id position × (event ≡ event_at position)
 IsById event_at id lines.BadId = (position : Position) → IsIdOf id position → ⊥
 
--- the line of a seek: a word that says nothing is a bad id
+-- the line of a seek: a word that says nothing is an invalid id
 abbrev pub seek_line : List ℕ → Option Target → Line
 seek_line name (Some target) = lines.Event (Seek name target)
 seek_line name None = lines.BadId

@@ -10,7 +10,7 @@ abbrev pub Finds : {A : Type 0} → (A → Type 0) → Option A → Type 0
 Finds {A} P None = (x : A) → P x → ⊥
 Finds P (Some x) = P x
 
--- what was read passes, and the line is bad only where nothing passes; want of memory says nothing
+-- what was read passes, and the line is bad only where nothing passes; being out of memory says nothing
 abbrev pub Reads : {A : Type 0} → (A → Type 0) → Result A Unread → Type 0
 Reads P (Ok x) = P x
 Reads {A} P (Err BadLine) = (x : A) → P x → ⊥

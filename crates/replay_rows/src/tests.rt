@@ -188,7 +188,7 @@ fn narrow_writers(rt: HostRuntime) {
     }
 }
 
-/// Whether the rest, after whole lines of the row, is refused for want of memory, or was not written
+/// Whether the rest, after whole lines of the row, is refused for lack of memory, or was not written
 /// for want of it.
 fn is_end_or_refused(rest: &[u8], is_whole: bool, outcome: Ended) -> bool {
     if rest.is_empty() {
