@@ -1,5 +1,6 @@
 pub mod RunSteps
 pub mod Example
+pub mod TwoMessages
 pub mod Deciding
 pub mod Finding
 pub mod Keyed

@@ -11,7 +11,7 @@ use Rattle.position_core.specs.declared.message.Entry.{Entry}
 use Rattle.position_core.specs.declared.body.Content.{Content}
 use Rattle.position_core.specs.declared.held.Held.{Held}
 use Rattle.position_core.specs.declared.flow.Flow.TheVariants.{Window, Credit}
-use Rattle.position_core.specs.declared.kind.Kind.TheVariants.{Shared, KeyShared}
+use Rattle.position_core.specs.declared.kind.Kind.TheVariants.{Exclusive, Shared, KeyShared}
 use Rattle.position_core.specs.Position.{same_position}
 use Rattle.position_core.specs.Kind.{is_in_order}
 use Rattle.delivery_machine.specs.State.{State, Subscription, Member, fresh}
@@ -159,12 +159,14 @@ OrderAtActive =
     → (name : List ℕ) (sub : Subscription) → find (is_named name) t.subscriptions ≡ Some sub → IsTrue (is_in_order sub.kind)
     → IsInOrderAtActive t sub × SendsNextLive t name sub
 
--- the message is pending in a subscription in which the order is kept
-abbrev pub IsPendingInOrder : Content → List Event → List Reply → State → Type 0
-IsPendingInOrder body events replies s =
-    (name : List ℕ) × (sub : Subscription) × (e : Entry)
-    × (find (is_named name) s.subscriptions ≡ Some sub) × IsTrue (is_in_order sub.kind)
-    × (e.body ≡ body) × (pending_positions s sub ≡ e.position ∷ []) × Contains s.log e
+-- two messages fill the window of the one member of an Exclusive subscription, in the order of the log
+abbrev pub ArePendingInOrder : Content → List Event → List Reply → State → Type 0
+ArePendingInOrder body events replies s =
+    (m : Member) × (sub : Subscription) × (x : Entry) × (y : Entry)
+    × (s.members ≡ m ∷ []) × (m.flow ≡ Window 2) × (find (is_named m.subscription) s.subscriptions ≡ Some sub) × (sub.kind ≡ Exclusive)
+    × (s.log ≡ x ∷ y ∷ []) × (visible s ≡ s.log) × (x.body ≡ body) × (y.body ≡ body)
+    × (pending_positions s sub ≡ x.position ∷ y.position ∷ [])
+    × IsTrue (is_held_by m.number (map_of.get sub.pending x.position)) × IsTrue (is_held_by m.number (map_of.get sub.pending y.position))
 
 -- ---- one hash at one consumer
 
