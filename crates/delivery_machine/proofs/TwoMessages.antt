@@ -5,6 +5,7 @@ use Rattle.std.specs.Option.{unwrap_or}
 use Rattle.std.specs.FinMap as map_of
 use Rattle.std.specs.FinMap.{FinMap}
 use Rattle.std.specs.FinSet as set
+use Rattle.position_core.specs.declared.block.Block.{Block}
 use Rattle.position_core.specs.declared.position.Position.{Position}
 use Rattle.position_core.specs.declared.topic_name.TopicName.{TopicName}
 use Rattle.position_core.specs.declared.body.Content.{Content}
@@ -65,18 +66,18 @@ second-of-two consumer = map_of.get-insert positions_total (one_held consumer) (
 abbrev pub message : Content → ℕ → Entry
 message body n = record { position = place n; producer = codes "p"; sequence = pos (n + 1); time = 0; body = body }
 
-abbrev pub subscription : Kind → Pending → Subscription
-subscription kind pending = record (new_subscription (codes "s") kind 1 Earliest []) { pending = pending }
+abbrev pub subscription : Kind → List Block → Pending → Subscription
+subscription kind shares pending = record (new_subscription (codes "s") kind 1 Earliest []) { shares = shares; pending = pending }
 
 -- a message that is pending at nobody waits, as none is acknowledged
-pub waits : (kind : Kind) (pending : Pending) (body : Content) (n : ℕ) (held : Option Held)
-    → map_of.get pending (place n) ≡ held → is_waiting (subscription kind pending) (message body n) ≡ not (is_some held)
-waits kind pending body n held at =
+pub waits : (kind : Kind) (shares : List Block) (pending : Pending) (body : Content) (n : ℕ) {held : Option Held}
+    → map_of.get pending (place n) ≡ held → is_waiting (subscription kind shares pending) (message body n) ≡ not (is_some held)
+waits kind shares pending body n at =
     ap₂ (λ (b : Bool) (o : Option Held). (not b && true) && not (is_some o)) (set.contains-empty position_cmp (place n)) at
 
 -- no message was redelivered
-pub uncounted : (kind : Kind) (pending : Pending) (n : ℕ) → 0 ≡ count_of (subscription kind pending) (place n)
-uncounted kind pending n = sym (ap (λ (o : Option ℕ). unwrap_or o 0) (map_of.get-empty position_cmp (place n)))
+pub uncounted : (kind : Kind) (shares : List Block) (pending : Pending) (n : ℕ) → 0 ≡ count_of (subscription kind shares pending) (place n)
+uncounted kind shares pending n = sym (ap (λ (o : Option ℕ). unwrap_or o 0) (map_of.get-empty position_cmp (place n)))
 
 -- a producer of the name `p` and a subscription of the name `s`
 module _ (name : TopicName) (body : Content) where
@@ -95,25 +96,25 @@ module _ (name : TopicName) (body : Content) where
   joined = with_member (record two_published { durable = 2 }) Exclusive Earliest (member 1)
 
   abbrev first_sent : State
-  first_sent = sent joined (codes "s") (subscription Exclusive map_of.empty) (message body 0) (member 1) 0
+  first_sent = sent joined (codes "s") (subscription Exclusive [] map_of.empty) (message body 0) (member 1) 0
 
   abbrev once_given : Member
-  once_given = given (record { message = message body 0; count = count_of (subscription Exclusive map_of.empty) (place 0) }) (member 1)
+  once_given = given (record { message = message body 0; count = count_of (subscription Exclusive [] map_of.empty) (place 0) }) (member 1)
 
   abbrev pub in_order : State
-  in_order = sent first_sent (codes "s") (subscription Exclusive (one_held 1)) (message body 1) once_given 0
+  in_order = sent first_sent (codes "s") (subscription Exclusive [] (one_held 1)) (message body 1) once_given 0
 
   abbrev pub twice_given : Member
-  twice_given = given (record { message = message body 1; count = count_of (subscription Exclusive (one_held 1)) (place 1) }) once_given
+  twice_given = given (record { message = message body 1; count = count_of (subscription Exclusive [] (one_held 1)) (place 1) }) once_given
 
-  first_may : IsEligible joined (subscription Exclusive map_of.empty) (message body 0) (member 1)
-  first_may = (rw (none-held 0, none-held 1) refl, (rw (waits Exclusive map_of.empty body 0 None (none-held 0)) refl, refl))
+  first_may : IsEligible joined (subscription Exclusive [] map_of.empty) (message body 0) (member 1)
+  first_may = (rw (none-held 0, none-held 1) refl, (rw (waits Exclusive [] map_of.empty body 0 (none-held 0)) refl, refl))
 
-  second_may : IsEligible first_sent (subscription Exclusive (one_held 1)) (message body 1) once_given
+  second_may : IsEligible first_sent (subscription Exclusive [] (one_held 1)) (message body 1) once_given
   second_may = (
     rw (first-of-one 1, second-of-one 1) refl,
     (
-      rw (waits Exclusive (one_held 1) body 0 (Some (held_by 1)) (first-of-one 1), waits Exclusive (one_held 1) body 1 None (second-of-one 1)) refl,
+      rw (waits Exclusive [] (one_held 1) body 0 (first-of-one 1), waits Exclusive [] (one_held 1) body 1 (second-of-one 1)) refl,
       refl,
     ),
   )
@@ -145,8 +146,8 @@ module _ (name : TopicName) (body : Content) where
             (refl, (refl, refl)),
             (
               first_sent,
-              (refl, (message body 0, member 1, first_may, refl, refl, uncounted Exclusive map_of.empty 0, refl)),
-              (in_order, (refl, (message body 1, once_given, second_may, refl, refl, uncounted Exclusive (one_held 1) 1, refl)), refl),
+              (refl, (message body 0, member 1, first_may, refl, refl, uncounted Exclusive [] map_of.empty 0, refl)),
+              (in_order, (refl, (message body 1, once_given, second_may, refl, refl, uncounted Exclusive [] (one_held 1) 1, refl)), refl),
             ),
           ),
         ),

@@ -1,5 +1,5 @@
 -- Laws over every run: what a service relies on.
-use Rattle.std.specs.Prelude.{◌≡◌, ℕ, ◌+◌, ◌≤◌, ◌==◌, Bool, false, ◌&&◌, ◌||◌, List, [], ◌∷◌, ◌++◌, length, Some, ◌⊎◌, if◌then◌else◌, IsTrue}
+use Rattle.std.specs.Prelude.{◌≡◌, ◌≢◌, ℕ, ◌+◌, ◌≤◌, ◌==◌, Bool, false, ◌&&◌, ◌||◌, List, [], ◌∷◌, ◌++◌, length, Some, ◌⊎◌, if◌then◌else◌, IsTrue}
 use Rattle.std.specs.List.{find, Contains}
 use Rattle.std.specs.Option.{option_map_or}
 use Rattle.std.specs.Str.{bytes_eq}
@@ -193,12 +193,14 @@ OneHashAtOneConsumer =
     → (name : List ℕ) (sub : Subscription) → find (is_named name) t.subscriptions ≡ Some sub → sub.kind ≡ KeyShared
     → NoHashAtTwo t sub × SendsFirstOfHash t name sub
 
--- the message is pending in a Key_Shared subscription
-abbrev pub IsPendingInKeyShared : Content → List Event → List Reply → State → Type 0
-IsPendingInKeyShared body events replies s =
-    (name : List ℕ) × (sub : Subscription) × (e : Entry) × (held : Held)
+-- in a Key_Shared subscription two messages of one hash are pending at one consumer, and one of another hash at another
+abbrev pub ArePendingInKeyShared : Content → List Event → List Reply → State → Type 0
+ArePendingInKeyShared body events replies s =
+    (name : List ℕ) × (sub : Subscription) × (x : Entry) × (y : Entry) × (z : Entry) × (one : ℕ) × (other : ℕ)
     × (find (is_named name) s.subscriptions ≡ Some sub) × (sub.kind ≡ KeyShared)
-    × Contains s.log e × (e.body ≡ body) × (map_of.get sub.pending e.position ≡ Some held)
+    × (s.log ≡ x ∷ y ∷ z ∷ []) × (x.body ≡ body) × (y.body ≡ body) × (hash_of x ≡ hash_of y) × (hash_of x ≢ hash_of z) × (one ≢ other)
+    × IsTrue (is_held_by one (map_of.get sub.pending x.position)) × IsTrue (is_held_by one (map_of.get sub.pending y.position))
+    × IsTrue (is_held_by other (map_of.get sub.pending z.position))
 
 -- ---- well-formed states
 

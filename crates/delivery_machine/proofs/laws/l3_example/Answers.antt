@@ -1,4 +1,4 @@
-use Rattle.std.proofs.Common.{refl}
+use Rattle.std.proofs.Common.{[], refl}
 use Rattle.position_core.specs.declared.kind.Kind.TheVariants.{Exclusive}
 use Rattle.delivery_machine.specs.Laws.{MayCome, ArePendingInOrder}
 use Rattle.delivery_machine.proofs.TwoMessages.{message, subscription, two_held, first-of-two, second-of-two, twice_given, in_order, events_in_order, replies_in_order, run_in_order}
@@ -12,7 +12,7 @@ comes name body = (
   run_in_order name body,
   (
     twice_given name body,
-    subscription Exclusive (two_held 1),
+    subscription Exclusive [] (two_held 1),
     message body 0,
     message body 1,
     refl,
