@@ -1,13 +1,10 @@
 -- A run of one message: it is published and stored, a consumer joins, and it is sent to that consumer.
-use Rattle.std.proofs.Common.{◌≡◌, ℕ, List, [], ◌∷◌, Some, None, Option, refl, ap, sym, pos, Bool, true, false, arith, ◌∙◌, ap₂, subst, ◌≤◌, Contains}
-use Rattle.std.specs.Prelude.{codes, is_some, not, cond, ◌==◌, ◌+◌, ◌&&◌, ◌||◌}
-use Rattle.std.specs.List.{find}
-use Rattle.std.specs.Option.{option_map, option_and_then, unwrap_or}
+use Rattle.std.proofs.Common.{◌≡◌, ℕ, List, [], ◌∷◌, Some, None, Option, refl, ap, sym, pos, Bool, true, arith, ◌∙◌, ap₂, subst, ◌≤◌, Contains}
+use Rattle.std.specs.Prelude.{codes, is_some, not, cond, ◌+◌, ◌&&◌}
+use Rattle.std.specs.Option.{unwrap_or}
 use Rattle.std.specs.FinMap as map_of
 use Rattle.std.specs.FinSet as set
 use Rattle.std.proofs.lemmas.List.Elements.{All-nil, All-cons, All-same}
-use Rattle.std.proofs.lemmas.Bool.Decides.{nat_tests}
-use Rattle.position_core.specs.declared.block.Block.{Block}
 use Rattle.position_core.specs.declared.position.Position.{Position}
 use Rattle.position_core.specs.declared.topic_name.TopicName.{TopicName}
 use Rattle.position_core.specs.declared.body.Content.{Content}
@@ -18,10 +15,8 @@ use Rattle.position_core.specs.declared.kind.Kind.{Kind}
 use Rattle.position_core.specs.declared.kind.Kind.TheVariants.{Exclusive, Failover, Shared, KeyShared}
 use Rattle.position_core.specs.Position.{position_cmp, positions_total}
 use Rattle.position_core.specs.Flow.{begun, flow_has_room}
-use Rattle.murmur_core.proofs.Keys.{sticky_hash-lt}
 use Rattle.delivery_machine.specs.State.{State, Subscription, Member, fresh}
-use Rattle.delivery_machine.specs.Shares.{has_hash, all_hashes}
-use Rattle.delivery_machine.specs.Words.{with_room, hash_of, count_of, is_at, is_member, is_held_by, is_held_beside, waits_with_hash, is_waiting, owner_at, has_room, IsEligible}
+use Rattle.delivery_machine.specs.Words.{with_room, count_of, is_held_by, is_waiting, has_room, IsEligible}
 use Rattle.delivery_machine.specs.Producing.{with_producer, with_message}
 use Rattle.delivery_machine.specs.Joining.{with_member, new_subscription}
 use Rattle.delivery_machine.specs.Delivering.{sent}
@@ -99,30 +94,6 @@ module _ (name : TopicName) (body : Content) where
   in_order : (flow : Flow) → flow_has_room flow 0 ≡ true → IsEligible (joined Exclusive flow) (subscription Exclusive) message (member flow)
   in_order flow free = (room Exclusive flow free, (ap (λ b. cond b (Some message) None) waits, refl))
 
-  same_hash : (hash_of message == hash_of message) ≡ true
-  same_hash = grind (arith, nat_tests)
-
-  waits_so : waits_with_hash (subscription KeyShared) (hash_of message) message ≡ true
-  waits_so = ap₂ (λ (a b : Bool). a && b) waits same_hash
-
-  in_share : has_hash (hash_of message) (all_hashes 1) ≡ true
-  in_share = let low = sticky_hash-lt body.key in grind (arith, nat_tests)
-
-  owned : (flow : Flow) → owner_at (joined KeyShared flow) (subscription KeyShared) (hash_of message) ≡ Some (member flow)
-  owned flow =
-      ap (λ b. option_and_then (λ number. find (λ m. is_at (codes "s") m && is_member number m) (member flow ∷ [])) (option_map (λ (b : Block). b.consumer) (cond b (Some (all_hashes 1)) None)))
-      in_share
-
-  by_hash : (flow : Flow) → flow_has_room flow 0 ≡ true → IsEligible (joined KeyShared flow) (subscription KeyShared) message (member flow)
-  by_hash flow free = (
-    room KeyShared flow free,
-    (
-      ap (λ b. cond b (Some message) None) waits_so,
-      owned flow,
-      ap₂ (λ (b : Bool) (o : Option Held). (b && is_held_beside 1 o) || false) same_hash nothing,
-    ),
-  )
-
   -- it is the only member, and has room
   alone : (flow : Flow) → flow_has_room flow 0 ≡ true → with_room (joined Shared flow) (subscription Shared) ≡ member flow ∷ []
   alone flow free = ap (λ b. cond b (member flow ∷ []) []) (room Shared flow free)
@@ -142,9 +113,6 @@ module _ (name : TopicName) (body : Content) where
 
   pub sends_in_order : (flow : Flow) → flow_has_room flow 0 ≡ true → Answers (joined Exclusive flow) dispatch to_one (done Exclusive flow)
   sends_in_order flow free = (refl, (message, member flow, in_order flow free, refl, refl, uncounted, refl))
-
-  pub sends_by_hash : (flow : Flow) → flow_has_room flow 0 ≡ true → Answers (joined KeyShared flow) dispatch to_one (done KeyShared flow)
-  sends_by_hash flow free = (refl, (message, member flow, by_hash flow free, refl, refl, uncounted, refl))
 
   pub sends_at_best_level : (flow : Flow) → flow_has_room flow 0 ≡ true → Answers (joined Shared flow) dispatch to_one (done Shared flow)
   sends_at_best_level flow free = (refl, (message, member flow, at_best_level flow free, refl, refl, uncounted, refl))

@@ -1,5 +1,7 @@
 pub mod RunSteps
 pub mod Example
+pub mod TwoMessages
+pub mod TwoHashes
 pub mod Deciding
 pub mod Finding
 pub mod Keyed

@@ -1,5 +1,5 @@
 -- Laws over every run: what a service relies on.
-use Rattle.std.specs.Prelude.{◌≡◌, ℕ, ◌+◌, ◌≤◌, ◌==◌, Bool, false, ◌&&◌, ◌||◌, List, [], ◌∷◌, ◌++◌, length, Some, ◌⊎◌, if◌then◌else◌, IsTrue}
+use Rattle.std.specs.Prelude.{◌≡◌, ◌≢◌, ℕ, ◌+◌, ◌≤◌, ◌==◌, Bool, false, ◌&&◌, ◌||◌, List, [], ◌∷◌, ◌++◌, length, Some, ◌⊎◌, if◌then◌else◌, IsTrue}
 use Rattle.std.specs.List.{find, Contains}
 use Rattle.std.specs.Option.{option_map_or}
 use Rattle.std.specs.Str.{bytes_eq}
@@ -11,7 +11,7 @@ use Rattle.position_core.specs.declared.message.Entry.{Entry}
 use Rattle.position_core.specs.declared.body.Content.{Content}
 use Rattle.position_core.specs.declared.held.Held.{Held}
 use Rattle.position_core.specs.declared.flow.Flow.TheVariants.{Window, Credit}
-use Rattle.position_core.specs.declared.kind.Kind.TheVariants.{Shared, KeyShared}
+use Rattle.position_core.specs.declared.kind.Kind.TheVariants.{Exclusive, Shared, KeyShared}
 use Rattle.position_core.specs.Position.{same_position}
 use Rattle.position_core.specs.Kind.{is_in_order}
 use Rattle.delivery_machine.specs.State.{State, Subscription, Member, fresh}
@@ -159,12 +159,14 @@ OrderAtActive =
     → (name : List ℕ) (sub : Subscription) → find (is_named name) t.subscriptions ≡ Some sub → IsTrue (is_in_order sub.kind)
     → IsInOrderAtActive t sub × SendsNextLive t name sub
 
--- the message is pending in a subscription in which the order is kept
-abbrev pub IsPendingInOrder : Content → List Event → List Reply → State → Type 0
-IsPendingInOrder body events replies s =
-    (name : List ℕ) × (sub : Subscription) × (e : Entry)
-    × (find (is_named name) s.subscriptions ≡ Some sub) × IsTrue (is_in_order sub.kind)
-    × (e.body ≡ body) × (pending_positions s sub ≡ e.position ∷ []) × Contains s.log e
+-- two messages fill the window of the one member of an Exclusive subscription, in the order of the log
+abbrev pub ArePendingInOrder : Content → List Event → List Reply → State → Type 0
+ArePendingInOrder body events replies s =
+    (m : Member) × (sub : Subscription) × (x : Entry) × (y : Entry)
+    × (s.members ≡ m ∷ []) × (m.flow ≡ Window 2) × (find (is_named m.subscription) s.subscriptions ≡ Some sub) × (sub.kind ≡ Exclusive)
+    × (s.log ≡ x ∷ y ∷ []) × (visible s ≡ s.log) × (x.body ≡ body) × (y.body ≡ body)
+    × (pending_positions s sub ≡ x.position ∷ y.position ∷ [])
+    × IsTrue (is_held_by m.number (map_of.get sub.pending x.position)) × IsTrue (is_held_by m.number (map_of.get sub.pending y.position))
 
 -- ---- one hash at one consumer
 
@@ -191,12 +193,14 @@ OneHashAtOneConsumer =
     → (name : List ℕ) (sub : Subscription) → find (is_named name) t.subscriptions ≡ Some sub → sub.kind ≡ KeyShared
     → NoHashAtTwo t sub × SendsFirstOfHash t name sub
 
--- the message is pending in a Key_Shared subscription
-abbrev pub IsPendingInKeyShared : Content → List Event → List Reply → State → Type 0
-IsPendingInKeyShared body events replies s =
-    (name : List ℕ) × (sub : Subscription) × (e : Entry) × (held : Held)
+-- in a Key_Shared subscription two messages of one hash are pending at one consumer, and one of another hash at another
+abbrev pub ArePendingInKeyShared : Content → List Event → List Reply → State → Type 0
+ArePendingInKeyShared body events replies s =
+    (name : List ℕ) × (sub : Subscription) × (x : Entry) × (y : Entry) × (z : Entry) × (one : ℕ) × (other : ℕ)
     × (find (is_named name) s.subscriptions ≡ Some sub) × (sub.kind ≡ KeyShared)
-    × Contains s.log e × (e.body ≡ body) × (map_of.get sub.pending e.position ≡ Some held)
+    × (s.log ≡ x ∷ y ∷ z ∷ []) × (x.body ≡ body) × (y.body ≡ body) × (hash_of x ≡ hash_of y) × (hash_of x ≢ hash_of z) × (one ≢ other)
+    × IsTrue (is_held_by one (map_of.get sub.pending x.position)) × IsTrue (is_held_by one (map_of.get sub.pending y.position))
+    × IsTrue (is_held_by other (map_of.get sub.pending z.position))
 
 -- ---- well-formed states
 

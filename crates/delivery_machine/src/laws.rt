@@ -1,5 +1,5 @@
 // Laws over every run: each holds of whatever a topic was asked, in any order.
-ghost use Rattle.delivery_machine.specs.Laws.{MayCome, AcknowledgedStays, IsSentAndAcknowledged, PermitsAndWindowsBound, PermitsAndWindowsMayBeUsed, OrderAtActive, IsPendingInOrder, OneHashAtOneConsumer, IsPendingInKeyShared, ReachedAreWellFormed, IsPendingInShared, SnapshotsAreSound, StoredIsStoredTo};
+ghost use Rattle.delivery_machine.specs.Laws.{MayCome, AcknowledgedStays, IsSentAndAcknowledged, PermitsAndWindowsBound, PermitsAndWindowsMayBeUsed, OrderAtActive, ArePendingInOrder, OneHashAtOneConsumer, ArePendingInKeyShared, ReachedAreWellFormed, IsPendingInShared, SnapshotsAreSound, StoredIsStoredTo};
 ghost use Rattle.delivery_machine.specs.ShareSets.{SharesAreSets};
 
 /// What a subscription has acknowledged it is not sent again, until it is sought or dropped.
@@ -28,9 +28,10 @@ pub fn l3()
     ensures { OrderAtActive }
 {}
 
-/// The law above speaks of something: any message may come to be pending in Exclusive.
+/// The law above speaks of something: any two messages of one body may come
+/// to be pending in Exclusive, in their order.
 pub fn l3_example()
-    ensures { MayCome IsPendingInOrder }
+    ensures { MayCome ArePendingInOrder }
 {}
 
 /// In Key_Shared one key's messages are pending at one consumer, and are sent in their order
@@ -39,9 +40,10 @@ pub fn l4()
     ensures { OneHashAtOneConsumer }
 {}
 
-/// The law above speaks of something: any message may come to be pending in Key_Shared.
+/// The law above speaks of something: any two messages of one body may come to be pending at one
+/// consumer in Key_Shared, while a message of another hash is pending at another.
 pub fn l4_example()
-    ensures { MayCome IsPendingInKeyShared }
+    ensures { MayCome ArePendingInKeyShared }
 {}
 
 /// Every state that a topic comes to is well formed.

@@ -1,21 +1,49 @@
-use Rattle.std.proofs.Common.{[], ◌∷◌, refl, arith}
-use Rattle.std.specs.Prelude.{codes}
-use Rattle.position_core.specs.declared.flow.Flow.TheVariants.{Window}
-use Rattle.position_core.specs.declared.kind.Kind.TheVariants.{KeyShared}
-use Rattle.delivery_machine.specs.Delivering.{holding}
-use Rattle.delivery_machine.specs.Laws.{MayCome, IsPendingInKeyShared}
-use Rattle.delivery_machine.proofs.Example.{first, holder, pending, message, subscription, done, dispatch, to_one, sends_by_hash, joins, answered, run}
+use Rattle.std.proofs.Common.{◌≡◌, List, Bool, refl}
+use Rattle.std.specs.Prelude.{codes, not, nat_lt}
+use Rattle.position_core.specs.declared.topic_name.TopicName.{TopicName}
+use Rattle.position_core.specs.declared.body.Content.{Content}
+use Rattle.murmur_core.specs.Sticky.{sticky_hash}
+use Rattle.delivery_machine.specs.State.{State, fresh}
+use Rattle.delivery_machine.specs.Run.{Run}
+use Rattle.delivery_machine.specs.declared.event.Event.{Event}
+use Rattle.delivery_machine.specs.declared.reply.Reply.{Reply}
+use Rattle.delivery_machine.specs.Laws.{MayCome, ArePendingInKeyShared}
+use Rattle.delivery_machine.proofs.Deciding.{itself}
+use Rattle.delivery_machine.proofs.TwoMessages.{message}
+use Rattle.delivery_machine.proofs.TwoHashes.{owner, differ, apart, keyed, three_held, first-of-three, second-of-three, third-of-three, other, done, events_by_hash, replies_by_hash, run_by_hash}
 use Rattle.delivery_machine.proofs.laws.l4_example.Goals as goal
 
-comes : MayCome IsPendingInKeyShared
-comes name body =
-    let t = done name body KeyShared (Window 1) in (
-      joins name body KeyShared (Window 1) (dispatch ∷ []),
-      answered (to_one ∷ []),
-      t,
-      run name body KeyShared (Window 1) (dispatch ∷ []) (to_one ∷ []) t (t, sends_by_hash name body (Window 1) refl, refl),
-      (codes "s", holding first holder (subscription name body KeyShared), message name body, holder, refl, refl, (0, omega arith, refl), refl, pending),
-    )
+by_half : (name : TopicName) (body : Content) (low : Bool) → nat_lt (sticky_hash body.key) 32768 ≡ low
+    → (events : List Event) × (replies : List Reply) × (t : State) × Run (fresh name 1) events replies t × ArePendingInKeyShared body events replies t
+by_half name body low half = (
+  events_by_hash name body low,
+  replies_by_hash name body low,
+  done name body low,
+  run_by_hash name body low half,
+  (
+    codes "s",
+    keyed (three_held low),
+    message body 0,
+    message body 1,
+    message (other name body low) 2,
+    owner low,
+    owner (not low),
+    refl,
+    refl,
+    refl,
+    refl,
+    refl,
+    refl,
+    apart name body low half,
+    differ low,
+    rw (first-of-three low) (itself (owner low)),
+    rw (second-of-three low) (itself (owner low)),
+    rw (third-of-three low) (itself (owner (not low))),
+  ),
+)
+
+comes : MayCome ArePendingInKeyShared
+comes name body = by_half name body (nat_lt (sticky_hash body.key) 32768) refl
 
 pub returns : goal.returns
 returns c = comes
