@@ -1,10 +1,9 @@
 // The replay of the topic that the program replays, kept as a plain topic.
-ghost use Rattle.std.specs.Prelude.{◌≡◌, ℕ, List, IsTrue, IfOk, OnOk};
-ghost use Rattle.std.specs.Io.KnownBytes.{Appends, Consumes, IsAtEnd};
+ghost use Rattle.std.specs.Prelude.{◌≡◌, IsTrue, IfOk};
 ghost use Rattle.position_core.specs.Name.{is_name};
-ghost use Rattle.delivery_machine.specs.State.{fresh};
+ghost use Rattle.delivery_machine.specs.State.{State, fresh};
 ghost use Rattle.plain_topic.specs.StateOf.{state_of};
-ghost use Rattle.replay_core.specs.Replay.{IsReplay, this_topic};
+ghost use Rattle.replay_core.specs.Replay.{IsReplay, sides, this_topic};
 
 use crate::engine::replay_over;
 use crate::stop::Stop;
@@ -50,8 +49,8 @@ pub fn replay<R: Read, W: Write>(
     writer: &mut W,
     ledger_size: LedgerSize,
 ) -> Result<(), Stop>
-    ensures replays { (read written : List ℕ) × Consumes (R.remaining reader.old) (R.remaining reader.new) read × Appends (W.contents writer.old) (W.contents writer.new) written × IsReplay (fresh this_topic ledger_size) this_topic read result written }
-    ensures at_end { OnOk result (IsAtEnd (R.remaining reader.new)) }
+    ensures { (last : State) × IsReplay this_topic (sides (R.remaining reader.old) (W.contents writer.old) (fresh this_topic ledger_size)) result
+        (sides (R.remaining reader.new) (W.contents writer.new) last) }
 {
     let (name, mut topic) = fresh_topic(alloc, ledger_size)?;
     replay_over(alloc, name, &mut topic, reader, writer)
