@@ -256,9 +256,9 @@ Replayed-all s input before left m after outcome consumed h other more =
       cause = outcome;
       same = inl refl;
       ends = h.ends;
-      text = h.text ++ gathered;
+      written = h.text ++ gathered;
       appended = Appends-trans s.written m.written after h.text gathered h.appended more;
-      written = inl (all_written h.text gathered (texts h.answers ++ last_words outcome) outcome other h.written);
+      text = inl (all_written h.text gathered (texts h.answers ++ last_words outcome) outcome other h.written);
       leaves = h.leaves;
     }
 
@@ -280,9 +280,9 @@ Replayed-front s input before left m after outcome consumed h other front =
       cause = outcome;
       same = inr refl;
       ends = h.ends;
-      text = h.text ++ front.0;
+      written = h.text ++ front.0;
       appended = Appends-trans s.written m.written after h.text front.0 h.appended front.3;
-      written = inr (refl, front.1, parts ∙ all_written h.text gathered (texts h.answers ++ last_words outcome) outcome other h.written);
+      text = inr (refl, front.1, parts ∙ all_written h.text gathered (texts h.answers ++ last_words outcome) outcome other h.written);
       leaves = h.leaves;
     }
 
@@ -307,9 +307,9 @@ Replayed-before s input before left m outcome consumed is ended =
       cause = Err Write;
       same = inl refl;
       ends = h.ends;
-      text = h.text;
+      written = h.text;
       appended = h.appended;
-      written = front_only h.text m.replay.output.text.items (texts h.answers ++ []) h.written;
+      text = front_only h.text m.replay.output.text.items (texts h.answers ++ []) h.written;
       leaves = h.leaves;
     })
 
@@ -327,9 +327,9 @@ no_replay this old =
       cause = Err Memory;
       same = inl refl;
       ends = tt;
-      text = [];
+      written = [];
       appended = Appends-nil old.written;
-      written = inl refl;
+      text = inl refl;
       leaves = inl refl;
     }
 

@@ -23,10 +23,12 @@ pub data Answer : Type 0 where
   replied : Event → Reply → Answer
   bad_id : Answer
 
+-- the event of the answer, which a bad id has not
 abbrev pub event_in : Answer → Option Event
 event_in (replied event reply) = Some event
 event_in bad_id = None
 
+-- the reply of the answer
 abbrev pub reply_in : Answer → Option Reply
 reply_in (replied event reply) = Some reply
 reply_in bad_id = None
@@ -36,6 +38,7 @@ abbrev pub answer_text : Answer → List ℕ
 answer_text (replied event reply) = reply_text event reply ++ 10 ∷ []
 answer_text bad_id = refused_text BadId ++ 10 ∷ []
 
+-- the line stands for what was answered
 abbrev pub IsAnswered : TopicName → List ℕ → Answer → Type 0
 IsAnswered this line (replied event reply) = IsLine this line (lines.Event event)
 IsAnswered this line bad_id = IsLine this line lines.BadId
@@ -55,6 +58,7 @@ AreAnswered this (line ∷ lines) (answer ∷ answers) = IsAnswered this line an
 abbrev pub IsRun : State → List Answer → State → Type 0
 IsRun s answers t = Run s (filter_map event_in answers) (filter_map reply_in answers) t
 
+-- the lines of the answers, one after another
 abbrev pub texts : List Answer → List ℕ
 texts answers = flat_map answer_text answers
 
@@ -87,7 +91,8 @@ IsBadNext this read left answers = IsNext read left answers (IsBadLine this) ⊎
 
 -- ---- how a replay ends
 
--- what holds where a replay ends: at the end of its input, at a bad line, at a fault of the reader or at another one
+-- why a replay ended after its answers: all lines were answered and nothing is left to read, or the next line is bad;
+-- where the reader failed, each line that had its end was answered
 abbrev pub Ends : TopicName → List ℕ → Option (List ℕ) → List Answer → Result (Unit {0}) Stop → Type 0
 Ends this read left answers (Ok done) = (length answers ≡ length (lines_of read)) × IsAtEnd left
 Ends this read left answers (Err (BadLine n)) = (n ≡ length answers + 1) × IsBadNext this read left answers
@@ -95,6 +100,7 @@ Ends this read left answers (Err Read) = length answers ≡ ends_in read
 Ends this read left answers (Err Write) = Unit {0}
 Ends this read left answers (Err Memory) = Unit {0}
 
+-- the last line of a replay that ended at a bad one
 abbrev pub bad_line_text : ℕ → List ℕ
 bad_line_text n = codes "bad line " ++ decimal n ++ 10 ∷ []
 
@@ -126,7 +132,7 @@ pub record Sides : Type 0 where
 abbrev pub sides : Option (List ℕ) → Option (List ℕ) → State → Sides
 sides left written state = record { left = left; written = written; state = state }
 
--- a replay of the topic of the name reads, answers the first lines that it reads by a run, and writes the answers
+-- a replay of the topic of the name reads some of its input, answers the first lines by a run, and writes the answers
 pub record IsReplay (this : TopicName) (old : Sides) (outcome : Result (Unit {0}) Stop) (new : Sides) : Type 0 where
   pub read : List ℕ
   pub consumed : Consumes old.left new.left read
@@ -140,9 +146,9 @@ pub record IsReplay (this : TopicName) (old : Sides) (outcome : Result (Unit {0}
   pub cause : Result (Unit {0}) Stop
   pub same : (outcome ≡ cause) ⊎ (outcome ≡ Err Write)
   pub ends : Ends this read new.left answers cause
-  pub text : List ℕ
-  pub appended : Appends old.written new.written text
-  pub written : IsWritten (texts answers ++ last_words cause) outcome text
+  pub written : List ℕ
+  pub appended : Appends old.written new.written written
+  pub text : IsWritten (texts answers ++ last_words cause) outcome written
   -- no event was applied but those of the answers, and one whose reply was lost
   pub leaves : (new.state ≡ last) ⊎ ((cause ≡ Err Memory) × IsLost this read new.left answers last new.state)
 
