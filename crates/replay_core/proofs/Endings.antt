@@ -1,21 +1,22 @@
 -- How a replay ends.
-use Rattle.std.proofs.Common.{◌≡◌, ℕ, ◌+◌, List, [], ◌∷◌, ◌++◌, true, false, length, drop, Option, Some, None, refl, sym, ap, ◌∙◌, subst, append_assoc, append-nil, arith, ◌⊎◌, inl, inr}
-use Rattle.std.specs.Prelude.{MatchResult, OnOk, IsOk}
+use Rattle.std.proofs.Common.{◌≡◌, ℕ, ◌+◌, ◌≤◌, List, [], ◌∷◌, ◌++◌, true, false, length, drop, Option, Some, None, refl, sym, ap, ◌∙◌, subst, append_assoc, append-nil, arith, ◌⊎◌, inl, inr}
 use Rattle.std.specs.declared.result.Result.{Result}
 use Rattle.std.specs.declared.result.Result.TheVariants.{Ok, Err}
-use Rattle.std.specs.Io.KnownBytes.{Appends}
-use Rattle.std.proofs.KnownBytes.{Appends-trans, Appends-nil}
+use Rattle.std.specs.Io.KnownBytes.{Appends, Consumes, IsAtEnd}
+use Rattle.std.proofs.KnownBytes.{Appends-trans, Appends-nil, Consumes-nil}
 use Rattle.position_core.specs.declared.topic_name.TopicName.{TopicName}
 use Rattle.delivery_machine.specs.State.{State}
+use Rattle.replay_lines.specs.Grammar.{IsBadLine}
 use Rattle.replay_core.specs.Lines.{lines_of, ends_in}
-use Rattle.replay_core.specs.Replay.{Answer, Reaches, AreAnswered, IsBadFirst, IsBadAfter, IsReplay, Ends, texts, bad_line_text}
+use Rattle.replay_core.specs.Replay.{Answer, AreAnswered, IsAnswered, BeginsWith, IsTooLong, HaveEnded, IsNext, IsBadNext, IsLost, IsWritten, IsReplay, Ends, Sides, sides, lines_after, texts, bad_line_text, last_words}
 use Rattle.replay_core.specs.Output.{WritesFront}
 use Rattle.replay_core.specs.Outcomes.{bad_line_in, failed_writing}
-use Rattle.replay_core.specs.Progress.{Progress, Start, Stopped, Because, Ended, EndsAt, Closing, ClosesWith, AreApart, IsBadWhatever, has_end, joined}
+use Rattle.replay_core.specs.Progress.{Progress, Start, Moment, Stopped, Because, LeavesBefore, Ended, AreApart, BeginsWithLine, has_end, joined, moment, with_gathered}
 use Rattle.replay_core.specs.declared.engine.Replay.{Replay}
 use Rattle.replay_core.specs.declared.stop.Stop.{Stop}
 use Rattle.replay_core.specs.declared.stop.Stop.TheVariants.{BadLine, Read, Write, Memory}
-use Rattle.replay_core.proofs.LinesLemmas.{ends_in-joined, lines_of-joined, lines_of-line, lines_of-last, lines_left, AreAnswered-append}
+use Rattle.replay_core.proofs.Taking.{TakesFrom}
+use Rattle.replay_core.proofs.LinesLemmas.{ends_in-joined, ends_in-none, ends_in-begins, begins_line, begins_long, lines_of-joined, lines_of-line, lines_of-last, lines_left, AreAnswered-append}
 
 lines_here : (whole : List (List ℕ)) (tail input : List ℕ) → input ≡ joined whole ++ tail → AreApart whole → lines_of input ≡ whole ++ lines_of tail
 lines_here whole tail input parted apart = ap lines_of parted ∙ lines_of-joined whole tail apart
@@ -24,70 +25,94 @@ lines_here whole tail input parted apart = ap lines_of parted ∙ lines_of-joine
 answered_here : (this : TopicName) (whole : List (List ℕ)) (tail input : List ℕ) (answers : List Answer) → lines_of input ≡ whole ++ lines_of tail → AreAnswered this whole answers → AreAnswered this (lines_of input) answers
 answered_here this whole tail input answers lines h = subst (λ (ls : List (List ℕ)). AreAnswered this ls answers) (sym lines) (AreAnswered-append this whole (lines_of tail) answers h)
 
-bad_after : (this : TopicName) (whole : List (List ℕ)) (tail input : List ℕ) (answers : List Answer) (n : ℕ) → lines_of input ≡ whole ++ lines_of tail → length whole ≡ length answers → IsBadWhatever this tail → n ≡ length answers + 1 → IsBadAfter this (lines_of input) answers n
-bad_after this whole tail input answers n lines all bad number =
-    let left : drop (length answers) (lines_of input) ≡ lines_of tail = ap (drop (length answers)) lines ∙ lines_left whole (lines_of tail) (length answers) all in
-    let first : IsBadFirst this (lines_of tail) = subst (λ (x : List ℕ). IsBadFirst this (lines_of x)) (append-nil tail) (bad []) in
-    (subst (IsBadFirst this) (sym left) first, number)
+-- the lines after the answered ones are those of the tail
+after_here : (whole : List (List ℕ)) (tail input : List ℕ) (answers : List Answer) → lines_of input ≡ whole ++ lines_of tail → length whole ≡ length answers → lines_after input answers ≡ lines_of tail
+after_here whole tail input answers lines all = ap (drop (length answers)) lines ∙ lines_left whole (lines_of tail) (length answers) all
 
-ends_because : (this : TopicName) (whole : List (List ℕ)) (tail input : List ℕ) (answers : List Answer) (written gathered : List ℕ) (stop : Stop) → lines_of input ≡ whole ++ lines_of tail → length whole ≡ length answers → Because this tail answers written gathered stop → EndsAt this (lines_of input) answers written gathered (Err stop)
-ends_because this whole tail input answers written gathered (BadLine n) lines all why = (bad_after this whole tail input answers n lines all why.0 why.1, why.2)
-ends_because this whole tail input answers written gathered Read lines all why = absurd why
-ends_because this whole tail input answers written gathered Memory lines all why = why
-ends_because this whole tail input answers written gathered Write lines all why = why
+-- as many lines have ended as the other input has ends
+abbrev pub EndsIn : List ℕ → Option (List ℕ) → List ℕ → Type 0
+EndsIn input left other = (count : ℕ) → count ≤ ends_in other → HaveEnded input left count
 
-reaches_because : (this : TopicName) (tail input : List ℕ) (answers : List Answer) (written gathered : List ℕ) (stop : Stop) → Because this tail answers written gathered stop → Reaches input answers (Err stop)
-reaches_because this tail input answers written gathered (BadLine n) why = tt
-reaches_because this tail input answers written gathered Read why = absurd why
-reaches_because this tail input answers written gathered Memory why = tt
-reaches_because this tail input answers written gathered Write why = tt
+next_here : (P : List ℕ → Type 0) (input : List ℕ) (left : Option (List ℕ)) (tail other : List ℕ) (answers : List Answer) → lines_after input answers ≡ lines_of tail → EndsIn input left other → length answers + ends_in tail ≤ ends_in other → BeginsWithLine P tail → IsNext input left answers P
+next_here P input left tail other answers lines ended most h =
+    (ended (length answers + 1) (omega (arith, most, ends_in-begins P tail h)), subst (BeginsWith P) (sym lines) (begins_line P tail h))
 
--- a replay that stopped has ended
-pub Ended-stopped : (s : Start) (input : List ℕ) (before : Option (List ℕ)) (r : Replay) (now : Option (List ℕ)) (stop : Stop) → Stopped s input before r now stop → Ended s input before r now (Err stop)
-Ended-stopped s input before r now stop h =
-    let lines = lines_here h.whole h.tail input h.parted h.apart in
+ends_because : (this : TopicName) (input : List ℕ) (left : Option (List ℕ)) (tail other : List ℕ) (answers : List Answer) (stop : Stop) → lines_after input answers ≡ lines_of tail → EndsIn input left other → length answers + ends_in tail ≤ ends_in other → Because this (length answers) tail stop → Ends this input left answers (Err stop)
+ends_because this input left tail other answers (BadLine n) lines ended most why =
+    (why.0, elim why.1 as (λ w. IsBadNext this input left answers) [ inl h ↦ inl (next_here (IsBadLine this) input left tail other answers lines ended most h) | inr h ↦ inr (subst (BeginsWith IsTooLong) (sym lines) (begins_long tail h)) ])
+ends_because this input left tail other answers Read lines ended most why = absurd why
+ends_because this input left tail other answers Write lines ended most why = tt
+ends_because this input left tail other answers Memory lines ended most why = tt
+
+-- the state that was left
+abbrev pub LeavesAfter : TopicName → List ℕ → Option (List ℕ) → List Answer → State → Result (Unit {0}) Stop → State → Type 0
+LeavesAfter this input left answers last outcome state = (state ≡ last) ⊎ ((outcome ≡ Err Memory) × IsLost this input left answers last state)
+
+leaves_here : (this : TopicName) (input : List ℕ) (left : Option (List ℕ)) (tail other : List ℕ) (answers : List Answer) (last : State) (stop : Stop) (state : State) → lines_after input answers ≡ lines_of tail → EndsIn input left other → length answers + ends_in tail ≤ ends_in other → LeavesBefore this tail last stop state → LeavesAfter this input left answers last (Err stop) state
+leaves_here this input left tail other answers last stop state lines ended most (inl same) = inl same
+leaves_here this input left tail other answers last stop state lines ended most (inr lost) =
+    inr (ap (λ (x : Stop). Err x) lost.0, (lost.1, next_here (λ line. IsAnswered this line lost.1) input left tail other answers lines ended most lost.2, lost.3))
+
+with_words : (text : List ℕ) (answers : List Answer) (outcome : Result (Unit {0}) Stop) → IsWritten (texts answers) outcome text → IsWritten (texts answers ++ []) outcome text
+with_words text answers outcome h = subst (λ (x : List ℕ). IsWritten x outcome text) (sym (append-nil (texts answers))) h
+
+-- a replay that stopped has ended, also where the other input has the same lines
+pub Ended-stopped : (s : Start) (input other : List ℕ) (left : Option (List ℕ)) (m : Moment) (stop : Stop) → Stopped s other m stop → lines_of input ≡ lines_of other → EndsIn input left other → Ended s input left m (Err stop) []
+Ended-stopped s input other left m stop h same ended =
+    let lines = same ∙ lines_here h.whole h.tail other h.parted h.apart in
+    let after = after_here h.whole h.tail input h.answers lines h.all in
+    let ends : ends_in other ≡ length h.whole + ends_in h.tail = ap ends_in h.parted ∙ ends_in-joined h.whole h.tail h.apart in
+    let most : length h.answers + ends_in h.tail ≤ ends_in other = omega (arith, ends, h.all) in
     record {
       name = h.name;
       answers = h.answers;
       last = h.last;
-      written = h.written;
+      text = h.text;
       answered = answered_here s.name h.whole h.tail input h.answers lines h.answered;
+      ended = ended (length h.answers) (omega (arith, most));
       run = h.run;
+      ends = ends_because s.name input left h.tail other h.answers stop after ended most h.because;
       appended = h.appended;
-      ends = ends_because s.name h.whole h.tail input h.answers h.written r.output.text.items stop lines h.all h.because;
-      reaches = reaches_because s.name h.tail input h.answers h.written r.output.text.items stop h.because;
+      written = with_words (with_gathered h.text m) h.answers (Err stop) h.written;
+      leaves = leaves_here s.name input left h.tail other h.answers h.last stop m.state after ended most h.leaves;
     }
 
 -- at the end of the input, where nothing is held
-pub Ended-whole : (s : Start) (input : List ℕ) (before : Option (List ℕ)) (r : Replay) (now : Option (List ℕ)) (t : State) → Progress s input before r now t → r.held.items ≡ [] → Ended s input before r now (Ok tt)
-Ended-whole s input before r now t p none =
-    let lines : lines_of input ≡ p.whole ++ [] = lines_here p.whole r.held.items input p.parted p.apart ∙ ap (λ (x : List ℕ). p.whole ++ lines_of x) none in
+pub Ended-whole : (s : Start) (input other : List ℕ) (left : Option (List ℕ)) (m : Moment) → IsAtEnd left → Progress s other m → lines_of input ≡ lines_of other → m.replay.held.items ≡ [] → Ended s input left m (Ok tt) []
+Ended-whole s input other left m at_end p same none =
+    let lines : lines_of input ≡ p.whole ++ [] = same ∙ lines_here p.whole m.replay.held.items other p.parted p.apart ∙ ap (λ (x : List ℕ). p.whole ++ lines_of x) none in
     record {
       name = p.name;
       answers = p.answers;
-      last = t;
-      written = p.written;
+      last = m.state;
+      text = p.text;
       answered = answered_here s.name p.whole [] input p.answers lines p.answered;
+      ended = inr at_end;
       run = p.run;
+      ends = (omega (arith, p.all, ap length (lines ∙ append-nil p.whole)), at_end);
       appended = p.appended;
-      ends = (omega (arith, p.all, ap length (lines ∙ append-nil p.whole)), p.text);
-      reaches = tt;
+      written = with_words (with_gathered p.text m) p.answers (Ok tt) (inl p.written);
+      leaves = inl refl;
     }
 
--- at a fault, wherever it is
-pub Ended-fault : (s : Start) (input : List ℕ) (before : Option (List ℕ)) (r : Replay) (now : Option (List ℕ)) (t : State) → Progress s input before r now t → Ended s input before r now (Err Read)
-Ended-fault s input before r now t p =
-    let lines = lines_here p.whole r.held.items input p.parted p.apart in
+-- at a fault of the reader, wherever it is
+pub Ended-fault : (s : Start) (input : List ℕ) (left : Option (List ℕ)) (m : Moment) → Progress s input m → Ended s input left m (Err Read) []
+Ended-fault s input left m p =
+    let lines = lines_here p.whole m.replay.held.items input p.parted p.apart in
+    let ends : ends_in input ≡ length p.whole + ends_in m.replay.held.items = ap ends_in p.parted ∙ ends_in-joined p.whole m.replay.held.items p.apart in
+    let count : length p.answers ≡ ends_in input = omega (arith, p.all, ends, ends_in-none m.replay.held.items p.held) in
     record {
       name = p.name;
       answers = p.answers;
-      last = t;
-      written = p.written;
-      answered = answered_here s.name p.whole r.held.items input p.answers lines p.answered;
+      last = m.state;
+      text = p.text;
+      answered = answered_here s.name p.whole m.replay.held.items input p.answers lines p.answered;
+      ended = inl (omega (arith, count));
       run = p.run;
+      ends = count;
       appended = p.appended;
-      ends = p.text;
-      reaches = sym p.all ∙ sym (ap ends_in p.parted ∙ ends_in-joined p.whole r.held.items p.apart p.held);
+      written = with_words (with_gathered p.text m) p.answers (Err Read) (inl p.written);
+      leaves = inl refl;
     }
 
 -- the lines of an input are the same with the end of the last
@@ -97,163 +122,25 @@ same_lines whole b held apart e =
     ∙ ap (λ (ls : List (List ℕ)). whole ++ ls) (lines_of-line (b ∷ held) [] e ∙ sym (lines_of-last b held e))
     ∙ sym (lines_of-joined whole (b ∷ held) apart)
 
-relined : (s : Start) (input other : List ℕ) (before : Option (List ℕ)) (r : Replay) (now : Option (List ℕ)) (outcome : Result (Unit {0}) Stop) → lines_of other ≡ lines_of input → (h : Ended s other before r now outcome) → Reaches input h.answers outcome → Ended s input before r now outcome
-relined s input other before r now outcome same h reaches =
-    record {
-      name = h.name;
-      answers = h.answers;
-      last = h.last;
-      written = h.written;
-      answered = subst (λ (ls : List (List ℕ)). AreAnswered s.name ls h.answers) same h.answered;
-      run = h.run;
-      appended = h.appended;
-      ends = subst (λ (ls : List (List ℕ)). EndsAt s.name ls h.answers h.written r.output.text.items outcome) same h.ends;
-      reaches = reaches;
-    }
-
-line_end_alike : (s : Start) (input held : List ℕ) (before : Option (List ℕ)) (r : Replay) (now : Option (List ℕ)) (t : State) → (p : Progress s input before r now t) → held ≡ r.held.items → (length held ≡ 0 → ⊥) → lines_of (input ++ 10 ∷ []) ≡ lines_of input
-line_end_alike s input [] before r now t p is some = absurd (some refl)
-line_end_alike s input (b ∷ held) before r now t p is some =
+line_end_alike : (s : Start) (input held : List ℕ) (m : Moment) → (p : Progress s input m) → held ≡ m.replay.held.items → (length held ≡ 0 → ⊥) → lines_of input ≡ lines_of (input ++ 10 ∷ [])
+line_end_alike s input [] m p is some = absurd (some refl)
+line_end_alike s input (b ∷ held) m p is some =
     let parted : input ≡ joined p.whole ++ b ∷ held = p.parted ∙ ap (λ (x : List ℕ). joined p.whole ++ x) (sym is) in
+    sym (
     ap (λ (x : List ℕ). lines_of (x ++ 10 ∷ [])) parted
     ∙ ap lines_of (append_assoc (joined p.whole) (b ∷ held) (10 ∷ []))
     ∙ same_lines p.whole b held p.apart (ap has_end is ∙ p.held)
     ∙ ap lines_of (sym parted)
+    )
 
 -- the last line is answered though it lacks its end
-pub Ended-last : (s : Start) (input : List ℕ) (before : Option (List ℕ)) (r q : Replay) (now : Option (List ℕ)) (t u : State) (outcome : Result (Unit {0}) Stop)
-    → Progress s input before r now t → (length r.held.items ≡ 0 → ⊥) → q.held.items ≡ []
-    → MatchResult outcome (λ done. Progress s (input ++ 10 ∷ []) before q now u) (λ stop. Stopped s (input ++ 10 ∷ []) before q now stop)
-    → Ended s input before q now outcome
-unfolding Ended-stopped
-Ended-last s input before r q now t u (Ok done) p some none h =
-    relined s input (input ++ 10 ∷ []) before q now (Ok done) (line_end_alike s input r.held.items before r now t p refl some) (Ended-whole s (input ++ 10 ∷ []) before q now u h none) tt
-Ended-last s input before r q now t u (Err stop) p some none h =
-    relined s input (input ++ 10 ∷ []) before q now (Err stop) (line_end_alike s input r.held.items before r now t p refl some) (Ended-stopped s (input ++ 10 ∷ []) before q now stop h)
-    (reaches_because s.name h.tail input h.answers h.written q.output.text.items stop h.because)
-
--- ---- the last words
-
-closes : (this : TopicName) (lines : List (List ℕ)) (answers : List Answer) (written gathered grown : List ℕ) (n : ℕ) → EndsAt this lines answers written gathered (Err (BadLine n)) → grown ≡ gathered ++ bad_line_text n → ClosesWith this lines answers written grown (Err (BadLine n))
-closes this lines answers written gathered grown n ends more =
-    (ends.0, ap (λ (x : List ℕ). written ++ x) more ∙ sym (append_assoc written gathered (bad_line_text n)) ∙ ap (λ (x : List ℕ). x ++ bad_line_text n) ends.1)
-
--- the text of the bad line is gathered
-pub Closing-bad : (s : Start) (input : List ℕ) (before : Option (List ℕ)) (r q : Replay) (now : Option (List ℕ)) (n : ℕ) → Ended s input before r now (Err (BadLine n)) → q.name ≡ r.name → q.output.text.items ≡ r.output.text.items ++ bad_line_text n → Closing s input before q now (Err (BadLine n))
-Closing-bad s input before r q now n h name text =
-    record {
-      name = name ∙ h.name;
-      answers = h.answers;
-      last = h.last;
-      written = h.written;
-      answered = h.answered;
-      run = h.run;
-      appended = h.appended;
-      ends = closes s.name (lines_of input) h.answers h.written r.output.text.items q.output.text.items n h.ends text;
-      reaches = tt;
-    }
-
--- there is no memory for it
-pub Closing-lost : (s : Start) (input : List ℕ) (before : Option (List ℕ)) (r q : Replay) (now : Option (List ℕ)) (n : ℕ) → Ended s input before r now (Err (BadLine n)) → q.name ≡ r.name → q.output.text.items ≡ r.output.text.items → Closing s input before q now (Err Memory)
-Closing-lost s input before r q now n h name text =
-    record {
-      name = name ∙ h.name;
-      answers = h.answers;
-      last = h.last;
-      written = h.written;
-      answered = h.answered;
-      run = h.run;
-      appended = h.appended;
-      ends = ap (λ (x : List ℕ). h.written ++ x) text ∙ h.ends.1;
-      reaches = tt;
-    }
-
-still_closes : (this : TopicName) (lines : List (List ℕ)) (answers : List Answer) (written gathered : List ℕ) (outcome : Result (Unit {0}) Stop) → ((n : ℕ) → outcome ≡ Err (BadLine n) → ⊥) → EndsAt this lines answers written gathered outcome → ClosesWith this lines answers written gathered outcome
-still_closes this lines answers written gathered (Ok done) other ends = ends
-still_closes this lines answers written gathered (Err (BadLine n)) other ends = absurd (other n refl)
-still_closes this lines answers written gathered (Err Read) other ends = ends
-still_closes this lines answers written gathered (Err Memory) other ends = ends
-still_closes this lines answers written gathered (Err Write) other ends = (texts answers, ends.0, ends.1, inl refl)
-
--- nothing is to be said of a line
-pub Closing-other : (s : Start) (input : List ℕ) (before : Option (List ℕ)) (r : Replay) (now : Option (List ℕ)) (outcome : Result (Unit {0}) Stop) → ((n : ℕ) → outcome ≡ Err (BadLine n) → ⊥) → Ended s input before r now outcome → Closing s input before r now outcome
-Closing-other s input before r now outcome other h =
-    record {
-      name = h.name;
-      answers = h.answers;
-      last = h.last;
-      written = h.written;
-      answered = h.answered;
-      run = h.run;
-      appended = h.appended;
-      ends = still_closes s.name (lines_of input) h.answers h.written r.output.text.items outcome other h.ends;
-      reaches = h.reaches;
-    }
-
-all_written : (this : TopicName) (lines : List (List ℕ)) (answers : List Answer) (written gathered : List ℕ) (outcome : Result (Unit {0}) Stop) → (outcome ≡ Err Write → ⊥) → ClosesWith this lines answers written gathered outcome → Ends this lines answers outcome (written ++ gathered)
-all_written this lines answers written gathered (Ok done) other ends = ends
-all_written this lines answers written gathered (Err (BadLine n)) other ends = ends
-all_written this lines answers written gathered (Err Read) other ends = ends
-all_written this lines answers written gathered (Err Memory) other ends = ends
-all_written this lines answers written gathered (Err Write) other ends = absurd (other refl)
-
-front_written : (this : TopicName) (lines : List (List ℕ)) (answers : List Answer) (written gathered front rest : List ℕ) (outcome : Result (Unit {0}) Stop) → (outcome ≡ Err Write → ⊥) → ClosesWith this lines answers written gathered outcome → gathered ≡ front ++ rest → Ends this lines answers (Err Write) (written ++ front)
-front_written this lines answers written gathered front rest outcome other ends parted =
-    let whole = append_assoc written front rest ∙ ap (λ (x : List ℕ). written ++ x) (sym parted) in
-    (written ++ gathered, rest, whole, cause outcome other ends)
-  where
-    cause : (o : Result (Unit {0}) Stop) → (o ≡ Err Write → ⊥) → ClosesWith this lines answers written gathered o → (written ++ gathered ≡ texts answers) ⊎ ((n : ℕ) × IsBadAfter this lines answers n × (written ++ gathered ≡ texts answers ++ bad_line_text n))
-    cause (Ok done) other ends = inl ends.1
-    cause (Err (BadLine n)) other ends = inr (n, ends.0, ends.1)
-    cause (Err Read) other ends = inl ends
-    cause (Err Memory) other ends = inl ends
-    cause (Err Write) other ends = absurd (other refl)
-
--- a replay, with all that it wrote
-abbrev pub Replayed : State → TopicName → List ℕ → Option (List ℕ) → Option (List ℕ) → Result (Unit {0}) Stop → Type 0
-Replayed s this input before now outcome = (written : List ℕ) × Appends before now written × IsReplay s this input outcome written
-
-pub Replayed-all : (s : Start) (input : List ℕ) (before : Option (List ℕ)) (r : Replay) (now after : Option (List ℕ)) (outcome : Result (Unit {0}) Stop) → Closing s input before r now outcome → (outcome ≡ Err Write → ⊥) → Appends now after r.output.text.items → Replayed s.state s.name input before after outcome
-Replayed-all s input before r now after outcome h other more = (
-  h.written ++ r.output.text.items,
-  Appends-trans before now after h.written r.output.text.items h.appended more,
-  record {
-    answers = h.answers;
-    last = h.last;
-    answered = h.answered;
-    run = h.run;
-    ends = all_written s.name (lines_of input) h.answers h.written r.output.text.items outcome other h.ends;
-    reaches = h.reaches;
-  },
-)
-
-pub Replayed-front : (s : Start) (input : List ℕ) (before : Option (List ℕ)) (r : Replay) (now after : Option (List ℕ)) (outcome : Result (Unit {0}) Stop) → Closing s input before r now outcome → (outcome ≡ Err Write → ⊥) → WritesFront now after r.output.text.items → Replayed s.state s.name input before after (Err Write)
-Replayed-front s input before r now after outcome h other front = (
-  h.written ++ front.0,
-  Appends-trans before now after h.written front.0 h.appended front.3,
-  record {
-    answers = h.answers;
-    last = h.last;
-    answered = h.answered;
-    run = h.run;
-    ends = front_written s.name (lines_of input) h.answers h.written r.output.text.items front.0 front.1 outcome other h.ends front.2;
-    reaches = tt;
-  },
-)
-
-pub Replayed-before : (s : Start) (input : List ℕ) (before : Option (List ℕ)) (r : Replay) (now : Option (List ℕ)) → Closing s input before r now (Err Write) → Replayed s.state s.name input before now (Err Write)
-Replayed-before s input before r now h = (
-  h.written,
-  h.appended,
-  record {
-    answers = h.answers;
-    last = h.last;
-    answered = h.answered;
-    run = h.run;
-    ends = h.ends;
-    reaches = tt;
-  },
-)
+pub Ended-last : (s : Start) (input : List ℕ) (left : Option (List ℕ)) (m n : Moment) (outcome : Result (Unit {0}) Stop)
+    → IsAtEnd left → Progress s input m → (length m.replay.held.items ≡ 0 → ⊥) → n.replay.held.items ≡ [] → TakesFrom s (input ++ 10 ∷ []) outcome n
+    → Ended s input left n outcome []
+Ended-last s input left m n (Ok done) at_end p some none h =
+    Ended-whole s input (input ++ 10 ∷ []) left n at_end h (line_end_alike s input m.replay.held.items m p refl some) none
+Ended-last s input left m n (Err stop) at_end p some none h =
+    Ended-stopped s input (input ++ 10 ∷ []) left n stop h (line_end_alike s input m.replay.held.items m p refl some) (λ count most. inr at_end)
 
 -- ---- by how it ended
 
@@ -285,25 +172,189 @@ is_writing (Err Read) e = cc
 is_writing (Err Write) e = refl
 is_writing (Err Memory) e = cc
 
+-- ---- the last words
+
+-- the text was written but for its end, which is gathered now
+more_written : (answers : List Answer) (text gathered words : List ℕ) (n : ℕ) → IsWritten (texts answers ++ []) (Err (BadLine n)) (text ++ gathered) → text ++ (gathered ++ words) ≡ texts answers ++ words
+more_written answers text gathered words n (inl all) =
+    sym (append_assoc text gathered words) ∙ ap (λ (x : List ℕ). x ++ words) (all ∙ append-nil (texts answers))
+more_written answers text gathered words n (inr failed) = cc
+
+still_there : (this : TopicName) (input : List ℕ) (left : Option (List ℕ)) (answers : List Answer) (last : State) (n : ℕ) (state : State) → LeavesAfter this input left answers last (Err (BadLine n)) state → state ≡ last
+still_there this input left answers last n state (inl same) = same
+still_there this input left answers last n state (inr lost) = cc
+
+-- the text of the bad line is gathered
+pub Ended-bad : (s : Start) (input : List ℕ) (left : Option (List ℕ)) (m : Moment) (q : Replay) (n : ℕ)
+    → Ended s input left m (Err (BadLine n)) [] → q.name ≡ m.replay.name → q.output.text.items ≡ m.replay.output.text.items ++ bad_line_text n
+    → Ended s input left (moment q m.written m.state) (Err (BadLine n)) (bad_line_text n)
+Ended-bad s input left m q n h name text =
+    record {
+      name = name ∙ h.name;
+      answers = h.answers;
+      last = h.last;
+      text = h.text;
+      answered = h.answered;
+      ended = h.ended;
+      run = h.run;
+      ends = h.ends;
+      appended = h.appended;
+      written = inl (ap (λ (x : List ℕ). h.text ++ x) text ∙ more_written h.answers h.text m.replay.output.text.items (bad_line_text n) n h.written);
+      leaves = inl (still_there s.name input left h.answers h.last n m.state h.leaves);
+    }
+
+-- there is no memory for it
+pub Ended-lost : (s : Start) (input : List ℕ) (left : Option (List ℕ)) (m : Moment) (q : Replay) (n : ℕ)
+    → Ended s input left m (Err (BadLine n)) [] → q.name ≡ m.replay.name → q.output.text.items ≡ m.replay.output.text.items
+    → Ended s input left (moment q m.written m.state) (Err Memory) []
+Ended-lost s input left m q n h name text =
+    record {
+      name = name ∙ h.name;
+      answers = h.answers;
+      last = h.last;
+      text = h.text;
+      answered = h.answered;
+      ended = h.ended;
+      run = h.run;
+      ends = tt;
+      appended = h.appended;
+      written = inl (ap (λ (x : List ℕ). h.text ++ x) (text ∙ sym (append-nil m.replay.output.text.items)) ∙ more_written h.answers h.text m.replay.output.text.items [] n h.written);
+      leaves = inl (still_there s.name input left h.answers h.last n m.state h.leaves);
+    }
+
+no_words : (outcome : Result (Unit {0}) Stop) → ((n : ℕ) → outcome ≡ Err (BadLine n) → ⊥) → last_words outcome ≡ []
+no_words (Ok done) other = refl
+no_words (Err (BadLine n)) other = absurd (other n refl)
+no_words (Err Read) other = refl
+no_words (Err Write) other = refl
+no_words (Err Memory) other = refl
+
+-- nothing is to be said of a line
+pub Ended-silent : (s : Start) (input : List ℕ) (left : Option (List ℕ)) (m : Moment) (outcome : Result (Unit {0}) Stop) → ((n : ℕ) → outcome ≡ Err (BadLine n) → ⊥) → Ended s input left m outcome [] → Ended s input left m outcome (last_words outcome)
+Ended-silent s input left m outcome other h = subst (Ended s input left m outcome) (sym (no_words outcome other)) h
+
+-- ---- the whole replay
+
+all_written : (text gathered whole : List ℕ) (outcome : Result (Unit {0}) Stop) → (outcome ≡ Err Write → ⊥) → IsWritten whole outcome (text ++ gathered) → text ++ gathered ≡ whole
+all_written text gathered whole outcome other (inl all) = all
+all_written text gathered whole outcome other (inr failed) = absurd (other failed.0)
+
+-- all that was gathered was written too
+pub Replayed-all : (s : Start) (input : List ℕ) (before left : Option (List ℕ)) (m : Moment) (after : Option (List ℕ)) (outcome : Result (Unit {0}) Stop)
+    → Consumes before left input → Ended s input left m outcome (last_words outcome) → (outcome ≡ Err Write → ⊥) → Appends m.written after m.replay.output.text.items
+    → IsReplay s.name (sides before s.written s.state) outcome (sides left after m.state)
+Replayed-all s input before left m after outcome consumed h other more =
+    let gathered : List ℕ = m.replay.output.text.items in
+    record {
+      read = input;
+      consumed = consumed;
+      answers = h.answers;
+      answered = h.answered;
+      ended = h.ended;
+      last = h.last;
+      run = h.run;
+      cause = outcome;
+      same = inl refl;
+      ends = h.ends;
+      written = h.text ++ gathered;
+      appended = Appends-trans s.written m.written after h.text gathered h.appended more;
+      text = inl (all_written h.text gathered (texts h.answers ++ last_words outcome) outcome other h.written);
+      leaves = h.leaves;
+    }
+
+-- a front of it
+pub Replayed-front : (s : Start) (input : List ℕ) (before left : Option (List ℕ)) (m : Moment) (after : Option (List ℕ)) (outcome : Result (Unit {0}) Stop)
+    → Consumes before left input → Ended s input left m outcome (last_words outcome) → (outcome ≡ Err Write → ⊥) → WritesFront m.written after m.replay.output.text.items
+    → IsReplay s.name (sides before s.written s.state) (Err Write) (sides left after m.state)
+Replayed-front s input before left m after outcome consumed h other front =
+    let gathered : List ℕ = m.replay.output.text.items in
+    let parts : (h.text ++ front.0) ++ front.1 ≡ h.text ++ gathered = append_assoc h.text front.0 front.1 ∙ ap (λ (x : List ℕ). h.text ++ x) (sym front.2) in
+    record {
+      read = input;
+      consumed = consumed;
+      answers = h.answers;
+      answered = h.answered;
+      ended = h.ended;
+      last = h.last;
+      run = h.run;
+      cause = outcome;
+      same = inr refl;
+      ends = h.ends;
+      written = h.text ++ front.0;
+      appended = Appends-trans s.written m.written after h.text front.0 h.appended front.3;
+      text = inr (refl, front.1, parts ∙ all_written h.text gathered (texts h.answers ++ last_words outcome) outcome other h.written);
+      leaves = h.leaves;
+    }
+
+front_only : (text gathered whole : List ℕ) → IsWritten whole (Err Write) (text ++ gathered) → IsWritten whole (Err Write) text
+front_only text gathered whole (inl all) = inr (refl, gathered, all)
+front_only text gathered whole (inr failed) = inr (refl, gathered ++ failed.1, sym (append_assoc text gathered failed.1) ∙ failed.2)
+
+-- nothing, where writing had failed
+pub Replayed-before : (s : Start) (input : List ℕ) (before left : Option (List ℕ)) (m : Moment) (outcome : Result (Unit {0}) Stop)
+    → Consumes before left input → outcome ≡ Err Write → Ended s input left m outcome (last_words outcome)
+    → IsReplay s.name (sides before s.written s.state) outcome (sides left m.written m.state)
+Replayed-before s input before left m outcome consumed is ended =
+    let h : Ended s input left m (Err Write) [] = subst (λ (o : Result (Unit {0}) Stop). Ended s input left m o (last_words o)) is ended in
+    subst (λ (o : Result (Unit {0}) Stop). IsReplay s.name (sides before s.written s.state) o (sides left m.written m.state)) (sym is) (record {
+      read = input;
+      consumed = consumed;
+      answers = h.answers;
+      answered = h.answered;
+      ended = h.ended;
+      last = h.last;
+      run = h.run;
+      cause = Err Write;
+      same = inl refl;
+      ends = h.ends;
+      written = h.text;
+      appended = h.appended;
+      text = front_only h.text m.replay.output.text.items (texts h.answers ++ []) h.written;
+      leaves = h.leaves;
+    })
+
+-- a replay that had no memory to begin
+pub no_replay : (this : TopicName) (old : Sides) → IsReplay this old (Err Memory) old
+no_replay this old =
+    record {
+      read = [];
+      consumed = Consumes-nil old.left;
+      answers = [];
+      answered = tt;
+      ended = inl (omega arith);
+      last = old.state;
+      run = refl;
+      cause = Err Memory;
+      same = inl refl;
+      ends = tt;
+      written = [];
+      appended = Appends-nil old.written;
+      text = inl refl;
+      leaves = inl refl;
+    }
+
+pub Replayed-as : (this : TopicName) (old new : Sides) (outcome other : Result (Unit {0}) Stop) → other ≡ outcome → IsReplay this old outcome new → IsReplay this old other new
+Replayed-as this old new outcome other is h = subst (λ (o : Result (Unit {0}) Stop). IsReplay this old o new) (sym is) h
+
 -- ---- the loop over the reads
 
-pub Progress-same : (s : Start) (input : List ℕ) (before : Option (List ℕ)) (r : Replay) (now : Option (List ℕ)) (t : State) → Progress s (input ++ []) before r now t → Progress s input before r now t
-Progress-same s input before r now t p = subst (λ (x : List ℕ). Progress s x before r now t) (append-nil input) p
+pub Progress-same : (s : Start) (input : List ℕ) (m : Moment) → Progress s (input ++ []) m → Progress s input m
+Progress-same s input m p = subst (λ (x : List ℕ). Progress s x m) (append-nil input) p
 
-pub Ended-failed : (s : Start) (input : List ℕ) (before : Option (List ℕ)) (r : Replay) (now : Option (List ℕ)) (outcome : Result (Unit {0}) Stop) (stop : Stop) → Stopped s input before r now stop → outcome ≡ Err stop → Ended s input before r now outcome
-Ended-failed s input before r now outcome stop h is = subst (Ended s input before r now) (sym is) (Ended-stopped s input before r now stop h)
+pub Stopped-same : (s : Start) (input : List ℕ) (m : Moment) (stop : Stop) → Stopped s (input ++ []) m stop → Stopped s input m stop
+Stopped-same s input m stop h = subst (λ (x : List ℕ). Stopped s x m stop) (append-nil input) h
 
-pub Stopped-same : (s : Start) (input : List ℕ) (before : Option (List ℕ)) (r : Replay) (now : Option (List ℕ)) (stop : Stop) → Stopped s (input ++ []) before r now stop → Stopped s input before r now stop
-Stopped-same s input before r now stop h = subst (λ (x : List ℕ). Stopped s x before r now stop) (append-nil input) h
+pub Ended-failed : (s : Start) (input : List ℕ) (left : Option (List ℕ)) (m : Moment) (outcome : Result (Unit {0}) Stop) (stop : Stop) → Stopped s input m stop → outcome ≡ Err stop → Ended s input left m outcome []
+Ended-failed s input left m outcome stop h is = subst (λ (o : Result (Unit {0}) Stop). Ended s input left m o []) (sym is) (Ended-stopped s input input left m stop h refl (λ count most. inl most))
 
 -- before the first read
-pub Progress-first : (s : State) (before : Option (List ℕ)) (r : Replay) → r.lines ≡ 0 → r.held.items ≡ [] → r.output.text.items ≡ [] → Progress (record { state = s; name = r.name }) [] before r before s
-Progress-first s before r lines held text =
+pub Progress-first : (t : State) (w : Option (List ℕ)) (r : Replay) → r.lines ≡ 0 → r.held.items ≡ [] → r.output.text.items ≡ [] → Progress (record { name = r.name; written = w; state = t }) [] (moment r w t)
+Progress-first t w r lines held text =
     record {
       name = refl;
       whole = [];
       answers = [];
-      written = [];
+      text = [];
       parted = sym held;
       apart = refl;
       held = ap has_end held;
@@ -311,20 +362,6 @@ Progress-first s before r lines held text =
       answered = tt;
       run = refl;
       count = lines;
-      appended = Appends-nil before;
-      text = text;
+      appended = Appends-nil w;
+      written = text;
     }
-
-pub Replayed-as : (s : State) (this : TopicName) (input : List ℕ) (before now : Option (List ℕ)) (outcome other : Result (Unit {0}) Stop) → other ≡ outcome → Replayed s this input before now outcome → Replayed s this input before now other
-Replayed-as s this input before now outcome other is h = subst (Replayed s this input before now) (sym is) h
-
--- a call that hands an end of the input on
-pub through : (P : Type 0) (a b c : Result (Unit {0}) Stop) → OnOk c (IsOk b) → OnOk b (IsOk a) → OnOk a P → OnOk c P
-through P (Ok x) (Ok y) (Ok z) h i p = p
-through P (Err x) (Ok y) (Ok z) h i p = cc
-through P a (Err y) (Ok z) h i p = cc
-through P a b (Err z) h i p = tt
-
--- a replay that had no memory for its topic
-pub without_topic : (s : State) (this : TopicName) (outcome : Result (Unit {0}) Stop) → outcome ≡ Err Memory → IsReplay s this [] outcome []
-without_topic s this outcome is = subst (λ (o : Result (Unit {0}) Stop). IsReplay s this [] o []) (sym is) (record { answers = []; last = s; answered = tt; run = refl; ends = refl; reaches = tt })

@@ -1,15 +1,14 @@
 -- How the lines of an input begin, and how one ends.
-use Rattle.std.proofs.Common.{◌≡◌, ℕ, ◌+◌, ◌<◌, ◌==◌, List, [], ◌∷◌, ◌++◌, Bool, true, false, cond, length, drop, refl, sym, ap, ◌∙◌, subst, append_assoc, length-append, arith}
+use Rattle.std.proofs.Common.{◌≡◌, ℕ, ◌+◌, ◌≤◌, ◌==◌, List, [], ◌∷◌, ◌++◌, Bool, true, false, cond, length, drop, refl, sym, ap, ◌∙◌, subst, append_assoc, length-append, arith}
 use Rattle.std.specs.Prelude.{◌&&◌, not}
 use Rattle.std.specs.List.{list_all}
 use Rattle.std.proofs.Math.Seq.{drop-append_seam}
 use Rattle.std.proofs.lemmas.List.Sums.{sum_by-cons}
 use Rattle.position_core.specs.declared.topic_name.TopicName.{TopicName}
-use Rattle.replay_lines.specs.Grammar.{IsBadLine, longest_line}
 use Rattle.delivery_machine.proofs.Deciding.{or_false}
 use Rattle.replay_core.specs.Lines.{lines_of, onto_line, ends_in}
-use Rattle.replay_core.specs.Replay.{Answer, AreAnswered, IsAnswered, IsBadFirst}
-use Rattle.replay_core.specs.Progress.{has_end, joined, IsBadWhatever}
+use Rattle.replay_core.specs.Replay.{Answer, AreAnswered, IsAnswered, BeginsWith, IsTooLong}
+use Rattle.replay_core.specs.Progress.{has_end, joined, BeginsWithLine, BeginsTooLong}
 
 -- a line ends at its end
 pub lines_of-line : (line rest : List ℕ) → has_end line ≡ false → lines_of (line ++ 10 ∷ rest) ≡ line ∷ lines_of rest
@@ -70,7 +69,7 @@ ends_in-other b text e =
     let none : count (b == 10) ≡ 0 = ap count e in
     omega (arith, ends_in-cons b text, none)
 
-ends_in-none : (text : List ℕ) → has_end text ≡ false → ends_in text ≡ 0
+pub ends_in-none : (text : List ℕ) → has_end text ≡ false → ends_in text ≡ 0
 ends_in-none [] e = refl
 ends_in-none (b ∷ text) e = ends_in-other b text (or_false (b == 10) (has_end text) e).0 ∙ ends_in-none text (or_false (b == 10) (has_end text) e).1
 
@@ -78,12 +77,12 @@ ends_in-line : (line rest : List ℕ) → has_end line ≡ false → ends_in (li
 ends_in-line [] rest e = ends_in-cons 10 rest
 ends_in-line (b ∷ line) rest e = ends_in-other b (line ++ 10 ∷ rest) (or_false (b == 10) (has_end line) e).0 ∙ ends_in-line line rest (or_false (b == 10) (has_end line) e).1
 
--- whole lines, and a text with no end
-pub ends_in-joined : (whole : List (List ℕ)) (tail : List ℕ) → list_all (λ line. not (has_end line)) whole ≡ true → has_end tail ≡ false → ends_in (joined whole ++ tail) ≡ length whole
-ends_in-joined [] tail apart none = ends_in-none tail none
-ends_in-joined (line ∷ whole) tail apart none =
+-- whole lines, and what is after
+pub ends_in-joined : (whole : List (List ℕ)) (tail : List ℕ) → list_all (λ line. not (has_end line)) whole ≡ true → ends_in (joined whole ++ tail) ≡ length whole + ends_in tail
+ends_in-joined [] tail apart = omega arith
+ends_in-joined (line ∷ whole) tail apart =
     let first : ends_in ((line ++ 10 ∷ joined whole) ++ tail) ≡ 1 + ends_in (joined whole ++ tail) = ap ends_in (append_assoc line (10 ∷ joined whole) tail) ∙ ends_in-line line (joined whole ++ tail) (first_all (has_end line) _ apart) in
-    omega (arith, first, ends_in-joined whole tail (second_all (has_end line) _ apart) none)
+    omega (arith, first, ends_in-joined whole tail (second_all (has_end line) _ apart))
 
 pub joined-push : (whole : List (List ℕ)) (line : List ℕ) → joined (whole ++ line ∷ []) ≡ joined whole ++ (line ++ 10 ∷ [])
 joined-push [] line = refl
@@ -106,17 +105,25 @@ AreAnswered-push this (l ∷ lines) line [] answer same h is = absurd (omega (ar
 pub lines_left : (whole more : List (List ℕ)) (n : ℕ) → length whole ≡ n → drop n (whole ++ more) ≡ more
 lines_left whole more n same = ap (λ (k : ℕ). drop k (whole ++ more)) (sym same) ∙ drop-append_seam whole more
 
--- a line that is too long stands for nothing
-pub long_line : (this : TopicName) (line : List ℕ) → longest_line < length line → IsBadLine this line
-long_line this line long read is = absurd (omega (arith, is.0, long))
+-- ---- a text that begins with a line
 
-pub long_is_bad : (this : TopicName) (line : List ℕ) → longest_line < length line → has_end line ≡ false → IsBadWhatever this line
-long_is_bad this [] long e more = absurd (omega (arith, long))
-long_is_bad this (b ∷ line) long e more =
-    let begins = lines_begin b line more e in
-    subst (IsBadFirst this) (sym begins.2) (long_line this (b ∷ line ++ begins.0) (omega (arith, long, length-append line begins.0)))
+pub begins_line : (P : List ℕ → Type 0) (text : List ℕ) → BeginsWithLine P text → BeginsWith P (lines_of text)
+begins_line P text h = subst (BeginsWith P) (sym (ap lines_of h.2 ∙ lines_of-line h.0 h.1 h.3)) h.4
 
--- a whole line that stands for nothing
-pub whole_is_bad : (this : TopicName) (line rest : List ℕ) → has_end line ≡ false → IsBadLine this line → IsBadWhatever this (line ++ 10 ∷ rest)
-whole_is_bad this line rest e bad more =
-    subst (IsBadFirst this) (sym (ap lines_of (append_assoc line (10 ∷ rest) more) ∙ lines_of-line line (rest ++ more) e)) bad
+pub ends_in-begins : (P : List ℕ → Type 0) (text : List ℕ) → BeginsWithLine P text → 1 ≤ ends_in text
+ends_in-begins P text h = omega (arith, ap ends_in h.2, ends_in-line h.0 h.1 h.3)
+
+pub begins_line-more : (P : List ℕ → Type 0) (text more : List ℕ) → BeginsWithLine P text → BeginsWithLine P (text ++ more)
+begins_line-more P text more h = (h.0, h.1 ++ more, ap (λ (x : List ℕ). x ++ more) h.2 ∙ append_assoc h.0 (10 ∷ h.1) more, h.3, h.4)
+
+long_first : (line rest : List ℕ) → has_end line ≡ false → IsTooLong line → BeginsWith IsTooLong (lines_of (line ++ rest))
+long_first [] rest none long = absurd (omega (arith, long))
+long_first (b ∷ line) rest none long =
+    let begins = lines_begin b line rest none in
+    subst (BeginsWith IsTooLong) (sym begins.2) (omega (arith, long, length-append line begins.0))
+
+pub begins_long : (text : List ℕ) → BeginsTooLong text → BeginsWith IsTooLong (lines_of text)
+begins_long text h = subst (λ (x : List ℕ). BeginsWith IsTooLong (lines_of x)) (sym h.2) (long_first h.0 h.1 h.3 h.4)
+
+pub begins_long-more : (text more : List ℕ) → BeginsTooLong text → BeginsTooLong (text ++ more)
+begins_long-more text more h = (h.0, h.1 ++ more, ap (λ (x : List ℕ). x ++ more) h.2 ∙ append_assoc h.0 h.1 more, h.3, h.4)

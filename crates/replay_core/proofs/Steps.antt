@@ -1,6 +1,6 @@
 -- The steps of a replay.
-use Rattle.std.proofs.Common.{◌≡◌, ℕ, ◌+◌, ◌==◌, List, [], ◌∷◌, ◌++◌, Bool, true, false, length, Option, sym, ap, ◌∙◌, subst, append_assoc, append-nil, length-append, arith}
-use Rattle.std.specs.Prelude.{◌&&◌, not}
+use Rattle.std.proofs.Common.{◌≡◌, ℕ, ◌+◌, ◌==◌, List, [], ◌∷◌, ◌++◌, Bool, true, false, length, Option, sym, ap, ◌∙◌, subst, inl, inr, refl, append_assoc, append-nil, length-append, arith}
+use Rattle.std.specs.Prelude.{◌&&◌, ◌⊎◌, not}
 use Rattle.std.specs.List.{filter_map}
 use Rattle.std.specs.Io.KnownBytes.{Appends}
 use Rattle.std.proofs.KnownBytes.{Appends-trans}
@@ -13,14 +13,13 @@ use Rattle.delivery_machine.specs.Run.{Run}
 use Rattle.delivery_machine.specs.declared.event.Event.{Event}
 use Rattle.delivery_machine.specs.declared.reply.Reply.{Reply}
 use Rattle.delivery_machine.proofs.RunSteps.{Run-push}
-use Rattle.replay_core.specs.Lines.{lines_of}
-use Rattle.replay_core.specs.Replay.{Answer, replied, bad_id, event_in, reply_in, answer_text, texts, IsRun, IsAnswered, IsBadFirst}
-use Rattle.replay_core.specs.Answering.{IsStepOf}
-use Rattle.replay_core.specs.Progress.{Progress, Start, Stopped, Because, IsBadWhatever, has_end, joined}
+use Rattle.replay_lines.specs.Grammar.{IsBadLine}
+use Rattle.replay_core.specs.Replay.{Answer, replied, bad_id, event_in, reply_in, answer_text, texts, IsRun, IsAnswered, IsStepOf}
+use Rattle.replay_core.specs.Progress.{Progress, Start, Moment, Stopped, Because, LeavesBefore, BeginsWithLine, BeginsTooLong, has_end, joined, moment}
 use Rattle.replay_core.specs.declared.engine.Replay.{Replay}
 use Rattle.replay_core.specs.declared.stop.Stop.{Stop}
 use Rattle.replay_core.specs.declared.stop.Stop.TheVariants.{BadLine, Read, Write, Memory}
-use Rattle.replay_core.proofs.LinesLemmas.{AreAnswered-push, joined-push}
+use Rattle.replay_core.proofs.LinesLemmas.{AreAnswered-push, joined-push, begins_line-more, begins_long-more}
 use Rattle.delivery_machine.proofs.Deciding.{both_false}
 
 -- ---- runs
@@ -48,70 +47,72 @@ no_end held part p q = list_any-append (λ byte. byte == 10) held part ∙ both_
 -- ---- progress
 
 -- more of the next line is held
-pub Progress-hold : (s : Start) (input : List ℕ) (before : Option (List ℕ)) (r q : Replay) (now : Option (List ℕ)) (t : State) (part : List ℕ)
-    → Progress s input before r now t → has_end part ≡ false → q.held.items ≡ r.held.items ++ part → q.name ≡ r.name → q.lines ≡ r.lines → q.output.text.items ≡ r.output.text.items
-    → Progress s (input ++ part) before q now t
-Progress-hold s input before r q now t part p e held name lines text =
+pub Progress-hold : (s : Start) (input : List ℕ) (m : Moment) (q : Replay) (part : List ℕ)
+    → Progress s input m → has_end part ≡ false → q.held.items ≡ m.replay.held.items ++ part → q.name ≡ m.replay.name → q.lines ≡ m.replay.lines → q.output.text.items ≡ m.replay.output.text.items
+    → Progress s (input ++ part) (moment q m.written m.state)
+Progress-hold s input m q part p e held name lines text =
     record {
       name = name ∙ p.name;
       whole = p.whole;
       answers = p.answers;
-      written = p.written;
-      parted = ap (λ (x : List ℕ). x ++ part) p.parted ∙ append_assoc (joined p.whole) r.held.items part ∙ ap (λ (x : List ℕ). joined p.whole ++ x) (sym held);
+      text = p.text;
+      parted = ap (λ (x : List ℕ). x ++ part) p.parted ∙ append_assoc (joined p.whole) m.replay.held.items part ∙ ap (λ (x : List ℕ). joined p.whole ++ x) (sym held);
       apart = p.apart;
-      held = ap has_end held ∙ no_end r.held.items part p.held e;
+      held = ap has_end held ∙ no_end m.replay.held.items part p.held e;
       all = p.all;
       answered = p.answered;
       run = p.run;
       count = lines ∙ p.count;
       appended = p.appended;
-      text = ap (λ (x : List ℕ). p.written ++ x) text ∙ p.text;
+      written = ap (λ (x : List ℕ). p.text ++ x) text ∙ p.written;
     }
 
 -- the next line has its end, and is answered
-pub Progress-line : (s : Start) (input : List ℕ) (before : Option (List ℕ)) (r q : Replay) (now : Option (List ℕ)) (t u : State) (part : List ℕ) (answer : Answer)
-    → Progress s input before r now t → has_end part ≡ false → IsAnswered r.name (r.held.items ++ part) answer → IsStepOf t answer u
-    → q.held.items ≡ [] → q.name ≡ r.name → q.lines ≡ r.lines + 1 → q.output.text.items ≡ r.output.text.items ++ answer_text answer
-    → Progress s (input ++ (part ++ 10 ∷ [])) before q now u
-Progress-line s input before r q now t u part answer p e stands step held name lines text =
-    let line : List ℕ = r.held.items ++ part in
+pub Progress-line : (s : Start) (input : List ℕ) (m : Moment) (q : Replay) (u : State) (part : List ℕ) (answer : Answer)
+    → Progress s input m → has_end part ≡ false → IsAnswered m.replay.name (m.replay.held.items ++ part) answer → IsStepOf m.state answer u
+    → q.held.items ≡ [] → q.name ≡ m.replay.name → q.lines ≡ m.replay.lines + 1 → q.output.text.items ≡ m.replay.output.text.items ++ answer_text answer
+    → Progress s (input ++ (part ++ 10 ∷ [])) (moment q m.written u)
+Progress-line s input m q u part answer p e stands step held name lines text =
+    let was : List ℕ = m.replay.held.items in
+    let line : List ℕ = was ++ part in
     record {
       name = name ∙ p.name;
       whole = p.whole ++ line ∷ [];
       answers = p.answers ++ answer ∷ [];
-      written = p.written;
+      text = p.text;
       parted =
           ap (λ (x : List ℕ). x ++ (part ++ 10 ∷ [])) p.parted
-          ∙ append_assoc (joined p.whole) r.held.items (part ++ 10 ∷ [])
-          ∙ ap (λ (x : List ℕ). joined p.whole ++ x) (sym (append_assoc r.held.items part (10 ∷ [])))
+          ∙ append_assoc (joined p.whole) was (part ++ 10 ∷ [])
+          ∙ ap (λ (x : List ℕ). joined p.whole ++ x) (sym (append_assoc was part (10 ∷ [])))
           ∙ sym (joined-push p.whole line)
           ∙ sym (append-nil (joined (p.whole ++ line ∷ [])))
           ∙ ap (λ (x : List ℕ). joined (p.whole ++ line ∷ []) ++ x) (sym held);
-      apart = list_all-append (λ l. not (has_end l)) p.whole (line ∷ []) ∙ both_all _ _ p.apart (no_end r.held.items part p.held e);
+      apart = list_all-append (λ l. not (has_end l)) p.whole (line ∷ []) ∙ both_all _ _ p.apart (no_end was part p.held e);
       held = ap has_end held;
       all = omega (arith, p.all, length-append p.whole (line ∷ []), length-append p.answers (answer ∷ []));
       answered = AreAnswered-push s.name p.whole line p.answers answer p.all p.answered (subst (λ name. IsAnswered name line answer) p.name stands);
-      run = run_step s.state p.answers t answer u p.run step;
+      run = run_step s.state p.answers m.state answer u p.run step;
       count = omega (arith, lines, p.count, length-append p.answers (answer ∷ []));
       appended = p.appended;
-      text =
-          ap (λ (x : List ℕ). p.written ++ x) text
-          ∙ sym (append_assoc p.written r.output.text.items (answer_text answer))
-          ∙ ap (λ (x : List ℕ). x ++ answer_text answer) p.text
+      written =
+          ap (λ (x : List ℕ). p.text ++ x) text
+          ∙ sym (append_assoc p.text m.replay.output.text.items (answer_text answer))
+          ∙ ap (λ (x : List ℕ). x ++ answer_text answer) p.written
           ∙ sym (texts-push p.answers answer);
     }
 
--- a front of the gathered answers is written
-pub Progress-written : (s : Start) (input : List ℕ) (before : Option (List ℕ)) (r q : Replay) (now after : Option (List ℕ)) (t : State)
-    → Progress s input before r now t → Appends now after r.output.text.items
-    → q.held.items ≡ r.held.items → q.name ≡ r.name → q.lines ≡ r.lines → q.output.text.items ≡ []
-    → Progress s input before q after t
-Progress-written s input before r q now after t p more held name lines text =
+-- the gathered answers are written
+pub Progress-written : (s : Start) (input : List ℕ) (m : Moment) (q : Replay) (after : Option (List ℕ))
+    → Progress s input m → Appends m.written after m.replay.output.text.items
+    → q.held.items ≡ m.replay.held.items → q.name ≡ m.replay.name → q.lines ≡ m.replay.lines → q.output.text.items ≡ []
+    → Progress s input (moment q after m.state)
+Progress-written s input m q after p more held name lines text =
+    let gathered : List ℕ = m.replay.output.text.items in
     record {
       name = name ∙ p.name;
       whole = p.whole;
       answers = p.answers;
-      written = p.written ++ r.output.text.items;
+      text = p.text ++ gathered;
       parted = p.parted ∙ ap (λ (x : List ℕ). joined p.whole ++ x) (sym held);
       apart = p.apart;
       held = ap has_end held ∙ p.held;
@@ -119,91 +120,90 @@ Progress-written s input before r q now after t p more held name lines text =
       answered = p.answered;
       run = p.run;
       count = lines ∙ p.count;
-      appended = Appends-trans before now after p.written r.output.text.items p.appended more;
-      text = ap (λ (x : List ℕ). (p.written ++ r.output.text.items) ++ x) text ∙ append-nil (p.written ++ r.output.text.items) ∙ p.text;
+      appended = Appends-trans s.written m.written after p.text gathered p.appended more;
+      written = ap (λ (x : List ℕ). (p.text ++ gathered) ++ x) text ∙ append-nil (p.text ++ gathered) ∙ p.written;
     }
 
--- ---- ends before the end of the input
+-- ---- stops before the end of the input
 
--- why a replay may end between two lines
-abbrev pub MayStop : Replay → List ℕ → Stop → Type 0
-MayStop r tail (BadLine n) = IsBadWhatever r.name tail × (n ≡ r.lines + 1)
-MayStop r tail Read = ⊥
-MayStop r tail Memory = Unit {0}
-MayStop r tail Write = ⊥
-
-because : (this : TopicName) (r q : Replay) (tail : List ℕ) (answers : List Answer) (written : List ℕ) (stop : Stop) → r.name ≡ this → q.output.text.items ≡ r.output.text.items → r.lines ≡ length answers → written ++ r.output.text.items ≡ texts answers → MayStop r tail stop → Because this tail answers written q.output.text.items stop
-because this r q tail answers written (BadLine n) name text count all may =
-    (subst (λ name. IsBadWhatever name tail) name may.0, omega (arith, may.1, count), ap (λ (x : List ℕ). written ++ x) text ∙ all)
-because this r q tail answers written Read name text count all may = absurd may
-because this r q tail answers written Memory name text count all may = ap (λ (x : List ℕ). written ++ x) text ∙ all
-because this r q tail answers written Write name text count all may = absurd may
-
-pub Stopped-at : (s : Start) (input : List ℕ) (before : Option (List ℕ)) (r q : Replay) (now : Option (List ℕ)) (t : State) (part : List ℕ) (stop : Stop)
-    → Progress s input before r now t → q.name ≡ r.name → q.output.text.items ≡ r.output.text.items → MayStop r (r.held.items ++ part) stop
-    → Stopped s (input ++ part) before q now stop
-Stopped-at s input before r q now t part stop p name text may =
+-- between two lines
+pub Stopped-at : (s : Start) (input : List ℕ) (m : Moment) (q : Replay) (u : State) (part : List ℕ) (stop : Stop)
+    → Progress s input m → q.name ≡ m.replay.name → q.output.text.items ≡ m.replay.output.text.items
+    → Because m.replay.name m.replay.lines (m.replay.held.items ++ part) stop → LeavesBefore m.replay.name (m.replay.held.items ++ part) m.state stop u
+    → Stopped s (input ++ part) (moment q m.written u) stop
+Stopped-at s input m q u part stop p name text why leaves =
+    let tail : List ℕ = m.replay.held.items ++ part in
     record {
       name = name ∙ p.name;
       whole = p.whole;
-      tail = r.held.items ++ part;
+      tail = tail;
       answers = p.answers;
-      last = t;
-      written = p.written;
-      parted = ap (λ (x : List ℕ). x ++ part) p.parted ∙ append_assoc (joined p.whole) r.held.items part;
+      last = m.state;
+      text = p.text;
+      parted = ap (λ (x : List ℕ). x ++ part) p.parted ∙ append_assoc (joined p.whole) m.replay.held.items part;
       apart = p.apart;
       all = p.all;
       answered = p.answered;
       run = p.run;
+      because = subst (λ (n : ℕ). Because s.name n tail stop) p.count (subst (λ name. Because name m.replay.lines tail stop) p.name why);
       appended = p.appended;
-      because = because s.name r q (r.held.items ++ part) p.answers p.written stop p.name text p.count p.text may;
+      written = inl (ap (λ (x : List ℕ). p.text ++ x) text ∙ p.written);
+      leaves = subst (λ name. LeavesBefore name tail m.state stop u) p.name leaves;
     }
 
-pub Stopped-writing : (s : Start) (input : List ℕ) (before : Option (List ℕ)) (r q : Replay) (now after : Option (List ℕ)) (t : State) (front rest : List ℕ)
-    → Progress s input before r now t → q.name ≡ r.name → r.output.text.items ≡ front ++ rest → Appends now after front
-    → Stopped s input before q after Write
-Stopped-writing s input before r q now after t front rest p name text more =
+-- where a front of the gathered answers was written
+pub Stopped-writing : (s : Start) (input : List ℕ) (m : Moment) (q : Replay) (after : Option (List ℕ)) (front rest : List ℕ)
+    → Progress s input m → q.name ≡ m.replay.name → m.replay.output.text.items ≡ front ++ rest → Appends m.written after front → q.output.text.items ≡ []
+    → Stopped s input (moment q after m.state) Write
+Stopped-writing s input m q after front rest p name parts more none =
+    let text : List ℕ = p.text ++ front in
+    let all : text ++ rest ≡ texts p.answers = append_assoc p.text front rest ∙ ap (λ (x : List ℕ). p.text ++ x) (sym parts) ∙ p.written in
     record {
       name = name ∙ p.name;
       whole = p.whole;
-      tail = r.held.items;
+      tail = m.replay.held.items;
       answers = p.answers;
-      last = t;
-      written = p.written ++ front;
+      last = m.state;
+      text = text;
       parted = p.parted;
       apart = p.apart;
       all = p.all;
       answered = p.answered;
       run = p.run;
-      appended = Appends-trans before now after p.written front p.appended more;
-      because = (rest, append_assoc p.written front rest ∙ ap (λ (x : List ℕ). p.written ++ x) (sym text) ∙ p.text);
+      because = tt;
+      appended = Appends-trans s.written m.written after p.text front p.appended more;
+      written = inr (refl, rest, ap (λ (x : List ℕ). (text ++ x) ++ rest) none ∙ ap (λ (x : List ℕ). x ++ rest) (append-nil text) ∙ all);
+      leaves = inl refl;
     }
 
-later : (this : TopicName) (tail more : List ℕ) → IsBadWhatever this tail → IsBadWhatever this (tail ++ more)
-later this tail more bad others = subst (λ (x : List ℕ). IsBadFirst this (lines_of x)) (sym (append_assoc tail more others)) (bad (more ++ others))
+still_because : (this : TopicName) (count : ℕ) (tail more : List ℕ) (stop : Stop) → Because this count tail stop → Because this count (tail ++ more) stop
+still_because this count tail more (BadLine n) why =
+    (why.0, elim why.1 as (λ w. BeginsWithLine (IsBadLine this) (tail ++ more) ⊎ BeginsTooLong (tail ++ more)) [ inl h ↦ inl (begins_line-more (IsBadLine this) tail more h) | inr h ↦ inr (begins_long-more tail more h) ])
+still_because this count tail more Read why = why
+still_because this count tail more Write why = why
+still_because this count tail more Memory why = why
 
-still_because : (this : TopicName) (tail more : List ℕ) (answers : List Answer) (written gathered : List ℕ) (stop : Stop) → Because this tail answers written gathered stop → Because this (tail ++ more) answers written gathered stop
-still_because this tail more answers written gathered (BadLine n) why = (later this tail more why.0, why.1, why.2)
-still_because this tail more answers written gathered Read why = why
-still_because this tail more answers written gathered Memory why = why
-still_because this tail more answers written gathered Write why = why
+still_leaves : (this : TopicName) (tail more : List ℕ) (last : State) (stop : Stop) (state : State) → LeavesBefore this tail last stop state → LeavesBefore this (tail ++ more) last stop state
+still_leaves this tail more last stop state (inl same) = inl same
+still_leaves this tail more last stop state (inr lost) = inr (lost.0, lost.1, begins_line-more (λ line. IsAnswered this line lost.1) tail more lost.2, lost.3)
 
 -- whatever the input has beside, it changes nothing
-pub Stopped-more : (s : Start) (input : List ℕ) (before : Option (List ℕ)) (r : Replay) (now : Option (List ℕ)) (stop : Stop) (more : List ℕ)
-    → Stopped s input before r now stop → Stopped s (input ++ more) before r now stop
-Stopped-more s input before r now stop more h =
+pub Stopped-more : (s : Start) (input : List ℕ) (m : Moment) (stop : Stop) (more : List ℕ) → Stopped s input m stop → Stopped s (input ++ more) m stop
+Stopped-more s input m stop more h =
     record {
       name = h.name;
       whole = h.whole;
       tail = h.tail ++ more;
       answers = h.answers;
       last = h.last;
-      written = h.written;
+      text = h.text;
       parted = ap (λ (x : List ℕ). x ++ more) h.parted ∙ append_assoc (joined h.whole) h.tail more;
       apart = h.apart;
       all = h.all;
       answered = h.answered;
       run = h.run;
+      because = still_because s.name (length h.answers) h.tail more stop h.because;
       appended = h.appended;
-      because = still_because s.name h.tail more h.answers h.written r.output.text.items stop h.because;
+      written = h.written;
+      leaves = still_leaves s.name h.tail more h.last stop m.state h.leaves;
     }

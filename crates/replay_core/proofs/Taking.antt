@@ -1,67 +1,87 @@
 -- What each call of a replay does to its progress.
-use Rattle.std.proofs.Common.{◌≡◌, ℕ, ◌+◌, ◌≤◌, List, [], ◌∷◌, ◌++◌, false, length, Option, refl, sym, ap, ◌∙◌, subst, append_assoc, append-nil, length-append, arith}
+use Rattle.std.proofs.Common.{◌≡◌, ℕ, ◌+◌, ◌≤◌, List, [], ◌∷◌, ◌++◌, false, length, Option, inl, inr, refl, sym, ap, ◌∙◌, subst, append_assoc, append-nil, length-append, arith}
 use Rattle.std.specs.Prelude.{OnOk, OnErr, IfErr, IsErrAnd, MatchResult}
 use Rattle.std.specs.declared.result.Result.{Result}
 use Rattle.std.specs.declared.result.Result.TheVariants.{Ok, Err}
 use Rattle.std.specs.Io.KnownBytes.{Appends}
+use Rattle.position_core.specs.declared.topic_name.TopicName.{TopicName}
 use Rattle.delivery_machine.specs.State.{State}
-use Rattle.replay_core.specs.Replay.{Answer, answer_text, IsAnswered}
-use Rattle.replay_core.specs.Answering.{IsStepOf, StopsAt}
+use Rattle.replay_lines.specs.Grammar.{IsBadLine}
+use Rattle.replay_core.specs.Replay.{Answer, IsAnswered, answer_text}
+use Rattle.replay_core.specs.Answering.{IsAnsweredBy, MayBeLost, StopsAt}
 use Rattle.replay_core.specs.Output.{WritesFront}
-use Rattle.replay_core.specs.Progress.{Progress, Start, Stopped, Takes, IsBadWhatever, has_end}
+use Rattle.replay_core.specs.Progress.{Progress, Start, Moment, Stopped, Takes, Because, LeavesBefore, BeginsWithLine, has_end, moment}
 use Rattle.replay_core.specs.declared.engine.Replay.{Replay}
 use Rattle.replay_core.specs.declared.stop.Stop.{Stop}
 use Rattle.replay_core.specs.declared.stop.Stop.TheVariants.{BadLine, Read, Write, Memory}
-use Rattle.replay_core.proofs.LinesLemmas.{whole_is_bad}
-use Rattle.replay_core.proofs.Steps.{Progress-line, Progress-written, Stopped-at, Stopped-writing, Stopped-more, MayStop, no_end}
+use Rattle.replay_core.proofs.Steps.{Progress-line, Progress-written, Stopped-at, Stopped-writing, Stopped-more, no_end}
 
--- a line was answered as far as it was
-abbrev pub LineAnswered : Replay → Replay → State → State → List ℕ → Result (Unit {0}) Stop → Type 0
-LineAnswered r q t u line outcome =
-    OnOk outcome ((answer : Answer) × IsAnswered r.name line answer × IsStepOf t answer u × (q.output.text.items ≡ r.output.text.items ++ answer_text answer))
+-- a call takes the part, from a progress
+abbrev pub TakesFrom : Start → List ℕ → Result (Unit {0}) Stop → Moment → Type 0
+TakesFrom s input outcome m = MatchResult outcome (λ done. Progress s input m) (λ stop. Stopped s input m stop)
 
-may_stop : (r : Replay) (part line : List ℕ) (stop : Stop) → line ≡ r.held.items ++ part → has_end line ≡ false → StopsAt r.name line (r.lines + 1) stop → MayStop r (r.held.items ++ (part ++ 10 ∷ [])) stop
-may_stop r part line (BadLine n) is e at =
-    (subst (IsBadWhatever r.name) (ap (λ (x : List ℕ). x ++ 10 ∷ []) is ∙ append_assoc r.held.items part (10 ∷ [])) (whole_is_bad r.name line [] e at.0), at.1)
-may_stop r part line Read is e at = absurd at
-may_stop r part line Write is e at = absurd at
-may_stop r part line Memory is e at = tt
+-- the whole line stands before the rest of the text
+whole_line : (P : List ℕ → Type 0) (line text : List ℕ) → text ≡ line ++ 10 ∷ [] → has_end line ≡ false → P line → BeginsWithLine P text
+whole_line P line text is e p = (line, [], is, e, p)
 
-pub line_taken : (s : Start) (input : List ℕ) (before : Option (List ℕ)) (r q : Replay) (now : Option (List ℕ)) (t u : State) (part line : List ℕ) (outcome : Result (Unit {0}) Stop)
-    → Progress s input before r now t → has_end part ≡ false → line ≡ r.held.items ++ part
-    → LineAnswered r q t u line outcome → OnErr outcome (q.output.text.items ≡ r.output.text.items) → IfErr outcome (StopsAt r.name line (r.lines + 1)) → OnOk outcome (q.lines ≡ r.lines + 1)
-    → q.held.items ≡ [] → q.name ≡ r.name
-    → MatchResult outcome (λ done. Progress s (input ++ (part ++ 10 ∷ [])) before q now u) (λ stop. Stopped s (input ++ (part ++ 10 ∷ [])) before q now stop)
-line_taken s input before r q now t u part line (Ok done) p e is answered same why count held name =
-    Progress-line s input before r q now t u part answered.0 p e (subst (λ (x : List ℕ). IsAnswered r.name x answered.0) is answered.1) answered.2 held name count answered.3
-line_taken s input before r q now t u part line (Err stop) p e is answered same why count held name =
-    Stopped-at s input before r q now t (part ++ 10 ∷ []) stop p name same (may_stop r part line stop is (ap has_end is ∙ no_end r.held.items part p.held e) why)
+because : (this : TopicName) (line text : List ℕ) (count : ℕ) (t : State) (stop : Stop) (u : State) → text ≡ line ++ 10 ∷ [] → has_end line ≡ false → StopsAt this line (count + 1) t stop u → Because this count text stop
+because this line text count t (BadLine n) u is e at = (at.1, inl (whole_line (IsBadLine this) line text is e at.0))
+because this line text count t Read u is e at = absurd at
+because this line text count t Write u is e at = absurd at
+because this line text count t Memory u is e at = tt
+
+lost_before : (this : TopicName) (line text : List ℕ) (t u : State) → text ≡ line ++ 10 ∷ [] → has_end line ≡ false → MayBeLost this line t u → LeavesBefore this text t Memory u
+lost_before this line text t u is e (inl same) = inl same
+lost_before this line text t u is e (inr lost) = inr (refl, lost.0, whole_line (λ l. IsAnswered this l lost.0) line text is e lost.1.0, lost.1.1)
+
+leaves_before : (this : TopicName) (line text : List ℕ) (count : ℕ) (t : State) (stop : Stop) (u : State) → text ≡ line ++ 10 ∷ [] → has_end line ≡ false → StopsAt this line (count + 1) t stop u → LeavesBefore this text t stop u
+leaves_before this line text count t (BadLine n) u is e at = inl at.2
+leaves_before this line text count t Read u is e at = absurd at
+leaves_before this line text count t Write u is e at = absurd at
+leaves_before this line text count t Memory u is e at = lost_before this line text t u is e at
+
+-- the line that has its end was answered, or was not
+pub line_taken : (s : Start) (input : List ℕ) (m : Moment) (q : Replay) (u : State) (part line : List ℕ) (outcome : Result (Unit {0}) Stop)
+    → Progress s input m → has_end part ≡ false → line ≡ m.replay.held.items ++ part
+    → OnOk outcome ((answer : Answer) × IsAnsweredBy m.replay.name line m.state answer u × (q.output.text.items ≡ m.replay.output.text.items ++ answer_text answer))
+    → OnErr outcome (q.output.text.items ≡ m.replay.output.text.items) → IfErr outcome (λ stop. StopsAt m.replay.name line (m.replay.lines + 1) m.state stop u) → OnOk outcome (q.lines ≡ m.replay.lines + 1)
+    → q.held.items ≡ [] → q.name ≡ m.replay.name
+    → TakesFrom s (input ++ (part ++ 10 ∷ [])) outcome (moment q m.written u)
+line_taken s input m q u part line (Ok done) p e is answered same why count held name =
+    let by = answered.1 in
+    Progress-line s input m q u part answered.0 p e (subst (λ (x : List ℕ). IsAnswered m.replay.name x answered.0) is by.0) by.1 held name count answered.2
+line_taken s input m q u part line (Err stop) p e is answered same why count held name =
+    let text : m.replay.held.items ++ (part ++ 10 ∷ []) ≡ line ++ 10 ∷ [] = sym (append_assoc m.replay.held.items part (10 ∷ [])) ∙ ap (λ (x : List ℕ). x ++ 10 ∷ []) (sym is) in
+    let none : has_end line ≡ false = ap has_end is ∙ no_end m.replay.held.items part p.held e in
+    Stopped-at s input m q u (part ++ 10 ∷ []) stop p name same
+    (because m.replay.name line _ m.replay.lines m.state stop u text none why)
+    (leaves_before m.replay.name line _ m.replay.lines m.state stop u text none why)
 
 -- the gathered answers are written, or a front of them
-pub answers_written : (s : Start) (input : List ℕ) (before : Option (List ℕ)) (r q : Replay) (now after : Option (List ℕ)) (t : State) (outcome : Result (Unit {0}) Stop)
-    → Progress s input before r now t → OnOk outcome (Appends now after r.output.text.items) → IfErr outcome (λ stop. stop ≡ Write) → OnErr outcome (WritesFront now after r.output.text.items)
-    → q.held.items ≡ r.held.items → q.name ≡ r.name → q.lines ≡ r.lines → q.output.text.items ≡ []
-    → MatchResult outcome (λ done. Progress s (input ++ []) before q after t) (λ stop. Stopped s (input ++ []) before q after stop)
-answers_written s input before r q now after t (Ok done) p ok err front held name lines text =
-    subst (λ (x : List ℕ). Progress s x before q after t) (sym (append-nil input)) (Progress-written s input before r q now after t p ok held name lines text)
-answers_written s input before r q now after t (Err stop) p ok err front held name lines text =
-    subst (λ (x : List ℕ). Stopped s x before q after stop) (sym (append-nil input))
-    (subst (Stopped s input before q after) (sym err) (Stopped-writing s input before r q now after t front.0 front.1 p name front.2 front.3))
+pub answers_written : (s : Start) (input : List ℕ) (m : Moment) (q : Replay) (after : Option (List ℕ)) (outcome : Result (Unit {0}) Stop)
+    → Progress s input m → OnOk outcome (Appends m.written after m.replay.output.text.items) → IfErr outcome (λ stop. stop ≡ Write) → OnErr outcome (WritesFront m.written after m.replay.output.text.items)
+    → q.held.items ≡ m.replay.held.items → q.name ≡ m.replay.name → q.lines ≡ m.replay.lines → q.output.text.items ≡ []
+    → TakesFrom s (input ++ []) outcome (moment q after m.state)
+answers_written s input m q after (Ok done) p ok err front held name lines text =
+    subst (λ (x : List ℕ). Progress s x (moment q after m.state)) (sym (append-nil input)) (Progress-written s input m q after p ok held name lines text)
+answers_written s input m q after (Err stop) p ok err front held name lines text =
+    subst (λ (x : List ℕ). Stopped s x (moment q after m.state) stop) (sym (append-nil input))
+    (subst (Stopped s input (moment q after m.state)) (sym err) (Stopped-writing s input m q after front.0 front.1 p name front.2 front.3 text))
 
 -- one call after another
-pub Takes-then : (part more all : List ℕ) (a b c : Replay) (w x y : Option (List ℕ)) (t u v : State) (first outcome : Result (Unit {0}) Stop)
-    → Takes part a w t first b x u → first ≡ Ok tt → Takes more b x u outcome c y v → all ≡ part ++ more → Takes all a w t outcome c y v
-Takes-then part more all a b c w x y t u v first outcome one ok two is s input before p =
-    let middle : Progress s (input ++ part) before b x u = subst (λ (o : Result (Unit {0}) Stop). MatchResult o (λ done. Progress s (input ++ part) before b x u) (λ stop. Stopped s (input ++ part) before b x stop)) ok (one s input before p) in
-    subst (λ (i : List ℕ). MatchResult outcome (λ done. Progress s i before c y v) (λ stop. Stopped s i before c y stop)) (append_assoc input part more ∙ ap (λ (z : List ℕ). input ++ z) (sym is)) (two s (input ++ part) before middle)
+pub Takes-then : (part more all : List ℕ) (a b c : Moment) (first outcome : Result (Unit {0}) Stop)
+    → Takes part a first b → first ≡ Ok tt → Takes more b outcome c → all ≡ part ++ more → Takes all a outcome c
+Takes-then part more all a b c first outcome one ok two is s input p =
+    let middle : Progress s (input ++ part) b = subst (λ (o : Result (Unit {0}) Stop). TakesFrom s (input ++ part) o b) ok (one s input p) in
+    subst (λ (i : List ℕ). TakesFrom s i outcome c) (append_assoc input part more ∙ ap (λ (z : List ℕ). input ++ z) (sym is)) (two s (input ++ part) middle)
 
 -- a call that fails ends the whole
-pub Takes-failed : (part more all : List ℕ) (a b : Replay) (w x : Option (List ℕ)) (t u v : State) (first outcome : Result (Unit {0}) Stop) (stop : Stop)
-    → Takes part a w t first b x u → first ≡ Err stop → outcome ≡ Err stop → all ≡ part ++ more → Takes all a w t outcome b x v
-Takes-failed part more all a b w x t u v first outcome stop one failed same is s input before p =
-    let ended : Stopped s (input ++ part) before b x stop = subst (λ (o : Result (Unit {0}) Stop). MatchResult o (λ done. Progress s (input ++ part) before b x u) (λ stop. Stopped s (input ++ part) before b x stop)) failed (one s input before p) in
-    let longer : Stopped s (input ++ all) before b x stop = subst (λ (i : List ℕ). Stopped s i before b x stop) (append_assoc input part more ∙ ap (λ (z : List ℕ). input ++ z) (sym is)) (Stopped-more s (input ++ part) before b x stop more ended) in
-    subst (λ (o : Result (Unit {0}) Stop). MatchResult o (λ done. Progress s (input ++ all) before b x v) (λ stop. Stopped s (input ++ all) before b x stop)) (sym same) longer
+pub Takes-failed : (part more all : List ℕ) (a b : Moment) (first outcome : Result (Unit {0}) Stop) (stop : Stop)
+    → Takes part a first b → first ≡ Err stop → outcome ≡ Err stop → all ≡ part ++ more → Takes all a outcome b
+Takes-failed part more all a b first outcome stop one failed same is s input p =
+    let ended : Stopped s (input ++ part) b stop = subst (λ (o : Result (Unit {0}) Stop). TakesFrom s (input ++ part) o b) failed (one s input p) in
+    let longer : Stopped s (input ++ all) b stop = subst (λ (i : List ℕ). Stopped s i b stop) (append_assoc input part more ∙ ap (λ (z : List ℕ). input ++ z) (sym is)) (Stopped-more s (input ++ part) b stop more ended) in
+    subst (λ (o : Result (Unit {0}) Stop). TakesFrom s (input ++ all) o b) (sym same) longer
 
 pub nil_of : (held : List ℕ) → length held ≡ 0 → held ≡ []
 nil_of [] e = refl

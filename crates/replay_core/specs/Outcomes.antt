@@ -1,4 +1,4 @@
--- How a replay ended.
+-- What a private function asks of the way in which a replay ended.
 use Rattle.std.specs.Prelude.{ℕ, Bool, true, false, Option, Some, None}
 use Rattle.std.specs.declared.result.Result.{Result}
 use Rattle.std.specs.declared.result.Result.TheVariants.{Ok, Err}
@@ -13,6 +13,7 @@ bad_line_in (Err Read) = None
 bad_line_in (Err Write) = None
 bad_line_in (Err Memory) = None
 
+-- whether it ended because nothing could be written
 abbrev pub failed_writing : Result (Unit {0}) Stop → Bool
 failed_writing (Ok done) = false
 failed_writing (Err (BadLine n)) = false

@@ -1,5 +1,6 @@
--- What a replay writes: the lines of the replies of a run.
-use Rattle.std.specs.Prelude.{◌≡◌, ℕ, ◌+◌, List, [], ◌∷◌, ◌++◌, ◌⊎◌, length, drop, codes, Option, Some, None}
+-- What a replay does: it answers the lines that it reads by a run of the delivery machine, and writes the answers.
+use Rattle.std.specs.Prelude.{◌≡◌, ℕ, ◌+◌, ◌<◌, ◌≤◌, List, [], ◌∷◌, ◌++◌, ◌⊎◌, length, drop, codes, Option, Some, None}
+use Rattle.std.specs.Io.KnownBytes.{Appends, Consumes, IsAtEnd}
 use Rattle.std.specs.List.{flat_map, filter_map}
 use Rattle.std.specs.Fmt.{decimal}
 use Rattle.std.specs.declared.result.Result.{Result}
@@ -7,11 +8,11 @@ use Rattle.std.specs.declared.result.Result.TheVariants.{Ok, Err}
 use Rattle.position_core.specs.declared.topic_name.TopicName.{TopicName}
 use Rattle.position_core.specs.declared.fault.Fault.TheVariants.{BadId}
 use Rattle.delivery_machine.specs.State.{State}
-use Rattle.delivery_machine.specs.Run.{Run}
+use Rattle.delivery_machine.specs.Run.{Answers, Run}
 use Rattle.delivery_machine.specs.declared.event.Event.{Event}
 use Rattle.delivery_machine.specs.declared.reply.Reply.{Reply}
 use Rattle.replay_core.specs.Lines.{lines_of, ends_in}
-use Rattle.replay_lines.specs.Grammar.{IsLine, IsBadLine}
+use Rattle.replay_lines.specs.Grammar.{IsLine, IsBadLine, longest_line}
 use Rattle.replay_core.specs.Printing.{reply_text, refused_text}
 use Rattle.replay_lines.specs.declared.reading.Line.TheVariants as lines
 use Rattle.replay_core.specs.declared.stop.Stop.{Stop}
@@ -22,10 +23,12 @@ pub data Answer : Type 0 where
   replied : Event → Reply → Answer
   bad_id : Answer
 
+-- the event of the answer, which a bad id has not
 abbrev pub event_in : Answer → Option Event
 event_in (replied event reply) = Some event
 event_in bad_id = None
 
+-- the reply of the answer
 abbrev pub reply_in : Answer → Option Reply
 reply_in (replied event reply) = Some reply
 reply_in bad_id = None
@@ -35,9 +38,15 @@ abbrev pub answer_text : Answer → List ℕ
 answer_text (replied event reply) = reply_text event reply ++ 10 ∷ []
 answer_text bad_id = refused_text BadId ++ 10 ∷ []
 
+-- the line stands for what was answered
 abbrev pub IsAnswered : TopicName → List ℕ → Answer → Type 0
 IsAnswered this line (replied event reply) = IsLine this line (lines.Event event)
 IsAnswered this line bad_id = IsLine this line lines.BadId
+
+-- the answer is a step from the one state to the other
+abbrev pub IsStepOf : State → Answer → State → Type 0
+IsStepOf s (replied event reply) t = Answers s event reply t
+IsStepOf s bad_id t = t ≡ s
 
 -- each of the first lines was answered
 abbrev pub AreAnswered : TopicName → List (List ℕ) → List Answer → Type 0
@@ -49,47 +58,99 @@ AreAnswered this (line ∷ lines) (answer ∷ answers) = IsAnswered this line an
 abbrev pub IsRun : State → List Answer → State → Type 0
 IsRun s answers t = Run s (filter_map event_in answers) (filter_map reply_in answers) t
 
+-- the lines of the answers, one after another
 abbrev pub texts : List Answer → List ℕ
 texts answers = flat_map answer_text answers
 
--- the first of the lines stands for nothing
-abbrev pub IsBadFirst : TopicName → List (List ℕ) → Type 0
-IsBadFirst this [] = ⊥
-IsBadFirst this (line ∷ lines) = IsBadLine this line
+-- ---- the lines that have ended
 
+-- the ends of so many lines were read, or nothing is left to read
+abbrev pub HaveEnded : List ℕ → Option (List ℕ) → ℕ → Type 0
+HaveEnded read left count = (count ≤ ends_in read) ⊎ IsAtEnd left
+
+-- the lines that were not answered
+abbrev pub lines_after : List ℕ → List Answer → List (List ℕ)
+lines_after read answers = drop (length answers) (lines_of read)
+
+-- the lines begin with one that is such
+abbrev pub BeginsWith : (List ℕ → Type 0) → List (List ℕ) → Type 0
+BeginsWith P [] = ⊥
+BeginsWith P (line ∷ lines) = P line
+
+-- the line after the answered ones has ended, and is such
+abbrev pub IsNext : List ℕ → Option (List ℕ) → List Answer → (List ℕ → Type 0) → Type 0
+IsNext read left answers P = HaveEnded read left (length answers + 1) × BeginsWith P (lines_after read answers)
+
+-- the line has more bytes than a line may have, so that it stands for nothing
+abbrev pub IsTooLong : List ℕ → Type 0
+IsTooLong line = longest_line < length line
+
+-- the line after the answered ones stands for nothing; it has ended, or what was read of it is too long already
+abbrev pub IsBadNext : TopicName → List ℕ → Option (List ℕ) → List Answer → Type 0
+IsBadNext this read left answers = IsNext read left answers (IsBadLine this) ⊎ BeginsWith IsTooLong (lines_after read answers)
+
+-- ---- how a replay ends
+
+-- why a replay ended after its answers: all lines were answered and nothing is left to read, or the next line is bad;
+-- where the reader failed, each line that had its end was answered
+abbrev pub Ends : TopicName → List ℕ → Option (List ℕ) → List Answer → Result (Unit {0}) Stop → Type 0
+Ends this read left answers (Ok done) = (length answers ≡ length (lines_of read)) × IsAtEnd left
+Ends this read left answers (Err (BadLine n)) = (n ≡ length answers + 1) × IsBadNext this read left answers
+Ends this read left answers (Err Read) = length answers ≡ ends_in read
+Ends this read left answers (Err Write) = Unit {0}
+Ends this read left answers (Err Memory) = Unit {0}
+
+-- the last line of a replay that ended at a bad one
 abbrev pub bad_line_text : ℕ → List ℕ
 bad_line_text n = codes "bad line " ++ decimal n ++ 10 ∷ []
 
--- the line after those that were answered stands for nothing, and has the number
-abbrev pub IsBadAfter : TopicName → List (List ℕ) → List Answer → ℕ → Type 0
-IsBadAfter this lines answers n = IsBadFirst this (drop (length answers) lines) × (n ≡ length answers + 1)
+-- what is written after the answers: the number of a bad line
+abbrev pub last_words : Result (Unit {0}) Stop → List ℕ
+last_words (Ok done) = []
+last_words (Err (BadLine n)) = bad_line_text n
+last_words (Err Read) = []
+last_words (Err Write) = []
+last_words (Err Memory) = []
 
--- what follows the answers: nothing where all lines were answered, or at a fault; the number of a bad line
-abbrev pub Ends : TopicName → List (List ℕ) → List Answer → Result (Unit {0}) Stop → List ℕ → Type 0
-Ends this lines answers (Ok done) written = (length answers ≡ length lines) × (written ≡ texts answers)
-Ends this lines answers (Err (BadLine n)) written = IsBadAfter this lines answers n × (written ≡ texts answers ++ bad_line_text n)
-Ends this lines answers (Err Read) written = written ≡ texts answers
-Ends this lines answers (Err Memory) written = written ≡ texts answers
-Ends this lines answers (Err Write) written =
-    (whole : List ℕ) × (rest : List ℕ) × (written ++ rest ≡ whole)
-    × ((whole ≡ texts answers) ⊎ ((n : ℕ) × IsBadAfter this lines answers n × (whole ≡ texts answers ++ bad_line_text n)))
+-- all of the text is written, or a front of it where writing failed
+abbrev pub IsWritten : List ℕ → Result (Unit {0}) Stop → List ℕ → Type 0
+IsWritten text outcome written = (written ≡ text) ⊎ ((outcome ≡ Err Write) × (rest : List ℕ) × (written ++ rest ≡ text))
 
--- where the reader failed, just the lines that had their end were answered
-abbrev pub Reaches : List ℕ → List Answer → Result (Unit {0}) Stop → Type 0
-Reaches input answers (Ok done) = Unit {0}
-Reaches input answers (Err (BadLine n)) = Unit {0}
-Reaches input answers (Err Read) = length answers ≡ ends_in input
-Reaches input answers (Err Write) = Unit {0}
-Reaches input answers (Err Memory) = Unit {0}
+-- the reply of the next line was lost for want of memory, when the line had led to the state
+abbrev pub IsLost : TopicName → List ℕ → Option (List ℕ) → List Answer → State → State → Type 0
+IsLost this read left answers last state =
+    (answer : Answer) × IsNext read left answers (λ line. IsAnswered this line answer) × IsStepOf last answer state
 
--- from the state, by the lines of the input: the first lines are answered by a run, and what is written is their answers and an end
-pub record IsReplay (s : State) (this : TopicName) (input : List ℕ) (outcome : Result (Unit {0}) Stop) (written : List ℕ) : Type 0 where
+-- ---- the replay
+
+-- what stands beside a replay: what its reader has left, what its writer holds, and the state of its topic
+pub record Sides : Type 0 where
+  pub left : Option (List ℕ)
+  pub written : Option (List ℕ)
+  pub state : State
+
+abbrev pub sides : Option (List ℕ) → Option (List ℕ) → State → Sides
+sides left written state = record { left = left; written = written; state = state }
+
+-- a replay of the topic of the name reads some of its input, answers the first lines by a run, and writes the answers
+pub record IsReplay (this : TopicName) (old : Sides) (outcome : Result (Unit {0}) Stop) (new : Sides) : Type 0 where
+  pub read : List ℕ
+  pub consumed : Consumes old.left new.left read
   pub answers : List Answer
+  pub answered : AreAnswered this (lines_of read) answers
+  -- no line is answered before its end was read
+  pub ended : HaveEnded read new.left (length answers)
   pub last : State
-  pub answered : AreAnswered this (lines_of input) answers
-  pub run : IsRun s answers last
-  pub ends : Ends this (lines_of input) answers outcome written
-  pub reaches : Reaches input answers outcome
+  pub run : IsRun old.state answers last
+  -- how it ended, but for a fault of the writer
+  pub cause : Result (Unit {0}) Stop
+  pub same : (outcome ≡ cause) ⊎ (outcome ≡ Err Write)
+  pub ends : Ends this read new.left answers cause
+  pub written : List ℕ
+  pub appended : Appends old.written new.written written
+  pub text : IsWritten (texts answers ++ last_words cause) outcome written
+  -- no event was applied but those of the answers, and one whose reply was lost
+  pub leaves : (new.state ≡ last) ⊎ ((cause ≡ Err Memory) × IsLost this read new.left answers last new.state)
 
 -- `persistent://public/default/t`
 abbrev pub this_topic : TopicName

@@ -1,14 +1,13 @@
 // The replay of a topic: lines in, lines out.
-ghost use Rattle.std.specs.Prelude.{◌≡◌, ◌+◌, ◌<◌, ◌≤◌, ◌^◌, List, ℕ, Option, [], ◌∷◌, ◌++◌, length, OnOk, OnErr, IfErr, IfOk, Err, false, string_bytes};
-ghost use Rattle.std.specs.Io.KnownBytes.{Appends, Consumes, IsAtEnd};
+ghost use Rattle.std.specs.Prelude.{◌≡◌, ◌∷◌, ◌++◌, [], OnOk, Err, string_bytes};
 ghost use Rattle.delivery_machine.specs.Run.{Answers};
 ghost use Rattle.delivery_machine.specs.declared.reply.Reply.{Reply};
 ghost use Rattle.replay_lines.specs.Grammar.{IsBadLine};
 ghost use Rattle.replay_core.specs.Printing.{reply_text};
-ghost use Rattle.replay_core.specs.Replay.{Answer, IsAnswered, IsReplay, answer_text, bad_id};
-ghost use Rattle.replay_core.specs.Answering.{IsStepOf, StopsAt};
+ghost use Rattle.replay_core.specs.Replay.{Answer, IsReplay, sides, answer_text, bad_id};
+ghost use Rattle.replay_core.specs.Answering.{IsAnsweredBy, MayBeLost};
 ghost use Rattle.replay_core.specs.Outcomes.{bad_line_in, failed_writing};
-ghost use Rattle.replay_lines.specs.declared.words.Unread.TheVariants.{BadLine};
+ghost use Rattle.replay_lines.specs.declared.words.Unread.TheVariants.{BadLine, Memory};
 
 use crate::output::Output;
 use crate::printing::{append_refused, append_reply};
@@ -46,7 +45,8 @@ fn append_event_answer<T: Topic>(
     event: &Event,
     out: &mut String,
 ) -> Result<(), AllocError>
-    ensures { OnOk result ((reply : Reply) × Answers (T.state topic.old) event.now reply (T.state topic.new) × (string_bytes out.new ≡ string_bytes out.old ++ (reply_text event.now reply ++ 10 ∷ []))) }
+    ensures { (reply : Reply) × Answers (T.state topic.old) event.now reply (T.state topic.new)
+        × OnOk result (string_bytes out.new ≡ string_bytes out.old ++ (reply_text event.now reply ++ 10 ∷ [])) }
 {
     let reply = topic.apply(event);
     append_reply(out, event, &reply)?;
@@ -69,8 +69,10 @@ fn append_answer<T: Topic>(
     line: &[u8],
     out: &mut String,
 ) -> Result<(), Unread>
-    ensures ok { OnOk result ((answer : Answer) × IsAnswered name.now line.now answer × IsStepOf (T.state topic.old) answer (T.state topic.new) × (string_bytes out.new ≡ string_bytes out.old ++ answer_text answer)) }
+    ensures ok { OnOk result ((answer : Answer) × IsAnsweredBy name.now line.now (T.state topic.old) answer (T.state topic.new) × (string_bytes out.new ≡ string_bytes out.old ++ answer_text answer)) }
     ensures bad { result ≡ Err BadLine → IsBadLine name.now line.now }
+    ensures kept { result ≡ Err BadLine → T.state topic.new ≡ T.state topic.old }
+    ensures memory { result ≡ Err Memory → MayBeLost name.now line.now (T.state topic.old) (T.state topic.new) }
 {
     match read_line(alloc, name, line) {
         Ok(Line::Event(event)) => {
@@ -102,20 +104,19 @@ fn failed_writing(outcome: &Result<(), Stop>) -> bool
 }
 
 impl Replay {
-    ghost use Rattle.std.specs.Prelude.{◌≡◌, ◌+◌, ◌<◌, ◌≤◌, ◌^◌, List, ℕ, Option, [], ◌∷◌, ◌++◌, length, OnOk, OnErr, IfErr, IsOk, false};
-    ghost use Rattle.replay_core.specs.Replay.{Answer, IsAnswered, answer_text};
-    ghost use Rattle.replay_core.specs.Answering.{IsStepOf, StopsAt};
+    ghost use Rattle.std.specs.Prelude.{◌≡◌, ◌+◌, ◌*◌, ◌<◌, ◌≤◌, ◌^◌, List, ℕ, Option, [], ◌∷◌, ◌++◌, length, OnOk, OnErr, IfErr, false};
+    ghost use Rattle.std.specs.Io.KnownBytes.{Consumes, IsAtEnd};
     ghost use Rattle.delivery_machine.specs.State.{State};
-    ghost use Rattle.replay_core.specs.Progress.{Closing, Ended, Progress, Start, Takes, has_end};
-    ghost use Rattle.replay_core.specs.Replay.{IsReplay, bad_line_text};
-    ghost use Rattle.std.specs.Io.KnownBytes.{Appends, Consumes, IsAtEnd};
+    ghost use Rattle.replay_core.specs.Replay.{Answer, IsReplay, sides, answer_text, bad_line_text, last_words};
+    ghost use Rattle.replay_core.specs.Answering.{IsAnsweredBy, StopsAt};
+    ghost use Rattle.replay_core.specs.Progress.{Ended, Progress, Start, Takes, has_end, moment};
 
     /// Answers a whole line, without its end.
     pub fn answer_line<T: Topic>(&mut self, topic: &mut T, line: &[u8]) -> Result<(), Stop>
         requires { self.old.lines + 1 < 2 ^ 64 }
-        ensures ok { OnOk result ((answer : Answer) × IsAnswered self.old.name line.now answer × IsStepOf (T.state topic.old) answer (T.state topic.new) × (self.new.output.text.items ≡ self.old.output.text.items ++ answer_text answer)) }
+        ensures ok { OnOk result ((answer : Answer) × IsAnsweredBy self.old.name line.now (T.state topic.old) answer (T.state topic.new) × (self.new.output.text.items ≡ self.old.output.text.items ++ answer_text answer)) }
         ensures err { OnErr result (self.new.output.text.items ≡ self.old.output.text.items) }
-        ensures why { IfErr result (StopsAt self.old.name line.now (self.old.lines + 1)) }
+        ensures why { IfErr result (λ stop. StopsAt self.old.name line.now (self.old.lines + 1) (T.state topic.old) stop (T.state topic.new)) }
         ensures count { OnOk result (self.new.lines ≡ self.old.lines + 1) }
         ensures most { self.new.lines ≤ self.old.lines + 1 }
         ensures held { self.new.held.items ≡ self.old.held.items }
@@ -136,7 +137,7 @@ impl Replay {
     fn hold(&mut self, part: &[u8]) -> Result<(), Stop>
         requires bound { self.old.lines + 1 < 2 ^ 64 }
         requires open_end { has_end part.now ≡ false }
-        ensures takes { (w : Option (List ℕ)) (t : State) → Takes part.now self.old w t result self.new w t }
+        ensures takes { (w : Option (List ℕ)) (t : State) → Takes part.now (moment self.old w t) result (moment self.new w t) }
         ensures lines { self.new.lines ≡ self.old.lines }
     {
         if self.held.len().saturating_add(part.len()) > LONGEST_LINE {
@@ -149,7 +150,7 @@ impl Replay {
     /// Answers the line that is held, which has ended.
     fn answer_held<T: Topic>(&mut self, topic: &mut T) -> Result<(), Stop>
         requires { self.old.lines + 1 < 2 ^ 64 }
-        ensures takes { (w : Option (List ℕ)) → Takes (10 ∷ []) self.old w (T.state topic.old) result self.new w (T.state topic.new) }
+        ensures takes { (w : Option (List ℕ)) → Takes (10 ∷ []) (moment self.old w (T.state topic.old)) result (moment self.new w (T.state topic.new)) }
         ensures lines { self.new.lines ≤ self.old.lines + 1 }
         ensures held { self.new.held.items ≡ [] }
     {
@@ -161,7 +162,7 @@ impl Replay {
     fn end_line<T: Topic>(&mut self, topic: &mut T, part: &[u8]) -> Result<(), Stop>
         requires bound { self.old.lines + 1 < 2 ^ 64 }
         requires open_end { has_end part.now ≡ false }
-        ensures takes { (w : Option (List ℕ)) → Takes (part.now ++ 10 ∷ []) self.old w (T.state topic.old) result self.new w (T.state topic.new) }
+        ensures takes { (w : Option (List ℕ)) → Takes (part.now ++ 10 ∷ []) (moment self.old w (T.state topic.old)) result (moment self.new w (T.state topic.new)) }
         ensures lines { self.new.lines ≤ self.old.lines + 1 }
     {
         if self.held.is_empty() {
@@ -173,7 +174,7 @@ impl Replay {
 
     /// Writes the gathered answers.
     fn write_answers<W: Write>(&mut self, writer: &mut W) -> Result<(), Stop>
-        ensures takes { (t : State) → Takes [] self.old (W.contents writer.old) t result self.new (W.contents writer.new) t }
+        ensures takes { (t : State) → Takes [] (moment self.old (W.contents writer.old) t) result (moment self.new (W.contents writer.new) t) }
         ensures lines { self.new.lines ≡ self.old.lines }
     {
         self.output.write_to(writer)
@@ -188,7 +189,7 @@ impl Replay {
     ) -> Result<(), Stop>
         requires bound { self.old.lines + 1 < 2 ^ 64 }
         requires open_end { has_end part.now ≡ false }
-        ensures takes { Takes (part.now ++ 10 ∷ []) self.old (W.contents writer.old) (T.state topic.old) result self.new (W.contents writer.new) (T.state topic.new) }
+        ensures takes { Takes (part.now ++ 10 ∷ []) (moment self.old (W.contents writer.old) (T.state topic.old)) result (moment self.new (W.contents writer.new) (T.state topic.new)) }
         ensures lines { self.new.lines ≤ self.old.lines + 1 }
     {
         self.end_line(topic, part)?;
@@ -206,7 +207,7 @@ impl Replay {
         writer: &mut W,
     ) -> Result<(), Stop>
         requires { self.old.lines + length piece.now + 1 < 2 ^ 64 }
-        ensures takes { Takes piece.now self.old (W.contents writer.old) (T.state topic.old) result self.new (W.contents writer.new) (T.state topic.new) }
+        ensures takes { Takes piece.now (moment self.old (W.contents writer.old) (T.state topic.old)) result (moment self.new (W.contents writer.new) (T.state topic.new)) }
         ensures lines { self.new.lines ≤ self.old.lines + length piece.now }
     {
         let mut rest = piece;
@@ -220,7 +221,8 @@ impl Replay {
     /// Answers the last line, where the input does not end with the end of a line.
     fn end_input<T: Topic>(&mut self, topic: &mut T) -> Result<(), Stop>
         requires { self.old.lines + 1 < 2 ^ 64 }
-        ensures { (s : Start) (input : List ℕ) (before w : Option (List ℕ)) → Progress s input before self.old w (T.state topic.old) → Ended s input before self.new w result }
+        ensures { (s : Start) (input : List ℕ) (left w : Option (List ℕ)) → IsAtEnd left → Progress s input (moment self.old w (T.state topic.old))
+            → Ended s input left (moment self.new w (T.state topic.new)) result [] }
     {
         if self.held.is_empty() {
             return Ok(());
@@ -238,8 +240,9 @@ impl Replay {
     ) -> Result<(), Stop>
         requires begins { (self.old.lines ≡ 0) × (self.old.held.items ≡ []) × (self.old.output.text.items ≡ []) }
         requires room { (0 < length piece.old) × (length piece.old ≤ 65536) }
-        ensures ended { (read : List ℕ) × Consumes (R.remaining reader.old) (R.remaining reader.new) read × Ended (record { state = T.state topic.old; name = self.old.name }) read (W.contents writer.old) self.new (W.contents writer.new) result }
-        ensures at_end { OnOk result (IsAtEnd (R.remaining reader.new)) }
+        ensures { (read : List ℕ) × Consumes (R.remaining reader.old) (R.remaining reader.new) read
+            × Ended (record { name = self.old.name; written = W.contents writer.old; state = T.state topic.old }) read (R.remaining reader.new)
+            (moment self.new (W.contents writer.new) (T.state topic.new)) result [] }
     {
         for turn in 0..MOST_READS {
             self.write_answers(writer)?;
@@ -266,9 +269,8 @@ impl Replay {
 
     /// Gathers which line was bad, if one was.
     fn name_bad_line(&mut self, outcome: Result<(), Stop>) -> Result<(), Stop>
-        ensures closes { (s : Start) (input : List ℕ) (before w : Option (List ℕ)) → Ended s input before self.old w outcome → Closing s input before self.new w result }
-        ensures name { self.new.name ≡ self.old.name }
-        ensures through { OnOk result (IsOk outcome) }
+        ensures { (s : Start) (input : List ℕ) (left w : Option (List ℕ)) (t : State) → Ended s input left (moment self.old w t) outcome []
+            → Ended s input left (moment self.new w t) result (last_words result) }
     {
         let Some(number) = bad_line(&outcome) else {
             return outcome;
@@ -283,8 +285,9 @@ impl Replay {
         outcome: Result<(), Stop>,
         writer: &mut W,
     ) -> Result<(), Stop>
-        ensures through { OnOk result (IsOk outcome) }
-        ensures replays { (s : Start) (input : List ℕ) (before : Option (List ℕ)) → Closing s input before self.old (W.contents writer.old) outcome → (written : List ℕ) × Appends before (W.contents writer.new) written × IsReplay s.state s.name input result written }
+        ensures { (s : Start) (input : List ℕ) (before left : Option (List ℕ)) (t : State) → Consumes before left input
+            → Ended s input left (moment self.old (W.contents writer.old) t) outcome (last_words outcome)
+            → IsReplay s.name (sides before s.written s.state) result (sides left (W.contents writer.new) t) }
     {
         if failed_writing(&outcome) {
             return outcome;
@@ -302,8 +305,8 @@ pub fn replay_over<T: Topic, R: Read, W: Write>(
     reader: &mut R,
     writer: &mut W,
 ) -> Result<(), Stop>
-    ensures replays { (read written : List ℕ) × Consumes (R.remaining reader.old) (R.remaining reader.new) read × Appends (W.contents writer.old) (W.contents writer.new) written × IsReplay (T.state topic.old) name read result written }
-    ensures at_end { OnOk result (IsAtEnd (R.remaining reader.new)) }
+    ensures { IsReplay name (sides (R.remaining reader.old) (W.contents writer.old) (T.state topic.old)) result
+        (sides (R.remaining reader.new) (W.contents writer.new) (T.state topic.new)) }
 {
     let mut piece = vec![in alloc; 0u8; PIECE]?;
     let mut replay = Replay {

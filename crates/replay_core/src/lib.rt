@@ -11,5 +11,5 @@ mod stop;
 
 pub use arguments::read_ledger_size;
 pub use engine::replay_over;
-pub use plain::replay;
+pub use plain::{replay, replay_to_status};
 pub use stop::{Stop, status};

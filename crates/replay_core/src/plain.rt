@@ -1,13 +1,13 @@
 // The replay of the topic that the program replays, kept as a plain topic.
-ghost use Rattle.std.specs.Prelude.{◌≡◌, ℕ, List, IsTrue, IfOk, OnOk};
-ghost use Rattle.std.specs.Io.KnownBytes.{Appends, Consumes, IsAtEnd};
+ghost use Rattle.std.specs.Prelude.{◌≡◌, IsTrue, IfOk};
 ghost use Rattle.position_core.specs.Name.{is_name};
-ghost use Rattle.delivery_machine.specs.State.{fresh};
+ghost use Rattle.delivery_machine.specs.State.{State, fresh};
 ghost use Rattle.plain_topic.specs.StateOf.{state_of};
-ghost use Rattle.replay_core.specs.Replay.{IsReplay, this_topic};
+ghost use Rattle.replay_core.specs.Replay.{IsReplay, sides, this_topic};
+ghost use Rattle.replay_core.specs.Stops.{EndsWith};
 
 use crate::engine::replay_over;
-use crate::stop::Stop;
+use crate::stop::{Stop, status};
 use plain_topic::PlainTopic;
 use position_core::{LedgerSize, Name, TopicName};
 use std::alloc::{AllocError, Global};
@@ -50,9 +50,23 @@ pub fn replay<R: Read, W: Write>(
     writer: &mut W,
     ledger_size: LedgerSize,
 ) -> Result<(), Stop>
-    ensures replays { (read written : List ℕ) × Consumes (R.remaining reader.old) (R.remaining reader.new) read × Appends (W.contents writer.old) (W.contents writer.new) written × IsReplay (fresh this_topic ledger_size) this_topic read result written }
-    ensures at_end { OnOk result (IsAtEnd (R.remaining reader.new)) }
+    ensures { (last : State) × IsReplay this_topic (sides (R.remaining reader.old) (W.contents writer.old) (fresh this_topic ledger_size)) result
+        (sides (R.remaining reader.new) (W.contents writer.new) last) }
 {
     let (name, mut topic) = fresh_topic(alloc, ledger_size)?;
     replay_over(alloc, name, &mut topic, reader, writer)
+}
+
+/// Replays a fresh topic, and answers the status for a program to end with.
+pub fn replay_to_status<R: Read, W: Write>(
+    alloc: Global,
+    reader: &mut R,
+    writer: &mut W,
+    ledger_size: LedgerSize,
+) -> u8
+    ensures { EndsWith (sides (R.remaining reader.old) (W.contents writer.old) (fresh this_topic ledger_size)) result
+        (R.remaining reader.new) (W.contents writer.new) }
+{
+    let outcome = replay(alloc, reader, writer, ledger_size);
+    status(&outcome)
 }

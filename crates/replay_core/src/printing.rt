@@ -6,7 +6,9 @@ ghost use Rattle.replay_core.specs.Printing.{producer_name, copy_text, target_te
 
 use crate::names::{append_name, append_target};
 use delivery_machine::{Delivery, Event, Reply};
-use position_core::{ConsumerNumber, Fault, Kind, Message, Ordinal, Position, ProducerNumber, TopicName};
+use position_core::{
+    ConsumerNumber, Fault, Kind, Message, Ordinal, Position, ProducerNumber, TopicName,
+};
 use replay_lines::append_payload;
 use std::alloc::AllocError;
 

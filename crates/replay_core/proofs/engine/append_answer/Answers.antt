@@ -1,4 +1,4 @@
-use Rattle.std.proofs.Common.{refl}
+use Rattle.std.proofs.Common.{refl, inr}
 use Rattle.replay_core.specs.Replay.{replied, bad_id}
 use Rattle.replay_core.proofs.engine.append_answer.Goals as goal
 
@@ -7,10 +7,17 @@ pub returns-in_ok-append_event_answer-in-Ok-Event-clause-ok :
 returns-in_ok-append_event_answer-in-Ok-Event-clause-ok g c =
     let done = c.in_ok-append_event_answer-in-Ok-Event.ensures in
     let stands = rw c.in-Ok-Event.field-0-is at c.in-Ok-Event.ensures in
-    (replied c.in-Ok-Event.event done.0, stands, done.1, done.2)
+    (replied c.in-Ok-Event.event done.0, (stands, done.1), done.2)
 
 pub returns-in_ok-append_bad_id-in-Ok-BadId-clause-ok :
     goal.returns-in_ok-append_bad_id-in-Ok-BadId-clause-ok
 returns-in_ok-append_bad_id-in-Ok-BadId-clause-ok g c =
     let stands = rw c.in-Ok-BadId.field-0-is at c.in-Ok-BadId.ensures in
-    (bad_id, stands, refl, c.in_ok-append_bad_id-in-Ok-BadId.ensures)
+    (bad_id, (stands, refl), c.in_ok-append_bad_id-in-Ok-BadId.ensures)
+
+pub returns-in_err-append_event_answer-in-Ok-Event-clause-memory :
+    goal.returns-in_err-append_event_answer-in-Ok-Event-clause-memory
+returns-in_err-append_event_answer-in-Ok-Event-clause-memory g c =
+    let done = c.in_err-append_event_answer-in-Ok-Event.ensures in
+    let stands = rw c.in-Ok-Event.field-0-is at c.in-Ok-Event.ensures in
+    λ e. inr (replied c.in-Ok-Event.event done.0, (stands, done.1))

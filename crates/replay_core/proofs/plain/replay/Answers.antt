@@ -1,9 +1,7 @@
-use Rattle.std.proofs.Common.{[]}
-use Rattle.std.proofs.KnownBytes.{Consumes-nil, Appends-nil}
 use Rattle.replay_core.specs.declared.stop.Stop.TheVariants.{Memory}
-use Rattle.replay_core.proofs.Endings.{without_topic}
+use Rattle.replay_core.proofs.Endings.{no_replay, Replayed-as}
 use Rattle.replay_core.proofs.Taking.{err_is}
 use Rattle.replay_core.proofs.plain.replay.Goals as goal
 
-pub returns-in_err-name-clause-replays : goal.returns-in_err-name-clause-replays
-returns-in_err-name-clause-replays g c = ([], [], Consumes-nil _, Appends-nil _, without_topic _ _ c.from_residual.result (err_is _ Memory c.from_residual.ensures.1))
+pub returns-in_err-name : goal.returns-in_err-name
+returns-in_err-name g c = (_, Replayed-as _ _ _ _ c.from_residual.result (err_is _ Memory c.from_residual.ensures.1) (no_replay _ _))

@@ -1,14 +1,15 @@
-use Rattle.std.proofs.Common.{◌≡◌, length, arith}
+use Rattle.std.proofs.Common.{◌≡◌, length, refl, arith}
 use Rattle.std.proofs.lemmas.Bool.Decides.{nat_tests}
+use Rattle.replay_core.specs.Progress.{moment}
 use Rattle.replay_core.proofs.Taking.{nil_of}
 use Rattle.replay_core.proofs.Endings.{Ended-whole, Ended-last}
 use Rattle.replay_core.proofs.engine.Replay.end_input.Goals as goal
 
 pub returns-then-is_empty : goal.returns-then-is_empty
-returns-then-is_empty g c = λ s input before w p.
+returns-then-is_empty g c = λ s input left w at_end p.
     let gone : length c.args.self.now.held.items ≡ 0 = grind (arith, nat_tests, c.args.self.now.held.ok) in
-    Ended-whole s input before c.args.self.now w _ p (nil_of c.args.self.now.held.items gone)
+    Ended-whole s input input left (moment c.args.self.now w (g.T.Topic.state c.args.topic.now)) at_end p refl (nil_of c.args.self.now.held.items gone)
 
 pub returns : goal.returns
-returns g c = λ s input before w p.
-    Ended-last s input before c.args.self.now _ w (g.T.Topic.state c.args.topic.now) (g.T.Topic.state c.answer_held.new.topic) c.answer_held.result p (λ e. grind (arith, nat_tests, c.args.self.now.held.ok, e)) c.answer_held.ensures.held (c.answer_held.ensures.takes w s input before p)
+returns g c = λ s input left w at_end p.
+    Ended-last s input left (moment c.args.self.now w (g.T.Topic.state c.args.topic.now)) (moment c.answer_held.new.self w (g.T.Topic.state c.answer_held.new.topic)) c.answer_held.result at_end p (λ e. grind (arith, nat_tests, c.args.self.now.held.ok, e)) c.answer_held.ensures.held (c.answer_held.ensures.takes w s input p)

@@ -1,14 +1,16 @@
-use Rattle.std.proofs.Common.{◌<◌, ◌+◌, ◌++◌, length, refl, arith, length-append}
-use Rattle.replay_lines.specs.Grammar.{longest_line}
+use Rattle.std.proofs.Common.{◌+◌, ◌++◌, [], refl, sym, inl, inr, arith, length-append, append-nil}
+use Rattle.replay_core.specs.Replay.{IsTooLong}
+use Rattle.replay_core.specs.Progress.{moment}
 use Rattle.replay_core.specs.declared.stop.Stop.TheVariants.{BadLine}
-use Rattle.replay_core.proofs.LinesLemmas.{long_is_bad}
 use Rattle.replay_core.proofs.Steps.{Stopped-at, no_end}
 use Rattle.replay_core.proofs.engine.Replay.hold.Goals as goal
 
 pub returns-then-saturating_add-gt-LONGEST_LINE-clause-takes :
     goal.returns-then-saturating_add-gt-LONGEST_LINE-clause-takes
-returns-then-saturating_add-gt-LONGEST_LINE-clause-takes c = λ w t s input before p.
+returns-then-saturating_add-gt-LONGEST_LINE-clause-takes c = λ w t s input p.
     let r = c.args.self.now in
     let part = c.args.part.now in
-    let long : longest_line < length (r.held.items ++ part) = omega (arith, length-append r.held.items part, c.if-saturating_add-gt-LONGEST_LINE.true, c.saturating_add.ensures, c.len.ensures) in
-    Stopped-at s input before r r w t part (BadLine (r.lines + 1)) p refl refl (long_is_bad r.name (r.held.items ++ part) long (no_end r.held.items part p.held c.requires.open_end), refl)
+    let line = r.held.items ++ part in
+    let long : IsTooLong line = omega (arith, length-append r.held.items part, c.if-saturating_add-gt-LONGEST_LINE.true, c.saturating_add.ensures, c.len.ensures) in
+    Stopped-at s input (moment r w t) r t part (BadLine (r.lines + 1)) p refl refl
+    (refl, inr (line, [], sym (append-nil line), no_end r.held.items part p.held c.requires.open_end, long)) (inl refl)

@@ -1,9 +1,9 @@
 use Rattle.std.proofs.Common.{◌≤◌, ◌*◌, List, ℕ}
 use Rattle.std.specs.Io.KnownBytes.{Consumes}
-use Rattle.replay_core.specs.Progress.{Progress}
+use Rattle.replay_core.specs.Progress.{Progress, moment}
 use Rattle.replay_core.proofs.engine.Replay.run.Given as goal
 
 abbrev pub invariant-loop-turn : goal.invariant-loop-turn
 invariant-loop-turn g l = (read : List ℕ) × (l.self.lines ≤ 65536 * l.turn)
     × Consumes (g.R.Read.remaining l.initial.reader) (g.R.Read.remaining l.reader) read
-    × Progress (record { state = g.T.Topic.state l.initial.topic; name = l.initial.self.name }) read (g.W.Write.contents l.initial.writer) l.self (g.W.Write.contents l.writer) (g.T.Topic.state l.topic)
+    × Progress (record { name = l.initial.self.name; written = g.W.Write.contents l.initial.writer; state = g.T.Topic.state l.initial.topic }) read (moment l.self (g.W.Write.contents l.writer) (g.T.Topic.state l.topic))
