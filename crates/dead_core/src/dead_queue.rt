@@ -6,8 +6,8 @@ ghost use Rattle.delivery_machine.specs.Producing.{storing};
 ghost use Rattle.delivery_machine.specs.Dying.{burying, first_safe, is_next_letter, moving};
 ghost use Rattle.dead_core.specs.Letters.{AreLettersOf, none_dead, ending_with, all_safe, next_safe, is_next, without_first};
 
-use position_core::Ordinal;
 use delivery_machine::DeadLetter;
+use position_core::Ordinal;
 use std::alloc::{AllocError, Global};
 use std::collections::VecDeque;
 use std::marker::Model;

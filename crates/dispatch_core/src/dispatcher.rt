@@ -72,7 +72,12 @@ pub trait Dispatcher {
             (V.state view.now) (V.subscription view.now) };
 
     /// The message was sent to the consumer.
-    fn on_sent<V: View>(&mut self, view: &V, index: LogIndex, consumer: ConsumerNumber) -> Result<(), Fault>
+    fn on_sent<V: View>(
+        &mut self,
+        view: &V,
+        index: LogIndex,
+        consumer: ConsumerNumber,
+    ) -> Result<(), Fault>
         ensures ok { OnOk result (AgreesAfter (Sent index consumer) (agrees self.old) (agrees self.new)
             (V.state view.now) (V.subscription view.now)) }
         ensures err { IfErr result (λ fault. fault ≡ NoMemory) }

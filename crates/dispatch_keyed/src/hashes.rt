@@ -7,10 +7,10 @@ ghost use Rattle.delivery_machine.specs.Words.{is_draining, is_member, members_o
 ghost use Rattle.dispatch_core.specs.Offers.{seen_of, IsGoodOffer};
 ghost use Rattle.dispatch_keyed.specs.Hashes.{hash_at, drains_at, IsFreeFor, NoneFree};
 
-use position_core::{ConsumerNumber, LogIndex};
 use dispatch_core::{Offer, Seen, View};
 use hash_ranges::SplitTable;
 use murmur_core::sticky_hash;
+use position_core::{ConsumerNumber, LogIndex};
 
 /// The hash of the key of the message at the place.
 fn hash_at<V: View>(view: &V, index: LogIndex) -> u16

@@ -74,7 +74,12 @@ impl Dispatcher for Keyed {
         self.shares.leave(consumer);
     }
 
-    fn on_sent<V: View>(&mut self, _view: &V, _index: LogIndex, _consumer: ConsumerNumber) -> Result<(), Fault>
+    fn on_sent<V: View>(
+        &mut self,
+        _view: &V,
+        _index: LogIndex,
+        _consumer: ConsumerNumber,
+    ) -> Result<(), Fault>
         ensures ok { IsOk result }
         ensures same { self.new ≡ self.old }
     {

@@ -72,7 +72,12 @@ impl Dispatcher for Shared {
         ensures { self.new ≡ self.old }
     {}
 
-    fn on_sent<V: View>(&mut self, _view: &V, _index: LogIndex, consumer: ConsumerNumber) -> Result<(), Fault>
+    fn on_sent<V: View>(
+        &mut self,
+        _view: &V,
+        _index: LogIndex,
+        consumer: ConsumerNumber,
+    ) -> Result<(), Fault>
         ensures ok { IsOk result }
         ensures last { self.new ≡ consumer }
     {

@@ -44,7 +44,12 @@ impl Dispatcher for Single {
 
     fn on_leave<V: View>(&mut self, _view: &V, _consumer: ConsumerNumber) {}
 
-    fn on_sent<V: View>(&mut self, _view: &V, _index: LogIndex, _consumer: ConsumerNumber) -> Result<(), Fault>
+    fn on_sent<V: View>(
+        &mut self,
+        _view: &V,
+        _index: LogIndex,
+        _consumer: ConsumerNumber,
+    ) -> Result<(), Fault>
         ensures { IsOk result }
     {
         Ok(())

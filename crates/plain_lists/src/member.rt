@@ -8,7 +8,10 @@ ghost use Rattle.delivery_machine.specs.Delivering.{due_after};
 ghost use Rattle.plain_lists.specs.Members.{joining, pushed, shortened, spending};
 
 use delivery_machine::{Deliveries, Delivery};
-use position_core::{ConsumerNumber, Fault, Flow, Level, Millis, Moment, Permits, Position, RedeliverLimit, SubscriptionName, TopicName};
+use position_core::{
+    ConsumerNumber, Fault, Flow, Level, Millis, Moment, Permits, Position, RedeliverLimit,
+    SubscriptionName, TopicName,
+};
 use std::alloc::{AllocError, Global};
 use std::marker::Model;
 

@@ -56,7 +56,11 @@ impl Model for Subscription {
 }
 
 /// Gives the consumer its share, where hashes are shared out.
-fn share_out(shares: &mut SplitTable, kind: Kind, consumer: ConsumerNumber) -> Result<(), AllocError>
+fn share_out(
+    shares: &mut SplitTable,
+    kind: Kind,
+    consumer: ConsumerNumber,
+) -> Result<(), AllocError>
     ensures ok { OnOk result (shares.new ≡ shares_with kind consumer shares.old) }
     ensures err { OnErr result (shares.new ≡ shares.old) }
 {

@@ -9,7 +9,12 @@ use position_core::{Ordinal, Position};
 /// Ordinals end below this.
 const ORDINALS: u64 = 1 << 62;
 
-fn is_to_die(ordinal: Ordinal, subscription: &Subscription, position: Position, member: &Member) -> bool
+fn is_to_die(
+    ordinal: Ordinal,
+    subscription: &Subscription,
+    position: Position,
+    member: &Member,
+) -> bool
     ensures { result ≡ is_to_die ordinal subscription.now position member.now }
 {
     let most = member.max_redeliver().get();

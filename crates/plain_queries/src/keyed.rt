@@ -30,7 +30,11 @@ fn first_of_hash<'a>(
     visible.iter().find(|message| subscription.is_waiting(message) && hash_of(message) == hash)
 }
 
-fn member_of<'a>(members: &'a [Member], name: &SubscriptionName, number: ConsumerNumber) -> Option<&'a Member>
+fn member_of<'a>(
+    members: &'a [Member],
+    name: &SubscriptionName,
+    number: ConsumerNumber,
+) -> Option<&'a Member>
     ensures { option_copied result ≡ find (λ m. is_at name.now m && is_member number m) members.now }
 {
     members
@@ -49,7 +53,12 @@ fn owner_of<'a>(members: &'a [Member], subscription: &Subscription, hash: u16) -
 }
 
 /// Whether a message of the hash is pending at another consumer (PIP-379).
-fn is_draining(log: &[Message], subscription: &Subscription, hash: u16, owner: ConsumerNumber) -> bool
+fn is_draining(
+    log: &[Message],
+    subscription: &Subscription,
+    hash: u16,
+    owner: ConsumerNumber,
+) -> bool
     ensures { result ≡ is_draining_in log.now subscription.now hash owner }
 {
     log.iter().any(|message| hash_of(message) == hash && subscription.holds_beside(owner, message))

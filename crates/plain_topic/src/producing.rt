@@ -8,7 +8,9 @@ use plain_lists::{
     store_all_to,
 };
 use plain_queries::{last_sequence, used_in};
-use position_core::{Base, Body, Entry, Fault, Message, Moment, Ordinal, Position, ProducerName, ProducerNumber};
+use position_core::{
+    Base, Body, Entry, Fault, Message, Moment, Ordinal, Position, ProducerName, ProducerNumber,
+};
 use std::alloc::{AllocError, Global};
 
 fn connected_names(alloc: Global, producers: &[Producer]) -> Result<Vec<ProducerName>, AllocError>

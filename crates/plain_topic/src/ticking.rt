@@ -15,7 +15,12 @@ impl PlainTopic {
     ghost use Rattle.plain_topic.specs.StateOf.{state_of};
 
     #[tactic(auto, using(crate::proofs::Placed::at_its_place))]
-    pub(crate) fn nack(&mut self, consumer: ConsumerNumber, position: Position, now: Moment) -> Reply
+    pub(crate) fn nack(
+        &mut self,
+        consumer: ConsumerNumber,
+        position: Position,
+        now: Moment,
+    ) -> Reply
         ensures { Answers (state_of self.old) (Nack consumer position now) result (state_of self.new) }
     {
         let Some(member) = member_at(&self.members, consumer) else {
