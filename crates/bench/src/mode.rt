@@ -1,5 +1,3 @@
-// What the program is asked for.
-
 /// What the program is asked for.
 #[derive(Clone, Copy)]
 pub(crate) enum Mode {

@@ -1,4 +1,3 @@
-// What a topic answers.
 use crate::delivery::Deliveries;
 use position_core::{
     ConsumerNumber, Fault, Kind, Message, Ordinal, Position, ProducerNumber, TopicName,

@@ -1,4 +1,3 @@
-// Why a replay ended before the end of its input.
 ghost use Rattle.std.specs.Prelude.{◌≡◌};
 ghost use Rattle.replay_core.specs.Stops.{status_of};
 
