@@ -1,5 +1,5 @@
 -- The properties of an object, taken over one after another in the order of their names.
-use Rattle.std.proofs.Common.{◌≡◌, ℕ, List, [], ◌∷◌, ◌++◌, map, Option, Some, None, String, Global, Ordering, Less, Equal, Greater, string_bytes, string_cmp, nat_cmp, refl, sym, ap, ◌∙◌}
+use Rattle.std.proofs.Common.{◌≡◌, ℕ, List, [], ◌∷◌, ◌++◌, map, Option, Some, None, Ok, String, Global, Ordering, Less, Equal, Greater, string_bytes, string_cmp, nat_cmp, refl, sym, ap, ◌∙◌}
 use Rattle.std.proofs.lemmas.Cmp.{nat_list_cmp_total}
 use Rattle.std.specs.Cmp.Lexicographic.{slice_cmp}
 use Rattle.std.specs.List.{AllByRecursion}
@@ -9,7 +9,7 @@ use Rattle.std.specs.Ordering.{match_ordering, ordering_reverse}
 use Rattle.std.specs.BTreeMap.{insert_entry}
 use Rattle.serde_json.specs.View.{view, members_view}
 use Rattle.serde_json.proofs.Views.{Entry}
-use Rattle.wire_json.specs.Members.{pairs_in, said_by, value_of, with_property}
+use Rattle.wire_json.specs.Fields.{Said, absent, other_form, says, optional, pairs_in, said_by, value_of, with_property}
 use Rattle.std.proofs.lemmas.List.{append-nil}
 
 abbrev pub Pairs : Type 0
@@ -37,12 +37,12 @@ both_nil : (second : Option Pairs) → second ≡ both (Some []) second
 both_nil None = refl
 both_nil (Some second) = refl
 
-both_with : (name : List ℕ) (said : Option (Option (List ℕ))) (first second : Option Pairs) → with_property name said (both first second) ≡ both (with_property name said first) second
-both_with name None first second = refl
-both_with name (Some None) first second = refl
-both_with name (Some (Some value)) None second = refl
-both_with name (Some (Some value)) (Some first) None = refl
-both_with name (Some (Some value)) (Some first) (Some second) = refl
+both_with : (name : List ℕ) (said : Said (List ℕ)) (first second : Option Pairs) → with_property name said (both first second) ≡ both (with_property name said first) second
+both_with name other_form first second = refl
+both_with name absent first second = refl
+both_with name (says value) None second = refl
+both_with name (says value) (Some first) None = refl
+both_with name (says value) (Some first) (Some second) = refl
 
 pairs_append : (first second : List Entry) → pairs_in (members_view (first ++ second)) ≡ both (pairs_in (members_view first)) (pairs_in (members_view second))
 pairs_append [] second = both_nil _
@@ -52,12 +52,12 @@ below_middle : (first : Entry) (done : List Entry) (e : Entry) (more : List Entr
 below_middle first [] e more h = h.0
 below_middle first (x ∷ done) e more h = below_middle first done e more h.1
 
-last_step : (said : Option (Option (List ℕ))) (others : Option Pairs) (pairs : Pairs) (name key value : List ℕ) → with_property name said others ≡ Some pairs → slice_cmp nat_cmp key name ≡ Greater
+last_step : (said : Said (List ℕ)) (others : Option Pairs) (pairs : Pairs) (name key value : List ℕ) → with_property name said others ≡ Some pairs → slice_cmp nat_cmp key name ≡ Greater
     → ((later : Pairs) → others ≡ Some later → insert_entry (slice_cmp nat_cmp) later key value ≡ later ++ (key, value) ∷ []) → insert_entry (slice_cmp nat_cmp) pairs key value ≡ pairs ++ (key, value) ∷ []
-last_step None others pairs name key value is above more = absurd (cc)
-last_step (Some None) others pairs name key value is above more = more pairs is
-last_step (Some (Some first)) None pairs name key value is above more = absurd (cc)
-last_step (Some (Some first)) (Some later) pairs name key value is above more =
+last_step other_form others pairs name key value is above more = absurd (cc)
+last_step absent others pairs name key value is above more = more pairs is
+last_step (says first) None pairs name key value is above more = absurd (cc)
+last_step (says first) (Some later) pairs name key value is above more =
     let whole : pairs ≡ (name, first) ∷ later = cc in
     rw (whole, above) (ap (λ ps. (name, first) ∷ ps) (more later refl))
 
@@ -78,14 +78,24 @@ abbrev pub with_said : List ℕ → Option (List ℕ) → Pairs → Pairs
 with_said name None pairs = pairs
 with_said name (Some value) pairs = insert_entry (slice_cmp nat_cmp) pairs name value
 
+-- what a field says that may be absent
+abbrev pub said_of : Option (List ℕ) → Said (List ℕ)
+said_of None = absent
+said_of (Some value) = says value
+
+pub said_from : (said : Said (List ℕ)) (found : Option (List ℕ)) → optional said ≡ Ok found → said ≡ said_of found
+said_from absent found is = let same : found ≡ None = cc in rw same refl
+said_from other_form found is = cc
+said_from (says value) found is = let same : found ≡ Some value = cc in rw same refl
+
 one_more : (said : Option (List ℕ)) (done : List Entry) (e : Entry) (more : List Entry) (pairs : Pairs) → IsStrictlySortedBy string_cmp (keys_of (done ++ e ∷ more)) → pairs_in (members_view done) ≡ Some pairs
-    → both (Some pairs) (with_property (string_bytes e.0) (Some said) (Some [])) ≡ Some (with_said (string_bytes e.0) said pairs)
+    → both (Some pairs) (with_property (string_bytes e.0) (said_of said) (Some [])) ≡ Some (with_said (string_bytes e.0) said pairs)
 one_more None done e more pairs sorted are = ap Some (append-nil pairs)
 one_more (Some value) done e more pairs sorted are = ap Some (sym (insert_last done e more pairs value sorted are))
 
 pub next_taken : (said : Option (List ℕ)) (done : List Entry) (e : Entry) (more : List Entry) (before after : Pairs) → IsStrictlySortedBy string_cmp (keys_of (done ++ e ∷ more))
-    → pairs_in (members_view done) ≡ Some before → said_by value_of (view e.1) ≡ Some said → after ≡ with_said (string_bytes e.0) said before → pairs_in (members_view (done ++ e ∷ [])) ≡ Some after
+    → pairs_in (members_view done) ≡ Some before → said_by value_of (view e.1) ≡ said_of said → after ≡ with_said (string_bytes e.0) said before → pairs_in (members_view (done ++ e ∷ [])) ≡ Some after
 next_taken said done e more before after sorted are is later = pairs_append done (e ∷ []) ∙ rw (are, is, later) (one_more said done e more before sorted are)
 
-pub none_taken : (done : List Entry) (e : Entry) (more : List Entry) (before : Pairs) → pairs_in (members_view done) ≡ Some before → said_by value_of (view e.1) ≡ None → pairs_in (members_view (done ++ e ∷ more)) ≡ None
+pub none_taken : (done : List Entry) (e : Entry) (more : List Entry) (before : Pairs) → pairs_in (members_view done) ≡ Some before → said_by value_of (view e.1) ≡ other_form → pairs_in (members_view (done ++ e ∷ more)) ≡ None
 none_taken done e more before are is = pairs_append done (e ∷ more) ∙ rw (are, is) refl

@@ -9,7 +9,7 @@ use Rattle.json.specs.Tree.{json_tokens}
 use Rattle.json.proofs.Printed.Trees.{document-print}
 use Rattle.position_core.specs.declared.position.Position.{Position}
 use Rattle.position_core.specs.Id.{text_of}
-use Rattle.wire_json.specs.Answers.{context_member, error_text, message_member, message_of, number_of, ok_text}
+use Rattle.wire_json.specs.Answers.{context_field, error_text, message_field, message_of, number_of, ok_text}
 use Rattle.wire_json.proofs.Ids.{plain_id}
 use Rattle.wire_json.specs.Laws.{ErrorsReadBack, OksReadBack, error_object, ok_object}
 use Rattle.wire_json.specs.declared.answers.SendError.{SendError}
@@ -51,7 +51,7 @@ before_three : (m b p r z : List ℕ) → m ++ b ++ p ++ r ++ z ≡ m ++ (b ++ (
 before_three m b p r z = before_two (m ++ b) p r z ∙ ap (λ s. m ++ b ++ s) (sym (append_assoc p r z)) ∙ append_assoc m b (p ++ r ++ z)
 
 bare_prints : (message number : List ℕ) → escape message ≡ message → escape number ≡ number
-    → codes "{" ++ message_member message ++ (codes "\"result\":\"send-error:" ++ number ++ codes "\"") ++ codes "}"
+    → codes "{" ++ message_field message ++ (codes "\"result\":\"send-error:" ++ number ++ codes "\"") ++ codes "}"
     ≡ print (json_tokens (object (member (codes "errorMsg") (string message) (member (codes "result") (string (codes "send-error:" ++ number)) no_members))))
 unfolding print_from escape_byte
 bare_prints message number plain_message plain_number =
@@ -59,14 +59,14 @@ bare_prints message number plain_message plain_number =
     (ap (λ s. codes "{\"errorMsg\":\"" ++ s) (two_seams message (34 ∷ []) (44 ∷ []) (codes "\"result\":\"send-error:" ++ number ++ codes "\"") (codes "}")))
 
 with_context_prints : (context message number : List ℕ) → escape message ≡ message → escape number ≡ number
-    → codes "{" ++ context_member (Some context) ++ message_member message ++ (codes "\"result\":\"send-error:" ++ number ++ codes "\"") ++ codes "}"
+    → codes "{" ++ context_field (Some context) ++ message_field message ++ (codes "\"result\":\"send-error:" ++ number ++ codes "\"") ++ codes "}"
     ≡ print (json_tokens (object (member (codes "context") (string context) (member (codes "errorMsg") (string message) (member (codes "result") (string (codes "send-error:" ++ number)) no_members)))))
 unfolding print_from escape_byte
 with_context_prints context message number plain_message plain_number =
     let r : List ℕ = codes "\"result\":\"send-error:" ++ number ++ codes "\"" in
     rw (plain_message, plain_number)
     (ap (λ s. codes "{\"context\":\"" ++ s)
-    (before_three (escape context ++ 34 ∷ []) (44 ∷ []) (message_member message) r (codes "}")
+    (before_three (escape context ++ 34 ∷ []) (44 ∷ []) (message_field message) r (codes "}")
     ∙ ap (λ s. escape context ++ 34 ∷ [] ++ (codes ",\"errorMsg\":\"" ++ s)) (two_seams message (34 ∷ []) (44 ∷ []) r (codes "}"))))
 
 error_prints : (context : Option (List ℕ)) (error : SendError) → error_text context error ≡ print (json_tokens (error_object context error))
@@ -87,7 +87,7 @@ unfolding print_from escape_byte
 bare_ok_prints id plain = rw plain (ap (λ s. codes "{\"messageId\":\"" ++ s) (seam id (34 ∷ []) (44 ∷ []) (codes "\"result\":\"ok\"}")))
 
 ok_with_context_prints : (context id : List ℕ) → escape id ≡ id
-    → codes "{" ++ context_member (Some context) ++ (codes "\"messageId\":\"" ++ id ++ codes "\",") ++ codes "\"result\":\"ok\"}"
+    → codes "{" ++ context_field (Some context) ++ (codes "\"messageId\":\"" ++ id ++ codes "\",") ++ codes "\"result\":\"ok\"}"
     ≡ print (json_tokens (object (member (codes "context") (string context) (member (codes "messageId") (string id) (member (codes "result") (string (codes "ok")) no_members)))))
 unfolding print_from escape_byte
 ok_with_context_prints context id plain =

@@ -39,29 +39,29 @@ of_fault NoMemory = Some Unknown
 of_fault TopicFull = Some Unknown
 of_fault fault = None
 
--- Each member but the last is followed by a comma.
+-- Each field but the last is followed by a comma.
 
 -- where the request had a context
-abbrev pub context_member : Option (List ℕ) → List ℕ
-context_member None = []
-context_member (Some context) = codes "\"context\":" ++ quoted context ++ codes ","
+abbrev pub context_field : Option (List ℕ) → List ℕ
+context_field None = []
+context_field (Some context) = codes "\"context\":" ++ quoted context ++ codes ","
 
 -- the id of the message
-abbrev pub id_member : Position → List ℕ
-id_member position = codes "\"messageId\":\"" ++ text_of position ++ codes "\","
+abbrev pub id_field : Position → List ℕ
+id_field position = codes "\"messageId\":\"" ++ text_of position ++ codes "\","
 
 -- the publish was taken, and has the id
 abbrev pub ok_text : Option (List ℕ) → Position → List ℕ
-ok_text context id = codes "{" ++ context_member context ++ id_member id ++ codes "\"result\":\"ok\"}"
+ok_text context id = codes "{" ++ context_field context ++ id_field id ++ codes "\"result\":\"ok\"}"
 
 -- what the error says
-abbrev pub message_member : List ℕ → List ℕ
-message_member message = codes "\"errorMsg\":\"" ++ message ++ codes "\","
+abbrev pub message_field : List ℕ → List ℕ
+message_field message = codes "\"errorMsg\":\"" ++ message ++ codes "\","
 
 -- the error's number
-abbrev pub number_member : SendError → List ℕ
-number_member error = codes "\"result\":\"send-error:" ++ decimal (number_of error) ++ codes "\""
+abbrev pub number_field : SendError → List ℕ
+number_field error = codes "\"result\":\"send-error:" ++ decimal (number_of error) ++ codes "\""
 
 -- the publish was refused
 abbrev pub error_text : Option (List ℕ) → SendError → List ℕ
-error_text context error = codes "{" ++ context_member context ++ message_member (message_of error) ++ number_member error ++ codes "}"
+error_text context error = codes "{" ++ context_field context ++ message_field (message_of error) ++ number_field error ++ codes "}"

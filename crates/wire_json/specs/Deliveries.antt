@@ -5,19 +5,19 @@ use Rattle.base64.specs.GeneralPurpose.{encode_of}
 use Rattle.base64.specs.Engines.{standard}
 use Rattle.json.specs.Print.{quoted}
 use Rattle.position_core.specs.declared.message.Entry.{Entry}
-use Rattle.wire_json.specs.Answers.{id_member}
+use Rattle.wire_json.specs.Answers.{id_field}
 use Rattle.wire_json.specs.Times.{IsTimeText}
 
--- Each member but the last is followed by a comma.
+-- Each field but the last is followed by a comma.
 
 -- where the message has a key
-abbrev pub key_member : Option (List ℕ) → List ℕ
-key_member None = []
-key_member (Some key) = codes "\"key\":" ++ quoted key ++ codes ","
+abbrev pub key_field : Option (List ℕ) → List ℕ
+key_field None = []
+key_field (Some key) = codes "\"key\":" ++ quoted key ++ codes ","
 
 -- the bytes in base64
-abbrev pub payload_member : List ℕ → List ℕ
-payload_member payload = codes "\"payload\":\"" ++ encode_of standard payload ++ codes "\","
+abbrev pub payload_field : List ℕ → List ℕ
+payload_field payload = codes "\"payload\":\"" ++ encode_of standard payload ++ codes "\","
 
 -- a property's name and its value
 abbrev pub property_text : List ℕ × List ℕ → List ℕ
@@ -29,22 +29,22 @@ properties_text [] = []
 properties_text (first ∷ others) = property_text first ++ flat_map (λ other. codes "," ++ property_text other) others
 
 -- the properties
-abbrev pub properties_member : List (List ℕ × List ℕ) → List ℕ
-properties_member properties = codes "\"properties\":{" ++ properties_text properties ++ codes "},"
+abbrev pub properties_field : List (List ℕ × List ℕ) → List ℕ
+properties_field properties = codes "\"properties\":{" ++ properties_text properties ++ codes "},"
 
 -- the moment, as it is written
-abbrev pub time_member : List ℕ → List ℕ
-time_member time = codes "\"publishTime\":\"" ++ time ++ codes "\","
+abbrev pub time_field : List ℕ → List ℕ
+time_field time = codes "\"publishTime\":\"" ++ time ++ codes "\","
 
 -- how often the message was redelivered
-abbrev pub count_member : ℕ → List ℕ
-count_member count = codes "\"redeliveryCount\":" ++ decimal count
+abbrev pub count_field : ℕ → List ℕ
+count_field count = codes "\"redeliveryCount\":" ++ decimal count
 
 -- the message with a text for its time
 abbrev pub delivery_with : List ℕ → Entry → ℕ → List ℕ
 delivery_with time message count =
-    codes "{" ++ key_member message.body.key ++ id_member message.position ++ payload_member message.body.payload
-    ++ properties_member message.body.properties ++ time_member time ++ count_member count ++ codes "}"
+    codes "{" ++ key_field message.body.key ++ id_field message.position ++ payload_field message.body.payload
+    ++ properties_field message.body.properties ++ time_field time ++ count_field count ++ codes "}"
 
 -- the text of the delivery
 abbrev pub IsDelivery : Entry → ℕ → List ℕ → Type 0

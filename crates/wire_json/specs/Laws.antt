@@ -18,7 +18,7 @@ abbrev pub PayloadsAreBase64 : Type 0
 PayloadsAreBase64 =
     (text bytes : List ℕ) → IsBytes text → IsBytes bytes → (bytes_of text ≡ Some bytes) ↔ ((text ≡ encode_of standard bytes) ⊎ (text ≡ encode_of standard_no_pad bytes))
 
--- the context, where there is one, before the other members
+-- the context, where there is one, before the other fields
 abbrev pub context_before : Option (List ℕ) → Members → Members
 context_before None others = others
 context_before (Some context) others = member (codes "context") (string context) others
@@ -38,27 +38,27 @@ error_object context error =
 abbrev pub ErrorsReadBack : Type 0
 ErrorsReadBack = (context : Option (List ℕ)) (error : SendError) → document (error_text context error) ≡ Some (error_object context error)
 
--- each property as a member
-abbrev pub property_members : List (List ℕ × List ℕ) → Members
-property_members [] = no_members
-property_members (property ∷ others) = member property.0 (string property.1) (property_members others)
+-- each property as a field
+abbrev pub property_fields : List (List ℕ × List ℕ) → Members
+property_fields [] = no_members
+property_fields (property ∷ others) = member property.0 (string property.1) (property_fields others)
 
--- the key, where there is one, before the other members
+-- the key, where there is one, before the other fields
 abbrev pub key_before : Option (List ℕ) → Members → Members
 key_before None others = others
 key_before (Some key) others = member (codes "key") (string key) others
 
 -- the properties, the time and the count
-abbrev pub later_members : List (List ℕ × List ℕ) → List ℕ → ℕ → Members
-later_members properties time count =
-    member (codes "properties") (object (property_members properties))
+abbrev pub later_fields : List (List ℕ × List ℕ) → List ℕ → ℕ → Members
+later_fields properties time count =
+    member (codes "properties") (object (property_fields properties))
     (member (codes "publishTime") (string time) (member (codes "redeliveryCount") (number (decimal count)) no_members))
 
 -- what a consumer is sent
 abbrev pub delivery_object : List ℕ → Entry → ℕ → Json
 delivery_object time message count =
     object (key_before message.body.key (member (codes "messageId") (string (text_of message.position))
-    (member (codes "payload") (string (encode_of standard message.body.payload)) (later_members message.body.properties time count))))
+    (member (codes "payload") (string (encode_of standard message.body.payload)) (later_fields message.body.properties time count))))
 
 -- a delivery of bytes, with a count of at most 64 bits, reads back as the object of its message, with a text for its time
 abbrev pub DeliveriesReadBack : Type 0

@@ -2,6 +2,6 @@ pub mod Answers
 pub mod Escapes
 pub mod Times
 pub mod Deliveries
-pub mod Members
+pub mod Fields
 pub mod Publishes
 pub mod Laws

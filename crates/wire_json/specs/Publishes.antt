@@ -1,5 +1,5 @@
 -- What a producer's text stands for.
-use Rattle.std.specs.Prelude.{◌≡◌, ℕ, List, [], length, nat_le, ◌&&◌, ◌⊎◌, if◌then◌else◌, Option, Some, None, is_some, unwrap_or, option_map, option_and_then, ok_or, codes, Result, Ok, Err}
+use Rattle.std.specs.Prelude.{◌≡◌, ℕ, List, [], length, nat_le, ◌&&◌, ◌⊎◌, if◌then◌else◌, Option, Some, None, is_some, option_and_then, ok_or, codes, Result, Ok, Err}
 use Rattle.std.specs.Option.{option_or}
 use Rattle.std.specs.Str.{is_utf8}
 use Rattle.base64.specs.GeneralPurpose.{decoded_of}
@@ -10,7 +10,7 @@ use Rattle.serde_json.specs.Read.{read}
 use Rattle.position_core.specs.declared.body.Content.{Content}
 use Rattle.position_core.specs.declared.fault.Fault.{Fault}
 use Rattle.position_core.specs.declared.fault.Fault.TheVariants.{BadJson, BadPayload, NoMemory}
-use Rattle.wire_json.specs.Members.{word_of, short_text, said_at, properties_of}
+use Rattle.wire_json.specs.Fields.{word_of, short_text, said_at, optional, said_or, properties_of}
 
 -- what a text says: its context, where it has one, and the content or why it is refused
 pub record Reading : Type 0 where
@@ -43,32 +43,32 @@ abbrev pub payload_in : Data → Result (List ℕ) Fault
 payload_in d = payload_from (option_and_then as_str (get (codes "payload") d))
 
 -- its key, of at most 1,024 bytes
-abbrev pub key_in : Data → Option (Option (List ℕ))
-key_in d = said_at (short_text 1024) (get (codes "key") d)
+abbrev pub key_in : Data → Result (Option (List ℕ)) Fault
+key_in d = optional (said_at (short_text 1024) (get (codes "key") d))
 
 -- its properties, none where it names none
-abbrev pub properties_in : Data → Option (List (List ℕ × List ℕ))
-properties_in d = option_map (λ said. unwrap_or said []) (said_at properties_of (get (codes "properties") d))
+abbrev pub properties_in : Data → Result (List (List ℕ × List ℕ)) Fault
+properties_in d = said_or [] (said_at properties_of (get (codes "properties") d))
 
 -- its context, which every answer carries
-abbrev pub context_in : Data → Option (Option (List ℕ))
-context_in d = said_at word_of (get (codes "context") d)
+abbrev pub context_in : Data → Result (Option (List ℕ)) Fault
+context_in d = optional (said_at word_of (get (codes "context") d))
 
 -- the payload is looked at first, then the key, then the properties
-abbrev pub content_from : Result (List ℕ) Fault → Option (Option (List ℕ)) → Option (List (List ℕ × List ℕ)) → Result Content Fault
+abbrev pub content_from : Result (List ℕ) Fault → Result (Option (List ℕ)) Fault → Result (List (List ℕ × List ℕ)) Fault → Result Content Fault
 content_from (Err fault) key properties = Err fault
-content_from (Ok payload) None properties = Err BadJson
-content_from (Ok payload) (Some key) None = Err BadJson
-content_from (Ok payload) (Some key) (Some properties) = Ok (record { key = key; properties = properties; payload = payload })
+content_from (Ok payload) (Err fault) properties = Err fault
+content_from (Ok payload) (Ok key) (Err fault) = Err fault
+content_from (Ok payload) (Ok key) (Ok properties) = Ok (record { key = key; properties = properties; payload = payload })
 
 -- what the object says beside its context
 abbrev pub content_in : Data → Result Content Fault
 content_in d = content_from (payload_in d) (key_in d) (properties_in d)
 
 -- without a context that can be read, there is none to answer with
-abbrev pub reading_with : Option (Option (List ℕ)) → Result Content Fault → Reading
-reading_with None content = record { context = None; content = Err BadJson }
-reading_with (Some context) content = record { context = context; content = content }
+abbrev pub reading_with : Result (Option (List ℕ)) Fault → Result Content Fault → Reading
+reading_with (Err fault) content = record { context = None; content = Err fault }
+reading_with (Ok context) content = record { context = context; content = content }
 
 -- what is no object says nothing
 abbrev pub reading_of : Option Data → Reading
@@ -79,7 +79,7 @@ reading_of (Some d) = reading_with (context_in d) (content_in d)
 abbrev pub publish_of : List ℕ → Reading
 publish_of text = reading_of (object_of text)
 
--- a refusal is the one that is meant, with the context; where memory was wanting, the context is there as far as it was read
+-- a refusal is the one that is meant, with the context; out of memory, the context is there as far as it was read
 abbrev pub IsRefusal : Reading → Option (List ℕ) → Fault → Type 0
 IsRefusal reading context NoMemory = (context ≡ None) ⊎ (context ≡ reading.context)
 IsRefusal reading context fault = (context ≡ reading.context) × (reading.content ≡ Err fault)

@@ -1,6 +1,6 @@
 // What a producer is answered.
 ghost use Rattle.std.specs.Prelude.{◌≡◌, ◌++◌, IfOk, OnOk, option_copied, string_bytes};
-ghost use Rattle.wire_json.specs.Answers.{context_member, id_member, error_text, message_member, message_of, number_member, number_of, of_fault, ok_text};
+ghost use Rattle.wire_json.specs.Answers.{context_field, id_field, error_text, message_field, message_of, number_field, number_of, of_fault, ok_text};
 
 use crate::numbers::push_decimal;
 use crate::quoting::{push_quoted, room_for};
@@ -77,7 +77,7 @@ fn room_for_context(context: Option<&str>) -> usize {
 }
 
 fn push_context(out: &mut String, context: Option<&str>) -> Result<(), AllocError>
-    ensures { OnOk result (string_bytes out.new ≡ string_bytes out.old ++ context_member (option_copied context.entry)) }
+    ensures { OnOk result (string_bytes out.new ≡ string_bytes out.old ++ context_field (option_copied context.entry)) }
 {
     let Some(context) = context else {
         return Ok(());
@@ -89,7 +89,7 @@ fn push_context(out: &mut String, context: Option<&str>) -> Result<(), AllocErro
 
 /// Appends a message's id, and a comma.
 pub(crate) fn push_id(out: &mut String, id: Position) -> Result<(), AllocError>
-    ensures { OnOk result (string_bytes out.new ≡ string_bytes out.old ++ id_member id) }
+    ensures { OnOk result (string_bytes out.new ≡ string_bytes out.old ++ id_field id) }
 {
     out.push_str("\"messageId\":\"")?;
     id.append_text(out)?;
@@ -110,7 +110,7 @@ pub fn ok_text(alloc: Global, context: Option<&str>, id: Position) -> Result<Str
 }
 
 fn push_message(out: &mut String, message: &str) -> Result<(), AllocError>
-    ensures { OnOk result (string_bytes out.new ≡ string_bytes out.old ++ message_member message.now) }
+    ensures { OnOk result (string_bytes out.new ≡ string_bytes out.old ++ message_field message.now) }
 {
     out.push_str("\"errorMsg\":\"")?;
     out.push_str(message)?;
@@ -119,7 +119,7 @@ fn push_message(out: &mut String, message: &str) -> Result<(), AllocError>
 }
 
 fn push_number(out: &mut String, error: SendError) -> Result<(), AllocError>
-    ensures { OnOk result (string_bytes out.new ≡ string_bytes out.old ++ number_member error) }
+    ensures { OnOk result (string_bytes out.new ≡ string_bytes out.old ++ number_field error) }
 {
     out.push_str("\"result\":\"send-error:")?;
     push_decimal(out, u64::from(error.number()))?;

@@ -1,7 +1,7 @@
 // What a consumer is sent.
 ghost use Rattle.std.specs.Prelude.{◌≡◌, ℕ, List, [], ◌∷◌, ◌++◌, codes, if◌then◌else◌, IfOk, OnOk, string_bytes};
 ghost use Rattle.position_core.specs.Properties.{pairs_of};
-ghost use Rattle.wire_json.specs.Deliveries.{IsDelivery, count_member, key_member, payload_member, properties_member, properties_text, property_text, time_member};
+ghost use Rattle.wire_json.specs.Deliveries.{IsDelivery, count_field, key_field, payload_field, properties_field, properties_text, property_text, time_field};
 ghost use Rattle.wire_json.specs.Times.{IsTimeText};
 
 use crate::answers::push_id;
@@ -38,7 +38,7 @@ fn room_for_delivery(content: &Content) -> usize {
 }
 
 fn push_key(out: &mut String, key: &Option<Key>) -> Result<(), AllocError>
-    ensures { OnOk result (string_bytes out.new ≡ string_bytes out.old ++ key_member key.now) }
+    ensures { OnOk result (string_bytes out.new ≡ string_bytes out.old ++ key_field key.now) }
 {
     let Some(key) = key else {
         return Ok(());
@@ -76,7 +76,7 @@ fn push_property_list(out: &mut String, values: &BTreeMap<String, String>) -> Re
 }
 
 fn push_properties(out: &mut String, properties: &Properties) -> Result<(), AllocError>
-    ensures { OnOk result (string_bytes out.new ≡ string_bytes out.old ++ properties_member properties.now) }
+    ensures { OnOk result (string_bytes out.new ≡ string_bytes out.old ++ properties_field properties.now) }
 {
     out.push_str("\"properties\":{")?;
     push_property_list(out, properties.as_map())?;
@@ -85,7 +85,7 @@ fn push_properties(out: &mut String, properties: &Properties) -> Result<(), Allo
 }
 
 fn push_payload(out: &mut String, payload: &[u8]) -> Result<(), AllocError>
-    ensures { OnOk result (string_bytes out.new ≡ string_bytes out.old ++ payload_member payload.now) }
+    ensures { OnOk result (string_bytes out.new ≡ string_bytes out.old ++ payload_field payload.now) }
 {
     out.push_str("\"payload\":\"")?;
     STANDARD.encode_string(payload, out)?;
@@ -93,7 +93,7 @@ fn push_payload(out: &mut String, payload: &[u8]) -> Result<(), AllocError>
 }
 
 fn push_publish_time(out: &mut String, moment: Moment) -> Result<(), AllocError>
-    ensures { OnOk result ((time : List ℕ) × IsTimeText moment time × (string_bytes out.new ≡ string_bytes out.old ++ time_member time)) }
+    ensures { OnOk result ((time : List ℕ) × IsTimeText moment time × (string_bytes out.new ≡ string_bytes out.old ++ time_field time)) }
 {
     out.push_str("\"publishTime\":\"")?;
     push_time(out, moment)?;
@@ -102,7 +102,7 @@ fn push_publish_time(out: &mut String, moment: Moment) -> Result<(), AllocError>
 }
 
 fn push_count(out: &mut String, count: u32) -> Result<(), AllocError>
-    ensures { OnOk result (string_bytes out.new ≡ string_bytes out.old ++ count_member count) }
+    ensures { OnOk result (string_bytes out.new ≡ string_bytes out.old ++ count_field count) }
 {
     out.push_str("\"redeliveryCount\":")?;
     push_decimal(out, u64::from(count))?;

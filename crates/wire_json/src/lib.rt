@@ -3,8 +3,8 @@
 
 mod answers;
 mod deliveries;
+mod fields;
 mod laws;
-mod members;
 mod numbers;
 mod publishes;
 mod quoting;
@@ -15,4 +15,4 @@ mod times;
 pub use answers::{SendError, error_text, ok_text};
 pub use deliveries::delivery_text;
 pub use laws::{deliveries_read_back, errors_read_back, oks_read_back, payloads_are_base64};
-pub use publishes::{Published, Unpublished, read_publish};
+pub use publishes::{BadPublish, PublishRequest, read_publish};

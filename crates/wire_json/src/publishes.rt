@@ -6,7 +6,7 @@ ghost use Rattle.base64.specs.Engines.{standard, standard_no_pad};
 ghost use Rattle.base64.specs.GeneralPurpose.{decoded_of};
 ghost use Rattle.wire_json.specs.Publishes.{IsRefusal, bytes_of, content_in, context_in, key_in, object_of, payload_in, properties_in, publish_of};
 
-use crate::members::{pairs_in, word};
+use crate::fields::{pairs_in, word};
 use base64::DecodeAllocError;
 use base64::engine::general_purpose::{STANDARD, STANDARD_NO_PAD};
 use position_core::{Content, Fault, Key, Payload, Properties};
@@ -22,14 +22,14 @@ const MOST_KEY_BYTES: usize = 1024;
 
 /// What a producer published.
 #[derive(Debug, Drop)]
-pub struct Published {
+pub struct PublishRequest {
     pub context: Option<String>,
     pub content: Content,
 }
 
 /// Why a text is no publish: `BadJson`, `BadPayload`, or `NoMemory`. The context is there where it was read already.
 #[derive(Debug, Drop)]
-pub struct Unpublished {
+pub struct BadPublish {
     pub context: Option<String>,
     pub fault: Fault,
 }
@@ -56,8 +56,8 @@ fn object_of(alloc: Global, text: &[u8]) -> Result<Value, Fault>
 }
 
 fn context_of(alloc: Global, object: &Value) -> Result<Option<String>, Fault>
-    ensures ok { IfOk result (λ context. context_in (view object.now) ≡ Some (option_map string_bytes context)) }
-    ensures err { IfErr result (λ fault. (fault ≡ NoMemory) ⊎ ((fault ≡ BadJson) × (context_in (view object.now) ≡ None))) }
+    ensures ok { IfOk result (λ context. context_in (view object.now) ≡ Ok (option_map string_bytes context)) }
+    ensures err { IfErr result (λ fault. (fault ≡ NoMemory) ⊎ ((fault ≡ BadJson) × (context_in (view object.now) ≡ Err BadJson))) }
 {
     let Some(value) = object.get("context") else {
         return Ok(None);
@@ -120,7 +120,7 @@ fn payload_of(alloc: Global, object: &Value) -> Result<Payload, Fault>
 }
 
 fn key_of(alloc: Global, object: &Value) -> Result<Option<Key>, Fault>
-    ensures { (result ≡ Err NoMemory) ⊎ (result ≡ ok_or (key_in (view object.now)) BadJson) }
+    ensures { (result ≡ Err NoMemory) ⊎ (result ≡ key_in (view object.now)) }
 {
     let Some(value) = object.get("key") else {
         return Ok(None);
@@ -144,7 +144,7 @@ fn key_of(alloc: Global, object: &Value) -> Result<Option<Key>, Fault>
 }
 
 fn properties_of(alloc: Global, object: &Value) -> Result<Properties, Fault>
-    ensures { (result ≡ Err NoMemory) ⊎ (result ≡ ok_or (properties_in (view object.now)) BadJson) }
+    ensures { (result ≡ Err NoMemory) ⊎ (result ≡ properties_in (view object.now)) }
 {
     let Some(value) = object.get("properties") else {
         return Ok(Properties::none(alloc));
@@ -152,10 +152,10 @@ fn properties_of(alloc: Global, object: &Value) -> Result<Properties, Fault>
     if value.is_null() {
         return Ok(Properties::none(alloc));
     }
-    let Some(members) = value.as_object() else {
+    let Some(fields) = value.as_object() else {
         return Err(Fault::BadJson);
     };
-    match pairs_in(alloc, members) {
+    match pairs_in(alloc, fields) {
         Ok(pairs) => Properties::new(pairs).ok_or(Fault::BadJson),
         Err(fault) => Err(fault),
     }
@@ -177,14 +177,14 @@ fn content_of(alloc: Global, object: &Value) -> Result<Content, Fault>
 }
 
 /// Reads what a producer sent.
-pub fn read_publish(alloc: Global, text: &[u8]) -> Result<Published, Unpublished>
+pub fn read_publish(alloc: Global, text: &[u8]) -> Result<PublishRequest, BadPublish>
     ensures read { IfOk result (λ p. publish_of text.now ≡ record { context = option_map string_bytes p.context; content = Ok p.content }) }
     ensures refused { IfErr result (λ u. IsRefusal (publish_of text.now) (option_map string_bytes u.context) u.fault) }
 {
     let object = match object_of(alloc, text) {
         Ok(object) => object,
         Err(fault) => {
-            return Err(Unpublished {
+            return Err(BadPublish {
                 context: None,
                 fault,
             });
@@ -193,14 +193,14 @@ pub fn read_publish(alloc: Global, text: &[u8]) -> Result<Published, Unpublished
     let context = match context_of(alloc, &object) {
         Ok(context) => context,
         Err(fault) => {
-            return Err(Unpublished {
+            return Err(BadPublish {
                 context: None,
                 fault,
             });
         }
     };
     match content_of(alloc, &object) {
-        Ok(content) => Ok(Published { context, content }),
-        Err(fault) => Err(Unpublished { context, fault }),
+        Ok(content) => Ok(PublishRequest { context, content }),
+        Err(fault) => Err(BadPublish { context, fault }),
     }
 }

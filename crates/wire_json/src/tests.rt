@@ -5,13 +5,13 @@ mod grammar;
 mod limits;
 mod publishes;
 
-use crate::{Published, SendError, Unpublished, error_text, read_publish};
+use crate::{BadPublish, PublishRequest, SendError, error_text, read_publish};
 use position_core::Fault;
 use std::alloc::{AllocError, Global};
 use std::test::Fail;
 
 /// What a text says: its context, its key, its payload and its properties, with `-` for none.
-fn shown(alloc: Global, published: &Published) -> Result<String, Fail> {
+fn shown(alloc: Global, published: &PublishRequest) -> Result<String, Fail> {
     let content = &published.content;
     let context = published
         .context
@@ -30,7 +30,7 @@ fn shown(alloc: Global, published: &Published) -> Result<String, Fail> {
 }
 
 /// What a text says; an error only where memory is wanting.
-fn read(alloc: Global, text: &[u8]) -> Result<Result<Published, Unpublished>, Fail> {
+fn read(alloc: Global, text: &[u8]) -> Result<Result<PublishRequest, BadPublish>, Fail> {
     let read = read_publish(alloc, text);
     if let Err(unpublished) = &read {
         if unpublished.fault == Fault::NoMemory {

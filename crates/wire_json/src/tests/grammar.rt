@@ -75,7 +75,7 @@ fn texts_by_their_bytes(rt: HostRuntime) -> Result<(), Fail> {
 }
 
 #[test]
-fn the_last_of_repeated_members_counts(rt: HostRuntime) -> Result<(), Fail> {
+fn the_last_of_repeated_fields_counts(rt: HostRuntime) -> Result<(), Fail> {
     let table = [
         ("{\"payload\":\"YQ==\",\"payload\":\"Yg==\"}", "- - 'b'"),
         (

@@ -45,7 +45,7 @@ fn worked_texts(rt: HostRuntime) -> Result<(), Fail> {
 }
 
 #[test]
-fn members_that_say_something(rt: HostRuntime) -> Result<(), Fail> {
+fn fields_that_say_something(rt: HostRuntime) -> Result<(), Fail> {
     let table = [
         (
             "{\"payload\":\"\",\"key\":\"k\",\"context\":\"c\"}",

@@ -2,9 +2,9 @@ use Rattle.std.proofs.Common.{◌≡◌, List, ◌++◌, Some}
 use Rattle.position_core.specs.Properties.{pairs_of}
 use Rattle.serde_json.specs.View.{members_view}
 use Rattle.serde_json.proofs.Views.{Entry}
-use Rattle.wire_json.specs.Members.{pairs_in}
-use Rattle.wire_json.proofs.members.pairs_in.Given as goal
+use Rattle.wire_json.specs.Fields.{pairs_in}
+use Rattle.wire_json.proofs.fields.pairs_in.Given as goal
 
 abbrev pub invariant-loop-name : goal.invariant-loop-name
 invariant-loop-name l =
-    (done : List Entry) × (l.members.entries ≡ done ++ l.name-iterator) × (pairs_in (members_view done) ≡ Some (pairs_of l.properties))
+    (done : List Entry) × (l.fields.entries ≡ done ++ l.name-iterator) × (pairs_in (members_view done) ≡ Some (pairs_of l.properties))

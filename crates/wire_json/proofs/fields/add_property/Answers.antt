@@ -1,5 +1,5 @@
 use Rattle.wire_json.proofs.Pairs.{pairs-insert_entry}
-use Rattle.wire_json.proofs.members.add_property.Goals as goal
+use Rattle.wire_json.proofs.fields.add_property.Goals as goal
 
 pub returns-in-Ok-insert-clause-ok : goal.returns-in-Ok-insert-clause-ok
 returns-in-Ok-insert-clause-ok c =

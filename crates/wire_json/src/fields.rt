@@ -1,4 +1,4 @@
-// What a member of an object says.
+// What a field of an object says.
 ghost use Rattle.std.specs.Prelude.{◌≡◌, ◌⊎◌, Some, None, Ok, Err, IfOk, IfErr, OnOk, option_map, string_bytes};
 ghost use Rattle.serde_json.specs.View.{view, members_view, number_view};
 ghost use Rattle.std.specs.BTreeMap.{insert_entry};
@@ -6,7 +6,7 @@ ghost use Rattle.std.specs.Cmp.Lexicographic.{slice_cmp};
 ghost use Rattle.std.specs.Ordering.{nat_cmp};
 ghost use Rattle.position_core.specs.declared.fault.Fault.TheVariants.{BadJson, NoMemory};
 ghost use Rattle.position_core.specs.Properties.{pairs_of};
-ghost use Rattle.wire_json.specs.Members.{pairs_in, said_by, short_text, truth_text, value_of, whole_text, word_of};
+ghost use Rattle.wire_json.specs.Fields.{optional, other_form, pairs_in, said_by, short_text, truth_text, value_of, whole_text, word_of};
 
 use crate::numbers::{decimal_text, signed_text};
 use position_core::Fault;
@@ -59,8 +59,8 @@ fn property_value(alloc: Global, value: &Value) -> Result<Option<String>, AllocE
 
 /// A property's value, where it is not null.
 fn said_value(alloc: Global, value: &Value) -> Result<Option<String>, Fault>
-    ensures ok { IfOk result (λ found. said_by value_of (view value.now) ≡ Some (option_map string_bytes found)) }
-    ensures err { IfErr result (λ fault. (fault ≡ NoMemory) ⊎ ((fault ≡ BadJson) × (said_by value_of (view value.now) ≡ None))) }
+    ensures ok { IfOk result (λ found. optional (said_by value_of (view value.now)) ≡ Ok (option_map string_bytes found)) }
+    ensures err { IfErr result (λ fault. (fault ≡ NoMemory) ⊎ ((fault ≡ BadJson) × (said_by value_of (view value.now) ≡ other_form))) }
 {
     if value.is_null() {
         return Ok(None);
@@ -91,16 +91,16 @@ fn add_property(
     }
 }
 
-/// Each member's name and value, but for those that are null.
+/// Each field's name and value, but for those that are null.
 pub(crate) fn pairs_in(
     alloc: Global,
-    members: &Map<String, Value>,
+    fields: &Map<String, Value>,
 ) -> Result<BTreeMap<String, String>, Fault>
-    ensures ok { IfOk result (λ properties. pairs_in (members_view members.now.entries) ≡ Some (pairs_of properties)) }
-    ensures err { IfErr result (λ fault. (fault ≡ NoMemory) ⊎ ((fault ≡ BadJson) × (pairs_in (members_view members.now.entries) ≡ None))) }
+    ensures ok { IfOk result (λ properties. pairs_in (members_view fields.now.entries) ≡ Some (pairs_of properties)) }
+    ensures err { IfErr result (λ fault. (fault ≡ NoMemory) ⊎ ((fault ≡ BadJson) × (pairs_in (members_view fields.now.entries) ≡ None))) }
 {
     let mut properties = BTreeMap::new(alloc);
-    for (name, value) in members.iter() {
+    for (name, value) in fields.iter() {
         match said_value(alloc, value) {
             Ok(Some(text)) => add_property(alloc, &mut properties, name, text)?,
             Ok(None) => {}
