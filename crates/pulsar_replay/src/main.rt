@@ -10,7 +10,7 @@ ghost use Rattle.pulsar_replay.specs.declared.Unasked.TheVariants.{Arguments, Me
 use position_core::LedgerSize;
 use replay_core::{read_ledger_size, replay_to_status};
 use std::env;
-use std::io::{Read, Write};
+use std::io::{ErrorKind, Read, Write};
 use std::process::ExitCode;
 
 /// Why the arguments ask for no ledger size.
@@ -24,8 +24,10 @@ enum Unasked {
 
 /// The ledger size of the arguments after the program's name.
 fn ledger_size(rt: &HostRuntime) -> Result<LedgerSize, Unasked> {
-    let Ok(mut arguments) = env::args(rt) else {
-        return Err(Unasked::Arguments);
+    let mut arguments = match env::args(rt) {
+        Ok(arguments) => arguments,
+        Err(error) if error.kind() == ErrorKind::OutOfMemory => return Err(Unasked::Memory),
+        Err(_) => return Err(Unasked::Arguments),
     };
     arguments.next();
     let Ok(arguments) = arguments.collect::<Vec<String>>(rt.alloc()) else {
