@@ -5,6 +5,7 @@ use Rattle.std.specs.List.{AllByRecursion, IsDistinct, find, filter, list_any}
 use Rattle.std.specs.Option.{option_map_or}
 use Rattle.std.specs.Str.{bytes_eq}
 use Rattle.std.proofs.lemmas.Bool.Decides.{nat_tests}
+use Rattle.std.proofs.lemmas.List.Folds.{list_any-append}
 use Rattle.std.proofs.lemmas.List.Elements.{All-map, recursion_from_All}
 use Rattle.position_core.specs.declared.position.Position.{Position}
 use Rattle.position_core.specs.declared.topic_name.TopicName.{TopicName}
@@ -131,14 +132,10 @@ shared_sent s name sub e m now all =
 -- ---- joining
 
 any_pushed_is : {A : Type 0} (p : A → Bool) (xs : List A) (y : A) → list_any p (xs ++ y ∷ []) ≡ (list_any p xs || p y)
-any_pushed_is p [] y = alone (p y)
+any_pushed_is p xs y = list_any-append p xs (y ∷ []) ∙ ap (λ b. list_any p xs || b) (alone (p y))
   where
-    alone : (t : Bool) → (t || false) ≡ (false || t)
+    alone : (t : Bool) → (t || false) ≡ t
     alone t = grind (arith, nat_tests)
-any_pushed_is p (x ∷ xs) y = ap (λ b. p x || b) (any_pushed_is p xs y) ∙ regroup (p x) (list_any p xs) (p y)
-  where
-    regroup : (a b c : Bool) → (a || (b || c)) ≡ ((a || b) || c)
-    regroup a b c = grind (arith, nat_tests)
 
 -- the next number is at no subscription
 nobody_yet : (members : List Member) (name : List ℕ) (next : ℕ) → AllByRecursion (λ n. n < next) (numbers_of members) → is_seated members name next ≡ false
