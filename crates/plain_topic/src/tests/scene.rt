@@ -5,84 +5,99 @@ use position_core::{
     Base, Body, Content, LedgerSize, Level, Millis, Moment, Name, Payload, Position, ProducerName,
     Properties, RedeliverLimit, SubscriptionName, TopicName, WindowSize,
 };
-use std::alloc::Global;
+use std::process::Abort;
 use std::sync::ArcStr;
-use std::test::Fail;
 
 /// The position of the place in the first ledger.
 pub(super) fn position_at(entry: u64) -> Position {
     Position { ledger: 0, entry }
 }
 
-pub(super) fn subscription(alloc: Global) -> Result<SubscriptionName, Fail> {
-    Ok(Name::from_text(alloc, "s")?.ok_or("no name")?)
+pub(super) fn subscription<R: Abort + AllocGlobal>(rt: &R) -> SubscriptionName {
+    let name = Name::from_text(rt.alloc(), "s");
+    name.expect(rt, "no memory").expect(rt, "no name")
 }
 
-fn topic_name(alloc: Global, text: &str) -> Result<TopicName, Fail> {
-    Ok(TopicName::from_text(alloc, text)?.ok_or("no topic")?)
+fn topic_name<R: Abort + AllocGlobal>(rt: &R, text: &str) -> TopicName {
+    let name = TopicName::from_text(rt.alloc(), text);
+    name.expect(rt, "no memory").expect(rt, "no name")
 }
 
-pub(super) fn new_topic(alloc: Global) -> Result<PlainTopic, Fail> {
-    let size = LedgerSize::new(50_000).ok_or("no ledger size")?;
-    let name = topic_name(alloc, "persistent://public/default/t")?;
-    Ok(PlainTopic::new(alloc, name, size))
+pub(super) fn new_topic<R: Abort + AllocGlobal>(rt: &R) -> PlainTopic {
+    let size = LedgerSize::new(50_000).expect(rt, "no ledger size");
+    let name = topic_name(rt, "persistent://public/default/t");
+    PlainTopic::new(rt.alloc(), name, size)
 }
 
-pub(super) fn connecting(alloc: Global, name: &str) -> Result<Event, Fail> {
-    let name = ProducerName::new(ArcStr::from_str(alloc, name)?).ok_or("no producer's name")?;
-    Ok(Event::AddProducer {
-        name: Some(name),
-        base: Base::new(-1).ok_or("no base")?,
-    })
+pub(super) fn connecting<R: Abort + AllocGlobal>(rt: &R, name: &str) -> Event {
+    let name = ArcStr::from_str(rt.alloc(), name).expect(rt, "no memory");
+    Event::AddProducer {
+        name: Some(ProducerName::new(name).expect(rt, "no producer's name")),
+        base: Base::new(-1).expect(rt, "no base"),
+    }
 }
 
-pub(super) fn publishing(alloc: Global, producer: u64, sequence: i64) -> Result<Event, Fail> {
+pub(super) fn publishing<R: Abort + AllocGlobal>(rt: &R, producer: u64, sequence: i64) -> Event {
+    let payload = b"hi".to_vec(rt.alloc()).expect(rt, "no memory");
     let content = Content {
         key: None,
-        properties: Properties::none(alloc),
-        payload: Payload::new(b"hi".to_vec(alloc)?).ok_or("no payload")?,
+        properties: Properties::none(rt.alloc()),
+        payload: Payload::new(payload).expect(rt, "no payload"),
     };
-    Ok(Event::Publish {
+    Event::Publish {
         producer,
         sequence,
-        body: Body::new(alloc, content)?,
-        now: Moment::new(1000).ok_or("no moment")?,
-    })
+        body: Body::new(rt.alloc(), content).expect(rt, "no memory"),
+        now: Moment::new(1000).expect(rt, "no moment"),
+    }
 }
 
 /// A consumer with a window of ten messages, each of which dies after so many redeliveries.
-pub(super) fn subscribing(alloc: Global, kind: Kind, limit: u32) -> Result<Event, Fail> {
-    Ok(Event::Subscribe {
-        subscription: subscription(alloc)?,
+pub(super) fn subscribing<R: Abort + AllocGlobal>(rt: &R, kind: Kind, limit: u32) -> Event {
+    Event::Subscribe {
+        subscription: subscription(rt),
         kind,
-        level: Level::new(0).ok_or("no level")?,
-        flow: Flow::Window(WindowSize::new(10).ok_or("no window")?),
-        ack_timeout: Millis::new(0).ok_or("no timeout")?,
-        nack_delay: Millis::new(60_000).ok_or("no delay")?,
-        max_redeliver: RedeliverLimit::new(limit).ok_or("no limit")?,
-        dead_topic: topic_name(alloc, "persistent://public/default/t-s-DLQ")?,
+        level: Level::new(0).expect(rt, "no level"),
+        flow: Flow::Window(WindowSize::new(10).expect(rt, "no window")),
+        ack_timeout: Millis::new(0).expect(rt, "no timeout"),
+        nack_delay: Millis::new(60_000).expect(rt, "no delay"),
+        max_redeliver: RedeliverLimit::new(limit).expect(rt, "no limit"),
+        dead_topic: topic_name(rt, "persistent://public/default/t-s-DLQ"),
         initial: Initial::Earliest,
-    })
+    }
 }
 
-pub(super) fn dispatching(alloc: Global) -> Result<Event, Fail> {
-    Ok(Event::Dispatch {
-        subscription: subscription(alloc)?,
-        now: Moment::new(1000).ok_or("no moment")?,
-    })
+pub(super) fn dispatching<R: Abort + AllocGlobal>(rt: &R) -> Event {
+    Event::Dispatch {
+        subscription: subscription(rt),
+        now: Moment::new(1000).expect(rt, "no moment"),
+    }
+}
+
+/// The consumer refuses the message, which is due after a minute.
+pub(super) fn refusing<R: Abort>(rt: &R, position: Position) -> Event {
+    Event::Nack {
+        consumer: 1,
+        position,
+        now: Moment::new(0).expect(rt, "no moment"),
+    }
+}
+
+/// A tick after that minute.
+pub(super) fn ticking<R: Abort + AllocGlobal>(rt: &R) -> Event {
+    Event::Tick {
+        subscription: subscription(rt),
+        now: Moment::new(60_000).expect(rt, "no moment"),
+    }
 }
 
 /// A producer publishes so many messages, which are stored.
-pub(super) fn publish(topic: &mut PlainTopic, count: u8) -> Result<(), Fail> {
-    let alloc = topic.alloc;
-    let _ = topic.apply(&connecting(alloc, "p")?);
+pub(super) fn publish<R: Abort + AllocGlobal>(rt: &R, topic: &mut PlainTopic, count: u8) {
+    let _ = topic.apply(&connecting(rt, "p"));
     for sequence in 0..count {
-        let _ = topic.apply(&publishing(alloc, 1, i64::from(sequence))?);
+        let _ = topic.apply(&publishing(rt, 1, i64::from(sequence)));
     }
-    match topic.apply(&Event::Stored) {
-        Reply::Durable(_) => Ok(()),
-        _ => Err("not stored")?,
-    }
+    let _ = topic.apply(&Event::Stored);
 }
 
 /// The number of the refusal; 0 where there is none.
