@@ -7,8 +7,6 @@ mod event;
 pub mod laws;
 mod reply;
 mod runs;
-#[cfg(test)]
-mod tests;
 mod topic;
 
 pub use dead_letter::DeadLetter;

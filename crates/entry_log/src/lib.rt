@@ -6,7 +6,5 @@ mod pieces;
 mod place;
 mod search;
 mod segment;
-#[cfg(test)]
-mod tests;
 
 pub use entry_log::EntryLog;

@@ -8,8 +8,6 @@ mod members;
 mod producer;
 mod subscription;
 mod subscriptions;
-#[cfg(test)]
-mod tests;
 
 pub use auto::{auto_name, least_free};
 pub use member::{Member, Terms};

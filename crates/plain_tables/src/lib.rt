@@ -5,8 +5,6 @@ mod counts;
 mod pending;
 mod positions;
 mod table;
-#[cfg(test)]
-mod tests;
 
 pub use counts::CountTable;
 pub use pending::PendingTable;

@@ -1,0 +1,140 @@
+// Scenes, each with its offers by the rules of Exclusive and Failover.
+use super::member::Takes;
+use super::scene::{Change, Scene, Stage, play};
+use super::topic::Topic;
+use dispatch_core::{Dispatcher, Offer};
+use dispatch_single::Single;
+use position_core::Kind;
+use std::process::Abort;
+
+/// The dispatcher keeps nothing, so it is told of nothing.
+#[derive(Drop)]
+struct SingleStage {
+    topic: Topic,
+    dispatcher: Single,
+}
+
+impl SingleStage {
+    fn new<R: Abort + AllocGlobal>(rt: &R, kind: Kind, scene: Scene) -> Self {
+        SingleStage {
+            topic: Topic::new(rt, kind, scene),
+            dispatcher: Single,
+        }
+    }
+}
+
+impl Stage for SingleStage {
+    fn offer(&self) -> Option<Offer> {
+        let view = self.topic.view();
+        match view.subscription.kind() {
+            Kind::Exclusive => self.dispatcher.offer(&view),
+            Kind::Failover => self.dispatcher.offer(&view),
+            Kind::Shared => None,
+            Kind::KeyShared => None,
+        }
+    }
+
+    fn make<R: Abort + AllocGlobal>(self, rt: &R, change: Change, offer: Option<Offer>) -> Self {
+        let dispatcher = self.dispatcher;
+        let topic = self.topic.make(rt, change, offer);
+        SingleStage { topic, dispatcher }
+    }
+}
+
+/// Three messages that wait, and one member.
+const PLAIN: Scene = Scene {
+    says: "the first waiting message goes to the active member",
+    durable: 3,
+    keys: [None; 3],
+    members: &[(1, 0, Takes::Pushed(10))],
+    steps: &[(Change::Begun, Some((0, 1)))],
+};
+
+const SCENES: [Scene; 13] = [
+    PLAIN,
+    Scene {
+        says: "of equal levels the one that joined first is served",
+        members: &[(1, 5, Takes::Pushed(10)), (2, 5, Takes::Pushed(10))],
+        ..PLAIN
+    },
+    Scene {
+        says: "a better level takes over",
+        members: &[(1, 5, Takes::Pushed(10)), (2, 4, Takes::Pushed(10))],
+        steps: &[(Change::Begun, Some((0, 2)))],
+        ..PLAIN
+    },
+    Scene {
+        says: "a worse level does not",
+        members: &[(1, 5, Takes::Pushed(10)), (2, 6, Takes::Pushed(10))],
+        ..PLAIN
+    },
+    Scene {
+        says: "level counts before number",
+        members: &[
+            (7, 2, Takes::Pushed(10)),
+            (8, 3, Takes::Pushed(10)),
+            (9, 0, Takes::Pushed(10)),
+        ],
+        steps: &[(Change::Begun, Some((0, 9)))],
+        ..PLAIN
+    },
+    Scene {
+        says: "a full window gets nothing",
+        members: &[(1, 0, Takes::Pushed(1))],
+        steps: &[(Change::Held(0, 1), None)],
+        ..PLAIN
+    },
+    Scene {
+        says: "nor does another member, then",
+        members: &[(1, 0, Takes::Pushed(1)), (2, 1, Takes::Pushed(10))],
+        steps: &[(Change::Held(0, 1), None)],
+        ..PLAIN
+    },
+    Scene {
+        says: "nothing is visible",
+        durable: 0,
+        steps: &[(Change::Begun, None)],
+        ..PLAIN
+    },
+    Scene {
+        says: "nobody is there",
+        members: &[],
+        steps: &[(Change::Begun, None)],
+        ..PLAIN
+    },
+    Scene {
+        says: "an acknowledged message is passed over",
+        steps: &[(Change::Acknowledged(0), Some((1, 1)))],
+        ..PLAIN
+    },
+    Scene {
+        says: "a pending message is passed over, at whomever it is",
+        steps: &[(Change::Held(0, 9), Some((1, 1)))],
+        ..PLAIN
+    },
+    Scene {
+        says: "both are passed over",
+        steps: &[
+            (Change::Acknowledged(1), Some((0, 1))),
+            (Change::Held(0, 1), Some((2, 1))),
+        ],
+        ..PLAIN
+    },
+    Scene {
+        says: "what waits is not visible",
+        durable: 2,
+        steps: &[
+            (Change::Acknowledged(0), Some((1, 1))),
+            (Change::Held(1, 1), None),
+        ],
+        ..PLAIN
+    },
+];
+
+#[test]
+fn each_scene_has_its_offers(rt: HostRuntime) {
+    for scene in SCENES {
+        play(&rt, SingleStage::new(&rt, Kind::Failover, scene), scene);
+    }
+    play(&rt, SingleStage::new(&rt, Kind::Exclusive, PLAIN), PLAIN);
+}

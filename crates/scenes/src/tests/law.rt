@@ -1,0 +1,95 @@
+// The law of a dispatcher, used through its trait.
+ghost use Rattle.std.specs.Prelude.{◌≡◌, [], IsTrue};
+ghost use Rattle.delivery_machine.specs.Words.{members_of};
+ghost use Rattle.dispatch_core.specs.Changes.{Joined, Kept};
+
+use super::member::{Takes, new_member};
+use super::message::new_log;
+use super::subscription::Only;
+use crate::ListView;
+use dispatch_core::{Dispatcher, Offer, View};
+use dispatch_keyed::Keyed;
+use dispatch_shared::Shared;
+use dispatch_single::Single;
+use position_core::{Fault, Kind};
+use std::alloc::Global;
+use std::process::Abort;
+
+/// What is offered when a first consumer has joined, and once the log is stored.
+fn offers<D: Dispatcher + Drop, V: View>(
+    alloc: Global,
+    empty: &V,
+    joined: &V,
+    stored: &V,
+    consumer: u64,
+) -> Result<(Option<Offer>, Option<Offer>), Fault>
+    requires kind { IsTrue (D.serves (V.subscription empty.now).kind) }
+    requires nobody { members_of (V.state empty.now) (V.subscription empty.now).name ≡ [] }
+    requires unshared { (V.subscription empty.now).shares ≡ [] }
+    requires joins { Joined consumer (V.state empty.now) (V.subscription empty.now) (V.state joined.now) (V.subscription joined.now) }
+    requires stores { Kept (V.state joined.now) (V.subscription joined.now) (V.state stored.now) (V.subscription stored.now) }
+{
+    let mut dispatcher = D::begin(alloc, empty)?;
+    dispatcher.on_join(joined, consumer)?;
+    Ok((dispatcher.offer(joined), dispatcher.offer(stored)))
+}
+
+/// Makes each call that tells of a change.
+fn tell<D: Dispatcher, V: View>(dispatcher: &mut D, view: &V) -> Result<(), Fault> {
+    dispatcher.on_append(view)?;
+    dispatcher.undo_append(view);
+    dispatcher.on_join(view, 2)?;
+    dispatcher.on_join(view, 3)?;
+    dispatcher.on_leave(view, 2);
+    dispatcher.on_sent(view, 0, 1)?;
+    dispatcher.on_released(view, 0);
+    dispatcher.on_gone(view, 0);
+    dispatcher.on_reset(view)
+}
+
+/// A dispatcher begins, a first consumer joins, the log is stored, and each change is told.
+fn expect_law<R: Abort + AllocGlobal, D: Dispatcher + Drop>(rt: &R, kind: Kind)
+    requires { IsTrue (D.serves kind) }
+{
+    let log = new_log(rt, [None; 3]);
+    let before = Only::new(rt, kind);
+    let after = Only::new(rt, kind).with(rt, 1);
+    let members = [new_member(rt, 1, 0, Takes::Pushed(10))];
+    let empty = ListView {
+        log: log.as_slice(),
+        durable: 0,
+        subscription: &before.subscription,
+        members: &[],
+    };
+    let joined = ListView {
+        subscription: &after.subscription,
+        members: &members,
+        ..empty
+    };
+    let stored = ListView {
+        durable: 3,
+        ..joined
+    };
+    let (unstored, offered) = offers::<D, ListView<'_>>(
+        rt.alloc(),
+        &empty,
+        &joined,
+        &stored,
+        1,
+    ).expect(rt, "no memory");
+    let first = Offer {
+        index: 0,
+        consumer: 1,
+    };
+    assert_eq!(rt; unstored, None);
+    assert_eq!(rt; offered, Some(first));
+    let mut told = D::begin(rt.alloc(), &empty).expect(rt, "no memory");
+    tell(&mut told, &stored).expect(rt, "no memory");
+}
+
+#[test]
+fn each_dispatcher_keeps_the_law(rt: HostRuntime) {
+    expect_law::<HostRuntime, Single>(&rt, Kind::Exclusive);
+    expect_law::<HostRuntime, Shared>(&rt, Kind::Shared);
+    expect_law::<HostRuntime, Keyed>(&rt, Kind::KeyShared);
+}
