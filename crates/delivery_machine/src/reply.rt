@@ -1,3 +1,4 @@
+// Replies: one form for each way that an event may come out.
 use crate::delivery::Deliveries;
 use position_core::{
     ConsumerNumber, Fault, Kind, Message, Ordinal, Position, ProducerNumber, TopicName,
