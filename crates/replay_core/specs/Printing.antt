@@ -63,8 +63,8 @@ position_text None = codes "-"
 position_text (Some position) = text_of position
 
 -- what a subscription is, and how far it has come
-abbrev pub place_text : Kind → ℕ → Option Position → List ℕ
-place_text kind members mark_delete =
+abbrev pub subscription_text : Kind → ℕ → Option Position → List ℕ
+subscription_text kind members mark_delete =
     codes "stats " ++ kind_text kind ++ codes " " ++ decimal members ++ codes " " ++ position_text mark_delete
 
 -- how many of its messages are acknowledged, live, pending and dead
@@ -98,7 +98,7 @@ reply_text event (Died position ordinal) = codes "died " ++ text_of position ++ 
 reply_text event (Rewound count) = codes "rewound " ++ decimal count
 reply_text event Quiet = codes "quiet"
 reply_text event (Stats kind members mark_delete acknowledged live pending dead) =
-    place_text kind members mark_delete ++ counts_text acknowledged live pending dead
+    subscription_text kind members mark_delete ++ counts_text acknowledged live pending dead
 reply_text event (Dead message target ordinal) =
     codes "dead " ++ decimal ordinal ++ codes " " ++ text_of message.position ++ codes " " ++ target_text target
 reply_text event NoDead = codes "nodead"
