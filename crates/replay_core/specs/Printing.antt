@@ -83,8 +83,8 @@ copy_text d = codes " " ++ text_of d.message.position ++ codes ":" ++ decimal d.
 abbrev pub reply_text : Event → Reply → List ℕ
 reply_text event (ProducerAdded producer auto last) =
     codes "producer " ++ decimal producer ++ codes " " ++ producer_name event auto ++ codes " " ++ signed_decimal last
-reply_text event (Published position index) = codes "published " ++ text_of position ++ codes " " ++ decimal index
-reply_text event (Duplicate index) = codes "duplicate " ++ decimal index
+reply_text event (Published position length) = codes "published " ++ text_of position ++ codes " " ++ decimal length
+reply_text event (Duplicate length) = codes "duplicate " ++ decimal length
 reply_text event (Durable length) = codes "durable " ++ decimal length
 reply_text event (Progress durable length) = codes "progress " ++ decimal durable ++ codes " " ++ decimal length
 reply_text event (Subscribed consumer) = codes "consumer " ++ decimal consumer

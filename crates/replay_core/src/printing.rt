@@ -104,13 +104,13 @@ fn append_added(
     append_signed(out, last)
 }
 
-fn append_published(out: &mut String, position: Position, index: u64) -> Result<(), AllocError>
+fn append_published(out: &mut String, position: Position, length: u64) -> Result<(), AllocError>
     ensures { OnOk result (string_bytes out.new
-        ≡ string_bytes out.old ++ (codes "published " ++ text_of position ++ codes " " ++ decimal index)) }
+        ≡ string_bytes out.old ++ (codes "published " ++ text_of position ++ codes " " ++ decimal length)) }
 {
     out.push_str("published ")?;
     append_id(out, position)?;
-    append_counted(out, " ", index)
+    append_counted(out, " ", length)
 }
 
 fn append_progress(out: &mut String, durable: u64, length: u64) -> Result<(), AllocError>
@@ -263,8 +263,8 @@ pub fn append_reply(out: &mut String, event: &Event, reply: &Reply) -> Result<()
             auto,
             last,
         } => append_added(out, event, *producer, *auto, *last),
-        Reply::Published { position, index } => append_published(out, *position, *index),
-        Reply::Duplicate { index } => append_counted(out, "duplicate ", *index),
+        Reply::Published { position, length } => append_published(out, *position, *length),
+        Reply::Duplicate { length } => append_counted(out, "duplicate ", *length),
         Reply::Durable(length) => append_counted(out, "durable ", *length),
         Reply::Progress { durable, length } => append_progress(out, *durable, *length),
         Reply::Subscribed { consumer } => append_counted(out, "consumer ", *consumer),
