@@ -63,7 +63,7 @@ impl Filling {
         Message::new(alloc, entry)
     }
 
-    /// Whether there was a place for a further message.
+    /// Whether a further message fitted.
     fn append(&mut self, alloc: Global) -> Result<bool, AllocError> {
         if self.log.is_full() {
             return Ok(false);
@@ -73,7 +73,7 @@ impl Filling {
         Ok(true)
     }
 
-    /// Whether there was a place for each of so many further messages.
+    /// Whether each of so many further messages fitted.
     fn append_all(&mut self, alloc: Global, size: u64) -> Result<bool, AllocError> {
         let mut right = true;
         for _ in 0..size {
@@ -108,9 +108,9 @@ fn append_and_pop(rt: &HostRuntime, size: u64) -> io::Result<Run> {
     Ok(Run { time, right })
 }
 
-/// Whether there is a message at each place.
+/// Whether there is a message at each index.
 fn all_there(log: &EntryLog, size: u64) -> bool {
-    (0..size).all(|place| log.get(place as usize).is_some())
+    (0..size).all(|index| log.get(index as usize).is_some())
 }
 
 fn get(rt: &HostRuntime, size: u64) -> io::Result<Run> {
@@ -121,14 +121,14 @@ fn get(rt: &HostRuntime, size: u64) -> io::Result<Run> {
     Ok(Run { time, right })
 }
 
-/// Whether each message is found at its place.
+/// Whether each message is found at its index.
 fn all_found(log: &EntryLog, size: u64) -> bool {
-    (0..size).all(|place| {
+    (0..size).all(|index| {
         let position = Position {
-            ledger: place / 50_000,
-            entry: place % 50_000,
+            ledger: index / 50_000,
+            entry: index % 50_000,
         };
-        log.index_of(position) == Some(place as usize)
+        log.index_of(position) == Some(index as usize)
     })
 }
 

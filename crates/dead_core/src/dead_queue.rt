@@ -1,4 +1,4 @@
-// The dead letters of a subscription, in the order of dying.
+// A queue of letters: they come in at its back, and leave at its front once they are published.
 ghost use Rattle.std.specs.Prelude.{◌≡◌, [], length, None, IfSome, IfNone, OnOk, OnErr, is_some, if◌then◌else◌};
 ghost use Rattle.std.specs.Option.{option_copied};
 ghost use Rattle.delivery_machine.specs.State.{Subscription};

@@ -1,4 +1,4 @@
-// The last sequence number of each producer's name.
+// What tells a duplicate from a new message.
 ghost use Rattle.std.specs.Prelude.{◌≡◌, List, [], ◌∷◌, ◌++◌, OnOk, OnErr};
 ghost use Rattle.std.specs.Option.{unwrap_or};
 ghost use Rattle.std.specs.FinMap as map_of;

@@ -32,7 +32,7 @@ use Rattle.delivery_machine.proofs.Firsts.{some_elim, found_passes}
 use Rattle.delivery_machine.proofs.Deciding.{and_first, or_false, both_false}
 use Rattle.delivery_machine.proofs.Finding.{find_inserted, find_removed, still_changed, still_mapped}
 use Rattle.delivery_machine.proofs.Behind.{same_name, is_same_name}
-use Rattle.delivery_machine.proofs.Tended.{same_place}
+use Rattle.delivery_machine.proofs.Tended.{position_is}
 
 -- ---- one subscription and one message
 
@@ -194,7 +194,7 @@ module _ (name : List ℕ) (position : Position) where
       by : (b : Bool) → bytes_eq n name ≡ b → (c : Bool) → same_position p position ≡ c → (b && c) ≡ false
       by true named true same =
           let this : find (is_named name) s.subscriptions ≡ Some sub = subst (λ (m : List ℕ). find (is_named m) s.subscriptions ≡ Some sub) (same_name n name named) found in
-          let is : position ≡ h.0.position = sym (same_place p position same) ∙ h.4 in
+          let is : position ≡ h.0.position = sym (position_is p position same) ∙ h.4 in
           let acknowledged : set.contains sub.acknowledged position ≡ true = sym (ap (λ o. option_map_or has o false) this) ∙ there in
           absurd (waits_unacknowledged sub h.0 (chosen_waits sub.kind s sub h.0 h.1 h.2.1) (ap (set.contains sub.acknowledged) (sym is) ∙ acknowledged))
       by true named false differs = refl

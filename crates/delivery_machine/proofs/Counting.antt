@@ -11,7 +11,7 @@ use Rattle.position_core.specs.declared.message.Entry.{Entry}
 use Rattle.position_core.specs.declared.held.Held.{Held}
 use Rattle.position_core.specs.Position.{position_cmp, same_position, positions_total}
 use Rattle.delivery_machine.specs.Words.{is_held_by, has_position}
-use Rattle.delivery_machine.proofs.Tended.{IsPartOf, got_inserted, same_place}
+use Rattle.delivery_machine.proofs.Tended.{IsPartOf, got_inserted, position_is}
 use Rattle.delivery_machine.proofs.Rising.{not_below_itself}
 
 -- ---- counts
@@ -63,7 +63,7 @@ none_above q (e ∷ log) above =
     ∙ zero_more (count_by (has_position q) log) (none_above q log above.1)
   where
     other : (b : Bool) → has_position q e ≡ b → b ≡ false
-    other true t = absurd (not_below_itself q (ap (position_cmp q) (sym (same_place e.position q t)) ∙ above.0))
+    other true t = absurd (not_below_itself q (ap (position_cmp q) (sym (position_is e.position q t)) ∙ above.0))
     other false f = refl
 
 -- where positions rise, one message at most has the position
@@ -78,7 +78,7 @@ one_has_position q (e ∷ log) rising = by (has_position q e) refl (one_has_posi
     by : (b : Bool) → has_position q e ≡ b → count_by (has_position q) log ≤ 1 → count_by (has_position q) (e ∷ log) ≤ 1
     by true t rest =
         let above : AllByRecursion (λ k. position_cmp q k ≡ Less) (map (λ e. e.position) log) =
-        subst (λ (p : Position). AllByRecursion (λ k. position_cmp p k ≡ Less) (map (λ e. e.position) log)) (same_place e.position q t) rising.0 in
+        subst (λ (p : Position). AllByRecursion (λ k. position_cmp p k ≡ Less) (map (λ e. e.position) log)) (position_is e.position q t) rising.0 in
         let none = none_above q log above in
         let here = counted ∙ ap (λ b. cond {A = ℕ} b 1 0 + count_by (has_position q) log) t in
         omega arith

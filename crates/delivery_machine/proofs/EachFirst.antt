@@ -47,7 +47,7 @@ each_placed P Q new subs none has others all name sub found =
         let both = sym (subst (λ (m : List ℕ). find (is_named m) subs ≡ Some sub) named b) ∙ none in
         cc
 
--- where the first of a name goes: one that comes in its place is idle
+-- where the first of a name goes: one that is then the first is idle
 pub each_removed : (P Q : Subscription → Type 0) (n : List ℕ) (subs : List Subscription) → AllBehindIdle subs
     → ((sub : Subscription) → P sub → Q sub) → ((sub : Subscription) → sub.name ≡ n → IsIdle sub → Q sub) → EachFirst P subs → EachFirst Q (removed (is_named n) subs)
 each_removed P Q n subs behind others next all name sub found = by (bytes_eq name n) refl

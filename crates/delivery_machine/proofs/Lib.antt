@@ -39,7 +39,7 @@ pub mod Ordinals
 pub mod Taking
 pub mod OrderOverMembers
 pub mod OrderReached
-pub mod Parts
+pub mod SharesSplit
 pub mod Sharing
 pub mod Halving
 pub mod ShareLaws

@@ -12,12 +12,12 @@ use Rattle.delivery_machine.specs.Words.{has_position}
 use Rattle.delivery_machine.specs.Acknowledging.{is_one_of}
 use Rattle.delivery_machine.specs.WellFormed.{has_message}
 use Rattle.delivery_machine.proofs.Firsts.{any_contained}
-use Rattle.delivery_machine.proofs.Tended.{same_place}
+use Rattle.delivery_machine.proofs.Tended.{position_is}
 use Rattle.delivery_machine.proofs.Among.{contained_mapped}
 use Rattle.delivery_machine.proofs.Sending.{taken_contained}
 
-pub place_itself : (p : Position) → same_position p p ≡ true
-place_itself p = (Equal-is (position_cmp p p)).1 (tied_itself positions_total p)
+pub position_itself : (p : Position) → same_position p p ≡ true
+position_itself p = (Equal-is (position_cmp p p)).1 (tied_itself positions_total p)
 
 pub either_way : (p q : Position) → same_position p q ≡ same_position q p
 either_way p q = (eq_by_cmp_equiv positions_total).symm p q
@@ -29,10 +29,10 @@ Stands log p = (e : Entry) × Contains log e × (e.position ≡ p)
 pub message_there : (log : List Entry) (p : Position) → has_message log p ≡ true → Stands log p
 message_there log p there =
     let at = Any-from_list_any (has_position p) log there in
-    (at.1, (at.0, at.2, at.3), same_place at.1.position p at.4)
+    (at.1, (at.0, at.2, at.3), position_is at.1.position p at.4)
 
 pub has_there : (log : List Entry) (p : Position) → Stands log p → has_message log p ≡ true
-has_there log p there = any_contained (has_position p) log there.0 there.1 (ap (λ (q : Position). same_position q p) there.2 ∙ place_itself p)
+has_there log p there = any_contained (has_position p) log there.0 there.1 (ap (λ (q : Position). same_position q p) there.2 ∙ position_itself p)
 
 -- where each message of the one list is in the other
 pub message_among : (xs log : List Entry) (p : Position) → ((e : Entry) → Contains xs e → Contains log e) → has_message xs p ≡ true → has_message log p ≡ true
@@ -58,7 +58,7 @@ first_pushed n log e low = rw take-append-le
 -- ---- lists of positions
 
 pub one_of_itself : (p q : Position) → is_one_of (p ∷ []) q ≡ true → p ≡ q
-one_of_itself p q any = sym (same_place q p (by (same_position q p) any))
+one_of_itself p q any = sym (position_is q p (by (same_position q p) any))
   where
     by : (b : Bool) → (b || false) ≡ true → b ≡ true
     by true any = refl
@@ -68,7 +68,7 @@ pub one_listed : (xs log : List Entry) (p : Position) → ((e : Entry) → Conta
 one_listed xs log p among any =
     let at = Any-from_list_any (same_position p) (map (λ (e : Entry). e.position) xs) any in
     let from = contained_mapped (λ (e : Entry). e.position) xs at.1 (at.0, at.2, at.3) in
-    has_there log p (from.0, among from.0 from.1, sym (same_place p at.1 at.4 ∙ from.2))
+    has_there log p (from.0, among from.0 from.1, sym (position_is p at.1 at.4 ∙ from.2))
 
 pub one_of_first : (n : ℕ) (ps : List Position) (p : Position) → is_one_of (take n ps) p ≡ true → is_one_of ps p ≡ true
 one_of_first n ps p any =

@@ -39,7 +39,7 @@ use Rattle.delivery_machine.proofs.RunSteps.{split, Run-keeps}
 use Rattle.delivery_machine.proofs.Firsts.{some_elim, found_passes}
 use Rattle.delivery_machine.proofs.Rising.{next_is_new}
 use Rattle.delivery_machine.proofs.Behind.{IsIdle, same_name}
-use Rattle.delivery_machine.proofs.Tended.{IsTended, same_place, some_is, got_inserted}
+use Rattle.delivery_machine.proofs.Tended.{IsTended, position_is, some_is, got_inserted}
 use Rattle.delivery_machine.proofs.Tending.{none_pending}
 use Rattle.delivery_machine.proofs.Kept.{IsKept}
 use Rattle.delivery_machine.proofs.Reached.{step_keeps, beginning_kept}
@@ -173,7 +173,7 @@ order_published s e is kept all = record {
     nowhere : list_any (has_position e.position) s.log ≡ true → ⊥
     nowhere any =
         let there = Any-from_list_any (has_position e.position) s.log any in
-        next_is_new s kept.rising there.1 (there.0, there.2, there.3) (same_place there.1.position e.position there.4 ∙ is)
+        next_is_new s kept.rising there.1 (there.0, there.2, there.3) (position_is there.1.position e.position there.4 ∙ is)
 
     new : (sub : Subscription) → IsTended s.log s.members sub.name sub.kind sub.pending → is_pending_in sub e ≡ false
     new sub tended = by (map_of.get sub.pending e.position) refl
@@ -196,7 +196,7 @@ order_dropped s n nobody kept all = record {
 once : (p : Position) (log : List Entry) → IsStrictlySortedBy position_cmp (map (λ e. e.position) log) → PassOnce (has_position p) log
 unfolding IsStrictlySortedBy
 once p [] rising = tt
-once p (e ∷ log) rising = (λ here. none log (subst (λ (q : Position). AllByRecursion (λ k. position_cmp q k ≡ Less) (map (λ e. e.position) log)) (same_place e.position p here) rising.0), once p log rising.1)
+once p (e ∷ log) rising = (λ here. none log (subst (λ (q : Position). AllByRecursion (λ k. position_cmp q k ≡ Less) (map (λ e. e.position) log)) (position_is e.position p here) rising.0), once p log rising.1)
   where
     never : position_cmp p p ≡ Less → ⊥
     never less = let tied = tied_itself positions_total p in cc
@@ -206,7 +206,7 @@ once p (e ∷ log) rising = (λ here. none log (subst (λ (q : Position). AllByR
       where
         by : (b : Bool) → has_position p x ≡ b → b ≡ false
         by false f = refl
-        by true t = absurd (never (ap (position_cmp p) (sym (same_place x.position p t)) ∙ above))
+        by true t = absurd (never (ap (position_cmp p) (sym (position_is x.position p t)) ∙ above))
 
     none : (xs : List Entry) → AllByRecursion (λ k. position_cmp p k ≡ Less) (map (λ e. e.position) xs) → list_any (has_position p) xs ≡ false
     none [] above = refl

@@ -107,21 +107,21 @@ step_keeps s event reply t h kept =
 -- ---- where a run begins
 
 -- what a snapshot keeps of subscriptions is idle
-found_idle : (places : List KeptSubscription) (name : List ℕ) (sub : Subscription) → find (is_named name) (map subscription_from places) ≡ Some sub → IsIdle sub
+found_idle : (kept : List KeptSubscription) (name : List ℕ) (sub : Subscription) → find (is_named name) (map subscription_from kept) ≡ Some sub → IsIdle sub
 found_idle [] name sub found = cc
-found_idle (place ∷ places) name sub found = by (is_named name (subscription_from place)) found (found_idle places name sub)
+found_idle (one ∷ kept) name sub found = by (is_named name (subscription_from one)) found (found_idle kept name sub)
   where
-    by : (b : Bool) → cond b (Some (subscription_from place)) (find (is_named name) (map subscription_from places)) ≡ Some sub → (find (is_named name) (map subscription_from places) ≡ Some sub → IsIdle sub) → IsIdle sub
+    by : (b : Bool) → cond b (Some (subscription_from one)) (find (is_named name) (map subscription_from kept)) ≡ Some sub → (find (is_named name) (map subscription_from kept) ≡ Some sub → IsIdle sub) → IsIdle sub
     by true is rest =
-        let same : subscription_from place ≡ sub = cc in
+        let same : subscription_from one ≡ sub = cc in
         subst IsIdle same none_pending
     by false is rest = rest is
 
-all_idle : (places : List KeptSubscription) → AllBehindIdle (map subscription_from places)
+all_idle : (kept : List KeptSubscription) → AllBehindIdle (map subscription_from kept)
 all_idle [] = tt
-all_idle (place ∷ places) = (each places, all_idle places)
+all_idle (one ∷ kept) = (each kept, all_idle kept)
   where
-    each : (others : List KeptSubscription) → AllByRecursion (IsBehindIdle (subscription_from place)) (map subscription_from others)
+    each : (others : List KeptSubscription) → AllByRecursion (IsBehindIdle (subscription_from one)) (map subscription_from others)
     each [] = tt
     each (other ∷ others) = (λ _. none_pending, each others)
 

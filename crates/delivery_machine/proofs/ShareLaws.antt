@@ -6,9 +6,9 @@ use Rattle.std.proofs.lemmas.Bool.{cases_lt}
 use Rattle.std.proofs.lemmas.Bool.Decides.{nat_tests}
 use Rattle.std.proofs.lemmas.Map.Keys.{IsDistinct-cons, IsDistinct-head, IsDistinct-tail}
 use Rattle.position_core.specs.declared.block.Block.{Block}
-use Rattle.delivery_machine.specs.Shares.{owner_of, lower_half, upper_half, halving, most_hashes, shared_out, all_hashes, is_share_of, with_lower, with_upper, given_back, PartAllHashes}
+use Rattle.delivery_machine.specs.Shares.{owner_of, lower_half, upper_half, halving, most_hashes, shared_out, all_hashes, is_share_of, with_lower, with_upper, given_back, SplitAllHashes}
 use Rattle.delivery_machine.specs.ShareSets.{AreShares, TakesHalf, GivesBack, Joins, Leaves, SharesAreSets}
-use Rattle.delivery_machine.proofs.Parts.{parts_shared_out, parts_given_back}
+use Rattle.delivery_machine.proofs.SharesSplit.{split_shared_out, split_given_back}
 use Rattle.delivery_machine.proofs.Sharing.{goes, inside, owner_here}
 use Rattle.delivery_machine.proofs.Halving.{halves, HalvesFrom, within_most, largest_there, row_total}
 
@@ -131,10 +131,10 @@ some_given_back consumer (a ∷ b ∷ rest) some = by (is_share_of consumer a) (
 -- ---- the laws
 
 -- of fewer than 64 shares the largest has two hashes and more
-large : (b : Block) (bs : List Block) → PartAllHashes (b ∷ bs) → length (b ∷ bs) < 64 → 2 ≤ most_hashes (b ∷ bs)
-large b bs parts few =
+large : (b : Block) (bs : List Block) → SplitAllHashes (b ∷ bs) → length (b ∷ bs) < 64 → 2 ≤ most_hashes (b ∷ bs)
+large b bs split few =
     elim (cases_lt (most_hashes (b ∷ bs)) 2) [
-      | inl small ↦ absurd (too_few (length (b ∷ bs)) (most_hashes (b ∷ bs)) few small (row_total 0 (most_hashes (b ∷ bs)) (b ∷ bs) (within_most (b ∷ bs) (most_hashes (b ∷ bs)) (omega arith)) parts))
+      | inl small ↦ absurd (too_few (length (b ∷ bs)) (most_hashes (b ∷ bs)) few small (row_total 0 (most_hashes (b ∷ bs)) (b ∷ bs) (within_most (b ∷ bs) (most_hashes (b ∷ bs)) (omega arith)) split))
       | inr enough ↦ enough
     ]
   where
@@ -151,27 +151,27 @@ large b bs parts few =
 
 pub shares_joined : (consumer : ℕ) (shares : List Block) → AreShares shares → list_any (is_share_of consumer) shares ≡ false → length shares < 64 → AreShares (shared_out consumer shares)
 shares_joined consumer [] are away few = record {
-  parted = parts_shared_out consumer [] tt;
+  split = split_shared_out consumer [] tt;
   some = all_from HasSome (all_hashes consumer ∷ []) (omega arith, tt);
   distinct = IsDistinct-cons nat_eq consumer [] tt are.distinct;
 }
 shares_joined consumer (b ∷ bs) are away few = record {
-  parted = parts_shared_out consumer (b ∷ bs) are.parted;
-  some = all_from HasSome (halving (most_hashes (b ∷ bs)) consumer (b ∷ bs)) (some_halved (most_hashes (b ∷ bs)) consumer (b ∷ bs) (large b bs are.parted few) (all_to HasSome (b ∷ bs) are.some));
+  split = split_shared_out consumer (b ∷ bs) are.split;
+  some = all_from HasSome (halving (most_hashes (b ∷ bs)) consumer (b ∷ bs)) (some_halved (most_hashes (b ∷ bs)) consumer (b ∷ bs) (large b bs are.split few) (all_to HasSome (b ∷ bs) are.some));
   distinct = distinct_halved (most_hashes (b ∷ bs)) consumer (b ∷ bs) away are.distinct;
 }
 
 pub shares_left : (consumer : ℕ) (shares : List Block) → AreShares shares → AreShares (given_back consumer shares)
 shares_left consumer shares are = record {
-  parted = parts_given_back consumer shares are.parted;
+  split = split_given_back consumer shares are.split;
   some = all_from HasSome (given_back consumer shares) (some_given_back consumer shares (all_to HasSome shares are.some));
   distinct = distinct_given_back consumer shares are.distinct;
 }
 
-takes_half : (consumer : ℕ) (b : Block) (bs : List Block) → PartAllHashes (b ∷ bs) → TakesHalf consumer (b ∷ bs) (shared_out consumer (b ∷ bs))
-takes_half consumer b bs parts =
+takes_half : (consumer : ℕ) (b : Block) (bs : List Block) → SplitAllHashes (b ∷ bs) → TakesHalf consumer (b ∷ bs) (shared_out consumer (b ∷ bs))
+takes_half consumer b bs split =
     let most : ℕ = most_hashes (b ∷ bs) in
-    let halved : HalvesFrom 0 most consumer (b ∷ bs) (halving most consumer (b ∷ bs)) = halves 0 most consumer (b ∷ bs) parts (largest_there b bs) in
+    let halved : HalvesFrom 0 most consumer (b ∷ bs) (halving most consumer (b ∷ bs)) = halves 0 most consumer (b ∷ bs) split (largest_there b bs) in
     let sized : halved.giver.size ≡ most = halved.sized in
     record {
       giver = halved.giver;
@@ -191,7 +191,7 @@ first_takes_all consumer (b ∷ bs) none hash below = cc
 
 others_take_half : (consumer : ℕ) (shares : List Block) → AreShares shares → shares ≢ [] → TakesHalf consumer shares (shared_out consumer shares)
 others_take_half consumer [] are some = absurd (some refl)
-others_take_half consumer (b ∷ bs) are some = takes_half consumer b bs are.parted
+others_take_half consumer (b ∷ bs) are some = takes_half consumer b bs are.split
 
 joins : Joins
 joins consumer shares are away = (first_takes_all consumer shares, others_take_half consumer shares are, shares_joined consumer shares are away)
@@ -199,7 +199,7 @@ joins consumer shares are away = (first_takes_all consumer shares, others_take_h
 gives_back : (consumer : ℕ) (shares : List Block) → AreShares shares → list_any (is_share_of consumer) shares ≡ true → GivesBack consumer shares (given_back consumer shares)
 gives_back consumer [] are there = cc
 gives_back consumer (b ∷ bs) are there =
-    let from = goes 0 consumer (b ∷ bs) are.parted (all_to HasSome (b ∷ bs) are.some) there in
+    let from = goes 0 consumer (b ∷ bs) are.split (all_to HasSome (b ∷ bs) are.some) there in
     record { gone = from.gone; there = from.there; leaver = from.leaver; given = from.given; others = from.others }
 
 leaves : Leaves

@@ -45,7 +45,7 @@ use Rattle.delivery_machine.proofs.Ranks.{rank_of, ranks_changed, ranks_mapped, 
 use Rattle.delivery_machine.proofs.EachFirst.{EachFirst, each_kept, each_changed, each_mapped, each_placed}
 use Rattle.delivery_machine.proofs.Named.{found_left, each_from_all}
 use Rattle.delivery_machine.proofs.Seated.{is_there, AllThere, any_found}
-use Rattle.delivery_machine.proofs.WellKept.{IsWellKept, places_of, numbers_of}
+use Rattle.delivery_machine.proofs.WellKept.{IsWellKept, names_of, numbers_of}
 use Rattle.delivery_machine.proofs.WellSeated.{others_left}
 use Rattle.delivery_machine.proofs.SharedOut.{HaveShares, shares_of_same, no_shares, of_any_kind, shares_pushed, shares_taken}
 
@@ -187,7 +187,7 @@ none_of_other_kind s name kind max_redeliver dead_topic allowed other = none (se
     none : (n : ℕ) (b : Bool) → (nat_lt 0 n && not b) ≡ false → b ≡ false → n ≡ 0
     none n b e f = grind (arith, nat_tests)
 
-nobody_named : (members : List Member) (name : List ℕ) (subs : List Subscription) → AllThere (places_of members) subs → find (is_named name) subs ≡ None → seats_at members name ≡ 0
+nobody_named : (members : List Member) (name : List ℕ) (subs : List Subscription) → AllThere (names_of members) subs → find (is_named name) subs ≡ None → seats_at members name ≡ 0
 nobody_named [] name subs there absent = refl
 nobody_named (m ∷ members) name subs there absent = by (is_at name m) refl (nobody_named members name subs there.1 absent)
   where
@@ -234,7 +234,7 @@ elsewhere_pushed members m sub elsewhere have =
     without_it a b c e = grind (arith, nat_tests)
 
 -- the first member of a new subscription
-new_shares : (s : State) (kind : Kind) (initial : Initial) (m : Member) → AllThere (places_of s.members) s.subscriptions → find (is_named m.subscription) s.subscriptions ≡ None → HasShares (s.members ++ m ∷ []) (new_subscription m.subscription kind m.number initial s.log)
+new_shares : (s : State) (kind : Kind) (initial : Initial) (m : Member) → AllThere (names_of s.members) s.subscriptions → find (is_named m.subscription) s.subscriptions ≡ None → HasShares (s.members ++ m ∷ []) (new_subscription m.subscription kind m.number initial s.log)
 unfolding IsDistinct
 new_shares s kind initial m there absent =
     shares_pushed kind [] (is_seated s.members m.subscription) (is_seated (s.members ++ m ∷ []) m.subscription) 0 (seats_at (s.members ++ m ∷ []) m.subscription) m.number
@@ -253,7 +253,7 @@ new_shares s kind initial m there absent =
     nobody number = none_seated s.members m.subscription number none
 
     no_blocks : AreShares []
-    no_blocks = record { parted = tt; some = λ k d low. absurd (omega arith); distinct = tt }
+    no_blocks = record { split = tt; some = λ k d low. absurd (omega arith); distinct = tt }
 
 shared_joined : (s : State) (kind : Kind) (initial : Initial) (m : Member) → m.number ≡ s.next_consumer → subscribing_refused s m.subscription kind m.max_redeliver m.dead_topic ≡ None → IsWellKept s → AreShared s → AreShared (with_member s kind initial m)
 shared_joined s kind initial m is allowed well all = by (find (is_named m.subscription) s.subscriptions) refl
@@ -406,9 +406,9 @@ step_shared s event reply t h well all =
 
 -- ---- where a run begins
 
-unshared : (place : KeptSubscription) → HasShares [] (subscription_from place)
+unshared : (kept : KeptSubscription) → HasShares [] (subscription_from kept)
 unfolding IsDistinct
-unshared place = no_shares place.kind (is_seated [] place.name) (λ number. refl) (record { parted = tt; some = λ k d low. absurd (omega arith); distinct = tt })
+unshared kept = no_shares kept.kind (is_seated [] kept.name) (λ number. refl) (record { split = tt; some = λ k d low. absurd (omega arith); distinct = tt })
 
 pub beginning_shared : (s : State) → IsBeginning s → AreShared s
 beginning_shared s begins = elim begins [

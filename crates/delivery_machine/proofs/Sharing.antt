@@ -7,7 +7,7 @@ use Rattle.std.proofs.lemmas.Bool.{cases_lt, cases_Bool}
 use Rattle.std.proofs.lemmas.Bool.Decides.{nat_tests}
 use Rattle.position_core.specs.declared.block.Block.{Block}
 use Rattle.delivery_machine.specs.Shares.{has_hash, owner_of, is_share_of, with_lower, with_upper, given_back, IsRow}
-use Rattle.delivery_machine.proofs.Parts.{begins_within, ends_within}
+use Rattle.delivery_machine.proofs.SharesSplit.{begins_within, ends_within}
 use Rattle.delivery_machine.specs.ShareSets.{heir}
 
 -- ---- hashes and blocks
@@ -28,7 +28,7 @@ owner_here hash b bs here = ap (λ t. option_map (λ (x : Block). x.consumer) (c
 pub owner_past : (hash : ℕ) (b : Block) (bs : List Block) → has_hash hash b ≡ false → owner_of (b ∷ bs) hash ≡ owner_of bs hash
 owner_past hash b bs past = ap (λ t. option_map (λ (x : Block). x.consumer) (cond t (Some b) (find (has_hash hash) bs))) past
 
--- one block in the place of another with other hashes of one consumer
+-- one block where another was, with other hashes of one consumer
 pub owner_alike : (hash : ℕ) (b c : Block) (bs cs : List Block) → has_hash hash b ≡ has_hash hash c → b.consumer ≡ c.consumer → owner_of bs hash ≡ owner_of cs hash → owner_of (b ∷ bs) hash ≡ owner_of (c ∷ cs) hash
 owner_alike hash b c bs cs same who rest =
     elim (cases_Bool (has_hash hash b)) [

@@ -20,7 +20,7 @@ use Rattle.delivery_machine.specs.Delivering.{holding}
 use Rattle.delivery_machine.specs.Ticking.{redelivering, pending_positions}
 use Rattle.delivery_machine.specs.Dying.{moving, first_safe}
 use Rattle.delivery_machine.proofs.Behind.{IsIdle}
-use Rattle.delivery_machine.proofs.Tended.{same_place}
+use Rattle.delivery_machine.proofs.Tended.{position_is}
 use Rattle.delivery_machine.proofs.Tending.{part_retained, part_held_again, got_retained}
 use Rattle.delivery_machine.proofs.Messages.{either_way}
 use Rattle.delivery_machine.proofs.InOrder.{is_pending_in, IsTakenFrom, taken_nothing, held_retained, live_acknowledged}
@@ -96,7 +96,7 @@ taken_held_again sub p held was = taken_nothing sub (holding p held sub) refl re
     there (Some h) e = refl
 
     by : (q : Position) (b : Bool) → same_position q p ≡ b → is_some (cond b (Some held) (map_of.get sub.pending q)) ≡ is_some (map_of.get sub.pending q)
-    by q true e = sym (ap (λ z. is_some (map_of.get sub.pending z)) (same_place q p e) ∙ there (map_of.get sub.pending p) was)
+    by q true e = sym (ap (λ z. is_some (map_of.get sub.pending z)) (position_is q p e) ∙ there (map_of.get sub.pending p) was)
     by q false e = refl
 
     still : (e : Entry) → is_pending_in (holding p held sub) e ≡ is_pending_in sub e
@@ -108,14 +108,14 @@ taken_held_again sub p held was = taken_nothing sub (holding p held sub) refl re
 pub pending_listed : (s : State) (sub : Subscription) → ((p : Position) (h : Held) → map_of.get sub.pending p ≡ Some h → list_any (has_position p) s.log ≡ true) → (p : Position) (h : Held) → map_of.get sub.pending p ≡ Some h → is_one_of (pending_positions s sub) p ≡ true
 pending_listed s sub in_log p h was =
     let there = Any-from_list_any (has_position p) s.log (in_log p h was) in
-    listed s.log there.1 (there.0, there.2, there.3) (same_place there.1.position p there.4) (held there.1 (same_place there.1.position p there.4) was)
+    listed s.log there.1 (there.0, there.2, there.3) (position_is there.1.position p there.4) (held there.1 (position_is there.1.position p there.4) was)
   where
     held : (e : Entry) → e.position ≡ p → map_of.get sub.pending p ≡ Some h → is_pending_in sub e ≡ true
     held e at got = ap (λ q. is_some (map_of.get sub.pending q)) at ∙ ap is_some got
 
     listed : (log : List Entry) (e : Entry) → Contains log e → e.position ≡ p → is_pending_in sub e ≡ true → is_one_of (map (λ (x : Entry). x.position) (filter (is_pending_in sub) log)) p ≡ true
-    listed [] e at place pending = let below = at.1 in absurd (omega arith)
-    listed (x ∷ log) e at place pending = by at.0 at.1 at.2 (λ later. listed log e later place pending)
+    listed [] e at same pending = let below = at.1 in absurd (omega arith)
+    listed (x ∷ log) e at same pending = by at.0 at.1 at.2 (λ later. listed log e later same pending)
       where
         here : same_position p p ≡ true
         here = (Equal-is (position_cmp p p)).1 (tied_itself positions_total p)
@@ -136,7 +136,7 @@ pending_listed s sub in_log p h was =
             → is_one_of (map (λ (y : Entry). y.position) (filter (is_pending_in sub) (x ∷ log))) p ≡ true
         by zero below is rest =
             ap (λ b. is_one_of (map (λ (y : Entry). y.position) (cond b (x ∷ filter (is_pending_in sub) log) (filter (is_pending_in sub) log))) p) (ap (is_pending_in sub) is ∙ pending)
-            ∙ ap (λ b. b || is_one_of (map (λ (y : Entry). y.position) (filter (is_pending_in sub) log)) p) (ap (same_position p) (ap (λ (z : Entry). z.position) is ∙ place) ∙ here)
+            ∙ ap (λ b. b || is_one_of (map (λ (y : Entry). y.position) (filter (is_pending_in sub) log)) p) (ap (same_position p) (ap (λ (z : Entry). z.position) is ∙ same) ∙ here)
         by (suc k) below is rest =
             ap (λ ps. is_one_of ps p) (split_at (is_pending_in sub x)) ∙ either (is_pending_in sub x) _ (rest (k, omega arith, is))
 

@@ -45,8 +45,8 @@ KeepsSeats before after = (name : List ℕ) (number : ℕ) → is_seated before 
 pub some_is : {A : Type 0} (o : Option A) (x y : A) → o ≡ Some x → o ≡ Some y → x ≡ y
 some_is o x y a b = cc
 
-pub same_place : (p q : Position) → same_position p q ≡ true → p ≡ q
-same_place p q e = exact_positions p q ((Equal-is (position_cmp p q)).0 e)
+pub position_is : (p q : Position) → same_position p q ≡ true → p ≡ q
+position_is p q e = exact_positions p q ((Equal-is (position_cmp p q)).0 e)
 
 -- ---- what is kept
 
@@ -86,7 +86,7 @@ tended_seats log before after name kind pending stay tended = tended_members log
 pub absent : (log : List Entry) (p : Position) → ((x : Entry) → Contains log x → x.position ≡ p → ⊥) → list_any (has_position p) log ≡ true → ⊥
 absent log p new any =
     let there = Any-from_list_any (has_position p) log any in
-    new there.1 (there.0, there.2, there.3) (same_place there.1.position p there.4)
+    new there.1 (there.0, there.2, there.3) (position_is there.1.position p there.4)
 
 -- where a message of a new position is appended
 pub tended_push : (log : List Entry) (e : Entry) (members : List Member) (name : List ℕ) (kind : Kind) (pending : map_of.FinMap position_cmp Held) → ((x : Entry) → Contains log x → x.position ≡ e.position → ⊥) → IsTended log members name kind pending → IsTended (log ++ e ∷ []) members name kind pending
@@ -122,7 +122,7 @@ pub got_inserted : (pending : map_of.FinMap position_cmp Held) (p : Position) (h
 got_inserted pending p held q h is = by (same_position q p) refl (sym (map_of.get-insert positions_total pending p held q) ∙ is)
   where
     by : (b : Bool) → same_position q p ≡ b → cond b (Some held) (map_of.get pending q) ≡ Some h → ((q ≡ p) × (h ≡ held)) ⊎ (map_of.get pending q ≡ Some h)
-    by true t e = let same : h ≡ held = cc in inl (same_place q p t, same)
+    by true t e = let same : h ≡ held = cc in inl (position_is q p t, same)
     by false f e = inr e
 
 -- where a message is sent: to a member, and in Key_Shared to one beside whom its hash is at nobody

@@ -45,8 +45,8 @@ part_held_again pending p held was q h is = elim (got_inserted pending p held q 
 ]
   where
     by : (o : Option Held) → map_of.get pending p ≡ o → is_held_by held.consumer o ≡ true → q ≡ p → h ≡ held → (k : Held) × (map_of.get pending q ≡ Some k) × (k.consumer ≡ h.consumer)
-    by None e t place same = cc
-    by (Some k) e t place same = (k, ap (map_of.get pending) place ∙ e, number_is k.consumer held.consumer t ∙ sym (ap (λ (z : Held). z.consumer) same))
+    by None e t here same = cc
+    by (Some k) e t here same = (k, ap (map_of.get pending) here ∙ e, number_is k.consumer held.consumer t ∙ sym (ap (λ (z : Held). z.consumer) same))
 
 -- ---- members that stay
 

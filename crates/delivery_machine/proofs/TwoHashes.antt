@@ -28,7 +28,7 @@ use Rattle.delivery_machine.specs.declared.event.Initial.TheVariants.{Earliest}
 use Rattle.delivery_machine.specs.declared.reply.Reply.{Reply}
 use Rattle.delivery_machine.specs.declared.reply.Reply.TheVariants.{ProducerAdded, Published, Durable, Subscribed, Sent}
 use Rattle.delivery_machine.proofs.Deciding.{itself}
-use Rattle.delivery_machine.proofs.TwoMessages.{Pending, place, held_by, dispatch, one_held, two_held, none-held, first-of-one, second-of-one, first-of-two, second-of-two, message, subscription, waits, uncounted, member, connected, two_published}
+use Rattle.delivery_machine.proofs.TwoMessages.{Pending, position_at, held_by, dispatch, one_held, two_held, none-held, first-of-one, second-of-one, first-of-two, second-of-two, message, subscription, waits, uncounted, member, connected, two_published}
 
 -- ---- halves
 
@@ -72,22 +72,22 @@ beside false = ap (λ h. nat_lt h 32768) sticky_hash-empty
 -- ---- what is pending
 
 abbrev pub three_held : Bool → Pending
-three_held low = map_of.insert (two_held (owner low)) (place 2) (held_by (owner (not low)))
+three_held low = map_of.insert (two_held (owner low)) (position_at 2) (held_by (owner (not low)))
 
-third-of-one : (consumer : ℕ) → map_of.get (one_held consumer) (place 2) ≡ None
-third-of-one consumer = map_of.get-insert positions_total map_of.empty (place 0) (held_by consumer) (place 2) ∙ none-held 2
+third-of-one : (consumer : ℕ) → map_of.get (one_held consumer) (position_at 2) ≡ None
+third-of-one consumer = map_of.get-insert positions_total map_of.empty (position_at 0) (held_by consumer) (position_at 2) ∙ none-held 2
 
-third-of-two : (consumer : ℕ) → map_of.get (two_held consumer) (place 2) ≡ None
-third-of-two consumer = map_of.get-insert positions_total (one_held consumer) (place 1) (held_by consumer) (place 2) ∙ third-of-one consumer
+third-of-two : (consumer : ℕ) → map_of.get (two_held consumer) (position_at 2) ≡ None
+third-of-two consumer = map_of.get-insert positions_total (one_held consumer) (position_at 1) (held_by consumer) (position_at 2) ∙ third-of-one consumer
 
-pub first-of-three : (low : Bool) → map_of.get (three_held low) (place 0) ≡ Some (held_by (owner low))
-first-of-three low = map_of.get-insert positions_total (two_held (owner low)) (place 2) (held_by (owner (not low))) (place 0) ∙ first-of-two (owner low)
+pub first-of-three : (low : Bool) → map_of.get (three_held low) (position_at 0) ≡ Some (held_by (owner low))
+first-of-three low = map_of.get-insert positions_total (two_held (owner low)) (position_at 2) (held_by (owner (not low))) (position_at 0) ∙ first-of-two (owner low)
 
-pub second-of-three : (low : Bool) → map_of.get (three_held low) (place 1) ≡ Some (held_by (owner low))
-second-of-three low = map_of.get-insert positions_total (two_held (owner low)) (place 2) (held_by (owner (not low))) (place 1) ∙ second-of-two (owner low)
+pub second-of-three : (low : Bool) → map_of.get (three_held low) (position_at 1) ≡ Some (held_by (owner low))
+second-of-three low = map_of.get-insert positions_total (two_held (owner low)) (position_at 2) (held_by (owner (not low))) (position_at 1) ∙ second-of-two (owner low)
 
-pub third-of-three : (low : Bool) → map_of.get (three_held low) (place 2) ≡ Some (held_by (owner (not low)))
-third-of-three low = map_of.get-insert positions_total (two_held (owner low)) (place 2) (held_by (owner (not low))) (place 2)
+pub third-of-three : (low : Bool) → map_of.get (three_held low) (position_at 2) ≡ Some (held_by (owner (not low)))
+third-of-three low = map_of.get-insert positions_total (two_held (owner low)) (position_at 2) (held_by (owner (not low))) (position_at 2)
 
 abbrev pub keyed : Pending → Subscription
 keyed pending = subscription KeyShared shares pending
@@ -108,7 +108,7 @@ module _ (name : TopicName) (body : Content) (low : Bool) where
   joined = with_member one_joined KeyShared Earliest (member name body 2)
 
   abbrev once_given : Member
-  once_given = given (record { message = message body 0; count = count_of (keyed map_of.empty) (place 0) }) (member name body (owner low))
+  once_given = given (record { message = message body 0; count = count_of (keyed map_of.empty) (position_at 0) }) (member name body (owner low))
 
   abbrev first_sent : State
   first_sent = sent joined (codes "s") (keyed map_of.empty) (message body 0) (member name body (owner low)) 0
@@ -127,8 +127,8 @@ module _ (name : TopicName) (body : Content) (low : Bool) where
 
   abbrev pub replies_by_hash : List Reply
   replies_by_hash =
-      ProducerAdded 1 None (pos 0) ∷ Published (place 0) 1 ∷ Published (place 1) 2 ∷ Published (place 2) 3 ∷ Durable 3 ∷ Subscribed 1 ∷ Subscribed 2
-      ∷ Sent (owner low) (place 0) 0 ∷ Sent (owner low) (place 1) 0 ∷ Sent (owner (not low)) (place 2) 0 ∷ []
+      ProducerAdded 1 None (pos 0) ∷ Published (position_at 0) 1 ∷ Published (position_at 1) 2 ∷ Published (position_at 2) 3 ∷ Durable 3 ∷ Subscribed 1 ∷ Subscribed 2
+      ∷ Sent (owner low) (position_at 0) 0 ∷ Sent (owner low) (position_at 1) 0 ∷ Sent (owner (not low)) (position_at 2) 0 ∷ []
 
 -- the member of a half, before it is sent anything and after
 abbrev is_numbered : ℕ → Member → Bool
@@ -193,7 +193,7 @@ module _ (name : TopicName) (body : Content) (low : Bool) (half : nat_lt (sticky
 
   -- ---- the run
 
-  dispatches : Run (joined name body low) (dispatch ∷ dispatch ∷ dispatch ∷ []) (Sent (owner low) (place 0) 0 ∷ Sent (owner low) (place 1) 0 ∷ Sent (owner (not low)) (place 2) 0 ∷ []) (done name body low)
+  dispatches : Run (joined name body low) (dispatch ∷ dispatch ∷ dispatch ∷ []) (Sent (owner low) (position_at 0) 0 ∷ Sent (owner low) (position_at 1) 0 ∷ Sent (owner (not low)) (position_at 2) 0 ∷ []) (done name body low)
   dispatches = (
     first_sent name body low,
     (refl, (message body 0, member name body (owner low), first_may, refl, refl, uncounted KeyShared shares map_of.empty 0, refl)),

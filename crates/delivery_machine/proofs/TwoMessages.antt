@@ -31,8 +31,8 @@ abbrev pub Pending : Type 0
 Pending = FinMap position_cmp Held
 
 -- each message has a ledger of its own
-abbrev pub place : ℕ → Position
-place n = record { ledger = n; entry = 0 }
+abbrev pub position_at : ℕ → Position
+position_at n = record { ledger = n; entry = 0 }
 
 abbrev pub held_by : ℕ → Held
 held_by consumer = record { consumer = consumer; due = None }
@@ -40,44 +40,44 @@ held_by consumer = record { consumer = consumer; due = None }
 abbrev pub dispatch : Event
 dispatch = Dispatch (codes "s") 0
 
--- the messages of the first two places are pending at a consumer
+-- the first message is pending at a consumer, or the first two
 abbrev pub one_held : ℕ → Pending
-one_held consumer = map_of.insert map_of.empty (place 0) (held_by consumer)
+one_held consumer = map_of.insert map_of.empty (position_at 0) (held_by consumer)
 
 abbrev pub two_held : ℕ → Pending
-two_held consumer = map_of.insert (one_held consumer) (place 1) (held_by consumer)
+two_held consumer = map_of.insert (one_held consumer) (position_at 1) (held_by consumer)
 
-pub none-held : (n : ℕ) → map_of.get (map_of.empty {X = Held} {R = position_cmp}) (place n) ≡ None
-none-held n = map_of.get-empty position_cmp (place n)
+pub none-held : (n : ℕ) → map_of.get (map_of.empty {X = Held} {R = position_cmp}) (position_at n) ≡ None
+none-held n = map_of.get-empty position_cmp (position_at n)
 
-pub first-of-one : (consumer : ℕ) → map_of.get (one_held consumer) (place 0) ≡ Some (held_by consumer)
-first-of-one consumer = map_of.get-insert positions_total map_of.empty (place 0) (held_by consumer) (place 0)
+pub first-of-one : (consumer : ℕ) → map_of.get (one_held consumer) (position_at 0) ≡ Some (held_by consumer)
+first-of-one consumer = map_of.get-insert positions_total map_of.empty (position_at 0) (held_by consumer) (position_at 0)
 
-pub second-of-one : (consumer : ℕ) → map_of.get (one_held consumer) (place 1) ≡ None
-second-of-one consumer = map_of.get-insert positions_total map_of.empty (place 0) (held_by consumer) (place 1) ∙ none-held 1
+pub second-of-one : (consumer : ℕ) → map_of.get (one_held consumer) (position_at 1) ≡ None
+second-of-one consumer = map_of.get-insert positions_total map_of.empty (position_at 0) (held_by consumer) (position_at 1) ∙ none-held 1
 
-pub first-of-two : (consumer : ℕ) → map_of.get (two_held consumer) (place 0) ≡ Some (held_by consumer)
-first-of-two consumer = map_of.get-insert positions_total (one_held consumer) (place 1) (held_by consumer) (place 0) ∙ first-of-one consumer
+pub first-of-two : (consumer : ℕ) → map_of.get (two_held consumer) (position_at 0) ≡ Some (held_by consumer)
+first-of-two consumer = map_of.get-insert positions_total (one_held consumer) (position_at 1) (held_by consumer) (position_at 0) ∙ first-of-one consumer
 
-pub second-of-two : (consumer : ℕ) → map_of.get (two_held consumer) (place 1) ≡ Some (held_by consumer)
-second-of-two consumer = map_of.get-insert positions_total (one_held consumer) (place 1) (held_by consumer) (place 1)
+pub second-of-two : (consumer : ℕ) → map_of.get (two_held consumer) (position_at 1) ≡ Some (held_by consumer)
+second-of-two consumer = map_of.get-insert positions_total (one_held consumer) (position_at 1) (held_by consumer) (position_at 1)
 
--- the message of the place, the first one being of place 0
+-- the message at the index, which is 0 for the first
 abbrev pub message : Content → ℕ → Entry
-message body n = record { position = place n; producer = codes "p"; sequence = pos (n + 1); time = 0; body = body }
+message body n = record { position = position_at n; producer = codes "p"; sequence = pos (n + 1); time = 0; body = body }
 
 abbrev pub subscription : Kind → List Block → Pending → Subscription
 subscription kind shares pending = record (new_subscription (codes "s") kind 1 Earliest []) { shares = shares; pending = pending }
 
 -- a message that is pending at nobody waits, as none is acknowledged
 pub waits : (kind : Kind) (shares : List Block) (pending : Pending) (body : Content) (n : ℕ) {held : Option Held}
-    → map_of.get pending (place n) ≡ held → is_waiting (subscription kind shares pending) (message body n) ≡ not (is_some held)
+    → map_of.get pending (position_at n) ≡ held → is_waiting (subscription kind shares pending) (message body n) ≡ not (is_some held)
 waits kind shares pending body n at =
-    ap₂ (λ (b : Bool) (o : Option Held). (not b && true) && not (is_some o)) (set.contains-empty position_cmp (place n)) at
+    ap₂ (λ (b : Bool) (o : Option Held). (not b && true) && not (is_some o)) (set.contains-empty position_cmp (position_at n)) at
 
 -- no message was redelivered
-pub uncounted : (kind : Kind) (shares : List Block) (pending : Pending) (n : ℕ) → 0 ≡ count_of (subscription kind shares pending) (place n)
-uncounted kind shares pending n = sym (ap (λ (o : Option ℕ). unwrap_or o 0) (map_of.get-empty position_cmp (place n)))
+pub uncounted : (kind : Kind) (shares : List Block) (pending : Pending) (n : ℕ) → 0 ≡ count_of (subscription kind shares pending) (position_at n)
+uncounted kind shares pending n = sym (ap (λ (o : Option ℕ). unwrap_or o 0) (map_of.get-empty position_cmp (position_at n)))
 
 -- a producer of the name `p` and a subscription of the name `s`
 module _ (name : TopicName) (body : Content) where
@@ -99,13 +99,13 @@ module _ (name : TopicName) (body : Content) where
   first_sent = sent joined (codes "s") (subscription Exclusive [] map_of.empty) (message body 0) (member 1) 0
 
   abbrev once_given : Member
-  once_given = given (record { message = message body 0; count = count_of (subscription Exclusive [] map_of.empty) (place 0) }) (member 1)
+  once_given = given (record { message = message body 0; count = count_of (subscription Exclusive [] map_of.empty) (position_at 0) }) (member 1)
 
   abbrev pub in_order : State
   in_order = sent first_sent (codes "s") (subscription Exclusive [] (one_held 1)) (message body 1) once_given 0
 
   abbrev pub twice_given : Member
-  twice_given = given (record { message = message body 1; count = count_of (subscription Exclusive [] (one_held 1)) (place 1) }) once_given
+  twice_given = given (record { message = message body 1; count = count_of (subscription Exclusive [] (one_held 1)) (position_at 1) }) once_given
 
   first_may : IsEligible joined (subscription Exclusive [] map_of.empty) (message body 0) (member 1)
   first_may = (rw (none-held 0, none-held 1) refl, (rw (waits Exclusive [] map_of.empty body 0 (none-held 0)) refl, refl))
@@ -126,7 +126,7 @@ module _ (name : TopicName) (body : Content) where
 
   abbrev pub replies_in_order : List Reply
   replies_in_order =
-      ProducerAdded 1 None (pos 0) ∷ Published (place 0) 1 ∷ Published (place 1) 2 ∷ Durable 2 ∷ Subscribed 1 ∷ Sent 1 (place 0) 0 ∷ Sent 1 (place 1) 0 ∷ []
+      ProducerAdded 1 None (pos 0) ∷ Published (position_at 0) 1 ∷ Published (position_at 1) 2 ∷ Durable 2 ∷ Subscribed 1 ∷ Sent 1 (position_at 0) 0 ∷ Sent 1 (position_at 1) 0 ∷ []
 
   pub run_in_order : Run (fresh name 1) events_in_order replies_in_order in_order
   run_in_order = (

@@ -22,8 +22,8 @@ use Rattle.delivery_machine.proofs.Passes.{passes}
 use Rattle.delivery_machine.proofs.Finding.{find_inserted, find_removed, still_changed, still_mapped, found_itself_changed}
 use Rattle.delivery_machine.proofs.Behind.{same_name, is_same_name, other_name}
 use Rattle.delivery_machine.proofs.Among.{contained_mapped, contained_changed, contained_removed}
-use Rattle.delivery_machine.proofs.Tended.{same_place, some_is}
-use Rattle.delivery_machine.proofs.Messages.{place_itself}
+use Rattle.delivery_machine.proofs.Tended.{position_is, some_is}
+use Rattle.delivery_machine.proofs.Messages.{position_itself}
 use Rattle.delivery_machine.proofs.Deciding.{number_is, itself}
 
 -- the message at the position is pending at the consumer in the subscription of the name
@@ -95,7 +95,7 @@ still_held : (pending : map_of.FinMap position_cmp Held) (p : Position) (held : 
 still_held pending p held consumer q alike was = ap (is_held_by consumer) (map_of.get-insert positions_total pending p held q) ∙ by (same_position q p) refl
   where
     by : (b : Bool) → same_position q p ≡ b → is_held_by consumer (cond b (Some held) (map_of.get pending q)) ≡ true
-    by true same = ap (λ k. k == consumer) (alike (same_place q p same)) ∙ itself consumer
+    by true same = ap (λ k. k == consumer) (alike (position_is q p same)) ∙ itself consumer
     by false other = was
 
 -- what is pending at two consumers is pending at one
@@ -148,7 +148,7 @@ uncollected_sent log members subs n sub d held m found waits holds named there l
     now =
         ap (λ o. option_map_or (λ (z : Subscription). is_held_by m.number (map_of.get z.pending d.message.position)) o false)
         (ap (λ (name : List ℕ). find (is_named name) after) named ∙ found_itself_changed (is_named n) (holding d.message.position held) (λ _. refl) subs sub found)
-        ∙ ap (is_held_by m.number) (map_of.get-insert positions_total sub.pending d.message.position held d.message.position ∙ ap (λ b. cond b (Some held) (map_of.get sub.pending d.message.position)) (place_itself d.message.position))
+        ∙ ap (is_held_by m.number) (map_of.get-insert positions_total sub.pending d.message.position held d.message.position ∙ ap (λ b. cond b (Some held) (map_of.get sub.pending d.message.position)) (position_itself d.message.position))
         ∙ ap (λ k. k == m.number) holds ∙ itself m.number
 
     by : (z : Member) → z ≡ m → Contains (z.out ++ d ∷ []) y → x ≡ given d z → IsUncollected log after x y

@@ -16,14 +16,14 @@ use Rattle.delivery_machine.specs.Producing.{storing, storing_below, stored, sto
 use Rattle.delivery_machine.specs.Snapshot.{KeptSubscription, kept_of, snapshot_of}
 use Rattle.delivery_machine.specs.WellFormed.{has_message, IsWellFormedLog, IsWellFormed, IsWellFormedIn, IsSound, IsSoundSubscription, HaveOrdinals, NamesRise}
 use Rattle.delivery_machine.proofs.Firsts.{any_contained, found_contained}
-use Rattle.delivery_machine.proofs.Messages.{message_there, place_itself}
+use Rattle.delivery_machine.proofs.Messages.{message_there, position_itself}
 use Rattle.delivery_machine.proofs.Rising.{used_in, IsRising, ledgers_below}
 use Rattle.delivery_machine.proofs.Keyed.{keys_mapped}
 use Rattle.delivery_machine.proofs.Named.{all_from_each}
 use Rattle.delivery_machine.proofs.Seated.{AllThere, any_found}
 use Rattle.delivery_machine.proofs.Ordinals.{letters_mapped, ordinals_once, below_next}
 use Rattle.delivery_machine.proofs.Formed.{IsLiveAt}
-use Rattle.delivery_machine.proofs.WellKept.{IsLedgered, letters, places_of}
+use Rattle.delivery_machine.proofs.WellKept.{IsLedgered, letters, names_of}
 use Rattle.delivery_machine.proofs.WellReached.{IsAllKept}
 
 log_formed : (ledger_size ledger : ℕ) (log : List Entry) → IsRising log ledger → IsLedgered ledger_size ledger log → IsWellFormedLog ledger_size ledger log
@@ -50,7 +50,7 @@ live_message sub messages p live there =
     let both : IsLiveAt sub at.0.position = subst (IsLiveAt sub) (sym at.2) live in
     let is_live_there : is_live sub at.0 ≡ true = ap₂ (λ a d. not a && not d) both.0 both.1 in
     among_those (has_position p) (is_live sub) messages
-    ∙ any_contained (λ e. is_live sub e && has_position p e) messages at.0 at.1 (ap₂ (λ a b. a && b) is_live_there (ap (λ (q : Position). same_position q p) at.2 ∙ place_itself p))
+    ∙ any_contained (λ e. is_live sub e && has_position p e) messages at.0 at.1 (ap₂ (λ a b. a && b) is_live_there (ap (λ (q : Position). same_position q p) at.2 ∙ position_itself p))
 
 subscription_formed : (t : State) → IsAllKept t → (name : List ℕ) (sub : Subscription) → find (is_named name) t.subscriptions ≡ Some sub → IsWellFormedIn t sub
 subscription_formed t all name sub found =
@@ -68,7 +68,7 @@ subscription_formed t all name sub found =
       sharers = λ number. (all.shared name sub found).owners number ∙ sym (ap (λ b. same_kind sub.kind KeyShared && b) (among_those (is_member number) (is_at sub.name) t.members));
     }
 
-at_subscriptions : (t : State) (members : List Member) → AllThere (places_of members) t.subscriptions → AllByRecursion (λ m. has_subscription t m.subscription ≡ true) members
+at_subscriptions : (t : State) (members : List Member) → AllThere (names_of members) t.subscriptions → AllByRecursion (λ m. has_subscription t m.subscription ≡ true) members
 at_subscriptions t [] all = tt
 at_subscriptions t (m ∷ members) all = (any_found (is_named m.subscription) t.subscriptions ∙ all.0, at_subscriptions t members all.1)
 
@@ -93,11 +93,11 @@ well_formed t all = record {
 pub sound_snapshot : (t : State) → IsAllKept t → IsSound (snapshot_of t)
 sound_snapshot t all = record {
   log = log_formed t.ledger_size t.ledger t.log all.order.kept.rising all.well.ledgered;
-  names = subst NamesRise (sym (keys_mapped (λ (place : KeptSubscription). place.name) kept_of (λ _. refl) t.subscriptions)) all.well.named;
+  names = subst NamesRise (sym (keys_mapped (λ (kept : KeptSubscription). kept.name) kept_of (λ _. refl) t.subscriptions)) all.well.named;
   subscriptions = All-map (IsSoundSubscription t.log) kept_of t.subscriptions
       (all_from_each (λ sub. IsSoundSubscription t.log (kept_of sub)) t.subscriptions all.well.named
       (λ name sub found. let formed = all.well.each name sub found in record { acknowledged = formed.acknowledged; dead = formed.dead }));
-  ordinals = subst (HaveOrdinals t.next_ordinal) (sym (letters_mapped (λ (place : KeptSubscription). place.dead) letters kept_of (λ _. refl) t.subscriptions)) (ordinals_once letters t.next_ordinal t.subscriptions all.well.ordinals);
+  ordinals = subst (HaveOrdinals t.next_ordinal) (sym (letters_mapped (λ (kept : KeptSubscription). kept.dead) letters kept_of (λ _. refl) t.subscriptions)) (ordinals_once letters t.next_ordinal t.subscriptions all.well.ordinals);
 }
 
 -- ---- what is stored

@@ -24,7 +24,7 @@ use Rattle.delivery_machine.proofs.Seated.{AllThere, all_there}
 use Rattle.delivery_machine.proofs.Uncollected.{AllUncollected, uncollected_same, holds_mapped}
 use Rattle.delivery_machine.proofs.Formed.{IsFormed, formed_in_more, formed_with}
 
--- messages stand in places of a ledger, and 2^62 + 1 is the last ledger
+-- an entry is below the size of a ledger, and 2^62 + 1 is the last ledger
 pub record IsLedgered (ledger_size ledger : ℕ) (log : List Entry) : Type 0 where
   pub entries : 0 < ledger_size → All (λ e. e.position.entry < ledger_size) log
   pub last_ledger : ledger ≤ 2 ^ 62 + 1
@@ -36,8 +36,8 @@ pub record AreConnected (next : ℕ) (producers : List Producer) : Type 0 where
 abbrev pub numbers_of : List Member → List ℕ
 numbers_of members = map (λ m. m.number) members
 
-abbrev pub places_of : List Member → List (List ℕ)
-places_of members = map (λ m. m.subscription) members
+abbrev pub names_of : List Member → List (List ℕ)
+names_of members = map (λ m. m.subscription) members
 
 abbrev pub letters : Subscription → List DeadLetter
 letters sub = sub.dead
@@ -46,7 +46,7 @@ pub record IsWellKept (s : State) : Type 0 where
   pub ledgered : IsLedgered s.ledger_size s.ledger s.log
   pub connected : AreConnected s.next_producer s.producers
   pub members : AreGiven s.next_consumer (numbers_of s.members)
-  pub there : AllThere (places_of s.members) s.subscriptions
+  pub there : AllThere (names_of s.members) s.subscriptions
   pub named : AreNamed s.subscriptions
   pub ordinals : AreOnce letters s.next_ordinal s.subscriptions
   pub each : EachFirst (IsFormed s.log s.durable) s.subscriptions
@@ -58,7 +58,7 @@ pub record IsChange (s : State) (n : List ℕ) (f : Subscription → Subscriptio
   pub name : (sub : Subscription) → (f sub).name ≡ sub.name
   pub formed : (sub : Subscription) → find (is_named n) s.subscriptions ≡ Some sub → IsFormed s.log s.durable sub → IsFormed s.log s.durable (f sub)
   pub numbers : numbers_of members ≡ numbers_of s.members
-  pub places : places_of members ≡ places_of s.members
+  pub names : names_of members ≡ names_of s.members
   pub ordinals : AreOnce letters next (changed (is_named n) f s.subscriptions)
   pub uncollected : AllUncollected s.log members (changed (is_named n) f s.subscriptions)
 
@@ -68,8 +68,8 @@ well_changed s n f members next change well = record {
   ledgered = well.ledgered;
   connected = well.connected;
   members = subst (AreGiven s.next_consumer) (sym change.numbers) well.members;
-  there = subst (λ (ns : List (List ℕ)). AllThere ns (changed (is_named n) f s.subscriptions)) (sym change.places)
-      (all_there (places_of s.members) s.subscriptions (changed (is_named n) f s.subscriptions)
+  there = subst (λ (ns : List (List ℕ)). AllThere ns (changed (is_named n) f s.subscriptions)) (sym change.names)
+      (all_there (names_of s.members) s.subscriptions (changed (is_named n) f s.subscriptions)
       (λ name at. any_changed (is_named name) (is_named n) f (λ sub. ap (λ (m : List ℕ). bytes_eq m name) (change.name sub)) s.subscriptions ∙ at) well.there);
   named = named_changed n f s.subscriptions change.name well.named;
   ordinals = change.ordinals;
@@ -92,7 +92,7 @@ well_stored s safe durable enough longer well = record {
   ledgered = well.ledgered;
   connected = well.connected;
   members = well.members;
-  there = all_there (places_of s.members) s.subscriptions (map (storing_so safe) s.subscriptions) (λ name at. any_mapped (is_named name) (storing_so safe) (λ _. refl) s.subscriptions ∙ at) well.there;
+  there = all_there (names_of s.members) s.subscriptions (map (storing_so safe) s.subscriptions) (λ name at. any_mapped (is_named name) (storing_so safe) (λ _. refl) s.subscriptions ∙ at) well.there;
   named = named_mapped (storing_so safe) s.subscriptions (λ _. refl) well.named;
   ordinals = once_fewer letters s.next_ordinal s.subscriptions (map (storing_so safe) s.subscriptions) (λ k. let same = among_mapped letters k (storing_so safe) (λ _. refl) s.subscriptions in omega arith) well.ordinals;
   each = each_mapped (IsFormed s.log s.durable) (IsFormed s.log durable) (storing_so safe) s.subscriptions (λ _. refl)

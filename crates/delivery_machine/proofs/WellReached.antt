@@ -205,11 +205,11 @@ well_restarted kept sound = record {
   there = tt;
   named = subst NamesRise (sym (keys_mapped (λ (sub : Subscription). sub.name) subscription_from (λ _. refl) kept.subscriptions)) sound.names;
   ordinals = once_ordinals letters kept.next_ordinal (map subscription_from kept.subscriptions)
-      (subst (HaveOrdinals kept.next_ordinal) (sym (letters_mapped letters (λ (place : KeptSubscription). place.dead) subscription_from (λ _. refl) kept.subscriptions)) sound.ordinals);
+      (subst (HaveOrdinals kept.next_ordinal) (sym (letters_mapped letters (λ (sub : KeptSubscription). sub.dead) subscription_from (λ _. refl) kept.subscriptions)) sound.ordinals);
   each = each_from_all (IsFormed kept.log (length kept.log)) (map subscription_from kept.subscriptions)
       (All-map (IsFormed kept.log (length kept.log)) subscription_from kept.subscriptions
-      (All-weaker (IsSoundSubscription kept.log) (λ place. IsFormed kept.log (length kept.log) (subscription_from place))
-      (λ place one. formed_begun kept.log (length kept.log) place.name place.kind place.acknowledged [] place.dead (length place.dead) one.acknowledged one.dead (omega arith)) kept.subscriptions sound.subscriptions));
+      (All-weaker (IsSoundSubscription kept.log) (λ sub. IsFormed kept.log (length kept.log) (subscription_from sub))
+      (λ sub one. formed_begun kept.log (length kept.log) sub.name sub.kind sub.acknowledged [] sub.dead (length sub.dead) one.acknowledged one.dead (omega arith)) kept.subscriptions sound.subscriptions));
   uncollected = λ m at. absurd (none_out m at);
 }
 

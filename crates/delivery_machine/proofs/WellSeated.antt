@@ -41,7 +41,7 @@ use Rattle.delivery_machine.proofs.Seated.{is_there, AllThere, all_there, any_fo
 use Rattle.delivery_machine.proofs.Ranks.{seats_at}
 use Rattle.delivery_machine.proofs.Formed.{IsFormed, IsLiveAt, formed_new, formed_with, formed_leaving, formed_holding}
 use Rattle.delivery_machine.proofs.Uncollected.{holds_in, uncollected_held, uncollected_sent, uncollected_changed, uncollected_pushed, uncollected_left, uncollected_same, holds_kept, holds_placed, holds_removed}
-use Rattle.delivery_machine.proofs.WellKept.{IsWellKept, well_changed, ordinals_stay, letters, numbers_of, places_of}
+use Rattle.delivery_machine.proofs.WellKept.{IsWellKept, well_changed, ordinals_stay, letters, numbers_of, names_of}
 
 -- each member is found by its number
 pub found_by_number : (next : ℕ) (members : List Member) (m : Member) → AreGiven next (numbers_of members) → Contains members m → find (is_member m.number) members ≡ Some m
@@ -70,7 +70,7 @@ well_nacked s m consumer position due allowed well =
       name = λ _. refl;
       formed = λ sub found formed. pending sub formed (map_of.get sub.pending position) refl (sym (ap (λ o. option_map_or (λ (sub : Subscription). is_held_by consumer (map_of.get sub.pending position)) o false) found) ∙ was);
       numbers = refl;
-      places = refl;
+      names = refl;
       ordinals = ordinals_stay s.next_ordinal m.subscription (holding position held) s.subscriptions (λ k sub. omega arith) well.ordinals;
       uncollected = uncollected_held s.log s.members s.subscriptions m.subscription position held was well.uncollected;
     }) well in
@@ -109,7 +109,7 @@ well_sent s n sub e m now found eligible well =
           formed_holding s.log s.durable e.position held other (has_there (visible s) e.position (e, waits.0, refl))
           (lives other e (ap (λ (z : Subscription). is_live z e) (some_is _ other sub there found) ∙ and_first (is_live sub e) _ waits.1)) formed;
       numbers = keys_changed (λ (m : Member). m.number) (is_member m.number) (given d) (λ _. refl) s.members;
-      places = keys_changed (λ (m : Member). m.subscription) (is_member m.number) (given d) (λ _. refl) s.members;
+      names = keys_changed (λ (m : Member). m.subscription) (is_member m.number) (given d) (λ _. refl) s.members;
       ordinals = ordinals_stay s.next_ordinal n (holding e.position held) s.subscriptions (λ k sub. omega arith) well.ordinals;
       uncollected = uncollected_sent s.log s.members s.subscriptions n sub d held m found (turned (map_of.contains_key sub.pending e.position) (and_second (is_live sub e) _ waits.1)) refl
           (same_name m.subscription sub.name member.1 ∙ same_name sub.name n (found_passes (is_named n) s.subscriptions sub found))
@@ -132,15 +132,15 @@ well_sent s n sub e m now found eligible well =
 
 pub well_members : (s : State) (q : Member → Bool) (f : Member → Member) → ((m : Member) → (f m).number ≡ m.number) → ((m : Member) → (f m).subscription ≡ m.subscription) → ((m : Member) (d : Delivery) → Contains (f m).out d → Contains m.out d)
     → IsWellKept s → IsWellKept (record s { members = changed q f s.members })
-well_members s q f numbers places fewer well = record {
+well_members s q f numbers names fewer well = record {
   ledgered = well.ledgered;
   connected = well.connected;
   members = subst (AreGiven s.next_consumer) (sym (keys_changed (λ (m : Member). m.number) q f numbers s.members)) well.members;
-  there = subst (λ (ns : List (List ℕ)). AllThere ns s.subscriptions) (sym (keys_changed (λ (m : Member). m.subscription) q f places s.members)) well.there;
+  there = subst (λ (ns : List (List ℕ)). AllThere ns s.subscriptions) (sym (keys_changed (λ (m : Member). m.subscription) q f names s.members)) well.there;
   named = well.named;
   ordinals = well.ordinals;
   each = well.each;
-  uncollected = uncollected_changed s.log s.members s.subscriptions q f numbers places fewer well.uncollected;
+  uncollected = uncollected_changed s.log s.members s.subscriptions q f numbers names fewer well.uncollected;
 }
 
 -- ---- a member joins
@@ -153,7 +153,7 @@ well_pushed s m subs is none keeps there named ordinals each holds well = record
   ledgered = well.ledgered;
   connected = well.connected;
   members = given_pushed (λ (m : Member). m.number) s.next_consumer s.members m is well.members;
-  there = subst (λ (ns : List (List ℕ)). AllThere ns subs) (sym (map-append (λ (m : Member). m.subscription) s.members (m ∷ []))) (one_more (places_of s.members) (all_there (places_of s.members) s.subscriptions subs keeps well.there));
+  there = subst (λ (ns : List (List ℕ)). AllThere ns subs) (sym (map-append (λ (m : Member). m.subscription) s.members (m ∷ []))) (one_more (names_of s.members) (all_there (names_of s.members) s.subscriptions subs keeps well.there));
   named = named;
   ordinals = ordinals;
   each = each;
@@ -200,7 +200,7 @@ well_left s consumer m found well = record {
   connected = well.connected;
   members = given_removed (λ (m : Member). m.number) s.next_consumer (is_member consumer) s.members well.members;
   there = each_key_removed (λ (m : Member). m.subscription) (λ name. is_there (changed (is_named m.subscription) (leaving consumer) s.subscriptions) name ≡ true) (is_member consumer) s.members
-      (all_there (places_of s.members) s.subscriptions (changed (is_named m.subscription) (leaving consumer) s.subscriptions)
+      (all_there (names_of s.members) s.subscriptions (changed (is_named m.subscription) (leaving consumer) s.subscriptions)
       (λ name at. any_changed (is_named name) (is_named m.subscription) (leaving consumer) (λ _. refl) s.subscriptions ∙ at) well.there);
   named = named_changed m.subscription (leaving consumer) s.subscriptions (λ _. refl) well.named;
   ordinals = ordinals_stay s.next_ordinal m.subscription (leaving consumer) s.subscriptions (λ k sub. omega arith) well.ordinals;
@@ -219,7 +219,7 @@ none_at n (m ∷ members) nobody = by (is_at n m) refl nobody (none_at n members
     by true here nobody rest = absurd (omega arith)
     by false elsewhere nobody rest = (elsewhere, rest nobody)
 
-still_there : (n : List ℕ) (subs : List Subscription) (sub : Subscription) → find (is_named n) subs ≡ Some sub → (members : List Member) → AllByRecursion (λ m. is_at n m ≡ false) members → AllThere (places_of members) subs → AllThere (places_of members) (removed (is_named n) subs)
+still_there : (n : List ℕ) (subs : List Subscription) (sub : Subscription) → find (is_named n) subs ≡ Some sub → (members : List Member) → AllByRecursion (λ m. is_at n m ≡ false) members → AllThere (names_of members) subs → AllThere (names_of members) (removed (is_named n) subs)
 still_there n subs sub found [] none all = tt
 still_there n subs sub found (m ∷ members) none all = (
   any_removed (is_named m.subscription) (is_named n) subs sub found (other_name m.subscription n sub none.0 (found_passes (is_named n) subs sub found)) ∙ all.0,

@@ -21,7 +21,7 @@ use Rattle.delivery_machine.proofs.Keyed.{keys_mapped, kept_if}
 use Rattle.delivery_machine.proofs.Ordinals.{times_append, times_dropped, among_changed, once_more, below_next}
 use Rattle.delivery_machine.proofs.Formed.{formed_acknowledging, formed_redelivering, formed_burying, formed_moving, formed_seeking, formed_released}
 use Rattle.delivery_machine.proofs.Uncollected.{uncollected_taken, uncollected_emptied}
-use Rattle.delivery_machine.proofs.WellKept.{IsWellKept, well_changed, ordinals_stay, letters, numbers_of, places_of}
+use Rattle.delivery_machine.proofs.WellKept.{IsWellKept, well_changed, ordinals_stay, letters, numbers_of, names_of}
 
 -- the positions are of messages of the log
 abbrev pub AreLogged : State → List Position → Type 0
@@ -32,21 +32,21 @@ AreLogged s positions = (p : Position) → is_one_of positions p ≡ true → ha
 abbrev number : Member → ℕ
 number m = m.number
 
-abbrev place : Member → List ℕ
-place m = m.subscription
+abbrev name_of : Member → List ℕ
+name_of m = m.subscription
 
 module _ (s : State) (n : List ℕ) where
   forgotten_numbers : (positions : List Position) → numbers_of (map (forgetting n positions) s.members) ≡ numbers_of s.members
   forgotten_numbers positions = keys_mapped number (forgetting n positions) (λ m. kept_if number (is_at n m) m (record m { out = without positions m.out }) refl) s.members
 
-  forgotten_places : (positions : List Position) → places_of (map (forgetting n positions) s.members) ≡ places_of s.members
-  forgotten_places positions = keys_mapped place (forgetting n positions) (λ m. kept_if place (is_at n m) m (record m { out = without positions m.out }) refl) s.members
+  forgotten_names : (positions : List Position) → names_of (map (forgetting n positions) s.members) ≡ names_of s.members
+  forgotten_names positions = keys_mapped name_of (forgetting n positions) (λ m. kept_if name_of (is_at n m) m (record m { out = without positions m.out }) refl) s.members
 
   emptied_numbers : numbers_of (map (emptied_at n) s.members) ≡ numbers_of s.members
   emptied_numbers = keys_mapped number (emptied_at n) (λ m. kept_if number (is_at n m) m (emptied m) refl) s.members
 
-  emptied_places : places_of (map (emptied_at n) s.members) ≡ places_of s.members
-  emptied_places = keys_mapped place (emptied_at n) (λ m. kept_if place (is_at n m) m (emptied m) refl) s.members
+  emptied_names : names_of (map (emptied_at n) s.members) ≡ names_of s.members
+  emptied_names = keys_mapped name_of (emptied_at n) (λ m. kept_if name_of (is_at n m) m (emptied m) refl) s.members
 
   -- ---- messages are taken out
 
@@ -57,7 +57,7 @@ module _ (s : State) (n : List ℕ) where
         name = λ _. refl;
         formed = λ sub _. formed_acknowledging s.log s.durable positions sub there;
         numbers = forgotten_numbers positions;
-        places = forgotten_places positions;
+        names = forgotten_names positions;
         ordinals = ordinals_stay s.next_ordinal n (acknowledging positions) s.subscriptions (λ k sub. omega arith) well.ordinals;
         uncollected = uncollected_taken s.log s.members s.subscriptions n positions (acknowledging positions) (λ _. refl) (λ _. refl) well.uncollected;
       }) well
@@ -69,7 +69,7 @@ module _ (s : State) (n : List ℕ) where
         name = λ _. refl;
         formed = λ sub _. formed_redelivering s.log s.durable positions sub there;
         numbers = forgotten_numbers positions;
-        places = forgotten_places positions;
+        names = forgotten_names positions;
         ordinals = ordinals_stay s.next_ordinal n (redelivering positions) s.subscriptions (λ k sub. omega arith) well.ordinals;
         uncollected = uncollected_taken s.log s.members s.subscriptions n positions (redelivering positions) (λ _. refl) (λ _. refl) well.uncollected;
       }) well
@@ -84,7 +84,7 @@ module _ (s : State) (n : List ℕ) where
             formed_burying s.log s.durable letter held other (ap (λ (z : Subscription). map_of.get z.pending position) (some_is _ other sub there found) ∙ pending)
             (below_next letters s.next_ordinal s.subscriptions other (found_contained (is_named n) s.subscriptions other there) well.ordinals);
         numbers = forgotten_numbers (position ∷ []);
-        places = forgotten_places (position ∷ []);
+        names = forgotten_names (position ∷ []);
         ordinals = once_more letters s.next_ordinal s.subscriptions (changed (is_named n) (burying letter) s.subscriptions) room
             (λ k. among_changed letters k (cond {A = ℕ} (s.next_ordinal == k) 1 0) (is_named n) (burying letter) (λ other. let more = times_append k other.dead (letter ∷ []) in omega arith) s.subscriptions) well.ordinals;
         uncollected = uncollected_taken s.log s.members s.subscriptions n (position ∷ []) (burying letter) (λ _. refl) (λ _. refl) well.uncollected;
@@ -100,7 +100,7 @@ module _ (s : State) (n : List ℕ) where
         name = λ _. refl;
         formed = λ other there. formed_moving s.log s.durable letter other (ap first_safe (some_is _ other sub there found) ∙ first);
         numbers = forgotten_numbers (letter.position ∷ []);
-        places = forgotten_places (letter.position ∷ []);
+        names = forgotten_names (letter.position ∷ []);
         ordinals = ordinals_stay s.next_ordinal n (moving letter) s.subscriptions (λ k sub. times_dropped k sub.dead) well.ordinals;
         uncollected = uncollected_taken s.log s.members s.subscriptions n (letter.position ∷ []) (moving letter) (λ _. refl) (λ _. refl) well.uncollected;
       }) well
@@ -114,7 +114,7 @@ module _ (s : State) (n : List ℕ) where
         name = λ _. refl;
         formed = λ sub _. formed_seeking s.log s.durable (take count s.log) sub (λ e. taken_contained count s.log e);
         numbers = emptied_numbers;
-        places = emptied_places;
+        names = emptied_names;
         ordinals = ordinals_stay s.next_ordinal n (seeking (take count s.log)) s.subscriptions (λ k sub. omega arith) well.ordinals;
         uncollected = uncollected_emptied s.log s.members s.subscriptions n (seeking (take count s.log)) (λ _. refl) well.uncollected;
       }) well
@@ -126,7 +126,7 @@ module _ (s : State) (n : List ℕ) where
         name = λ _. refl;
         formed = λ sub _. formed_released s.log s.durable sub;
         numbers = emptied_numbers;
-        places = emptied_places;
+        names = emptied_names;
         ordinals = ordinals_stay s.next_ordinal n releasing_all s.subscriptions (λ k sub. omega arith) well.ordinals;
         uncollected = uncollected_emptied s.log s.members s.subscriptions n releasing_all (λ _. refl) well.uncollected;
       }) well

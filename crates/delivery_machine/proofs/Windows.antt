@@ -1,4 +1,4 @@
--- At a consumer that is pushed to, no more messages are pending than its window has places.
+-- At a consumer that is pushed to, no more messages are pending than the size of its window.
 use Rattle.std.proofs.Common.{◌≡◌, ℕ, ◌<◌, ◌≤◌, List, [], ◌∷◌, ◌++◌, Some, Bool, true, false, refl, ap, ◌∙◌, sym, subst, arith, inl, inr, Contains}
 use Rattle.std.specs.Prelude.{◌==◌, nat_lt}
 use Rattle.std.specs.List.{find}
@@ -34,7 +34,7 @@ use Rattle.delivery_machine.proofs.FlowStepped.{moves}
 use Rattle.delivery_machine.proofs.Numbers.{IsNumbered, numbered, beginning_empty, beginning_numbered}
 use Rattle.delivery_machine.proofs.Counting.{held_at, held_idle, held_part, held_more, held_beside, held_appended}
 
--- the messages that are pending at the seat's consumer have places in its window
+-- the messages that are pending at the seat's consumer fit into its window
 abbrev Fits : List Entry → List Subscription → Seat → Type 0
 Fits log subs x = (size : ℕ) → x.flow ≡ Window size → (sub : Subscription) → find (is_named x.name) subs ≡ Some sub → held_at log sub.pending x.number ≤ size
 
@@ -128,9 +128,9 @@ module _ (s : State) (event : Event) (reply : Reply) (t : State) (m : Sends s ev
   mine : find (has_number m.m.number) (seats s.members) ≡ Some (seat_of m.m)
   mine = found_itself 0 (seats s.members) s.next_consumer (seat_of m.m) rises (seat_contained s.members m.m (chosen_member m.sub.kind s m.sub m.e m.m m.eligible.1).0)
 
-  -- the member had a place for it
-  had_place : (size : ℕ) → m.m.flow ≡ Window size → held_at s.log m.sub.pending m.m.number < size
-  had_place size is = below (held_at s.log m.sub.pending m.m.number) size (sym (ap (λ f. flow_has_room f (pending_at s m.sub m.m.number)) is) ∙ m.eligible.0)
+  -- the member had room for it
+  had_room : (size : ℕ) → m.m.flow ≡ Window size → held_at s.log m.sub.pending m.m.number < size
+  had_room size is = below (held_at s.log m.sub.pending m.m.number) size (sym (ap (λ f. flow_has_room f (pending_at s m.sub m.m.number)) is) ∙ m.eligible.0)
     where
       below : (a b : ℕ) → nat_lt a b ≡ true → a < b
       below a b e = grind (arith, nat_tests)
@@ -148,7 +148,7 @@ module _ (s : State) (event : Event) (reply : Reply) (t : State) (m : Sends s ev
           let number : m.m.number ≡ x.number = number_is m.m.number x.number same in
           let one : x ≡ seat_of m.m = some_is _ x (seat_of m.m) found (subst (λ n. find (has_number n) (seats s.members) ≡ Some (seat_of m.m)) number mine) in
           let window : m.m.flow ≡ Window size = sym (ap (λ (z : Seat). z.flow) one) ∙ is in
-          let place = had_place size window in
+          let room = had_room size window in
           let counted : held_at s.log old.pending x.number ≡ held_at s.log m.sub.pending m.m.number =
           ap (λ (z : Subscription). held_at s.log z.pending x.number) this ∙ ap (held_at s.log m.sub.pending) (sym number) in
           let more = held_more s.log old.pending m.e.position held x.number kept.rising.sorted in

@@ -112,7 +112,7 @@ PermitsBound =
     → (consumer : ℕ) → IsTrue (some_answer (joins_to_pull consumer) events replies)
     → sum_of_answers (sent_to consumer) events replies ≤ sum_of_answers (permitted_to consumer) events replies
 
--- at a consumer that is pushed to, never more messages are pending than its window has places
+-- at a consumer that is pushed to, never more messages are pending than the size of its window
 abbrev pub WindowsBound : Type 0
 WindowsBound =
     (s : State) (events : List Event) (replies : List Reply) (t : State) → IsBeginning s → Run s events replies t

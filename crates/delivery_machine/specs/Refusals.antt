@@ -42,7 +42,7 @@ producer_refused s producer = if is_some (find (is_producer producer) s.producer
 abbrev pub is_duplicate : State → Producer → ℤ → Bool
 is_duplicate s p sequence = int_le sequence (last_sequence s.log p.name p.base)
 
--- the log has no place left, or the next message's ledger would pass 2^62
+-- the log has all messages that it may have, or the next message's ledger would pass 2^62
 abbrev pub is_full : State → Bool
 is_full s = nat_le 1048576 (length s.log) || nat_lt (2 ^ 62) (next_position s).ledger
 

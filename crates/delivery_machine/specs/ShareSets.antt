@@ -2,11 +2,11 @@
 use Rattle.std.specs.Prelude.{◌≡◌, ◌≢◌, ℕ, ◌+◌, ◌-◌, ◌<◌, ◌≤◌, ◌==◌, nat_eq, true, false, List, [], map, length, Option, Some, None, if◌then◌else◌}
 use Rattle.std.specs.List.{All, Contains, list_any, IsDistinct}
 use Rattle.position_core.specs.declared.block.Block.{Block}
-use Rattle.delivery_machine.specs.Shares.{has_hash, owner_of, is_share_of, lower_half, PartAllHashes, shared_out, given_back}
+use Rattle.delivery_machine.specs.Shares.{has_hash, owner_of, is_share_of, lower_half, SplitAllHashes, shared_out, given_back}
 
 -- shares that have all hashes, each of them once, and each at least one; no consumer has two
 pub record AreShares (shares : List Block) : Type 0 where
-  pub parted : PartAllHashes shares
+  pub split : SplitAllHashes shares
   pub some : All (λ b. 0 < b.size) shares
   pub distinct : IsDistinct nat_eq (map (λ b. b.consumer) shares)
 

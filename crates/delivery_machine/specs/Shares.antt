@@ -1,4 +1,4 @@
--- Shares: the hashes of a Key_Shared subscription, 0 to 65,535, parted among its consumers.
+-- Shares: the hashes of a Key_Shared subscription, 0 to 65,535, split among its consumers.
 use Rattle.std.specs.Prelude.{◌≡◌, ℕ, ◌+◌, ◌-◌, ◌/◌, ◌==◌, nat_le, nat_lt, max, Bool, ◌&&◌, List, [], ◌∷◌, length, Option, if◌then◌else◌}
 use Rattle.std.specs.List.{find}
 use Rattle.std.specs.Option.{option_map}
@@ -20,9 +20,9 @@ IsRow hash [] = hash ≡ 65536
 IsRow hash (b ∷ bs) = (b.from ≡ hash) × IsRow (hash + b.size) bs
 
 -- the hashes 0 to 65,535, as soon as there are shares
-abbrev pub PartAllHashes : List Block → Type 0
-PartAllHashes [] = Unit {0}
-PartAllHashes (b ∷ bs) = IsRow 0 (b ∷ bs)
+abbrev pub SplitAllHashes : List Block → Type 0
+SplitAllHashes [] = Unit {0}
+SplitAllHashes (b ∷ bs) = IsRow 0 (b ∷ bs)
 
 -- ---- joining
 

@@ -24,7 +24,7 @@ use Rattle.delivery_machine.specs.Snapshot.{KeptSubscription, Snapshot}
 abbrev pub has_message : List Entry → Position → Bool
 has_message messages position = list_any (has_position position) messages
 
--- positions rise; each message is in a ledger up to the topic's and up to 2^62, at one of the places of a ledger
+-- positions rise; each message is in a ledger up to the topic's and up to 2^62, at an entry below the size of a ledger
 pub record IsWellFormedLog (ledger_size ledger : ℕ) (log : List Entry) : Type 0 where
   pub positions : IsStrictlySortedBy position_cmp (map (λ e. e.position) log)
   pub ledgers : All (λ e. (e.position.ledger ≤ ledger) × (e.position.ledger ≤ 2 ^ 62)) log
@@ -90,12 +90,12 @@ pub record IsWellFormed (s : State) : Type 0 where
 
 -- ---- snapshots
 
-pub record IsSoundSubscription (log : List Entry) (place : KeptSubscription) : Type 0 where
-  pub acknowledged : AreMessagesOf log place.acknowledged
-  pub dead : AreDeadLettersOf log place.dead
+pub record IsSoundSubscription (log : List Entry) (sub : KeptSubscription) : Type 0 where
+  pub acknowledged : AreMessagesOf log sub.acknowledged
+  pub dead : AreDeadLettersOf log sub.dead
 
 pub record IsSound (kept : Snapshot) : Type 0 where
   pub log : IsWellFormedLog kept.ledger_size kept.ledger kept.log
-  pub names : NamesRise (map (λ place. place.name) kept.subscriptions)
+  pub names : NamesRise (map (λ sub. sub.name) kept.subscriptions)
   pub subscriptions : All (IsSoundSubscription kept.log) kept.subscriptions
-  pub ordinals : HaveOrdinals kept.next_ordinal (flat_map (λ place. place.dead) kept.subscriptions)
+  pub ordinals : HaveOrdinals kept.next_ordinal (flat_map (λ sub. sub.dead) kept.subscriptions)

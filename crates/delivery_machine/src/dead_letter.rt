@@ -1,4 +1,4 @@
-// A message that was redelivered too often.
+// What goes to a subscription's dead-letter topic.
 use position_core::{Ordinal, Position, TopicName};
 use std::marker::Model;
 

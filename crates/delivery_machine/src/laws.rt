@@ -67,7 +67,7 @@ pub fn stored_is_stored_to()
 {}
 
 /// A consumer that joins takes half of the largest share, and one that leaves gives its share to its
-/// neighbour; nobody else's hashes change, and shares part all hashes as before.
+/// neighbour; nobody else's hashes change, and all hashes stay split among the shares.
 pub fn shares_are_sets()
     ensures { SharesAreSets }
 {}

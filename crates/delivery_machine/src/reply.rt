@@ -1,3 +1,4 @@
+// Replies: one form for each way that an event may come out.
 use crate::delivery::Deliveries;
 use position_core::{
     ConsumerNumber, Fault, Kind, Message, Ordinal, Position, ProducerNumber, TopicName,
@@ -13,14 +14,14 @@ pub enum Reply {
         auto: Option<u64>,
         last: i64,
     },
-    /// `index` is the length of the log with the message.
+    /// `length` is that of the log with the message.
     Published {
         position: Position,
-        index: u64,
+        length: u64,
     },
-    /// The sequence number is not above the last one. `index` is the length of the log.
+    /// The sequence number is not above the last one. `length` is that of the log.
     Duplicate {
-        index: u64,
+        length: u64,
     },
     /// So many messages are stored.
     Durable(u64),

@@ -1,4 +1,4 @@
--- The first waiting message, by its place.
+-- The first waiting message, by its index.
 use Rattle.std.proofs.Common.{◌≡◌, ℕ, ◌<◌, false, Some, None, Option, get_or, length, refl, ap, ◌∙◌, sym, arith}
 use Rattle.std.specs.Option.{option_map_or}
 use Rattle.std.specs.List.{find}
@@ -9,9 +9,9 @@ use Rattle.std.proofs.lemmas.Option.{slice_get-get_or}
 use Rattle.position_core.specs.declared.message.Entry.{Entry}
 use Rattle.delivery_machine.specs.State.{State, Subscription}
 use Rattle.delivery_machine.specs.Words.{is_waiting, first_waiting, visible}
-use Rattle.dispatch_core.specs.Places.{waits_at, IsReadyAt, IsNextReady, NoneReady}
+use Rattle.dispatch_core.specs.Log.{waits_at, IsReadyAt, IsNextReady, NoneReady}
 
--- at a place that may be seen
+-- at an index that may be seen
 pub waits_at-visible : (s : State) (sub : Subscription) (i : ℕ) (d : Entry) → i < length (visible s) → waits_at s sub i ≡ is_waiting sub (get_or (visible s) i d)
 unfolding waits_at
 waits_at-visible s sub i d seen =

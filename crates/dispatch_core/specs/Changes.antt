@@ -1,4 +1,4 @@
--- What happens to a topic, as one of its subscriptions sees it: by places of the log, by the line of its members and by
+-- What happens to a topic, as one of its subscriptions sees it: by indexes of the log, by the line of its members and by
 -- their shares.
 use Rattle.std.specs.Prelude.{◌≡◌, ◌≢◌, ℕ, ◌==◌, ◌<◌, ◌≤◌, true, false, not, [], ◌∷◌, ◌++◌, length, Some, None, IsSome}
 use Rattle.std.specs.List.{filter, list_any}
@@ -6,11 +6,11 @@ use Rattle.position_core.specs.declared.message.Entry.{Entry}
 use Rattle.delivery_machine.specs.State.{State, Subscription}
 use Rattle.delivery_machine.specs.Words.{visible}
 use Rattle.delivery_machine.specs.Shares.{shares_with, given_back}
-use Rattle.dispatch_core.specs.Places.{waits_at, holder_at, line_of}
+use Rattle.dispatch_core.specs.Log.{waits_at, holder_at, line_of}
 
 -- ---- what stays
 
--- the message at the place waits as it did, and is pending where it was
+-- the message at the index waits as it did, and is pending where it was
 pub record StaysAt (i : ℕ) (s : State) (sub : Subscription) (t : State) (new : Subscription) : Type 0 where
   pub waits : waits_at t new i ≡ waits_at s sub i
   pub holder : holder_at t new i ≡ holder_at s sub i
@@ -23,9 +23,9 @@ pub record LogStays (s : State) (sub : Subscription) (t : State) (new : Subscrip
 -- nothing changes but the line and the shares
 pub record OnlyLineChanges (s : State) (sub : Subscription) (t : State) (new : Subscription) : Type 0 where
   pub log : LogStays s sub t new
-  pub places : (i : ℕ) → StaysAt i s sub t new
+  pub messages : (i : ℕ) → StaysAt i s sub t new
 
--- nothing changes but at the place
+-- nothing changes but at the index
 pub record OnlyChangesAt (index : ℕ) (s : State) (sub : Subscription) (t : State) (new : Subscription) : Type 0 where
   pub log : LogStays s sub t new
   pub line : line_of t new ≡ line_of s sub
@@ -71,7 +71,7 @@ pub record Left (consumer : ℕ) (s : State) (sub : Subscription) (t : State) (n
 
 -- ---- a message
 
--- the message at the place was sent to the consumer
+-- the message at the index was sent to the consumer
 pub record Sent (index consumer : ℕ) (s : State) (sub : Subscription) (t : State) (new : Subscription) : Type 0 where
   pub stays : OnlyChangesAt index s sub t new
   pub seen : index < length (visible s)
@@ -79,13 +79,13 @@ pub record Sent (index consumer : ℕ) (s : State) (sub : Subscription) (t : Sta
   pub waits : waits_at t new index ≡ false
   pub holder : holder_at t new index ≡ Some consumer
 
--- the message at the place was acknowledged, or died
+-- the message at the index was acknowledged, or died
 pub record Gone (index : ℕ) (s : State) (sub : Subscription) (t : State) (new : Subscription) : Type 0 where
   pub stays : OnlyChangesAt index s sub t new
   pub waits : waits_at t new index ≡ false
   pub holder : holder_at t new index ≡ None
 
--- the message at the place, which was pending, waits again
+-- the message at the index, which was pending, waits again
 pub record Released (index : ℕ) (s : State) (sub : Subscription) (t : State) (new : Subscription) : Type 0 where
   pub stays : OnlyChangesAt index s sub t new
   pub held : IsSome (holder_at s sub index)
@@ -108,7 +108,7 @@ pub record Kept (s : State) (sub : Subscription) (t : State) (new : Subscription
   pub durable : s.durable ≤ t.durable
   pub line : line_of t new ≡ line_of s sub
   pub shares : new.shares ≡ sub.shares
-  pub places : (i : ℕ) → StaysAt i s sub t new
+  pub messages : (i : ℕ) → StaysAt i s sub t new
 
 -- ---- agreement
 

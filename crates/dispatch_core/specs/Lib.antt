@@ -1,4 +1,4 @@
-pub mod Places
+pub mod Log
 pub mod Changes
 pub mod Offers
 pub mod Turn

@@ -22,6 +22,6 @@ seen_at s sub place = option_map (seen_of s sub) (slice_get (members_of s sub.na
 pub record IsGoodOffer (s : State) (sub : Subscription) (offer : Offer) : Type 0 where
   pub message : Entry
   pub member : Member
-  pub place : slice_get (visible s) offer.index ≡ Some message
+  pub found : slice_get (visible s) offer.index ≡ Some message
   pub number : member.number ≡ offer.consumer
   pub eligible : IsEligible s sub message member

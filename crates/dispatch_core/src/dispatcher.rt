@@ -11,7 +11,7 @@ use crate::view::View;
 use position_core::{ConsumerNumber, Fault, LogIndex};
 use std::alloc::Global;
 
-/// A message, by its place in the log, and a consumer that it may be sent to.
+/// A message, by its index, and a consumer that it may be sent to.
 #[derive(Clone, Copy, Debug, PartialEq, Eq)]
 pub struct Offer {
     pub index: LogIndex,

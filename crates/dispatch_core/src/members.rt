@@ -1,4 +1,4 @@
-// The members that a view shows, one after another.
+// An iterator over a view, so that no dispatcher counts places.
 use crate::view::{Seen, View};
 use std::marker::Model;
 

@@ -3,7 +3,7 @@ ghost use Rattle.std.specs.Prelude.{◌≡◌, ◌<◌, ◌^◌, IfSome, IfNone,
 ghost use Rattle.std.specs.Option.{option_copied};
 ghost use Rattle.delivery_machine.specs.State.{State, Subscription};
 ghost use Rattle.delivery_machine.specs.Words.{members_of, visible};
-ghost use Rattle.dispatch_core.specs.Places.{holder_at, key_at, IsNextReady, NoneReady};
+ghost use Rattle.dispatch_core.specs.Log.{holder_at, key_at, IsNextReady, NoneReady};
 ghost use Rattle.dispatch_core.specs.Offers.{seen_at, seen_members};
 
 use crate::members::Members;
@@ -18,8 +18,8 @@ pub struct Seen {
     pub room: bool,
 }
 
-/// What is seen of a topic and one of its subscriptions. Messages are named by their places in the
-/// log, from 0 on, and members by their places in the order of joining. No call takes memory.
+/// What is seen of a topic and one of its subscriptions. Messages are named by their indexes, and
+/// members by their places in the order of joining, from 0 on. No call takes memory.
 pub trait View {
     /// The machine's state that the topic is in.
     ghost state: { Self → State };
@@ -34,16 +34,16 @@ pub trait View {
     fn length(&self) -> u64
         ensures { result ≡ length (state self.now).log };
 
-    /// The key of the message at the place. None where it has none, or there is no such place.
+    /// The key of the message at the index. None where it has none, or there is no such message.
     fn key(&self, index: LogIndex) -> Option<&str>
         ensures { option_copied result ≡ key_at (state self.now) index };
 
-    /// The first place, from the given one on, of a visible message that waits.
-    fn next_waiting(&self, from: u64) -> Option<u64>
+    /// The index of the first visible message that waits, from the given one on.
+    fn next_waiting(&self, from: LogIndex) -> Option<LogIndex>
         ensures some { IfSome result (IsNextReady (state self.now) (subscription self.now) from) }
         ensures none { IfNone result (NoneReady (state self.now) (subscription self.now) from) };
 
-    /// The consumer at which the message at the place is pending.
+    /// The consumer at which the message at the index is pending.
     fn holder(&self, index: LogIndex) -> Option<u64>
         ensures { result ≡ holder_at (state self.now) (subscription self.now) index };
 

@@ -15,14 +15,14 @@ use Rattle.murmur_core.specs.Sticky.{sticky_hash}
 use Rattle.delivery_machine.specs.State.{State, Subscription, Member}
 use Rattle.delivery_machine.specs.Shares.{owner_of}
 use Rattle.delivery_machine.specs.Words.{is_at, is_member, members_of, owner_at, hash_of, visible, is_held_beside, is_draining}
-use Rattle.dispatch_core.specs.Places.{key_at, holder_at, holder_of}
+use Rattle.dispatch_core.specs.Log.{key_at, holder_at, holder_of}
 use Rattle.dispatch_core.specs.Offers.{seen_of}
 use Rattle.dispatch_core.specs.declared.view.Seen.{Seen}
 use Rattle.dispatch_keyed.specs.Hashes.{hash_at, drains_at, IsFreeFor, NoneFree}
 use Rattle.dispatch_keyed.proofs.Finding.{find-filter}
 use Rattle.delivery_machine.proofs.Firsts.{found_somewhere}
 
--- ---- hashes at places
+-- ---- hashes at indexes
 
 hash_at-log : (s : State) (i : ℕ) (d : Entry) → i < length s.log → hash_at s i ≡ hash_of (get_or s.log i d)
 unfolding key_at

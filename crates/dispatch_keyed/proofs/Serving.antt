@@ -10,7 +10,7 @@ use Rattle.position_core.specs.declared.kind.Kind.TheVariants.{KeyShared}
 use Rattle.position_core.specs.declared.message.Entry.{Entry}
 use Rattle.delivery_machine.specs.State.{State, Subscription, Member}
 use Rattle.delivery_machine.specs.Words.{is_waiting, hash_of, waits_with_hash, visible, ChoosesBy, IsNextOfItsHash, NoneEligible}
-use Rattle.dispatch_core.specs.Places.{IsReadyAt, IsNextReady, NoneReady}
+use Rattle.dispatch_core.specs.Log.{IsReadyAt, IsNextReady, NoneReady}
 use Rattle.dispatch_core.specs.Offers.{IsGoodOffer}
 use Rattle.dispatch_core.proofs.Ready.{waits_at-visible}
 use Rattle.dispatch_keyed.specs.Hashes.{hash_at, MayTake, IsFreeFor, NoneFree}
@@ -57,7 +57,7 @@ good_offer s sub from i consumer kind next none free =
           subst (λ (h : ℕ). MayTake s sub h free.0) (hash_at-visible s i at.0 at.1 ∙ ap hash_of at.3) free.2 in record {
             message = at.0;
             member = free.0;
-            place = at.2;
+            found = at.2;
             number = free.1;
             eligible = (
               take.room,

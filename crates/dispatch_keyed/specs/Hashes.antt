@@ -1,16 +1,16 @@
--- The hashes of messages by their places in the log, and whether the next message of a hash may be sent.
+-- The hashes of messages by their indexes, and whether the next message of a hash may be sent.
 use Rattle.std.specs.Prelude.{◌≡◌, ℕ, ◌==◌, Bool, false, not, ◌&&◌, Some, IsTrue}
 use Rattle.std.specs.Option.{option_map_or}
 use Rattle.murmur_core.specs.Sticky.{sticky_hash}
 use Rattle.delivery_machine.specs.State.{State, Subscription, Member}
 use Rattle.delivery_machine.specs.Words.{has_room, is_draining, owner_at}
-use Rattle.dispatch_core.specs.Places.{holder_at, key_at}
+use Rattle.dispatch_core.specs.Log.{holder_at, key_at}
 
--- the hash of the message at the place; past the end that of no key
+-- the hash of the message at the index; past the end that of no key
 abbrev pub hash_at : State → ℕ → ℕ
 hash_at s i = sticky_hash (key_at s i)
 
--- the message at the place has the hash, and is pending at another consumer
+-- the message at the index has the hash, and is pending at another consumer
 abbrev pub drains_at : State → Subscription → ℕ → ℕ → ℕ → Bool
 drains_at s sub hash owner i = hash_at s i == hash && option_map_or (λ holder. not (holder == owner)) (holder_at s sub i) false
 

@@ -12,7 +12,7 @@ use hash_ranges::SplitTable;
 use murmur_core::sticky_hash;
 use position_core::{ConsumerNumber, LogIndex};
 
-/// The hash of the key of the message at the place.
+/// The hash of the key of the message at the index.
 fn hash_at<V: View>(view: &V, index: LogIndex) -> u16
     ensures { result ≡ hash_at (V.state view.now) index }
 {
@@ -26,7 +26,7 @@ fn member_of<V: View>(view: &V, consumer: ConsumerNumber) -> Option<Seen>
     view.members().find(|seen| seen.consumer == consumer)
 }
 
-/// Whether the message at the place has the hash, and is pending at another consumer.
+/// Whether the message at the index has the hash, and is pending at another consumer.
 fn drains_at<V: View>(view: &V, index: LogIndex, hash: u16, owner: ConsumerNumber) -> bool
     ensures { result ≡ drains_at (V.state view.now) (V.subscription view.now) hash owner index }
 {

@@ -11,7 +11,7 @@ use Rattle.position_core.specs.declared.message.Entry.{Entry}
 use Rattle.delivery_machine.specs.State.{State, Subscription, Member}
 use Rattle.delivery_machine.specs.Words.{is_at, has_room, with_room, visible, ChoosesBy, IsNextAtBestLevel, NoneEligible}
 use Rattle.delivery_machine.proofs.Passes.{passes}
-use Rattle.dispatch_core.specs.Places.{IsNextReady, NoneReady}
+use Rattle.dispatch_core.specs.Log.{IsNextReady, NoneReady}
 use Rattle.dispatch_core.specs.Offers.{seen_of, IsGoodOffer}
 use Rattle.dispatch_core.specs.declared.view.Seen.{Seen}
 use Rattle.dispatch_core.proofs.Ready.{first_waiting-next, first_waiting-none}
@@ -97,7 +97,7 @@ good_offer last s sub i seen kind next first =
       | inl at ↦ record {
         message = at.0;
         member = to.0;
-        place = at.2;
+        found = at.2;
         number = sym (ap (λ (x : Seen). x.consumer) to.1.is);
         eligible = (
           has_room-with_room s sub to.0 to.1.at,

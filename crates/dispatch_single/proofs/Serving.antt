@@ -14,7 +14,7 @@ use Rattle.delivery_machine.specs.State.{State, Subscription, Member}
 use Rattle.delivery_machine.specs.Words as machine
 use Rattle.delivery_machine.specs.Words.{active_of, members_of, visible, ChoosesBy, IsNextInOrder, NoneEligible}
 use Rattle.delivery_machine.proofs.Best.{earlier_assoc}
-use Rattle.dispatch_core.specs.Places.{IsNextReady, NoneReady}
+use Rattle.dispatch_core.specs.Log.{IsNextReady, NoneReady}
 use Rattle.dispatch_core.specs.Offers.{seen_of, IsGoodOffer}
 use Rattle.dispatch_core.specs.declared.view.Seen.{Seen}
 use Rattle.dispatch_core.specs.declared.dispatcher.Offer.{Offer}
@@ -76,7 +76,7 @@ good_offer s sub i seen served next active room = served_by (active_of (members_
           | inl at ↦ record {
             message = at.0;
             member = m;
-            place = at.2;
+            found = at.2;
             number = sym (ap (λ (x : Seen). x.consumer) same);
             eligible = (
               sym (ap (λ (x : Seen). x.room) same) ∙ room,

@@ -1,4 +1,4 @@
-// When a position is due.
+// The order in which positions fall due.
 use position_core::{DueMoment, Position};
 
 /// When a position is due, in milliseconds since 1970. In order of the moments, and of the positions

@@ -72,7 +72,7 @@ impl DueTree {
         row::set(&mut self.nodes, at, slot);
     }
 
-    /// The last slot takes the place of the one that is taken out.
+    /// The last slot goes where the one was that is taken out.
     pub fn swap_remove(&mut self, at: usize) -> Slot
         requires { at < length self.old }
         ensures slot { slice_get self.old at ≡ Some result }

@@ -1,4 +1,4 @@
--- Lists in pieces: how long they are, and what stands at a place.
+-- Lists in pieces: how long they are, and what stands at an index.
 use Rattle.std.proofs.Common.{◌≡◌, ℕ, ◌+◌, ◌-◌, ◌*◌, ◌<◌, ◌≤◌, suc, zero, List, [], ◌∷◌, ◌++◌, length, take, Some, refl, ap, ◌∙◌, append_assoc, arith, slice_set}
 use Rattle.std.specs.List.{flat_map, slice_get}
 use Rattle.std.proofs.Math.ListN.{length-append}

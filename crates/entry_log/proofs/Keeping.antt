@@ -13,7 +13,7 @@ use Rattle.std.proofs.lemmas.List.Sums.{sum_by_push, sum_by-cons}
 use Rattle.position_core.specs.declared.position.Position.{Position}
 use Rattle.position_core.specs.declared.message.Entry.{Entry}
 use Rattle.position_core.specs.Position.{position_cmp}
-use Rattle.entry_log.specs.Log.{used_in, place_after, front}
+use Rattle.entry_log.specs.Log.{used_in, position_after, front}
 use Rattle.entry_log.specs.Kept.{IsAt, is_before}
 use Rattle.delivery_machine.proofs.Rising.{sorted_push, before_next}
 use Rattle.delivery_machine.proofs.Deciding.{within}
@@ -48,15 +48,15 @@ after_roll log ledger used at low = record {
   bounded = omega arith;
 }
 
-placed : (log : List Entry) (ledger used l u : ℕ) → IsAt log ledger used → l ≡ ledger → u ≡ used → IsAt log l u
-placed log ledger used l u at same_ledger same_used =
+same_at : (log : List Entry) (ledger used l u : ℕ) → IsAt log ledger used → l ≡ ledger → u ≡ used → IsAt log l u
+same_at log ledger used l u at same_ledger same_used =
     subst (λ (n : ℕ). IsAt log n u) (sym same_ledger) (subst (λ (n : ℕ). IsAt log ledger n) (sym same_used) at)
 
 pub rolled_at : (log : List Entry) (ledger used l u : ℕ) → IsAt log ledger used → (ledger ≤ 2 ^ 62 → (l ≡ ledger + 1) × (u ≡ 0)) → (2 ^ 62 < ledger → (l ≡ ledger) × (u ≡ used)) → IsAt log l u
 rolled_at log ledger used l u at next last =
     elim (cases_lt (2 ^ 62) ledger) [
-      | inl over ↦ let same = last over in placed log ledger used l u at same.0 same.1
-      | inr low ↦ let more = next low in placed log (ledger + 1) 0 l u (after_roll log ledger used at low) more.0 more.1
+      | inl over ↦ let same = last over in same_at log ledger used l u at same.0 same.1
+      | inr low ↦ let more = next low in same_at log (ledger + 1) 0 l u (after_roll log ledger used at low) more.0 more.1
     ]
 
 -- ---- a further message
@@ -67,11 +67,11 @@ front_push log e =
     let less : length (log ++ e ∷ []) - 1 ≡ length log = omega (arith, whole) in
     ap (λ (n : ℕ). take n (log ++ e ∷ [])) less ∙ take-append_seam log (e ∷ [])
 
--- the next place is in the ledger, or the first of the next one
+-- the next position is in the ledger, or the first of the next one
 abbrev IsNext : ℕ → ℕ → Position → Type 0
 IsNext ledger used q = ((q.ledger ≡ ledger) × (q.entry ≡ used)) ⊎ ((q.ledger ≡ ledger + 1) × (q.entry ≡ 0))
 
-next_is : (ledger used size : ℕ) (q : Position) → q ≡ place_after ledger used size → IsNext ledger used q
+next_is : (ledger used size : ℕ) (q : Position) → q ≡ position_after ledger used size → IsNext ledger used q
 next_is ledger used size q is = by (nat_lt used size) is
   where
     by : (b : Bool) → q ≡ cond b (record { ledger = ledger; entry = used }) (record { ledger = ledger + 1; entry = 0 }) → IsNext ledger used q
@@ -113,7 +113,7 @@ counted_with log ledger used e at (inr next) =
     let this = in_next ledger used e.position next.0 in
     omega (arith, more, none, this)
 
-appended_here : (log : List Entry) (ledger used size : ℕ) (e : Entry) → IsAt log ledger used → e.position ≡ place_after ledger used size → nat_lt (2 ^ 62) e.position.ledger ≡ false → IsAt (log ++ e ∷ []) e.position.ledger (with_it ledger used e.position)
+appended_here : (log : List Entry) (ledger used size : ℕ) (e : Entry) → IsAt log ledger used → e.position ≡ position_after ledger used size → nat_lt (2 ^ 62) e.position.ledger ≡ false → IsAt (log ++ e ∷ []) e.position.ledger (with_it ledger used e.position)
 appended_here log ledger used size e at is room =
     let next = next_is ledger used size e.position is in
     let low = within (2 ^ 62) e.position.ledger room in
@@ -128,8 +128,8 @@ appended_here log ledger used size e at is room =
       bounded = omega (arith, low);
     }
 
--- after the next message, the place is the one after it
-pub appended_at : (log : List Entry) (ledger used size l u : ℕ) (e : Entry) → IsAt log ledger used → e.position ≡ place_after ledger (used_in ledger log) size → nat_lt (2 ^ 62) e.position.ledger ≡ false → l ≡ e.position.ledger → u ≡ with_it ledger used e.position → IsAt (log ++ e ∷ []) l u
+-- after the next message, which may be the first of the next ledger
+pub appended_at : (log : List Entry) (ledger used size l u : ℕ) (e : Entry) → IsAt log ledger used → e.position ≡ position_after ledger (used_in ledger log) size → nat_lt (2 ^ 62) e.position.ledger ≡ false → l ≡ e.position.ledger → u ≡ with_it ledger used e.position → IsAt (log ++ e ∷ []) l u
 appended_at log ledger used size l u e at is room same_ledger same_used =
-    let next : e.position ≡ place_after ledger used size = is ∙ ap (λ (n : ℕ). place_after ledger n size) (sym at.counted) in
-    placed (log ++ e ∷ []) e.position.ledger (with_it ledger used e.position) l u (appended_here log ledger used size e at next room) same_ledger same_used
+    let next : e.position ≡ position_after ledger used size = is ∙ ap (λ (n : ℕ). position_after ledger n size) (sym at.counted) in
+    same_at (log ++ e ∷ []) e.position.ledger (with_it ledger used e.position) l u (appended_here log ledger used size e at next room) same_ledger same_used

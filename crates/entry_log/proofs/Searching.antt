@@ -15,13 +15,13 @@ use Rattle.position_core.specs.declared.position.Position.{Position}
 use Rattle.position_core.specs.declared.message.Entry.{Entry}
 use Rattle.position_core.specs.Position.{position_cmp, positions_total, exact_positions}
 use Rattle.delivery_machine.specs.Words.{has_position}
-use Rattle.entry_log.specs.Log.{place_of}
+use Rattle.entry_log.specs.Log.{index_of}
 use Rattle.delivery_machine.proofs.Places.{fails_everywhere}
 
 abbrev pub IsRising : List Entry → Type 0
 IsRising log = IsStrictlySortedBy position_cmp (map (λ e. e.position) log)
 
--- what stands before the first place is earlier than the position, and what stands from the second on is later
+-- what stands before the first index is earlier than the position, and what stands from the second on is later
 pub record IsBetween (log : List Entry) (at : Position) (low high : ℕ) : Type 0 where
   pub ordered : low ≤ high
   pub within : high ≤ length log
@@ -94,8 +94,8 @@ not_earlier e at less = ap (λ (r : Ordering). is_eq r) less
 not_later : (e : Entry) (at : Position) → position_cmp at e.position ≡ Less → has_position at e ≡ false
 not_later e at less = ap (λ (r : Ordering). is_eq r) (positions_total.antisymm e.position at ∙ ap (λ (r : Ordering). ordering_reverse r) less)
 
-pub nowhere : (log : List Entry) (at : Position) (low high : ℕ) → IsBetween log at low high → high ≤ low → None ≡ place_of at log
-nowhere log at low high between over = sym (by (place_of at log) refl)
+pub nowhere : (log : List Entry) (at : Position) (low high : ℕ) → IsBetween log at low high → high ≤ low → None ≡ index_of at log
+nowhere log at low high between over = sym (by (index_of at log) refl)
   where
     fails : (k : ℕ) (d : Entry) → k < length log → has_position at (get_or log k d) ≡ false
     fails k d within = elim (cases_lt k low) [
@@ -109,12 +109,12 @@ nowhere log at low high between over = sym (by (place_of at log) refl)
         let is = position-Some (has_position at) (x ∷ xs) i x e in
         false≢true (sym (fails i x is.0) ∙ is.1)
 
-    by : (r : Option ℕ) → place_of at log ≡ r → place_of at log ≡ None
+    by : (r : Option ℕ) → index_of at log ≡ r → index_of at log ≡ None
     by None e = e
     by (Some i) e = absurd (at_some log i e fails)
 
-pub found : (log : List Entry) (at : Position) (middle : ℕ) (m : Entry) → IsRising log → slice_get log middle ≡ Some m → position_cmp m.position at ≡ Equal → Some middle ≡ place_of at log
-found log at middle m rising here equal = sym (by (place_of at log) refl)
+pub found : (log : List Entry) (at : Position) (middle : ℕ) (m : Entry) → IsRising log → slice_get log middle ≡ Some m → position_cmp m.position at ≡ Equal → Some middle ≡ index_of at log
+found log at middle m rising here equal = sym (by (index_of at log) refl)
   where
     is_it : has_position at (get_or log middle m) ≡ true
     is_it = ap (λ (e : Entry). has_position at e) (get_or_from_slice_get log middle m m here) ∙ ap (λ (r : Ordering). is_eq r) equal
@@ -122,7 +122,7 @@ found log at middle m rising here equal = sym (by (place_of at log) refl)
     same : (get_or log middle m).position ≡ at
     same = ap (λ (e : Entry). e.position) (get_or_from_slice_get log middle m m here) ∙ exact_positions m.position at equal
 
-    by : (r : Option ℕ) → place_of at log ≡ r → place_of at log ≡ Some middle
+    by : (r : Option ℕ) → index_of at log ≡ r → index_of at log ≡ Some middle
     by None e = absurd (false≢true (sym (fails_everywhere (has_position at) log e middle m (slice_get_within log middle m here)) ∙ is_it))
     by (Some i) e =
         let is = position-Some (has_position at) log i m e in

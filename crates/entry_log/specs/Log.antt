@@ -25,15 +25,15 @@ empty_log ledger_size = record { log = []; ledger = 0; ledger_size = ledger_size
 abbrev pub used_in : ℕ → List Entry → ℕ
 used_in ledger log = count_by (λ e. e.position.ledger == ledger) log
 
--- the place after so many entries of a ledger
-abbrev pub place_after : ℕ → ℕ → ℕ → Position
-place_after ledger used ledger_size =
+-- the position after so many entries of a ledger
+abbrev pub position_after : ℕ → ℕ → ℕ → Position
+position_after ledger used ledger_size =
     if nat_lt used ledger_size then record { ledger = ledger; entry = used } else record { ledger = ledger + 1; entry = 0 }
 
 abbrev pub next_in : Log → Position
-next_in q = place_after q.ledger (used_in q.ledger q.log) q.ledger_size
+next_in q = position_after q.ledger (used_in q.ledger q.log) q.ledger_size
 
--- no place is left, or the next message's ledger would pass 2^62
+-- the log has all messages that it may have, or the next message's ledger would pass 2^62
 abbrev pub is_full_log : Log → Bool
 is_full_log q = nat_le 1048576 (length q.log) || nat_lt (2 ^ 62) (next_in q).ledger
 
@@ -52,6 +52,6 @@ popped q = option_map_or (λ ledger. record q { log = front q.log; ledger = ledg
 abbrev pub rolled : Log → Log
 rolled q = record q { ledger = min (q.ledger + 1) (2 ^ 62 + 1); undo = None }
 
--- the place in the log of the message at the position
-abbrev pub place_of : Position → List Entry → Option ℕ
-place_of at log = position (has_position at) log
+-- the index of the message at the position
+abbrev pub index_of : Position → List Entry → Option ℕ
+index_of at log = position (has_position at) log

@@ -7,10 +7,10 @@ ghost use Rattle.delivery_machine.specs.State.{State};
 ghost use Rattle.delivery_machine.specs.Words.{next_position};
 ghost use Rattle.delivery_machine.specs.Refusals.{is_full};
 ghost use Rattle.delivery_machine.specs.Producing.{with_message};
-ghost use Rattle.entry_log.specs.Log.{IsLogOf, empty_log, next_in, is_full_log, appended, popped, rolled, place_of};
+ghost use Rattle.entry_log.specs.Log.{IsLogOf, empty_log, next_in, is_full_log, appended, popped, rolled, index_of};
 
+use crate::open_ledger::{LAST_LEDGER, OpenLedger};
 use crate::pieces::Pieces;
-use crate::place::{LAST_LEDGER, Place};
 use crate::search;
 use position_core::{LedgerSize, Message, Position};
 use std::alloc::{AllocError, Global};
@@ -25,8 +25,8 @@ const MOST: usize = 1_048_576;
 #[derive(Drop)]
 pub struct EntryLog {
     pieces: Pieces,
-    place: Place,
-    undo: Option<Place>,
+    current: OpenLedger,
+    undo: Option<OpenLedger>,
     ledger_size: LedgerSize,
 }
 
@@ -40,12 +40,12 @@ impl Model for EntryLog {
 
     ghost view = { λ q. record {
       log = joined q.pieces;
-      ledger = q.place.ledger;
+      ledger = q.current.ledger;
       ledger_size = q.ledger_size;
       undo = option_map (λ p. p.ledger) q.undo;
     } };
 
-    ghost invariant = { λ q. IsKept q.pieces q.place q.undo };
+    ghost invariant = { λ q. IsKept q.pieces q.current q.undo };
 }
 
 impl EntryLog {
@@ -55,7 +55,7 @@ impl EntryLog {
     {
         EntryLog {
             pieces: Pieces::new(alloc),
-            place: Place { ledger: 0, used: 0 },
+            current: OpenLedger { ledger: 0, used: 0 },
             undo: None,
             ledger_size,
         }
@@ -69,18 +69,18 @@ impl EntryLog {
         self.pieces.count()
     }
 
-    /// The message at a place in the log.
-    pub fn get(&self, place: usize) -> Option<&Message>
-        ensures { option_copied result ≡ slice_get self.now.log place }
+    /// The message at an index.
+    pub fn get(&self, index: usize) -> Option<&Message>
+        ensures { option_copied result ≡ slice_get self.now.log index }
     {
-        self.pieces.get(place)
+        self.pieces.get(index)
     }
 
-    /// The place in the log of the message at the position. Takes the logarithm of the log's length.
+    /// The index of the message at the position. Takes the logarithm of the log's length.
     pub fn index_of(&self, at: Position) -> Option<usize>
-        ensures { result ≡ place_of at self.now.log }
+        ensures { result ≡ index_of at self.now.log }
     {
-        search::place_of(&self.pieces, at)
+        search::index_of(&self.pieces, at)
     }
 
     /// The position of the next message.
@@ -88,10 +88,10 @@ impl EntryLog {
         ensures value { result ≡ next_in self.now }
         ensures machine { (s : State) → IsLogOf self.now s → result ≡ next_position s }
     {
-        self.place.next(self.ledger_size)
+        self.current.next(self.ledger_size)
     }
 
-    /// Whether there is no place for a further message.
+    /// Whether no further message fits.
     pub fn is_full(&self) -> bool
         ensures value { result ≡ is_full_log self.now }
         ensures machine { (s : State) → IsLogOf self.now s → result ≡ is_full s }
@@ -107,10 +107,10 @@ impl EntryLog {
         ensures err { OnErr result (self.new ≡ self.old) }
         ensures machine { OnOk result ((s : State) → IsLogOf self.old s → IsLogOf self.new (with_message s message)) }
     {
-        let place = self.place.with(message.position());
+        let current = self.current.with(message.position());
         self.pieces.push(alloc, message)?;
-        self.undo = Some(self.place);
-        self.place = place;
+        self.undo = Some(self.current);
+        self.current = current;
         Ok(())
     }
 
@@ -120,11 +120,11 @@ impl EntryLog {
         ensures log { self.new ≡ popped self.old }
         ensures done { result ≡ is_some self.old.undo }
     {
-        let Some(place) = self.undo else {
+        let Some(before) = self.undo else {
             return false;
         };
         self.pieces.pop();
-        self.place = place;
+        self.current = before;
         self.undo = None;
         true
     }
@@ -133,7 +133,7 @@ impl EntryLog {
     pub fn roll(&mut self)
         ensures { self.new ≡ rolled self.old }
     {
-        self.place = self.place.rolled();
+        self.current = self.current.rolled();
         self.undo = None;
     }
 
@@ -143,7 +143,7 @@ impl EntryLog {
     {
         Ok(EntryLog {
             pieces: self.pieces.clone()?,
-            place: self.place,
+            current: self.current,
             undo: self.undo,
             ledger_size: self.ledger_size,
         })

@@ -2,8 +2,8 @@
 #![tactic(auto)]
 
 mod entry_log;
+mod open_ledger;
 mod pieces;
-mod place;
 mod search;
 mod segment;
 

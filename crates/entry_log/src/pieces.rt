@@ -53,14 +53,14 @@ impl Pieces {
         self.sealed_count() + self.loose.len()
     }
 
-    pub(crate) fn get(&self, place: usize) -> Option<&Message>
-        ensures { option_copied result ≡ slice_get (joined self.now) place }
+    pub(crate) fn get(&self, index: usize) -> Option<&Message>
+        ensures { option_copied result ≡ slice_get (joined self.now) index }
     {
         let sealed = self.sealed_count();
-        if place < sealed {
-            self.sealed[place / SEGMENT].get(place % SEGMENT)
+        if index < sealed {
+            self.sealed[index / SEGMENT].get(index % SEGMENT)
         } else {
-            message_at(&self.loose, place - sealed)
+            message_at(&self.loose, index - sealed)
         }
     }
 

@@ -1,8 +1,8 @@
-// The place of a position in a log.
+// Which message of a log has a position.
 ghost use Rattle.std.specs.Prelude.{◌≡◌, map};
 ghost use Rattle.std.specs.List.Sorted.{IsStrictlySortedBy};
 ghost use Rattle.position_core.specs.Position.{position_cmp};
-ghost use Rattle.entry_log.specs.Log.{place_of};
+ghost use Rattle.entry_log.specs.Log.{index_of};
 ghost use Rattle.entry_log.specs.Pieces.{joined};
 
 use crate::pieces::Pieces;
@@ -10,9 +10,9 @@ use position_core::Position;
 use std::cmp::Ordering;
 
 /// By halving what is left of the log.
-pub(crate) fn place_of(pieces: &Pieces, at: Position) -> Option<usize>
+pub(crate) fn index_of(pieces: &Pieces, at: Position) -> Option<usize>
     requires { IsStrictlySortedBy position_cmp (map (λ e. e.position) (joined pieces.now)) }
-    ensures { result ≡ place_of at (joined pieces.now) }
+    ensures { result ≡ index_of at (joined pieces.now) }
 {
     let mut low = 0;
     let mut high = pieces.count();

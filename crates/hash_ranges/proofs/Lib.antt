@@ -1,3 +1,3 @@
-pub mod Parts
+pub mod SharesSplit
 pub mod Halves
 pub mod Returns

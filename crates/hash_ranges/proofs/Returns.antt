@@ -8,8 +8,8 @@ use Rattle.std.proofs.lemmas.List.Quantifiers.{position-Some}
 use Rattle.delivery_machine.proofs.Places.{fails_everywhere}
 use Rattle.position_core.specs.declared.block.Block.{Block}
 use Rattle.delivery_machine.specs.Shares.{is_share_of, with_lower, with_upper, given_back}
-use Rattle.delivery_machine.specs.Shares.{PartAllHashes}
-use Rattle.hash_ranges.proofs.Parts.{ends}
+use Rattle.delivery_machine.specs.Shares.{SplitAllHashes}
+use Rattle.hash_ranges.proofs.SharesSplit.{ends}
 
 -- the share has one after it
 to_next : (consumer : ℕ) (bs : List Block) (k : ℕ) (d e : Block) → suc k < length bs → is_share_of consumer (get_or bs k d) ≡ true → ((j : ℕ) → j < k → is_share_of consumer (get_or bs j d) ≡ false) → set (remove bs k) k (with_lower (get_or bs k d) (get_or (remove bs k) k e)) ≡ given_back consumer bs
@@ -70,16 +70,16 @@ module _ (consumer : ℕ) (bs left : List Block) (k : ℕ) (gone : Block) (there
   fewer : length left + 1 ≡ length bs
   fewer = omega (arith, ap length taken, length-remove bs k within)
 
-  pub next_fits : (next : Block) → k < length left → PartAllHashes bs → next ≡ get_or left k next → gone.size + next.size < 2 ^ 32
-  next_fits next more parts is =
-      let one = ends bs k gone within parts was in
-      let other = ends bs (k + 1) next (omega (arith, fewer)) parts (is ∙ ap (λ (xs : List Block). get_or xs k next) taken ∙ get_or-remove_above bs k next k (omega arith) within) in
+  pub next_fits : (next : Block) → k < length left → SplitAllHashes bs → next ≡ get_or left k next → gone.size + next.size < 2 ^ 32
+  next_fits next more split is =
+      let one = ends bs k gone within split was in
+      let other = ends bs (k + 1) next (omega (arith, fewer)) split (is ∙ ap (λ (xs : List Block). get_or xs k next) taken ∙ get_or-remove_above bs k next k (omega arith) within) in
       omega arith
 
-  pub one_before_fits : (before : Block) → 0 < k → PartAllHashes bs → before ≡ get_or left (k - 1) before → before.size + gone.size < 2 ^ 32
-  one_before_fits before some parts is =
-      let one = ends bs k gone within parts was in
-      let other = ends bs (k - 1) before (omega (arith, within)) parts (is ∙ ap (λ (xs : List Block). get_or xs (k - 1) before) taken ∙ get_or-remove_below bs k before (k - 1) (omega arith) within) in
+  pub one_before_fits : (before : Block) → 0 < k → SplitAllHashes bs → before ≡ get_or left (k - 1) before → before.size + gone.size < 2 ^ 32
+  one_before_fits before some split is =
+      let one = ends bs k gone within split was in
+      let other = ends bs (k - 1) before (omega (arith, within)) split (is ∙ ap (λ (xs : List Block). get_or xs (k - 1) before) taken ∙ get_or-remove_below bs k before (k - 1) (omega arith) within) in
       omega arith
 
   pub next_grown : (next made : Block) → k < length left → next ≡ get_or left k next → made ≡ with_lower gone next → set left k made ≡ given_back consumer bs

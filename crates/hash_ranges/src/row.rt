@@ -1,7 +1,7 @@
 // The shares in a row, as consumers join and leave.
 ghost use Rattle.std.specs.Prelude.{◌≡◌, OnOk, OnErr};
 ghost use Rattle.delivery_machine.specs.Shares.{shared_out, given_back};
-ghost use Rattle.delivery_machine.specs.Shares.{PartAllHashes};
+ghost use Rattle.delivery_machine.specs.Shares.{SplitAllHashes};
 
 use crate::block::{all_hashes, lower_half, upper_half, with_lower, with_upper};
 use crate::places::{place_of, place_of_most};
@@ -9,7 +9,7 @@ use position_core::{Block, ConsumerNumber};
 use std::alloc::AllocError;
 
 pub(crate) fn share_out(shares: &mut Vec<Block>, consumer: ConsumerNumber) -> Result<(), AllocError>
-    requires { PartAllHashes shares.old.items }
+    requires { SplitAllHashes shares.old.items }
     ensures ok { OnOk result (shares.new.items ≡ shared_out consumer shares.old.items) }
     ensures err { OnErr result (shares.new.items ≡ shares.old.items) }
 {
@@ -25,7 +25,7 @@ pub(crate) fn share_out(shares: &mut Vec<Block>, consumer: ConsumerNumber) -> Re
 }
 
 pub(crate) fn give_back(shares: &mut Vec<Block>, consumer: ConsumerNumber)
-    requires { PartAllHashes shares.old.items }
+    requires { SplitAllHashes shares.old.items }
     ensures { shares.new.items ≡ given_back consumer shares.old.items }
 {
     match place_of(shares, consumer) {

@@ -1,7 +1,7 @@
-// The shares of a subscription's consumers.
+// Who gets which hashes, as consumers come and go.
 ghost use Rattle.std.specs.Prelude.{◌≡◌, [], OnOk, OnErr, IfNone};
 ghost use Rattle.delivery_machine.specs.Shares.{owner_of, shared_out, given_back};
-ghost use Rattle.delivery_machine.specs.Shares.{PartAllHashes};
+ghost use Rattle.delivery_machine.specs.Shares.{SplitAllHashes};
 
 use crate::{places, row};
 use position_core::{Block, ConsumerNumber};
@@ -19,7 +19,7 @@ impl Model for SplitTable {
     ghost use Rattle.std.specs.Prelude.{List};
     ghost use Rattle.position_core.specs.declared.block.Block.{Block};
     ghost use Rattle.hash_ranges.specs.Codes.{coded_shares};
-    ghost use Rattle.delivery_machine.specs.Shares.{PartAllHashes};
+    ghost use Rattle.delivery_machine.specs.Shares.{SplitAllHashes};
 
     ghost Value = { List Block };
 
@@ -27,7 +27,7 @@ impl Model for SplitTable {
 
     ghost view = { λ t. t.shares.items };
 
-    ghost invariant = { λ t. PartAllHashes t.shares.items };
+    ghost invariant = { λ t. SplitAllHashes t.shares.items };
 }
 
 impl SplitTable {
@@ -61,7 +61,7 @@ impl SplitTable {
     pub fn owner(&self, hash: u16) -> Option<u64>
         ensures value { result ≡ owner_of self.now hash }
         ensures whole { IfNone result (self.now ≡ []) }
-        ensures parted { PartAllHashes self.now }
+        ensures split { SplitAllHashes self.now }
     {
         places::owner_of(&self.shares, hash)
     }

@@ -145,7 +145,7 @@ module _ (es fs : List (Position × Kept)) (slots : List Slot) (p : Position) (k
     within = λ q kq is. added_within q kq (is_at (position_cmp p) q) refl is;
   }
 
--- a position left out, of which k was kept: the last slot goes to the place of its slot
+-- a position left out, of which k was kept: the last slot goes where its slot was
 module _ (es fs : List (Position × Kept)) (slots : List Slot) (p : Position) (k : Kept) (d : Slot) (tied : AreTied es slots) (was : kept_at es p ≡ Some k) (change : ChangesAt p None es fs) where
   left : (q : Position) (kq : Kept) → kept_at fs q ≡ Some kq → (is_at (position_cmp p) q ≡ false) × (kept_at es q ≡ Some kq)
   left q kq is = by_test (is_at (position_cmp p) q) refl
@@ -199,7 +199,7 @@ module _ (es fs : List (Position × Kept)) (slots : List Slot) (p : Position) (k
       within = left_within;
     }
 
-  -- or another is now in its place, and is kept as m
+  -- or another is now where it was, and is kept as m
   module _ (s : Slot) (m : Kept) (gs : List (Position × Kept)) (now : slice_get (swap_remove slots k.slot d) k.slot ≡ Some s) (had : kept_at fs s.position ≡ Some m) (then : ChangesAt s.position (Some (record m { slot = k.slot })) fs gs) where
     more : k.slot + 1 < length slots
     more = inside k.slot s now

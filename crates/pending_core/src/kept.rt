@@ -1,4 +1,4 @@
-// What is kept of a position.
+// The entries of the map of pending messages.
 use due_tree::Slot;
 use position_core::{DueMoment, Held, Position};
 

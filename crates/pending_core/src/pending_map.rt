@@ -1,4 +1,4 @@
-// The pending messages of a subscription.
+// Who has which message, and which of them is due first.
 ghost use Rattle.std.specs.Prelude.{◌≡◌, ◌↔◌, ◌<◌, ◌≤◌, ℕ, true, List, [], ◌∷◌, Some, IsTrue, OnOk, OnErr};
 ghost use Rattle.std.specs.Option.{option_map};
 ghost use Rattle.std.specs.FinMap as map_of;
@@ -53,7 +53,7 @@ impl PendingMap {
         }
     }
 
-    /// Makes a message pending, in place of what was pending at its position. Its count stays.
+    /// Makes a message pending, instead of what was pending at its position. Its count stays.
     pub fn put(&mut self, position: Position, held: Held) -> Result<(), AllocError>
         ensures ok { OnOk result (self.new ≡ holding position held self.old) }
         ensures err { OnErr result (self.new ≡ self.old) }

@@ -56,7 +56,7 @@ impl Flow {
         }
     }
 
-    /// A message is no longer pending: its place in a window is free; a credit stays spent.
+    /// A message is no longer pending: a window has room for one more; a credit stays spent.
     pub fn give_back(&mut self)
         ensures { self.new ≡ given_back self.old }
     {

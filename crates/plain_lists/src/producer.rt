@@ -1,4 +1,4 @@
-// The connected producers.
+// Who may publish, and after which sequence number.
 ghost use Rattle.std.specs.Prelude.{◌≡◌, is_some};
 ghost use Rattle.std.specs.Bool.{OnFalse};
 ghost use Rattle.std.specs.Option.{option_copied};

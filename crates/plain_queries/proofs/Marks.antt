@@ -13,12 +13,12 @@ use Rattle.delivery_machine.specs.Statistics.{mark_delete}
 abbrev pub marked : Subscription → Option Position → List Entry → Option Position
 marked sub mark rest = option_or (mark_delete sub rest) mark
 
-at_place : (sub : Subscription) (mark : Option Position) (log : List Entry) (i : ℕ) (e : Entry) → i < length log → e ≡ get_or log i e → marked sub mark (drop i log) ≡ marked sub mark (e ∷ drop (i + 1) log)
-at_place sub mark log i e low is = ap (marked sub mark) (drop_more log i e low ∙ ap (λ x. x ∷ drop (i + 1) log) (sym is))
+at_index : (sub : Subscription) (mark : Option Position) (log : List Entry) (i : ℕ) (e : Entry) → i < length log → e ≡ get_or log i e → marked sub mark (drop i log) ≡ marked sub mark (e ∷ drop (i + 1) log)
+at_index sub mark log i e low is = ap (marked sub mark) (drop_more log i e low ∙ ap (λ x. x ∷ drop (i + 1) log) (sym is))
 
 pub marked_once_more : (sub : Subscription) (mark : Option Position) (log : List Entry) (i : ℕ) (e : Entry) → i < length log → e ≡ get_or log i e → set.contains sub.acknowledged e.position ≡ true → marked sub mark (drop i log) ≡ marked sub (Some e.position) (drop (i + 1) log)
 marked_once_more sub mark log i e low is acknowledged =
-    at_place sub mark log i e low is ∙ by (set.contains sub.acknowledged e.position) (mark_delete sub (drop (i + 1) log)) acknowledged
+    at_index sub mark log i e low is ∙ by (set.contains sub.acknowledged e.position) (mark_delete sub (drop (i + 1) log)) acknowledged
   where
     by : (b : Bool) (later : Option Position) → b ≡ true → option_or (if b then Some (unwrap_or later e.position) else None) mark ≡ option_or later (Some e.position)
     by true None t = refl
@@ -27,7 +27,7 @@ marked_once_more sub mark log i e low is acknowledged =
 
 pub marked_no_more : (sub : Subscription) (mark : Option Position) (log : List Entry) (i : ℕ) (e : Entry) → i < length log → e ≡ get_or log i e → set.contains sub.acknowledged e.position ≡ false → marked sub mark (drop i log) ≡ mark
 marked_no_more sub mark log i e low is waiting =
-    at_place sub mark log i e low is ∙ by (set.contains sub.acknowledged e.position) (mark_delete sub (drop (i + 1) log)) waiting
+    at_index sub mark log i e low is ∙ by (set.contains sub.acknowledged e.position) (mark_delete sub (drop (i + 1) log)) waiting
   where
     by : (b : Bool) (later : Option Position) → b ≡ false → option_or (if b then Some (unwrap_or later e.position) else None) mark ≡ mark
     by true later f = cc

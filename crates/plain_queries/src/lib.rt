@@ -7,7 +7,7 @@ mod keyed;
 mod kinds;
 mod log;
 mod members;
-mod places;
+mod seeking;
 mod statistics;
 mod turn;
 
@@ -17,6 +17,6 @@ pub use keyed::next_of_any_hash;
 pub use kinds::{has_kind, is_in_order_at};
 pub use log::{first_waiting, has_room, last_sequence, message_at, used_in};
 pub use members::{active_at, count_at};
-pub use places::{first_live, place_of, place_of_time};
+pub use seeking::{count_before, count_earlier, first_live};
 pub use statistics::{mark_delete, number_acknowledged, number_live, number_pending};
 pub use turn::next_in_turn;

@@ -87,7 +87,7 @@ put_back m k v = map_of.same_map positions_total exact_positions _ _ (λ q.
     either_way true o = refl
     either_way false o = refl
 
--- an entry in place of an earlier one
+-- an entry instead of an earlier one
 pub entries_put : (es : List (Position × Held)) (k : Position) (v : Held) → map_of.from_entries {R = position_cmp} (filter (λ e. not (is_one_of (k ∷ []) e.0)) es ++ (k, v) ∷ []) ≡ map_of.insert (map_of.from_entries es) k v
 entries_put es k v =
     map_of.from_entries_push positions_total exact_positions _ k v (found_nowhere k _ (none_left k es))
@@ -131,7 +131,7 @@ added ps qs = set.same_set positions_total exact_positions _ _ (λ p.
     ∙ ap (λ b. b || set.contains (set.from_list {R = position_cmp} qs) p) (set.contains-from_list positions_total ps p)
     ∙ ap (λ b. list_any (same_position p) ps || b) (set.contains-from_list positions_total qs p)))
 
--- ---- a value in place of another
+-- ---- a value instead of another
 
 abbrev pub reheld : Position → Held → List (Position × Held) → List (Position × Held)
 reheld k v es = changed (λ e. same_position k e.0) (λ e. (e.0, v)) es

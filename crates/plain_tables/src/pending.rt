@@ -1,4 +1,4 @@
-// The pending messages of a subscription.
+// At whom each message is pending, searched from the first entry on.
 ghost use Rattle.std.specs.Prelude.{◌≡◌, ◌==◌, OnOk, OnErr, not, if◌then◌else◌, Some};
 ghost use Rattle.std.specs.List.{filter};
 ghost use Rattle.std.specs.Option.{option_map, option_and_then};

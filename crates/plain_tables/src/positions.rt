@@ -1,4 +1,4 @@
-// A set of positions.
+// Sets that are searched from their first element on.
 ghost use Rattle.std.specs.Prelude.{◌≡◌, ◌++◌, OnOk, OnErr, IfOk, map};
 ghost use Rattle.std.specs.FinSet as set;
 ghost use Rattle.delivery_machine.specs.Acknowledging.{is_one_of, positions_up_to};

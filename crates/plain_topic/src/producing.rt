@@ -199,7 +199,7 @@ impl PlainTopic {
             return Reply::Refused(Fault::NoSession);
         };
         if sequence <= last_sequence(&self.log, sender.name(), sender.base().number()) {
-            return Reply::Duplicate { index: length };
+            return Reply::Duplicate { length };
         }
         if full {
             return Reply::Refused(Fault::TopicFull);
@@ -214,7 +214,7 @@ impl PlainTopic {
         self.ledger = position.ledger;
         Reply::Published {
             position,
-            index: length + 1,
+            length: length + 1,
         }
     }
 

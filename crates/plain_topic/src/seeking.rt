@@ -2,7 +2,7 @@
 use crate::plain::PlainTopic;
 use delivery_machine::{Reply, Target};
 use plain_lists::{drop_subscription, empty_at, place_of_subscription, subscription_at};
-use plain_queries::{count_at, first_live, place_of, place_of_time};
+use plain_queries::{count_at, count_before, count_earlier, first_live};
 use position_core::{Fault, Moment, SkipLength, SubscriptionName};
 use std::alloc::AllocError;
 
@@ -32,7 +32,7 @@ impl PlainTopic {
         match target {
             Target::Earliest => 0,
             Target::Latest => self.log.len(),
-            Target::At(position) => place_of(&self.log, position),
+            Target::At(position) => count_before(&self.log, position),
         }
     }
 
@@ -41,7 +41,7 @@ impl PlainTopic {
         ensures value { result ≡ length_before_time (state_of self.now) time }
         ensures within { result ≤ length (state_of self.now).log }
     {
-        place_of_time(self.visible(), time)
+        count_earlier(self.visible(), time)
     }
 
     /// Lets the subscription go on after the first messages. Nothing changes where there is no memory.

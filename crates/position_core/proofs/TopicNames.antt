@@ -1,4 +1,4 @@
--- How the text of a topic's name parts: a name has no `/`, so there is one way.
+-- How the text of a topic's name splits: a name has no `/`, so there is one way.
 use Rattle.std.proofs.Common.{rules, tests, ◌≡◌, ℕ, ◌<◌, Bool, true, false, List, [], ◌∷◌, ◌++◌, length, get_or, Option, Some, None, Bor, IsTrue, IsSomeAnd, MatchOption, refl, sym, ◌∙◌, ap, lit<, true≢false}
 use Rattle.std.specs.Prelude.{◌≢◌, ◌||◌}
 use Rattle.std.specs.List.{list_any}

@@ -11,7 +11,7 @@ pub enum Fault {
     ProducerBusy,
     /// No producer or no consumer has the number.
     NoSession,
-    /// The topic's log has no place left.
+    /// The topic's log is full.
     TopicFull,
     /// The subscription has members of another kind.
     WrongKind,

@@ -1,4 +1,4 @@
-// How many messages a consumer takes.
+// Consumers that are pushed to, and those that pull.
 ghost use Rattle.std.specs.Prelude.{◌≡◌, ◌-◌, Some, None, IfOk, IfErr};
 ghost use Rattle.position_core.specs.Flow.{begun, granted, granting_refused, spent};
 

@@ -1,4 +1,4 @@
-// At whom a message is pending.
+// What is known of a pending message.
 use crate::numbers::{ConsumerNumber, DueMoment};
 
 /// At whom a message is pending, and from when on it may be released: in milliseconds since 1970,

@@ -1,4 +1,4 @@
-// Numbers that name something.
+// All of 64 bits, so the compiler takes one for another: the names say what each counts.
 
 /// The number of a producer: a topic counts its producers from 1 on, in the order of connecting.
 pub type ProducerNumber = u64;
@@ -9,7 +9,7 @@ pub type ConsumerNumber = u64;
 /// The number of a death: a topic counts its deaths from 0 on.
 pub type Ordinal = u64;
 
-/// A message's place in the log, from 0 on.
+/// Where a message stands in a topic's log, from 0 on.
 pub type LogIndex = u64;
 
 /// From when on a pending message may be released: milliseconds since 1970, possibly past the last moment.

@@ -1,6 +1,6 @@
-// A message's place in its topic.
+// Positions, by which messages are named and put in order.
 
-/// A message's place in its topic: the ledger, then the entry in it.
+/// Where a message stands in its topic: the ledger, then the entry in it.
 #[derive(Clone, Copy, Debug, PartialEq, Eq, PartialOrd, Ord)]
 pub struct Position {
     pub ledger: u64,

@@ -19,7 +19,7 @@ use Rattle.replay_core.proofs.Taking.{TakesFrom}
 use Rattle.replay_core.proofs.LinesLemmas.{ends_in-joined, ends_in-none, ends_in-begins, begins_line, begins_long, lines_of-joined, lines_of-line, lines_of-last, lines_left, AreAnswered-append}
 
 lines_here : (whole : List (List ℕ)) (tail input : List ℕ) → input ≡ joined whole ++ tail → AreApart whole → lines_of input ≡ whole ++ lines_of tail
-lines_here whole tail input parted apart = ap lines_of parted ∙ lines_of-joined whole tail apart
+lines_here whole tail input split apart = ap lines_of split ∙ lines_of-joined whole tail apart
 
 -- the first lines are answered
 answered_here : (this : TopicName) (whole : List (List ℕ)) (tail input : List ℕ) (answers : List Answer) → lines_of input ≡ whole ++ lines_of tail → AreAnswered this whole answers → AreAnswered this (lines_of input) answers
@@ -59,9 +59,9 @@ with_words text answers outcome h = subst (λ (x : List ℕ). IsWritten x outcom
 -- a replay that stopped has ended, also where the other input has the same lines
 pub Ended-stopped : (s : Start) (input other : List ℕ) (left : Option (List ℕ)) (m : Moment) (stop : Stop) → Stopped s other m stop → lines_of input ≡ lines_of other → EndsIn input left other → Ended s input left m (Err stop) []
 Ended-stopped s input other left m stop h same ended =
-    let lines = same ∙ lines_here h.whole h.tail other h.parted h.apart in
+    let lines = same ∙ lines_here h.whole h.tail other h.split h.apart in
     let after = after_here h.whole h.tail input h.answers lines h.all in
-    let ends : ends_in other ≡ length h.whole + ends_in h.tail = ap ends_in h.parted ∙ ends_in-joined h.whole h.tail h.apart in
+    let ends : ends_in other ≡ length h.whole + ends_in h.tail = ap ends_in h.split ∙ ends_in-joined h.whole h.tail h.apart in
     let most : length h.answers + ends_in h.tail ≤ ends_in other = omega (arith, ends, h.all) in
     record {
       name = h.name;
@@ -77,10 +77,10 @@ Ended-stopped s input other left m stop h same ended =
       leaves = leaves_here s.name input left h.tail other h.answers h.last stop m.state after ended most h.leaves;
     }
 
--- at the end of the input, where nothing is held
-pub Ended-whole : (s : Start) (input other : List ℕ) (left : Option (List ℕ)) (m : Moment) → IsAtEnd left → Progress s other m → lines_of input ≡ lines_of other → m.replay.held.items ≡ [] → Ended s input left m (Ok tt) []
+-- at the end of the input, where no line is begun
+pub Ended-whole : (s : Start) (input other : List ℕ) (left : Option (List ℕ)) (m : Moment) → IsAtEnd left → Progress s other m → lines_of input ≡ lines_of other → m.replay.begun.items ≡ [] → Ended s input left m (Ok tt) []
 Ended-whole s input other left m at_end p same none =
-    let lines : lines_of input ≡ p.whole ++ [] = same ∙ lines_here p.whole m.replay.held.items other p.parted p.apart ∙ ap (λ (x : List ℕ). p.whole ++ lines_of x) none in
+    let lines : lines_of input ≡ p.whole ++ [] = same ∙ lines_here p.whole m.replay.begun.items other p.split p.apart ∙ ap (λ (x : List ℕ). p.whole ++ lines_of x) none in
     record {
       name = p.name;
       answers = p.answers;
@@ -98,15 +98,15 @@ Ended-whole s input other left m at_end p same none =
 -- at a fault of the reader, wherever it is
 pub Ended-fault : (s : Start) (input : List ℕ) (left : Option (List ℕ)) (m : Moment) → Progress s input m → Ended s input left m (Err Read) []
 Ended-fault s input left m p =
-    let lines = lines_here p.whole m.replay.held.items input p.parted p.apart in
-    let ends : ends_in input ≡ length p.whole + ends_in m.replay.held.items = ap ends_in p.parted ∙ ends_in-joined p.whole m.replay.held.items p.apart in
-    let count : length p.answers ≡ ends_in input = omega (arith, p.all, ends, ends_in-none m.replay.held.items p.held) in
+    let lines = lines_here p.whole m.replay.begun.items input p.split p.apart in
+    let ends : ends_in input ≡ length p.whole + ends_in m.replay.begun.items = ap ends_in p.split ∙ ends_in-joined p.whole m.replay.begun.items p.apart in
+    let count : length p.answers ≡ ends_in input = omega (arith, p.all, ends, ends_in-none m.replay.begun.items p.begun) in
     record {
       name = p.name;
       answers = p.answers;
       last = m.state;
       text = p.text;
-      answered = answered_here s.name p.whole m.replay.held.items input p.answers lines p.answered;
+      answered = answered_here s.name p.whole m.replay.begun.items input p.answers lines p.answered;
       ended = inl (omega (arith, count));
       run = p.run;
       ends = count;
@@ -116,31 +116,31 @@ Ended-fault s input left m p =
     }
 
 -- the lines of an input are the same with the end of the last
-same_lines : (whole : List (List ℕ)) (b : ℕ) (held : List ℕ) → AreApart whole → has_end (b ∷ held) ≡ false → lines_of (joined whole ++ (b ∷ held ++ 10 ∷ [])) ≡ lines_of (joined whole ++ b ∷ held)
-same_lines whole b held apart e =
-    lines_of-joined whole (b ∷ held ++ 10 ∷ []) apart
-    ∙ ap (λ (ls : List (List ℕ)). whole ++ ls) (lines_of-line (b ∷ held) [] e ∙ sym (lines_of-last b held e))
-    ∙ sym (lines_of-joined whole (b ∷ held) apart)
+same_lines : (whole : List (List ℕ)) (b : ℕ) (begun : List ℕ) → AreApart whole → has_end (b ∷ begun) ≡ false → lines_of (joined whole ++ (b ∷ begun ++ 10 ∷ [])) ≡ lines_of (joined whole ++ b ∷ begun)
+same_lines whole b begun apart e =
+    lines_of-joined whole (b ∷ begun ++ 10 ∷ []) apart
+    ∙ ap (λ (ls : List (List ℕ)). whole ++ ls) (lines_of-line (b ∷ begun) [] e ∙ sym (lines_of-last b begun e))
+    ∙ sym (lines_of-joined whole (b ∷ begun) apart)
 
-line_end_alike : (s : Start) (input held : List ℕ) (m : Moment) → (p : Progress s input m) → held ≡ m.replay.held.items → (length held ≡ 0 → ⊥) → lines_of input ≡ lines_of (input ++ 10 ∷ [])
+line_end_alike : (s : Start) (input begun : List ℕ) (m : Moment) → (p : Progress s input m) → begun ≡ m.replay.begun.items → (length begun ≡ 0 → ⊥) → lines_of input ≡ lines_of (input ++ 10 ∷ [])
 line_end_alike s input [] m p is some = absurd (some refl)
-line_end_alike s input (b ∷ held) m p is some =
-    let parted : input ≡ joined p.whole ++ b ∷ held = p.parted ∙ ap (λ (x : List ℕ). joined p.whole ++ x) (sym is) in
+line_end_alike s input (b ∷ begun) m p is some =
+    let split : input ≡ joined p.whole ++ b ∷ begun = p.split ∙ ap (λ (x : List ℕ). joined p.whole ++ x) (sym is) in
     sym (
-    ap (λ (x : List ℕ). lines_of (x ++ 10 ∷ [])) parted
-    ∙ ap lines_of (append_assoc (joined p.whole) (b ∷ held) (10 ∷ []))
-    ∙ same_lines p.whole b held p.apart (ap has_end is ∙ p.held)
-    ∙ ap lines_of (sym parted)
+    ap (λ (x : List ℕ). lines_of (x ++ 10 ∷ [])) split
+    ∙ ap lines_of (append_assoc (joined p.whole) (b ∷ begun) (10 ∷ []))
+    ∙ same_lines p.whole b begun p.apart (ap has_end is ∙ p.begun)
+    ∙ ap lines_of (sym split)
     )
 
 -- the last line is answered though it lacks its end
 pub Ended-last : (s : Start) (input : List ℕ) (left : Option (List ℕ)) (m n : Moment) (outcome : Result (Unit {0}) Stop)
-    → IsAtEnd left → Progress s input m → (length m.replay.held.items ≡ 0 → ⊥) → n.replay.held.items ≡ [] → TakesFrom s (input ++ 10 ∷ []) outcome n
+    → IsAtEnd left → Progress s input m → (length m.replay.begun.items ≡ 0 → ⊥) → n.replay.begun.items ≡ [] → TakesFrom s (input ++ 10 ∷ []) outcome n
     → Ended s input left n outcome []
 Ended-last s input left m n (Ok done) at_end p some none h =
-    Ended-whole s input (input ++ 10 ∷ []) left n at_end h (line_end_alike s input m.replay.held.items m p refl some) none
+    Ended-whole s input (input ++ 10 ∷ []) left n at_end h (line_end_alike s input m.replay.begun.items m p refl some) none
 Ended-last s input left m n (Err stop) at_end p some none h =
-    Ended-stopped s input (input ++ 10 ∷ []) left n stop h (line_end_alike s input m.replay.held.items m p refl some) (λ count most. inr at_end)
+    Ended-stopped s input (input ++ 10 ∷ []) left n stop h (line_end_alike s input m.replay.begun.items m p refl some) (λ count most. inr at_end)
 
 -- ---- by how it ended
 
@@ -268,7 +268,7 @@ pub Replayed-front : (s : Start) (input : List ℕ) (before left : Option (List 
     → IsReplay s.name (sides before s.written s.state) (Err Write) (sides left after m.state)
 Replayed-front s input before left m after outcome consumed h other front =
     let gathered : List ℕ = m.replay.output.text.items in
-    let parts : (h.text ++ front.0) ++ front.1 ≡ h.text ++ gathered = append_assoc h.text front.0 front.1 ∙ ap (λ (x : List ℕ). h.text ++ x) (sym front.2) in
+    let split : (h.text ++ front.0) ++ front.1 ≡ h.text ++ gathered = append_assoc h.text front.0 front.1 ∙ ap (λ (x : List ℕ). h.text ++ x) (sym front.2) in
     record {
       read = input;
       consumed = consumed;
@@ -282,7 +282,7 @@ Replayed-front s input before left m after outcome consumed h other front =
       ends = h.ends;
       written = h.text ++ front.0;
       appended = Appends-trans s.written m.written after h.text front.0 h.appended front.3;
-      text = inr (refl, front.1, parts ∙ all_written h.text gathered (texts h.answers ++ last_words outcome) outcome other h.written);
+      text = inr (refl, front.1, split ∙ all_written h.text gathered (texts h.answers ++ last_words outcome) outcome other h.written);
       leaves = h.leaves;
     }
 
@@ -348,16 +348,16 @@ pub Ended-failed : (s : Start) (input : List ℕ) (left : Option (List ℕ)) (m 
 Ended-failed s input left m outcome stop h is = subst (λ (o : Result (Unit {0}) Stop). Ended s input left m o []) (sym is) (Ended-stopped s input input left m stop h refl (λ count most. inl most))
 
 -- before the first read
-pub Progress-first : (t : State) (w : Option (List ℕ)) (r : Replay) → r.lines ≡ 0 → r.held.items ≡ [] → r.output.text.items ≡ [] → Progress (record { name = r.name; written = w; state = t }) [] (moment r w t)
-Progress-first t w r lines held text =
+pub Progress-first : (t : State) (w : Option (List ℕ)) (r : Replay) → r.lines ≡ 0 → r.begun.items ≡ [] → r.output.text.items ≡ [] → Progress (record { name = r.name; written = w; state = t }) [] (moment r w t)
+Progress-first t w r lines begun text =
     record {
       name = refl;
       whole = [];
       answers = [];
       text = [];
-      parted = sym held;
+      split = sym begun;
       apart = refl;
-      held = ap has_end held;
+      begun = ap has_end begun;
       all = refl;
       answered = tt;
       run = refl;

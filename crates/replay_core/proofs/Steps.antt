@@ -41,24 +41,24 @@ both_all : (a b : Bool) → a ≡ true → b ≡ false → (a && (not b && true)
 both_all true b p q = ap (λ t. not t && true) q
 both_all false b p q = cc
 
-pub no_end : (held part : List ℕ) → has_end held ≡ false → has_end part ≡ false → has_end (held ++ part) ≡ false
-no_end held part p q = list_any-append (λ byte. byte == 10) held part ∙ both_false _ _ p q
+pub no_end : (begun part : List ℕ) → has_end begun ≡ false → has_end part ≡ false → has_end (begun ++ part) ≡ false
+no_end begun part p q = list_any-append (λ byte. byte == 10) begun part ∙ both_false _ _ p q
 
 -- ---- progress
 
--- more of the next line is held
-pub Progress-hold : (s : Start) (input : List ℕ) (m : Moment) (q : Replay) (part : List ℕ)
-    → Progress s input m → has_end part ≡ false → q.held.items ≡ m.replay.held.items ++ part → q.name ≡ m.replay.name → q.lines ≡ m.replay.lines → q.output.text.items ≡ m.replay.output.text.items
+-- more of the next line has come
+pub Progress-part : (s : Start) (input : List ℕ) (m : Moment) (q : Replay) (part : List ℕ)
+    → Progress s input m → has_end part ≡ false → q.begun.items ≡ m.replay.begun.items ++ part → q.name ≡ m.replay.name → q.lines ≡ m.replay.lines → q.output.text.items ≡ m.replay.output.text.items
     → Progress s (input ++ part) (moment q m.written m.state)
-Progress-hold s input m q part p e held name lines text =
+Progress-part s input m q part p e begun name lines text =
     record {
       name = name ∙ p.name;
       whole = p.whole;
       answers = p.answers;
       text = p.text;
-      parted = ap (λ (x : List ℕ). x ++ part) p.parted ∙ append_assoc (joined p.whole) m.replay.held.items part ∙ ap (λ (x : List ℕ). joined p.whole ++ x) (sym held);
+      split = ap (λ (x : List ℕ). x ++ part) p.split ∙ append_assoc (joined p.whole) m.replay.begun.items part ∙ ap (λ (x : List ℕ). joined p.whole ++ x) (sym begun);
       apart = p.apart;
-      held = ap has_end held ∙ no_end m.replay.held.items part p.held e;
+      begun = ap has_end begun ∙ no_end m.replay.begun.items part p.begun e;
       all = p.all;
       answered = p.answered;
       run = p.run;
@@ -69,26 +69,26 @@ Progress-hold s input m q part p e held name lines text =
 
 -- the next line has its end, and is answered
 pub Progress-line : (s : Start) (input : List ℕ) (m : Moment) (q : Replay) (u : State) (part : List ℕ) (answer : Answer)
-    → Progress s input m → has_end part ≡ false → IsAnswered m.replay.name (m.replay.held.items ++ part) answer → IsStepOf m.state answer u
-    → q.held.items ≡ [] → q.name ≡ m.replay.name → q.lines ≡ m.replay.lines + 1 → q.output.text.items ≡ m.replay.output.text.items ++ answer_text answer
+    → Progress s input m → has_end part ≡ false → IsAnswered m.replay.name (m.replay.begun.items ++ part) answer → IsStepOf m.state answer u
+    → q.begun.items ≡ [] → q.name ≡ m.replay.name → q.lines ≡ m.replay.lines + 1 → q.output.text.items ≡ m.replay.output.text.items ++ answer_text answer
     → Progress s (input ++ (part ++ 10 ∷ [])) (moment q m.written u)
-Progress-line s input m q u part answer p e stands step held name lines text =
-    let was : List ℕ = m.replay.held.items in
+Progress-line s input m q u part answer p e stands step begun name lines text =
+    let was : List ℕ = m.replay.begun.items in
     let line : List ℕ = was ++ part in
     record {
       name = name ∙ p.name;
       whole = p.whole ++ line ∷ [];
       answers = p.answers ++ answer ∷ [];
       text = p.text;
-      parted =
-          ap (λ (x : List ℕ). x ++ (part ++ 10 ∷ [])) p.parted
+      split =
+          ap (λ (x : List ℕ). x ++ (part ++ 10 ∷ [])) p.split
           ∙ append_assoc (joined p.whole) was (part ++ 10 ∷ [])
           ∙ ap (λ (x : List ℕ). joined p.whole ++ x) (sym (append_assoc was part (10 ∷ [])))
           ∙ sym (joined-push p.whole line)
           ∙ sym (append-nil (joined (p.whole ++ line ∷ [])))
-          ∙ ap (λ (x : List ℕ). joined (p.whole ++ line ∷ []) ++ x) (sym held);
-      apart = list_all-append (λ l. not (has_end l)) p.whole (line ∷ []) ∙ both_all _ _ p.apart (no_end was part p.held e);
-      held = ap has_end held;
+          ∙ ap (λ (x : List ℕ). joined (p.whole ++ line ∷ []) ++ x) (sym begun);
+      apart = list_all-append (λ l. not (has_end l)) p.whole (line ∷ []) ∙ both_all _ _ p.apart (no_end was part p.begun e);
+      begun = ap has_end begun;
       all = omega (arith, p.all, length-append p.whole (line ∷ []), length-append p.answers (answer ∷ []));
       answered = AreAnswered-push s.name p.whole line p.answers answer p.all p.answered (subst (λ name. IsAnswered name line answer) p.name stands);
       run = run_step s.state p.answers m.state answer u p.run step;
@@ -104,18 +104,18 @@ Progress-line s input m q u part answer p e stands step held name lines text =
 -- the gathered answers are written
 pub Progress-written : (s : Start) (input : List ℕ) (m : Moment) (q : Replay) (after : Option (List ℕ))
     → Progress s input m → Appends m.written after m.replay.output.text.items
-    → q.held.items ≡ m.replay.held.items → q.name ≡ m.replay.name → q.lines ≡ m.replay.lines → q.output.text.items ≡ []
+    → q.begun.items ≡ m.replay.begun.items → q.name ≡ m.replay.name → q.lines ≡ m.replay.lines → q.output.text.items ≡ []
     → Progress s input (moment q after m.state)
-Progress-written s input m q after p more held name lines text =
+Progress-written s input m q after p more begun name lines text =
     let gathered : List ℕ = m.replay.output.text.items in
     record {
       name = name ∙ p.name;
       whole = p.whole;
       answers = p.answers;
       text = p.text ++ gathered;
-      parted = p.parted ∙ ap (λ (x : List ℕ). joined p.whole ++ x) (sym held);
+      split = p.split ∙ ap (λ (x : List ℕ). joined p.whole ++ x) (sym begun);
       apart = p.apart;
-      held = ap has_end held ∙ p.held;
+      begun = ap has_end begun ∙ p.begun;
       all = p.all;
       answered = p.answered;
       run = p.run;
@@ -129,10 +129,10 @@ Progress-written s input m q after p more held name lines text =
 -- between two lines
 pub Stopped-at : (s : Start) (input : List ℕ) (m : Moment) (q : Replay) (u : State) (part : List ℕ) (stop : Stop)
     → Progress s input m → q.name ≡ m.replay.name → q.output.text.items ≡ m.replay.output.text.items
-    → Because m.replay.name m.replay.lines (m.replay.held.items ++ part) stop → LeavesBefore m.replay.name (m.replay.held.items ++ part) m.state stop u
+    → Because m.replay.name m.replay.lines (m.replay.begun.items ++ part) stop → LeavesBefore m.replay.name (m.replay.begun.items ++ part) m.state stop u
     → Stopped s (input ++ part) (moment q m.written u) stop
 Stopped-at s input m q u part stop p name text why leaves =
-    let tail : List ℕ = m.replay.held.items ++ part in
+    let tail : List ℕ = m.replay.begun.items ++ part in
     record {
       name = name ∙ p.name;
       whole = p.whole;
@@ -140,7 +140,7 @@ Stopped-at s input m q u part stop p name text why leaves =
       answers = p.answers;
       last = m.state;
       text = p.text;
-      parted = ap (λ (x : List ℕ). x ++ part) p.parted ∙ append_assoc (joined p.whole) m.replay.held.items part;
+      split = ap (λ (x : List ℕ). x ++ part) p.split ∙ append_assoc (joined p.whole) m.replay.begun.items part;
       apart = p.apart;
       all = p.all;
       answered = p.answered;
@@ -155,17 +155,17 @@ Stopped-at s input m q u part stop p name text why leaves =
 pub Stopped-writing : (s : Start) (input : List ℕ) (m : Moment) (q : Replay) (after : Option (List ℕ)) (front rest : List ℕ)
     → Progress s input m → q.name ≡ m.replay.name → m.replay.output.text.items ≡ front ++ rest → Appends m.written after front → q.output.text.items ≡ []
     → Stopped s input (moment q after m.state) Write
-Stopped-writing s input m q after front rest p name parts more none =
+Stopped-writing s input m q after front rest p name split more none =
     let text : List ℕ = p.text ++ front in
-    let all : text ++ rest ≡ texts p.answers = append_assoc p.text front rest ∙ ap (λ (x : List ℕ). p.text ++ x) (sym parts) ∙ p.written in
+    let all : text ++ rest ≡ texts p.answers = append_assoc p.text front rest ∙ ap (λ (x : List ℕ). p.text ++ x) (sym split) ∙ p.written in
     record {
       name = name ∙ p.name;
       whole = p.whole;
-      tail = m.replay.held.items;
+      tail = m.replay.begun.items;
       answers = p.answers;
       last = m.state;
       text = text;
-      parted = p.parted;
+      split = p.split;
       apart = p.apart;
       all = p.all;
       answered = p.answered;
@@ -197,7 +197,7 @@ Stopped-more s input m stop more h =
       answers = h.answers;
       last = h.last;
       text = h.text;
-      parted = ap (λ (x : List ℕ). x ++ more) h.parted ∙ append_assoc (joined h.whole) h.tail more;
+      split = ap (λ (x : List ℕ). x ++ more) h.split ∙ append_assoc (joined h.whole) h.tail more;
       apart = h.apart;
       all = h.all;
       answered = h.answered;

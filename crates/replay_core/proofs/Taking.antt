@@ -42,17 +42,17 @@ leaves_before this line text count t Memory u is e at = lost_before this line te
 
 -- the line that has its end was answered, or was not
 pub line_taken : (s : Start) (input : List ℕ) (m : Moment) (q : Replay) (u : State) (part line : List ℕ) (outcome : Result (Unit {0}) Stop)
-    → Progress s input m → has_end part ≡ false → line ≡ m.replay.held.items ++ part
+    → Progress s input m → has_end part ≡ false → line ≡ m.replay.begun.items ++ part
     → OnOk outcome ((answer : Answer) × IsAnsweredBy m.replay.name line m.state answer u × (q.output.text.items ≡ m.replay.output.text.items ++ answer_text answer))
     → OnErr outcome (q.output.text.items ≡ m.replay.output.text.items) → IfErr outcome (λ stop. StopsAt m.replay.name line (m.replay.lines + 1) m.state stop u) → OnOk outcome (q.lines ≡ m.replay.lines + 1)
-    → q.held.items ≡ [] → q.name ≡ m.replay.name
+    → q.begun.items ≡ [] → q.name ≡ m.replay.name
     → TakesFrom s (input ++ (part ++ 10 ∷ [])) outcome (moment q m.written u)
-line_taken s input m q u part line (Ok done) p e is answered same why count held name =
+line_taken s input m q u part line (Ok done) p e is answered same why count begun name =
     let by = answered.1 in
-    Progress-line s input m q u part answered.0 p e (subst (λ (x : List ℕ). IsAnswered m.replay.name x answered.0) is by.0) by.1 held name count answered.2
-line_taken s input m q u part line (Err stop) p e is answered same why count held name =
-    let text : m.replay.held.items ++ (part ++ 10 ∷ []) ≡ line ++ 10 ∷ [] = sym (append_assoc m.replay.held.items part (10 ∷ [])) ∙ ap (λ (x : List ℕ). x ++ 10 ∷ []) (sym is) in
-    let none : has_end line ≡ false = ap has_end is ∙ no_end m.replay.held.items part p.held e in
+    Progress-line s input m q u part answered.0 p e (subst (λ (x : List ℕ). IsAnswered m.replay.name x answered.0) is by.0) by.1 begun name count answered.2
+line_taken s input m q u part line (Err stop) p e is answered same why count begun name =
+    let text : m.replay.begun.items ++ (part ++ 10 ∷ []) ≡ line ++ 10 ∷ [] = sym (append_assoc m.replay.begun.items part (10 ∷ [])) ∙ ap (λ (x : List ℕ). x ++ 10 ∷ []) (sym is) in
+    let none : has_end line ≡ false = ap has_end is ∙ no_end m.replay.begun.items part p.begun e in
     Stopped-at s input m q u (part ++ 10 ∷ []) stop p name same
     (because m.replay.name line _ m.replay.lines m.state stop u text none why)
     (leaves_before m.replay.name line _ m.replay.lines m.state stop u text none why)
@@ -60,11 +60,11 @@ line_taken s input m q u part line (Err stop) p e is answered same why count hel
 -- the gathered answers are written, or a front of them
 pub answers_written : (s : Start) (input : List ℕ) (m : Moment) (q : Replay) (after : Option (List ℕ)) (outcome : Result (Unit {0}) Stop)
     → Progress s input m → OnOk outcome (Appends m.written after m.replay.output.text.items) → IfErr outcome (λ stop. stop ≡ Write) → OnErr outcome (WritesFront m.written after m.replay.output.text.items)
-    → q.held.items ≡ m.replay.held.items → q.name ≡ m.replay.name → q.lines ≡ m.replay.lines → q.output.text.items ≡ []
+    → q.begun.items ≡ m.replay.begun.items → q.name ≡ m.replay.name → q.lines ≡ m.replay.lines → q.output.text.items ≡ []
     → TakesFrom s (input ++ []) outcome (moment q after m.state)
-answers_written s input m q after (Ok done) p ok err front held name lines text =
-    subst (λ (x : List ℕ). Progress s x (moment q after m.state)) (sym (append-nil input)) (Progress-written s input m q after p ok held name lines text)
-answers_written s input m q after (Err stop) p ok err front held name lines text =
+answers_written s input m q after (Ok done) p ok err front begun name lines text =
+    subst (λ (x : List ℕ). Progress s x (moment q after m.state)) (sym (append-nil input)) (Progress-written s input m q after p ok begun name lines text)
+answers_written s input m q after (Err stop) p ok err front begun name lines text =
     subst (λ (x : List ℕ). Stopped s x (moment q after m.state) stop) (sym (append-nil input))
     (subst (Stopped s input (moment q after m.state)) (sym err) (Stopped-writing s input m q after front.0 front.1 p name front.2 front.3 text))
 
@@ -83,9 +83,9 @@ Takes-failed part more all a b first outcome stop one failed same is s input p =
     let longer : Stopped s (input ++ all) b stop = subst (λ (i : List ℕ). Stopped s i b stop) (append_assoc input part more ∙ ap (λ (z : List ℕ). input ++ z) (sym is)) (Stopped-more s (input ++ part) b stop more ended) in
     subst (λ (o : Result (Unit {0}) Stop). TakesFrom s (input ++ all) o b) (sym same) longer
 
-pub nil_of : (held : List ℕ) → length held ≡ 0 → held ≡ []
+pub nil_of : (begun : List ℕ) → length begun ≡ 0 → begun ≡ []
 nil_of [] e = refl
-nil_of (b ∷ held) e = absurd (omega (arith, e))
+nil_of (b ∷ begun) e = absurd (omega (arith, e))
 
 -- an error that `?` hands on
 pub err_is : (outcome : Result (Unit {0}) Stop) (stop : Stop) → IsErrAnd outcome (λ e. e ≡ stop) → outcome ≡ Err stop

@@ -63,8 +63,8 @@ position_text None = codes "-"
 position_text (Some position) = text_of position
 
 -- what a subscription is, and how far it has come
-abbrev pub place_text : Kind → ℕ → Option Position → List ℕ
-place_text kind members mark_delete =
+abbrev pub subscription_text : Kind → ℕ → Option Position → List ℕ
+subscription_text kind members mark_delete =
     codes "stats " ++ kind_text kind ++ codes " " ++ decimal members ++ codes " " ++ position_text mark_delete
 
 -- how many of its messages are acknowledged, live, pending and dead
@@ -83,8 +83,8 @@ copy_text d = codes " " ++ text_of d.message.position ++ codes ":" ++ decimal d.
 abbrev pub reply_text : Event → Reply → List ℕ
 reply_text event (ProducerAdded producer auto last) =
     codes "producer " ++ decimal producer ++ codes " " ++ producer_name event auto ++ codes " " ++ signed_decimal last
-reply_text event (Published position index) = codes "published " ++ text_of position ++ codes " " ++ decimal index
-reply_text event (Duplicate index) = codes "duplicate " ++ decimal index
+reply_text event (Published position length) = codes "published " ++ text_of position ++ codes " " ++ decimal length
+reply_text event (Duplicate length) = codes "duplicate " ++ decimal length
 reply_text event (Durable length) = codes "durable " ++ decimal length
 reply_text event (Progress durable length) = codes "progress " ++ decimal durable ++ codes " " ++ decimal length
 reply_text event (Subscribed consumer) = codes "consumer " ++ decimal consumer
@@ -98,7 +98,7 @@ reply_text event (Died position ordinal) = codes "died " ++ text_of position ++ 
 reply_text event (Rewound count) = codes "rewound " ++ decimal count
 reply_text event Quiet = codes "quiet"
 reply_text event (Stats kind members mark_delete acknowledged live pending dead) =
-    place_text kind members mark_delete ++ counts_text acknowledged live pending dead
+    subscription_text kind members mark_delete ++ counts_text acknowledged live pending dead
 reply_text event (Dead message target ordinal) =
     codes "dead " ++ decimal ordinal ++ codes " " ++ text_of message.position ++ codes " " ++ target_text target
 reply_text event NoDead = codes "nodead"

@@ -32,7 +32,7 @@ pub record Start : Type 0 where
   pub written : Option (List ℕ)
   pub state : State
 
--- a moment of a replay: the replay itself, what its writer holds, and the state of its topic
+-- a moment of a replay: the replay itself, what its writer has, and the state of its topic
 pub record Moment : Type 0 where
   pub replay : Replay
   pub written : Option (List ℕ)
@@ -46,15 +46,15 @@ abbrev pub with_gathered : List ℕ → Moment → List ℕ
 with_gathered text m = text ++ m.replay.output.text.items
 
 -- the whole lines of the input so far were answered by a run; of their answers some were written, and some are gathered;
--- what is held of the next line has no end yet
+-- what has come of the next line has no end yet
 pub record Progress (s : Start) (input : List ℕ) (m : Moment) : Type 0 where
   pub name : m.replay.name ≡ s.name
   pub whole : List (List ℕ)
   pub answers : List Answer
   pub text : List ℕ
-  pub parted : input ≡ joined whole ++ m.replay.held.items
+  pub split : input ≡ joined whole ++ m.replay.begun.items
   pub apart : AreApart whole
-  pub held : has_end m.replay.held.items ≡ false
+  pub begun : has_end m.replay.begun.items ≡ false
   pub all : length whole ≡ length answers
   pub answered : AreAnswered s.name whole answers
   pub run : IsRun s.state answers m.state
@@ -90,7 +90,7 @@ pub record Stopped (s : Start) (input : List ℕ) (m : Moment) (stop : Stop) : T
   pub answers : List Answer
   pub last : State
   pub text : List ℕ
-  pub parted : input ≡ joined whole ++ tail
+  pub split : input ≡ joined whole ++ tail
   pub apart : AreApart whole
   pub all : length whole ≡ length answers
   pub answered : AreAnswered s.name whole answers

@@ -123,7 +123,7 @@ IsLost this read left answers last state =
 
 -- ---- the replay
 
--- what stands beside a replay: what its reader has left, what its writer holds, and the state of its topic
+-- what stands beside a replay: what its reader has left, what its writer has, and the state of its topic
 pub record Sides : Type 0 where
   pub left : Option (List ℕ)
   pub written : Option (List ℕ)

@@ -33,7 +33,7 @@ pub struct Replay {
     /// How many lines were answered.
     pub lines: u64,
     /// What has come of a line whose end has not.
-    pub held: Vec<u8>,
+    pub begun: Vec<u8>,
     /// The line that is being answered.
     pub answer: String,
     pub output: Output,
@@ -119,7 +119,7 @@ impl Replay {
         ensures why { IfErr result (λ stop. StopsAt self.old.name line.now (self.old.lines + 1) (T.state topic.old) stop (T.state topic.new)) }
         ensures count { OnOk result (self.new.lines ≡ self.old.lines + 1) }
         ensures most { self.new.lines ≤ self.old.lines + 1 }
-        ensures held { self.new.held.items ≡ self.old.held.items }
+        ensures begun { self.new.begun.items ≡ self.old.begun.items }
         ensures name { self.new.name ≡ self.old.name }
     {
         self.answer.clear();
@@ -133,28 +133,28 @@ impl Replay {
         Ok(())
     }
 
-    /// Keeps a part of a line until its end comes.
-    fn hold(&mut self, part: &[u8]) -> Result<(), Stop>
+    /// Keeps a further part of a line until its end comes.
+    fn add_part(&mut self, part: &[u8]) -> Result<(), Stop>
         requires bound { self.old.lines + 1 < 2 ^ 64 }
         requires open_end { has_end part.now ≡ false }
         ensures takes { (w : Option (List ℕ)) (t : State) → Takes part.now (moment self.old w t) result (moment self.new w t) }
         ensures lines { self.new.lines ≡ self.old.lines }
     {
-        if self.held.len().saturating_add(part.len()) > LONGEST_LINE {
+        if self.begun.len().saturating_add(part.len()) > LONGEST_LINE {
             return Err(Stop::BadLine(self.lines + 1));
         }
-        self.held.extend_from_slice(part)?;
+        self.begun.extend_from_slice(part)?;
         Ok(())
     }
 
-    /// Answers the line that is held, which has ended.
-    fn answer_held<T: Topic>(&mut self, topic: &mut T) -> Result<(), Stop>
+    /// Answers the line that was begun, which has ended.
+    fn answer_begun<T: Topic>(&mut self, topic: &mut T) -> Result<(), Stop>
         requires { self.old.lines + 1 < 2 ^ 64 }
         ensures takes { (w : Option (List ℕ)) → Takes (10 ∷ []) (moment self.old w (T.state topic.old)) result (moment self.new w (T.state topic.new)) }
         ensures lines { self.new.lines ≤ self.old.lines + 1 }
-        ensures held { self.new.held.items ≡ [] }
+        ensures begun { self.new.begun.items ≡ [] }
     {
-        let line = mem::replace(&mut self.held, Vec::new(self.alloc));
+        let line = mem::replace(&mut self.begun, Vec::new(self.alloc));
         self.answer_line(topic, line.as_slice())
     }
 
@@ -165,11 +165,11 @@ impl Replay {
         ensures takes { (w : Option (List ℕ)) → Takes (part.now ++ 10 ∷ []) (moment self.old w (T.state topic.old)) result (moment self.new w (T.state topic.new)) }
         ensures lines { self.new.lines ≤ self.old.lines + 1 }
     {
-        if self.held.is_empty() {
+        if self.begun.is_empty() {
             return self.answer_line(topic, part);
         }
-        self.hold(part)?;
-        self.answer_held(topic)
+        self.add_part(part)?;
+        self.answer_begun(topic)
     }
 
     /// Writes the gathered answers.
@@ -215,7 +215,7 @@ impl Replay {
             self.take_line(topic, part, writer)?;
             rest = after;
         }
-        self.hold(rest)
+        self.add_part(rest)
     }
 
     /// Answers the last line, where the input does not end with the end of a line.
@@ -224,10 +224,10 @@ impl Replay {
         ensures { (s : Start) (input : List ℕ) (left w : Option (List ℕ)) → IsAtEnd left → Progress s input (moment self.old w (T.state topic.old))
             → Ended s input left (moment self.new w (T.state topic.new)) result [] }
     {
-        if self.held.is_empty() {
+        if self.begun.is_empty() {
             return Ok(());
         }
-        self.answer_held(topic)
+        self.answer_begun(topic)
     }
 
     /// Answers the lines of the whole input, but for what is left in the output.
@@ -238,7 +238,7 @@ impl Replay {
         writer: &mut W,
         piece: &mut [u8],
     ) -> Result<(), Stop>
-        requires begins { (self.old.lines ≡ 0) × (self.old.held.items ≡ []) × (self.old.output.text.items ≡ []) }
+        requires begins { (self.old.lines ≡ 0) × (self.old.begun.items ≡ []) × (self.old.output.text.items ≡ []) }
         requires room { (0 < length piece.old) × (length piece.old ≤ 65536) }
         ensures { (read : List ℕ) × Consumes (R.remaining reader.old) (R.remaining reader.new) read
             × Ended (record { name = self.old.name; written = W.contents writer.old; state = T.state topic.old }) read (R.remaining reader.new)
@@ -313,7 +313,7 @@ pub fn replay_over<T: Topic, R: Read, W: Write>(
         alloc,
         name,
         lines: 0,
-        held: Vec::new(alloc),
+        begun: Vec::new(alloc),
         answer: String::new(alloc),
         output: Output::new(alloc),
     };

@@ -2,7 +2,7 @@
 ghost use Rattle.std.specs.Prelude.{◌≡◌, ℕ, ◌++◌, ◌∷◌, [], ◌<◌, OnOk, codes, flat_map, string_bytes, length};
 ghost use Rattle.std.specs.Fmt.{decimal, signed_decimal};
 ghost use Rattle.position_core.specs.Id.{text_of};
-ghost use Rattle.replay_core.specs.Printing.{producer_name, copy_text, target_text, kind_text, position_text, place_text, counts_text, refused_text, reply_text};
+ghost use Rattle.replay_core.specs.Printing.{producer_name, copy_text, target_text, kind_text, position_text, subscription_text, counts_text, refused_text, reply_text};
 
 use crate::names::{append_name, append_target};
 use delivery_machine::{Delivery, Event, Reply};
@@ -104,13 +104,13 @@ fn append_added(
     append_signed(out, last)
 }
 
-fn append_published(out: &mut String, position: Position, index: u64) -> Result<(), AllocError>
+fn append_published(out: &mut String, position: Position, length: u64) -> Result<(), AllocError>
     ensures { OnOk result (string_bytes out.new
-        ≡ string_bytes out.old ++ (codes "published " ++ text_of position ++ codes " " ++ decimal index)) }
+        ≡ string_bytes out.old ++ (codes "published " ++ text_of position ++ codes " " ++ decimal length)) }
 {
     out.push_str("published ")?;
     append_id(out, position)?;
-    append_counted(out, " ", index)
+    append_counted(out, " ", length)
 }
 
 fn append_progress(out: &mut String, durable: u64, length: u64) -> Result<(), AllocError>
@@ -167,13 +167,13 @@ fn append_position(out: &mut String, position: Option<Position>) -> Result<(), A
 }
 
 /// Appends what a subscription is, and how far it has come.
-fn append_place(
+fn append_subscription(
     out: &mut String,
     kind: Kind,
     members: u64,
     mark_delete: Option<Position>,
 ) -> Result<(), AllocError>
-    ensures { OnOk result (string_bytes out.new ≡ string_bytes out.old ++ place_text kind members mark_delete) }
+    ensures { OnOk result (string_bytes out.new ≡ string_bytes out.old ++ subscription_text kind members mark_delete) }
 {
     out.push_str("stats ")?;
     append_kind(out, kind)?;
@@ -198,7 +198,7 @@ fn append_counts(
     append_counted(out, " ", dead)
 }
 
-/// Appends the place and the counts.
+/// Appends what a subscription is, how far it has come, and its counts.
 fn append_stats(
     out: &mut String,
     kind: Kind,
@@ -210,9 +210,9 @@ fn append_stats(
     dead: u64,
 ) -> Result<(), AllocError>
     ensures { OnOk result (string_bytes out.new
-        ≡ string_bytes out.old ++ (place_text kind members mark_delete ++ counts_text acknowledged live pending dead)) }
+        ≡ string_bytes out.old ++ (subscription_text kind members mark_delete ++ counts_text acknowledged live pending dead)) }
 {
-    append_place(out, kind, members, mark_delete)?;
+    append_subscription(out, kind, members, mark_delete)?;
     append_counts(out, acknowledged, live, pending, dead)
 }
 
@@ -263,8 +263,8 @@ pub fn append_reply(out: &mut String, event: &Event, reply: &Reply) -> Result<()
             auto,
             last,
         } => append_added(out, event, *producer, *auto, *last),
-        Reply::Published { position, index } => append_published(out, *position, *index),
-        Reply::Duplicate { index } => append_counted(out, "duplicate ", *index),
+        Reply::Published { position, length } => append_published(out, *position, *length),
+        Reply::Duplicate { length } => append_counted(out, "duplicate ", *length),
         Reply::Durable(length) => append_counted(out, "durable ", *length),
         Reply::Progress { durable, length } => append_progress(out, *durable, *length),
         Reply::Subscribed { consumer } => append_counted(out, "consumer ", *consumer),

@@ -1,3 +1,4 @@
+// What ends a replay early: a line, its reader, its writer or memory.
 ghost use Rattle.std.specs.Prelude.{◌≡◌};
 ghost use Rattle.replay_core.specs.Stops.{status_of};
 

@@ -7,7 +7,7 @@ use Rattle.replay_lines.specs.declared.reading.Line.{Line}
 use Rattle.replay_lines.specs.declared.words.Unread.{Unread}
 use Rattle.replay_lines.specs.declared.words.Unread.TheVariants.{BadLine, Memory}
 use Rattle.replay_lines.specs.Grammar.{IsLine, StandFor, longest_line}
-use Rattle.replay_lines.specs.Parting.{words_of}
+use Rattle.replay_lines.specs.Splitting.{words_of}
 use Rattle.replay_lines.specs.Reads.{Reads}
 
 -- a line that is short enough is read by its words

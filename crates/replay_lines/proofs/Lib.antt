@@ -1,6 +1,6 @@
 pub mod Decimals
 pub mod Findings
-pub mod Partings
+pub mod Splits
 pub mod BaseLemmas
 pub mod Commands
 pub mod ByWords

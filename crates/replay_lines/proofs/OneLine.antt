@@ -14,7 +14,7 @@ use Rattle.replay_lines.specs.declared.command.Command.TheVariants as commands
 use Rattle.replay_lines.specs.declared.command.TheConstants.{ALL}
 use Rattle.replay_lines.specs.declared.reading.Line.{Line}
 use Rattle.replay_lines.specs.declared.reading.Line.TheVariants as lines
-use Rattle.replay_lines.specs.Parting.{words_of}
+use Rattle.replay_lines.specs.Splitting.{words_of}
 use Rattle.replay_lines.specs.Grammar.{command_text, IsById, IsLineOf, Complete, StandFor, EachLineIsOne, seek_line}
 use Rattle.replay_lines.specs.Numbers.{IsNumber, IsSequence, IsBase, IsMoment, IsBetween}
 use Rattle.replay_lines.specs.Names.{IsNameWord, IsProducerWord}

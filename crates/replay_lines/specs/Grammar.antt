@@ -18,7 +18,7 @@ use Rattle.replay_lines.specs.declared.command.Command.{Command}
 use Rattle.replay_lines.specs.declared.command.Command.TheVariants as commands
 use Rattle.replay_lines.specs.declared.reading.Line.{Line}
 use Rattle.replay_lines.specs.declared.reading.Line.TheVariants as lines
-use Rattle.replay_lines.specs.Parting.{NoneEmpty, words_of}
+use Rattle.replay_lines.specs.Splitting.{NoneEmpty, words_of}
 use Rattle.replay_lines.specs.Numbers.{IsNumber, IsSequence, IsBase, IsMoment, IsBetween}
 use Rattle.replay_lines.specs.Names.{IsNameWord, IsProducerWord, IsKeyWord, IsDeadTopic}
 use Rattle.replay_lines.specs.Payloads.{IsPayload}

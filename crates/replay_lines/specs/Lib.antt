@@ -1,4 +1,4 @@
-pub mod Parting
+pub mod Splitting
 pub mod Reads
 pub mod Numbers
 pub mod Names

@@ -1,4 +1,4 @@
-// The first words of lines.
+// The words that a line may begin with.
 ghost use Rattle.std.specs.Prelude.{◌≡◌};
 ghost use Rattle.replay_lines.specs.Reads.{ReadsAtOnce};
 ghost use Rattle.replay_lines.specs.Grammar.{command_text};

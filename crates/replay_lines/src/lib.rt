@@ -7,17 +7,17 @@ mod dying;
 mod joining;
 mod names;
 mod numbers;
-mod parting;
 mod payloads;
 mod producing;
 mod reading;
 mod seeking;
+mod splitting;
 #[cfg(test)]
 mod tests;
 mod words;
 
 pub use numbers::read_bounded;
-pub use parting::split;
 pub use payloads::append_payload;
 pub use reading::{LONGEST_LINE, Line, each_line_is_one, read_line};
+pub use splitting::split;
 pub use words::Unread;

@@ -1,6 +1,6 @@
 // A line to what it stands for.
 ghost use Rattle.replay_lines.specs.Reads.{Reads};
-ghost use Rattle.replay_lines.specs.Parting.{words_of};
+ghost use Rattle.replay_lines.specs.Splitting.{words_of};
 ghost use Rattle.replay_lines.specs.Grammar.{Complete, EachLineIsOne, IsLine, StandFor};
 
 use crate::command::{Command, read_command};

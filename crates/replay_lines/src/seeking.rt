@@ -1,4 +1,4 @@
-// The lines of one subscription's place, and of what it has.
+// The lines of one subscription's cursor, and of what it has.
 ghost use Rattle.position_core.specs.declared.topic_name.TopicName.{TopicName};
 ghost use Rattle.replay_lines.specs.Reads.{Reads};
 ghost use Rattle.replay_lines.specs.Grammar.{Complete, IsTarget};

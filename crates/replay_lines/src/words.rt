@@ -1,9 +1,9 @@
-// The words of a line, which single spaces part.
+// The words of a line, which is split at single spaces.
 ghost use Rattle.std.specs.Prelude.{◌≡◌, ◌<◌, ◌↔◌, List, ℕ, [], ◌∷◌, IsTrue, IfOk, IfErr, OnOk, OnErr, codes, length};
-ghost use Rattle.replay_lines.specs.Parting.{words_of, NoneEmpty};
+ghost use Rattle.replay_lines.specs.Splitting.{words_of, NoneEmpty};
 ghost use Rattle.replay_lines.specs.declared.words.Unread.TheVariants.{BadLine};
 
-use crate::parting::split;
+use crate::splitting::split;
 use std::alloc::AllocError;
 use std::marker::Model;
 
@@ -42,7 +42,7 @@ pub struct Words<'a> {
 impl<'a> Model for Words<'a> {
     ghost use Rattle.std.specs.Prelude.{ℕ, List};
     ghost use Rattle.std.specs.Option.{option_copied};
-    ghost use Rattle.replay_lines.specs.Parting.{words_left};
+    ghost use Rattle.replay_lines.specs.Splitting.{words_left};
 
     ghost Value = { List (List ℕ) };
 

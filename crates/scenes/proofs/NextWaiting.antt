@@ -7,7 +7,7 @@ use Rattle.std.proofs.lemmas.Option.{slice_get-get_or}
 use Rattle.position_core.specs.declared.message.Entry.{Entry}
 use Rattle.delivery_machine.specs.State.{State, Subscription}
 use Rattle.delivery_machine.specs.Words.{is_waiting, visible}
-use Rattle.dispatch_core.specs.Places.{waits_at, IsReadyAt, IsNextReady}
+use Rattle.dispatch_core.specs.Log.{waits_at, IsReadyAt, IsNextReady}
 
 waits_at-log : (s : State) (sub : Subscription) (i : ℕ) (d : Entry) → i < length s.log → waits_at s sub i ≡ is_waiting sub (get_or s.log i d)
 unfolding waits_at

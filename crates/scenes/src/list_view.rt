@@ -47,7 +47,7 @@ impl View for ListView<'_> {
         self.log.len() as u64
     }
 
-    #[tactic(auto, unfolding(dispatch_core::specs::Places::key_at))]
+    #[tactic(auto, unfolding(dispatch_core::specs::Log::key_at))]
     fn key(&self, index: LogIndex) -> Option<&str> {
         let message = self.log.get(index as usize)?;
         match &message.entry().body.content().key {
@@ -56,7 +56,7 @@ impl View for ListView<'_> {
         }
     }
 
-    fn next_waiting(&self, from: u64) -> Option<u64> {
+    fn next_waiting(&self, from: LogIndex) -> Option<LogIndex> {
         for index in from..self.visible() {
             if self.subscription.is_waiting(&self.log[index as usize]) {
                 return Some(index);
@@ -65,7 +65,7 @@ impl View for ListView<'_> {
         None
     }
 
-    #[tactic(auto, unfolding(dispatch_core::specs::Places::holder_at))]
+    #[tactic(auto, unfolding(dispatch_core::specs::Log::holder_at))]
     fn holder(&self, index: LogIndex) -> Option<u64> {
         let message = self.log.get(index as usize)?;
         self.subscription.holder(message.position())

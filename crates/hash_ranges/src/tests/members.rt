@@ -40,7 +40,7 @@ fn owners(alloc: Global, table: &SplitTable) -> Result<Vec<Option<u64>>, AllocEr
 }
 
 /// Whether the members, and nobody else, have one run of hashes each.
-fn is_parted(alloc: Global, table: &SplitTable, members: &[u64]) -> Result<bool, AllocError> {
+fn is_split(alloc: Global, table: &SplitTable, members: &[u64]) -> Result<bool, AllocError> {
     let owners = owners(alloc, table)?;
     if members.is_empty() {
         return Ok(owners.as_slice() == [None].as_slice());
@@ -51,21 +51,21 @@ fn is_parted(alloc: Global, table: &SplitTable, members: &[u64]) -> Result<bool,
     )
 }
 
-/// Whether the hashes are parted after each step.
-fn stays_parted(alloc: Global, joining: &[u64], leaving: &[u64]) -> Result<bool, AllocError> {
+/// Whether the hashes are split after each step.
+fn stays_split(alloc: Global, joining: &[u64], leaving: &[u64]) -> Result<bool, AllocError> {
     let mut table = SplitTable::new(alloc);
     let mut members = Vec::new(alloc);
     for consumer in joining {
         table.join(*consumer)?;
         members.push(*consumer)?;
-        if !is_parted(alloc, &table, &members)? {
+        if !is_split(alloc, &table, &members)? {
             return Ok(false);
         }
     }
     for consumer in leaving {
         table.leave(*consumer);
         members.retain(|member| *member != *consumer);
-        if !is_parted(alloc, &table, &members)? {
+        if !is_split(alloc, &table, &members)? {
             return Ok(false);
         }
     }
@@ -78,7 +78,7 @@ fn in_each_order(rt: HostRuntime) -> Result<(), Fail> {
     for joining in &orders {
         for leaving in &orders {
             assert!(rt;
-                stays_parted(rt.alloc(), joining, leaving)?,
+                stays_split(rt.alloc(), joining, leaving)?,
                 "{joining:?}, {leaving:?}"
             );
         }
@@ -104,7 +104,7 @@ fn as_they_come_and_go(rt: HostRuntime) -> Result<(), Fail> {
             table.join(consumer)?;
             members.push(consumer)?;
         }
-        assert!(rt; is_parted(alloc, &table, &members)?, "after {step}");
+        assert!(rt; is_split(alloc, &table, &members)?, "after {step}");
     }
     Ok(())
 }

@@ -91,6 +91,6 @@ fn a_duplicate_is_told_before_a_full_log(rt: HostRuntime) {
     publish(&rt, &mut topic, 1);
     topic.ledger = (1 << 62) + 1;
     let again = topic.apply(&publishing(&rt, 1, 0));
-    assert!(rt; matches!(&again, Reply::Duplicate { index: 1 }));
+    assert!(rt; matches!(&again, Reply::Duplicate { length: 1 }));
     assert_eq!(rt; fault_number(&topic.apply(&publishing(&rt, 1, 1))), 4);
 }

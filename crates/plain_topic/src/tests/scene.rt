@@ -8,7 +8,7 @@ use position_core::{
 use std::process::Abort;
 use std::sync::ArcStr;
 
-/// The position of the place in the first ledger.
+/// The position in the first ledger.
 pub(super) fn position_at(entry: u64) -> Position {
     Position { ledger: 0, entry }
 }

@@ -30,8 +30,13 @@ fn push_line<R: Abort + AllocGlobal>(rt: &R, text: &mut Vec<u8>, line: &str) {
     text.push(b'\n').expect(rt, "no memory");
 }
 
-/// Parts the rows into lines and replies.
-fn part<R: Abort + AllocGlobal>(rt: &R, rows: &str, input: &mut Vec<u8>, output: &mut Vec<u8>) {
+/// Splits the rows into lines and replies.
+fn split_rows<R: Abort + AllocGlobal>(
+    rt: &R,
+    rows: &str,
+    input: &mut Vec<u8>,
+    output: &mut Vec<u8>,
+) {
     for row in rows.as_bytes().lines(rt.alloc()) {
         let row = row.expect(rt, "no text");
         let (line, reply) = row.as_str().split_once(" -> ").expect(rt, "no reply");
@@ -45,7 +50,7 @@ pub(super) fn check_rows<R: Abort + AllocGlobal>(rt: &R, texts: &[&str]) {
     let mut input = Vec::new(rt.alloc());
     let mut output = Vec::new(rt.alloc());
     for rows in texts {
-        part(rt, rows, &mut input, &mut output);
+        split_rows(rt, rows, &mut input, &mut output);
     }
     check(rt, input.as_slice(), output.as_slice(), Ok(()));
 }

@@ -135,7 +135,7 @@ skip r 1 -> refused F11
     check_rows(&rt, &[rows]);
 }
 
-/// A place in a window is free again; a credit that was spent is not given back.
+/// A window has room again; a credit that was spent is not given back.
 #[test]
 fn credits_and_windows_over_a_seek(rt: HostRuntime) {
     let rows = "subscribe s Shared 0 push:1 0 60000 0 - Earliest -> consumer 1

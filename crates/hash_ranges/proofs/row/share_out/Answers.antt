@@ -3,7 +3,7 @@ use Rattle.std.specs.List.{position}
 use Rattle.position_core.specs.declared.block.Block.{Block}
 use Rattle.delivery_machine.specs.Shares.{most_hashes}
 use Rattle.hash_ranges.proofs.Halves.{halved, alone, place_within}
-use Rattle.hash_ranges.proofs.Parts.{ends}
+use Rattle.hash_ranges.proofs.SharesSplit.{ends}
 use Rattle.hash_ranges.proofs.row.share_out.Goals as goal
 
 largest_of : (place : Option ℕ) (bs cs : List Block) → place ≡ position (λ b. eqb b.size (most_hashes bs)) bs → bs ≡ cs → place ≡ position (λ b. eqb b.size (most_hashes cs)) cs

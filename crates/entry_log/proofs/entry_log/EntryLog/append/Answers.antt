@@ -2,7 +2,7 @@ use Rattle.std.proofs.Common.{◌≡◌, ℕ, ◌+◌, ◌^◌, ◌++◌, ◌∷
 use Rattle.std.specs.Prelude.{◌==◌}
 use Rattle.position_core.specs.declared.position.Position.{Position}
 use Rattle.position_core.specs.declared.message.Entry.{Entry}
-use Rattle.entry_log.specs.Log.{Log, next_in, place_after, used_in, front}
+use Rattle.entry_log.specs.Log.{Log, next_in, position_after, used_in, front}
 use Rattle.entry_log.specs.Pieces.{joined}
 use Rattle.entry_log.specs.Kept.{IsAt}
 use Rattle.entry_log.proofs.Keeping.{appended_at, front_push}
@@ -14,12 +14,12 @@ invariant_of-self-2 c =
     let inside = c.self.inside in
     let log : List Entry = joined inside.pieces in
     let e : Entry = c.args.message in
-    let ledger : ℕ = inside.place.ledger in
-    let used : ℕ = inside.place.used in
-    let next : e.position ≡ place_after ledger (used_in ledger log) inside.ledger_size = c.requires.next ∙ sym (ap (λ (q : Log). next_in q) c.self.view_is) in
+    let ledger : ℕ = inside.current.ledger in
+    let used : ℕ = inside.current.used in
+    let next : e.position ≡ position_after ledger (used_in ledger log) inside.ledger_size = c.requires.next ∙ sym (ap (λ (q : Log). next_in q) c.self.view_is) in
     let room : nat_lt (2 ^ 62) e.position.ledger ≡ false = ap (λ (p : Position). nat_lt (2 ^ 62) p.ledger) c.requires.next ∙ (or_false _ _ c.requires.room).1 in
     let is : joined c.push.new.self ≡ log ++ e ∷ [] = c.in_ok-push.ensures.ok in
-    let its_ledger : c.with-place.result.ledger ≡ e.position.ledger = c.with-place.ensures.ledger ∙ ap (λ (p : Position). p.ledger) c.position.ensures in
-    let its_used = c.with-place.ensures.used ∙ ap (λ (p : Position). cond {A = ℕ} (p.ledger == ledger) (used + 1) 1) c.position.ensures in
-    let at = appended_at log ledger used inside.ledger_size c.with-place.result.ledger c.with-place.result.used e c.self.invariant.0 next room its_ledger its_used in
-    (subst (λ (xs : List Entry). IsAt xs c.with-place.result.ledger c.with-place.result.used) (sym is) at, (c.in_ok-push.ensures.some, subst (λ (xs : List Entry). IsAt xs ledger used) (sym (ap (λ (xs : List Entry). front xs) is ∙ front_push log e)) c.self.invariant.0))
+    let its_ledger : c.with-current.result.ledger ≡ e.position.ledger = c.with-current.ensures.ledger ∙ ap (λ (p : Position). p.ledger) c.position.ensures in
+    let its_used = c.with-current.ensures.used ∙ ap (λ (p : Position). cond {A = ℕ} (p.ledger == ledger) (used + 1) 1) c.position.ensures in
+    let at = appended_at log ledger used inside.ledger_size c.with-current.result.ledger c.with-current.result.used e c.self.invariant.0 next room its_ledger its_used in
+    (subst (λ (xs : List Entry). IsAt xs c.with-current.result.ledger c.with-current.result.used) (sym is) at, (c.in_ok-push.ensures.some, subst (λ (xs : List Entry). IsAt xs ledger used) (sym (ap (λ (xs : List Entry). front xs) is ∙ front_push log e)) c.self.invariant.0))

@@ -1,6 +1,6 @@
 use Rattle.std.proofs.Common.{ap, ◌∙◌}
 use Rattle.delivery_machine.specs.Shares.{owner_of}
-use Rattle.hash_ranges.proofs.Parts.{owned}
+use Rattle.hash_ranges.proofs.SharesSplit.{owned}
 use Rattle.hash_ranges.proofs.split_table.SplitTable.owner.Goals as goal
 
 pub returns-clause-whole : goal.returns-clause-whole

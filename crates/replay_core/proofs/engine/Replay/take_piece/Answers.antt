@@ -35,4 +35,4 @@ returns-clause-takes g c =
     let now = g.W.Write.contents c.loop-part.writer in
     let t = g.T.Topic.state c.loop-part.topic in
     let first = moment c.args.self.now (g.W.Write.contents c.args.writer.now) (g.T.Topic.state c.args.topic.now) in
-    Takes-then before.0 c.loop-part.rest.now c.args.piece.now first (moment c.loop-part.self now t) (moment c.hold.new.self now t) (Ok tt) c.hold.result before.3 refl (c.hold.ensures.takes now t) before.1
+    Takes-then before.0 c.loop-part.rest.now c.args.piece.now first (moment c.loop-part.self now t) (moment c.add_part.new.self now t) (Ok tt) c.add_part.result before.3 refl (c.add_part.ensures.takes now t) before.1

@@ -1,5 +1,5 @@
 use Rattle.std.proofs.Common.{◌∙◌}
-use Rattle.replay_lines.proofs.Partings.{words_some}
+use Rattle.replay_lines.proofs.Splits.{words_some}
 use Rattle.replay_lines.proofs.words.Words.end.Goals as goal
 
 pub returns-in-Some-clause-some : goal.returns-in-Some-clause-some

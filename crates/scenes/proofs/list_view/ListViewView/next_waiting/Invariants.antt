@@ -1,6 +1,6 @@
 use Rattle.std.proofs.Common.{ℕ, ◌<◌, ◌≤◌}
 use Rattle.scenes.specs.Listed.{listed}
-use Rattle.dispatch_core.specs.Places.{IsReadyAt}
+use Rattle.dispatch_core.specs.Log.{IsReadyAt}
 use Rattle.scenes.proofs.list_view.ListViewView.next_waiting.Given as goal
 
 abbrev pub invariant-loop-index : goal.invariant-loop-index

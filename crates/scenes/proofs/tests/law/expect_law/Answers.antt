@@ -4,14 +4,14 @@ use Rattle.position_core.specs.declared.message.Entry.{Entry}
 use Rattle.delivery_machine.specs.State.{Subscription, Member}
 use Rattle.delivery_machine.specs.Joining.{joining}
 use Rattle.dispatch_core.specs.Changes.{Joined, Kept}
-use Rattle.dispatch_core.specs.Places.{waits_at, holder_at, line_of}
+use Rattle.dispatch_core.specs.Log.{waits_at, holder_at, line_of}
 use Rattle.scenes.specs.Listed.{listed}
 use Rattle.scenes.proofs.tests.law.expect_law.Goals as goal
 
 joined_alone : (log : List Entry) (durable : ℕ) (sub : Subscription) (m : Member) (n : ℕ) → m.number ≡ n → m.subscription ≡ sub.name → Joined n (listed log durable []) sub (listed log durable (m ∷ [])) (joining sub.kind n sub)
 unfolding waits_at holder_at line_of
 joined_alone log durable sub m n number name = record {
-  stays = record { log = record { kind = refl; log = refl; durable = refl }; places = λ i. record { waits = refl; holder = refl } };
+  stays = record { log = record { kind = refl; log = refl; durable = refl }; messages = λ i. record { waits = refl; holder = refl } };
   level = m.level;
   line =
       ap (λ b. map (λ (x : Member). (x.number, x.level)) (cond b (m ∷ []) [])) ((bytes_eq-Decides m.subscription sub.name).1 name)
@@ -29,7 +29,7 @@ more_stored log before after sub ms more = record {
   durable = more;
   line = refl;
   shares = refl;
-  places = λ i. record { waits = refl; holder = refl };
+  messages = λ i. record { waits = refl; holder = refl };
 }
 
 pub offers-requires-clause-joins : goal.offers-requires-clause-joins

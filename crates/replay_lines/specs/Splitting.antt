@@ -1,14 +1,14 @@
--- Texts that a byte parts.
+-- Texts that are split at a byte.
 use Rattle.std.specs.Prelude.{ℕ, ◌==◌, List, [], ◌∷◌, Option, Some, None, ◌<◌, length, ⊤}
 use Rattle.std.specs.List.{slice_split}
 
 -- the parts of a text between its separators; a text without one is one part
-abbrev pub parted : ℕ → List ℕ → List (List ℕ)
-parted separator text = slice_split (λ byte. byte == separator) text
+abbrev pub split_by : ℕ → List ℕ → List (List ℕ)
+split_by separator text = slice_split (λ byte. byte == separator) text
 
--- single spaces part the words of a line
+-- a line is split into words at single spaces
 abbrev pub words_of : List ℕ → List (List ℕ)
-words_of line = parted 32 line
+words_of line = split_by 32 line
 
 -- the words of what is left of a line: none where it has ended
 abbrev pub words_left : Option (List ℕ) → List (List ℕ)

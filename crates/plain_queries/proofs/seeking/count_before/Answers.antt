@@ -1,6 +1,6 @@
 use Rattle.std.proofs.lemmas.List.Sums.{prefix_len-le-length}
 use Rattle.delivery_machine.proofs.Places.{at_the_end}
-use Rattle.plain_queries.proofs.places.place_of.Goals as goal
+use Rattle.plain_queries.proofs.seeking.count_before.Goals as goal
 
 pub returns-in-None-clause-value : goal.returns-in-None-clause-value
 returns-in-None-clause-value c = at_the_end _ _ (prefix_len-le-length _ c.args.log.now) c.in-None.ensures

@@ -1,24 +1,24 @@
 // How far a ledger is filled.
 ghost use Rattle.std.specs.Prelude.{◌≡◌, ◌+◌, ◌<◌, ◌≤◌, ◌^◌, ◌==◌, min, if◌then◌else◌};
-ghost use Rattle.entry_log.specs.Log.{place_after};
+ghost use Rattle.entry_log.specs.Log.{position_after};
 
 use position_core::{LedgerSize, Position};
 
 /// The last ledger of a message is 2^62.
 pub(crate) const LAST_LEDGER: u64 = 1 << 62;
 
-/// A ledger, and how many messages of the log are in it.
+/// The ledger that is written to, and how many messages of the log are in it.
 #[derive(Clone, Copy)]
-pub(crate) struct Place {
+pub(crate) struct OpenLedger {
     pub(crate) ledger: u64,
     pub(crate) used: u64,
 }
 
-impl Place {
+impl OpenLedger {
     /// Where the next message goes.
     pub(crate) fn next(self, ledger_size: LedgerSize) -> Position
         requires { self.ledger + 1 < 2 ^ 64 }
-        ensures { result ≡ place_after self.ledger self.used ledger_size }
+        ensures { result ≡ position_after self.ledger self.used ledger_size }
     {
         if self.used < u64::from(ledger_size.get()) {
             Position {
@@ -33,8 +33,8 @@ impl Place {
         }
     }
 
-    /// The place after a message at the position.
-    pub(crate) fn with(self, position: Position) -> Place
+    /// The open ledger after a message at the position.
+    pub(crate) fn with(self, position: Position) -> OpenLedger
         requires { self.used + 1 < 2 ^ 64 }
         ensures ledger { result.ledger ≡ position.ledger }
         ensures used { result.used ≡ (if position.ledger == self.ledger then self.used + 1 else 1) }
@@ -44,14 +44,14 @@ impl Place {
         } else {
             1
         };
-        Place {
+        OpenLedger {
             ledger: position.ledger,
             used,
         }
     }
 
     /// The beginning of the next ledger, up to 2^62 + 1.
-    pub(crate) fn rolled(self) -> Place
+    pub(crate) fn rolled(self) -> OpenLedger
         requires { self.ledger ≤ 2 ^ 62 + 1 }
         ensures ledger { result.ledger ≡ min (self.ledger + 1) (2 ^ 62 + 1) }
         ensures next { self.ledger ≤ 2 ^ 62 → (result.ledger ≡ self.ledger + 1) × (result.used ≡ 0) }
@@ -60,7 +60,7 @@ impl Place {
         if self.ledger > LAST_LEDGER {
             return self;
         }
-        Place {
+        OpenLedger {
             ledger: self.ledger + 1,
             used: 0,
         }

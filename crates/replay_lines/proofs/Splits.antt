@@ -8,7 +8,7 @@ use Rattle.std.proofs.lemmas.List.Elements.{All-from_get_or}
 use Rattle.std.proofs.lemmas.List.Quantifiers.{position-Some}
 use Rattle.std.proofs.lemmas.List.Splits.{slice_split_none, slice_split_first, length-slice_split}
 use Rattle.std.proofs.lemmas.List.Sums.{split_at_first}
-use Rattle.replay_lines.specs.Parting.{parted, words_of}
+use Rattle.replay_lines.specs.Splitting.{split_by, words_of}
 use Rattle.delivery_machine.proofs.Places.{fails_everywhere}
 use Rattle.delivery_machine.proofs.Deciding.{number_is}
 
@@ -20,7 +20,7 @@ below : (m n : ℕ) → nat_lt m n ≡ true → m < n
 below m n e = grind (arith, nat_tests)
 
 -- a text without a separator is one part
-pub none_is : (separator : ℕ) (text : List ℕ) → position (λ byte. byte == separator) text ≡ None → parted separator text ≡ text ∷ []
+pub none_is : (separator : ℕ) (text : List ℕ) → position (λ byte. byte == separator) text ≡ None → split_by separator text ≡ text ∷ []
 none_is separator text e =
     let is = λ (byte : ℕ). byte == separator in
     slice_split_none is text (All-from_get_or (λ byte. (byte == separator) ≡ false) text 0 (λ k within. fails_everywhere is text e k 0 within))
@@ -36,12 +36,12 @@ whole_is separator text place e =
     let found : text ≡ take here text ++ separator ∷ drop (here + 1) text = subst (λ (byte : ℕ). text ≡ take here text ++ byte ∷ drop (here + 1) text) value split in
     rw (take_rest text (place + 1)) (subst (λ (p : ℕ). text ≡ take p text ++ separator ∷ drop (p + 1) text) at.1 found)
 
-pub first_is : (separator : ℕ) (text : List ℕ) (place : ℕ) → position (λ byte. byte == separator) text ≡ Some place → parted separator text ≡ take place text ∷ parted separator (take (length text - (place + 1)) (drop (place + 1) text))
+pub first_is : (separator : ℕ) (text : List ℕ) (place : ℕ) → position (λ byte. byte == separator) text ≡ Some place → split_by separator text ≡ take place text ∷ split_by separator (take (length text - (place + 1)) (drop (place + 1) text))
 first_is separator text place e =
     let is = λ (byte : ℕ). byte == separator in
     let at = chosen_some _ _ _ e in
     let split = slice_split_first is text 0 (below _ _ at.0) in
-    rw (take_rest text (place + 1)) (subst (λ (p : ℕ). parted separator text ≡ take p text ∷ parted separator (drop (p + 1) text)) at.1 split)
+    rw (take_rest text (place + 1)) (subst (λ (p : ℕ). split_by separator text ≡ take p text ∷ split_by separator (drop (p + 1) text)) at.1 split)
 
 -- a line has a word
 pub words_some : (line : List ℕ) → words_of line ≡ [] → ⊥

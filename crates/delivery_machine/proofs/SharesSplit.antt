@@ -1,17 +1,17 @@
--- That the shares part all hashes, as consumers join and leave.
+-- That the shares split all hashes among them, as consumers join and leave.
 use Rattle.std.proofs.Common.{◌≡◌, ℕ, ◌+◌, ◌-◌, ◌<◌, ◌≤◌, zero, suc, Bool, true, false, cond, eqb, List, [], ◌∷◌, length, get_or, refl, subst, arith, Contains}
 use Rattle.std.specs.Prelude.{◌&&◌}
 use Rattle.std.proofs.lemmas.Bool.Decides.{nat_tests}
 use Rattle.position_core.specs.declared.block.Block.{Block}
-use Rattle.delivery_machine.specs.Shares.{half, lower_half, upper_half, halving, most_hashes, shared_out, is_share_of, with_lower, with_upper, given_back, IsRow, PartAllHashes}
+use Rattle.delivery_machine.specs.Shares.{half, lower_half, upper_half, halving, most_hashes, shared_out, is_share_of, with_lower, with_upper, given_back, IsRow, SplitAllHashes}
 
-pub row_of_parts : (bs : List Block) (k : ℕ) → k < length bs → PartAllHashes bs → IsRow 0 bs
-row_of_parts [] k within parts = absurd (omega arith)
-row_of_parts (b ∷ bs) k within parts = parts
+pub row_of_split : (bs : List Block) (k : ℕ) → k < length bs → SplitAllHashes bs → IsRow 0 bs
+row_of_split [] k within split = absurd (omega arith)
+row_of_split (b ∷ bs) k within split = split
 
-pub parts_of_row : (bs : List Block) → IsRow 0 bs → PartAllHashes bs
-parts_of_row [] row = tt
-parts_of_row (b ∷ bs) row = row
+pub split_of_row : (bs : List Block) → IsRow 0 bs → SplitAllHashes bs
+split_of_row [] row = tt
+split_of_row (b ∷ bs) row = row
 
 pub row_moved : (m n : ℕ) (bs : List Block) → m ≡ n → IsRow m bs → IsRow n bs
 row_moved m n bs same row = subst (λ h. IsRow h bs) same row
@@ -39,9 +39,9 @@ row_halving h size consumer (b ∷ bs) row = by_test (eqb b.size size) (row_halv
     by_test true rest = (row.0, (omega (arith, row.0), row_moved (h + b.size) (h + half b.size + (b.size - half b.size)) bs (omega arith) row.1))
     by_test false rest = (row.0, rest)
 
-pub parts_shared_out : (consumer : ℕ) (bs : List Block) → PartAllHashes bs → PartAllHashes (shared_out consumer bs)
-parts_shared_out consumer [] parts = (refl, refl)
-parts_shared_out consumer (b ∷ bs) parts = parts_of_row (halving (most_hashes (b ∷ bs)) consumer (b ∷ bs)) (row_halving 0 (most_hashes (b ∷ bs)) consumer (b ∷ bs) parts)
+pub split_shared_out : (consumer : ℕ) (bs : List Block) → SplitAllHashes bs → SplitAllHashes (shared_out consumer bs)
+split_shared_out consumer [] split = (refl, refl)
+split_shared_out consumer (b ∷ bs) split = split_of_row (halving (most_hashes (b ∷ bs)) consumer (b ∷ bs)) (row_halving 0 (most_hashes (b ∷ bs)) consumer (b ∷ bs) split)
 
 -- ---- leaving
 
@@ -60,11 +60,11 @@ row_given_back h consumer a b (r ∷ bs) row = by_tests (is_share_of consumer a)
     by_tests false true false more rest = (row.0, rest)
     by_tests false false last more rest = (row.0, rest)
 
-pub parts_given_back : (consumer : ℕ) (bs : List Block) → PartAllHashes bs → PartAllHashes (given_back consumer bs)
-parts_given_back consumer [] parts = tt
-parts_given_back consumer (a ∷ []) parts = by_test (is_share_of consumer a)
+pub split_given_back : (consumer : ℕ) (bs : List Block) → SplitAllHashes bs → SplitAllHashes (given_back consumer bs)
+split_given_back consumer [] split = tt
+split_given_back consumer (a ∷ []) split = by_test (is_share_of consumer a)
   where
-    by_test : (t : Bool) → PartAllHashes (cond t [] (a ∷ []))
+    by_test : (t : Bool) → SplitAllHashes (cond t [] (a ∷ []))
     by_test true = tt
-    by_test false = parts
-parts_given_back consumer (a ∷ b ∷ bs) parts = parts_of_row (given_back consumer (a ∷ b ∷ bs)) (row_given_back 0 consumer a b bs parts)
+    by_test false = split
+split_given_back consumer (a ∷ b ∷ bs) split = split_of_row (given_back consumer (a ∷ b ∷ bs)) (row_given_back 0 consumer a b bs split)

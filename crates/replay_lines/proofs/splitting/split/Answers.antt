@@ -1,7 +1,7 @@
 use Rattle.std.proofs.Common.{◌==◌, ℕ, sym, ◌∙◌}
 use Rattle.delivery_machine.proofs.Places.{none_passes}
-use Rattle.replay_lines.proofs.Partings.{none_is, whole_is, first_is, apart_is}
-use Rattle.replay_lines.proofs.parting.split.Goals as goal
+use Rattle.replay_lines.proofs.Splits.{none_is, whole_is, first_is, apart_is}
+use Rattle.replay_lines.proofs.splitting.split.Goals as goal
 
 pub returns-in_err-place-clause-none : goal.returns-in_err-place-clause-none
 returns-in_err-place-clause-none c = rw c.from_residual.ensures (none_is _ _ (sym c.place_of.ensures ∙ c.in_err-place.was))

@@ -1,4 +1,4 @@
-// Places in the log: where a seek goes to, and what a skip passes over.
+// What of the log a seek or a skip leaves behind.
 ghost use Rattle.std.specs.Prelude.{◌≡◌, ◌≤◌, IfOk, length, nat_le};
 ghost use Rattle.std.specs.List.{position, position_or_len};
 ghost use Rattle.delivery_machine.specs.Words.{has_position};
@@ -15,12 +15,12 @@ fn found_at(log: &[Message], sought: Position) -> Option<usize>
 }
 
 /// How many messages of the log stand before the position: all, where it has no such position.
-pub fn place_of(log: &[Message], sought: Position) -> usize
+pub fn count_before(log: &[Message], sought: Position) -> usize
     ensures value { result ≡ position_or_len (has_position sought) log.now }
     ensures within { result ≤ length log.now }
 {
     match found_at(log, sought) {
-        Some(place) => place,
+        Some(index) => index,
         None => log.len(),
     }
 }
@@ -34,12 +34,12 @@ fn found_from(visible: &[Message], time: Moment) -> Option<usize>
 }
 
 /// How many messages stand before the first that is not earlier than the moment.
-pub fn place_of_time(visible: &[Message], time: Moment) -> usize
+pub fn count_earlier(visible: &[Message], time: Moment) -> usize
     ensures value { result ≡ position_or_len (λ e. nat_le time e.time) visible.now }
     ensures within { result ≤ length visible.now }
 {
     match found_from(visible, time) {
-        Some(place) => place,
+        Some(index) => index,
         None => visible.len(),
     }
 }
