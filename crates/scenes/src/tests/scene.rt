@@ -14,9 +14,9 @@ pub(super) enum Change {
     Sent,
     /// So, and the dispatcher is not told.
     SentUntold,
-    /// The message at the place is pending at the consumer, and the dispatcher is not told.
+    /// The message of the index is pending at the consumer, and the dispatcher is not told.
     Held(u64, u64),
-    /// The message at the place is acknowledged.
+    /// The message of the index is acknowledged.
     Acknowledged(u64),
     /// The consumer may be sent so many further messages.
     Permitted(u64, u32),
@@ -29,7 +29,7 @@ pub(super) struct Scene {
     pub(super) keys: [Option<&'static str>; 3],
     /// Who is there from the first: numbers, levels and flows.
     pub(super) members: &'static [(u64, u32, Takes)],
-    /// What changes, and the place and the consumer that are offered then.
+    /// What changes, and the index and the consumer that are offered then.
     pub(super) steps: &'static [(Change, Option<(u64, u64)>)],
 }
 

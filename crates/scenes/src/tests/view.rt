@@ -10,9 +10,9 @@ fn expect_scene<R: Abort, V: View>(rt: &R, view: &V) {
     assert_eq!(rt; view.visible(), 2);
     assert_eq!(rt; view.length(), 3);
     let holders = [None, Some(4), None, None];
-    for place in 0..4 {
-        assert_eq!(rt; view.holder(place), holders[place as usize]);
-        assert_eq!(rt; view.key(place).is_some(), place == 1);
+    for index in 0..4 {
+        assert_eq!(rt; view.holder(index), holders[index as usize]);
+        assert_eq!(rt; view.key(index).is_some(), index == 1);
     }
     assert_eq!(rt; view.key(1), Some("k"));
 }
