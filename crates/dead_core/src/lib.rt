@@ -2,8 +2,6 @@
 #![tactic(auto)]
 
 mod dead_queue;
-#[cfg(test)]
-mod tests;
 
 pub use dead_queue::DeadQueue;
 pub use delivery_machine::DeadLetter;

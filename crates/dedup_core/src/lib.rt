@@ -4,7 +4,5 @@
 mod name_key;
 mod sequences;
 mod table;
-#[cfg(test)]
-mod tests;
 
 pub use sequences::Sequences;

@@ -5,8 +5,6 @@
 mod due;
 mod node;
 mod row;
-#[cfg(test)]
-mod tests;
 mod tree;
 
 pub use due::{Due, Slot};

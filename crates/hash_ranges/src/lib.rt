@@ -5,8 +5,6 @@ mod block;
 mod places;
 mod row;
 mod split_table;
-#[cfg(test)]
-mod tests;
 
 pub use position_core::Block;
 pub use split_table::SplitTable;

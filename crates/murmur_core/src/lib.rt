@@ -4,8 +4,6 @@
 
 mod murmur;
 mod sticky;
-#[cfg(test)]
-mod tests;
 
 pub use murmur::murmur3_32;
 pub use sticky::sticky_hash;

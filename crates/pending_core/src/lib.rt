@@ -4,8 +4,6 @@
 mod kept;
 mod pending_map;
 mod table;
-#[cfg(test)]
-mod tests;
 
 pub use due_tree::Due;
 pub use pending_map::{PendingMap, counted_and_released};

@@ -2,7 +2,5 @@
 #![tactic(auto)]
 
 mod flow;
-#[cfg(test)]
-mod tests;
 
 pub use flow::Flow;

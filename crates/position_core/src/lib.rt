@@ -16,8 +16,6 @@ mod numbers;
 mod payload;
 mod position;
 mod properties;
-#[cfg(test)]
-mod tests;
 mod text;
 mod topic_name;
 

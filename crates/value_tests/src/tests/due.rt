@@ -1,13 +1,9 @@
-// That calls with memory succeed, and that the first is the least of a plain list's.
-use super::*;
-use position_core::Position;
-use std::test::Fail;
+// That pushes with memory succeed, and that the first is the least of a plain list's.
+use super::position_at;
+use due_tree::{Due, DueTree, Slot};
 
 fn slot(number: u64) -> Slot {
-    let position = Position {
-        ledger: 0,
-        entry: number % 89,
-    };
+    let position = position_at(0, number % 89);
     let moment = number.wrapping_mul(2_654_435_761) % 53;
     let due = if moment < 13 { None } else { Some(moment) };
     Slot { position, due }
@@ -19,7 +15,7 @@ fn due_of(slot: &Slot) -> Option<Due> {
 }
 
 #[test]
-fn first_is_the_least(rt: HostRuntime) -> Result<(), Fail> {
+fn first_is_the_least(rt: HostRuntime) {
     let mut tree = DueTree::new(rt.alloc());
     let mut list = Vec::new(rt.alloc());
     for step in 0..400u64 {
@@ -34,8 +30,8 @@ fn first_is_the_least(rt: HostRuntime) -> Result<(), Fail> {
                 assert_eq!(rt; tree.swap_remove(at), list.swap_remove(at));
             }
             _ => {
-                tree.push(slot)?;
-                list.push(slot)?;
+                tree.push(slot).expect(&rt, "no memory");
+                list.push(slot).expect(&rt, "no memory");
             }
         }
         assert_eq!(rt;
@@ -48,15 +44,13 @@ fn first_is_the_least(rt: HostRuntime) -> Result<(), Fail> {
     assert_eq!(rt; tree.len(), list.len());
     tree.clear();
     assert_eq!(rt; tree.first(), None);
-    Ok(())
 }
 
 #[test]
-fn pushes_where_there_is_memory(rt: HostRuntime) -> Result<(), Fail> {
+fn pushes_where_there_is_memory(rt: HostRuntime) {
     let mut tree = DueTree::new(rt.alloc());
     for number in 0..5_000u64 {
-        tree.push(slot(number))?;
+        tree.push(slot(number)).expect(&rt, "no memory");
     }
     assert_eq!(rt; tree.len(), 5_000);
-    Ok(())
 }

@@ -1,7 +1,8 @@
 // The pending messages as a list.
-use crate::Due;
+use pending_core::Due;
 use position_core::{Held, Position};
-use std::alloc::{AllocError, Global};
+use std::alloc::Global;
+use std::process::Abort;
 
 #[derive(Drop)]
 struct Row {
@@ -34,22 +35,20 @@ impl Plain {
         self.rows.iter().find(|row| row.position.is(at))
     }
 
-    pub(super) fn put(&mut self, at: Position, held: Held) -> Result<(), AllocError> {
+    pub(super) fn put<R: Abort>(&mut self, rt: &R, at: Position, held: Held) {
         let held = Some(held);
         for row in self.rows.iter_mut() {
             if row.position.is(at) {
                 row.held = held;
-                return Ok(());
+                return;
             }
         }
-        let position = at;
-        let count = 0;
-        self.rows.push(Row {
-            position,
+        let row = Row {
+            position: at,
             held,
-            count,
-        })?;
-        Ok(())
+            count: 0,
+        };
+        self.rows.push(row).expect(rt, "no memory");
     }
 
     pub(super) fn remove(&mut self, at: Position) {

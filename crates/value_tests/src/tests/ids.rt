@@ -1,12 +1,12 @@
 // Ids against texts from outside.
-use crate::{Fault, Position};
-use std::test::Fail;
+use super::position_at;
+use position_core::{Fault, Position};
 
 /// The greatest number of a ledger and of an entry.
 const GREATEST: u64 = 18_446_744_073_709_551_615;
 
 #[test]
-fn ids_both_ways(rt: HostRuntime) -> Result<(), Fail> {
+fn ids_both_ways(rt: HostRuntime) {
     let table = [
         (0, 0, "CAAQAA=="),
         (0, 3, "CAAQAw=="),
@@ -16,10 +16,11 @@ fn ids_both_ways(rt: HostRuntime) -> Result<(), Fail> {
         (GREATEST, GREATEST, "CP///////////wEQ////////////AQ=="),
     ];
     for (ledger, entry, text) in table {
-        let position = Position { ledger, entry };
-        assert_eq!(rt; position.to_text(rt.alloc())?.as_str(), text);
-        let mut line = String::from_str(rt.alloc(), "id ")?;
-        position.append_text(&mut line)?;
+        let position = position_at(ledger, entry);
+        let id = position.to_text(rt.alloc()).expect(&rt, "no memory");
+        assert_eq!(rt; id.as_str(), text);
+        let mut line = String::from_str(rt.alloc(), "id ").expect(&rt, "no memory");
+        position.append_text(&mut line).expect(&rt, "no memory");
         assert_eq!(rt; line.len(), text.len() + 3);
         assert_eq!(rt;
             Position::from_text(text.as_bytes()),
@@ -27,7 +28,6 @@ fn ids_both_ways(rt: HostRuntime) -> Result<(), Fail> {
             "at {text}"
         );
     }
-    Ok(())
 }
 
 #[test]

@@ -1,5 +1,7 @@
 // Moments, bases, bounded numbers, positions and refusals against a table.
-use crate::{Base, Fault, LedgerSize, Level, Millis, Moment, Position, RedeliverLimit, WindowSize};
+use position_core::{
+    Base, Fault, LedgerSize, Level, Millis, Moment, Position, RedeliverLimit, WindowSize,
+};
 
 #[test]
 fn moments_end_with_the_year_9999(rt: HostRuntime) {

@@ -1,26 +1,20 @@
 // That a letter is taken where there is memory, and a queue's life.
-use super::*;
-use position_core::{Name, Position, TopicName};
-use std::alloc::Global;
-use std::test::Fail;
+use super::{position_at, topic_name};
+use dead_core::{DeadLetter, DeadQueue};
+use position_core::TopicName;
+use std::process::Abort;
 
-fn target(alloc: Global) -> Result<TopicName, Fail> {
-    Ok(TopicName {
-        tenant: Name::from_text(alloc, "public")?.ok_or("no tenant")?,
-        namespace: Name::from_text(alloc, "default")?.ok_or("no namespace")?,
-        topic: Name::from_text(alloc, "orders-billing-DLQ")?.ok_or("no topic")?,
-    })
+fn target<R: Abort + AllocGlobal>(rt: &R) -> TopicName {
+    topic_name(rt, "persistent://public/default/orders-billing-DLQ")
 }
 
-fn letter(target: &TopicName, ordinal: u64) -> Result<DeadLetter, Fail> {
-    Ok(DeadLetter {
-        position: Position {
-            ledger: 3,
-            entry: ordinal.wrapping_add(40),
-        },
-        target: target.clone()?,
+fn push<R: Abort>(rt: &R, queue: &mut DeadQueue, target: &TopicName, ordinal: u64) {
+    let letter = DeadLetter {
+        position: position_at(3, ordinal.wrapping_add(40)),
+        target: target.clone().expect(rt, "no memory"),
         ordinal,
-    })
+    };
+    queue.push(letter).expect(rt, "no memory");
 }
 
 fn next_ordinal(queue: &DeadQueue) -> Option<u64> {
@@ -28,19 +22,19 @@ fn next_ordinal(queue: &DeadQueue) -> Option<u64> {
 }
 
 #[test]
-fn letters_die_are_stored_and_are_published(rt: HostRuntime) -> Result<(), Fail> {
-    let target = target(rt.alloc())?;
+fn letters_die_are_stored_and_are_published(rt: HostRuntime) {
+    let target = target(&rt);
     let mut queue = DeadQueue::new(rt.alloc());
-    queue.push(letter(&target, 7)?)?;
-    queue.push(letter(&target, 9)?)?;
+    push(&rt, &mut queue, &target, 7);
+    push(&rt, &mut queue, &target, 9);
     assert!(rt; next_ordinal(&queue).is_none());
     assert!(rt; queue.done(7).is_none());
     queue.mark_safe();
-    queue.push(letter(&target, 12)?)?;
+    push(&rt, &mut queue, &target, 12);
     assert_eq!(rt; next_ordinal(&queue), Some(7));
     assert!(rt; queue.done(9).is_none());
     assert_eq!(rt; queue.count(), 3);
-    let first = queue.done(7).ok_or("no letter")?;
+    let first = queue.done(7).expect(&rt, "no letter");
     assert_eq!(rt; first.position.entry, 47);
     assert!(rt; first.target.is(&target));
     assert_eq!(rt; next_ordinal(&queue), Some(9));
@@ -50,15 +44,14 @@ fn letters_die_are_stored_and_are_published(rt: HostRuntime) -> Result<(), Fail>
     queue.mark_safe();
     assert!(rt; queue.done(12).is_some());
     assert_eq!(rt; queue.count(), 0);
-    Ok(())
 }
 
 #[test]
-fn pushes_where_there_is_memory(rt: HostRuntime) -> Result<(), Fail> {
-    let target = target(rt.alloc())?;
+fn pushes_where_there_is_memory(rt: HostRuntime) {
+    let target = target(&rt);
     let mut queue = DeadQueue::new(rt.alloc());
     for ordinal in 0..3_000u64 {
-        queue.push(letter(&target, ordinal)?)?;
+        push(&rt, &mut queue, &target, ordinal);
         if ordinal % 3 == 2 {
             queue.mark_safe();
             assert!(rt; queue.done(ordinal / 3).is_some());
@@ -66,5 +59,4 @@ fn pushes_where_there_is_memory(rt: HostRuntime) -> Result<(), Fail> {
     }
     assert_eq!(rt; queue.count(), 2_000);
     assert_eq!(rt; next_ordinal(&queue), Some(1_000));
-    Ok(())
 }

@@ -1,6 +1,6 @@
 // Published values of Murmur3 (x86, 32 bits): those of the article "MurmurHash" of Wikipedia, those of Ian Boyd's
 // list "Murmur3 test vectors" on Stack Overflow, and of "hello" that of the tests of spaolacci/murmur3.
-use super::{murmur3_32, sticky_hash};
+use murmur_core::{murmur3_32, sticky_hash};
 
 const FOX: &str = "The quick brown fox jumps over the lazy dog";
 

@@ -1,3 +1,0 @@
-// The shares of consumers that join and leave.
-mod members;
-mod worked;
