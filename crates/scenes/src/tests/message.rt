@@ -37,8 +37,8 @@ pub(super) fn message_at<R: Abort + AllocGlobal>(
     let entry = Entry {
         position,
         producer: ProducerName::new(producer).expect(rt, "no producer's name"),
-        sequence: 0,
-        time: Moment::new(1000).expect(rt, "no moment"),
+        sequence: 9,
+        time: Moment::new(1_700_000_000_000).expect(rt, "no moment"),
         body: Body::new(rt.alloc(), content(rt, key)).expect(rt, "no memory"),
     };
     Message::new(rt.alloc(), entry).expect(rt, "no memory")
@@ -52,4 +52,23 @@ pub(super) fn new_log<R: Abort + AllocGlobal>(rt: &R, keys: [Option<&str>; 3]) -
         message_at(rt, position_at(2), third),
     ];
     log.expect(rt, "no memory")
+}
+
+#[test]
+fn a_message_shows_its_entry(rt: HostRuntime) {
+    let position = Position {
+        ledger: 3,
+        entry: 5,
+    };
+    let message = message_at(&rt, position, Some("k"));
+    let message = message.clone().expect(&rt, "no memory");
+    assert_eq!(rt; message.position(), position);
+    let entry = message.entry();
+    assert_eq!(rt; entry.producer.as_str(), "p");
+    assert_eq!(rt;
+        (entry.sequence, entry.time.millis()),
+        (9, 1_700_000_000_000)
+    );
+    let key = &entry.body.content().key;
+    assert_eq!(rt; key.as_ref().map(|key| key.as_str()), Some("k"));
 }

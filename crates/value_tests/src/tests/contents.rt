@@ -1,6 +1,6 @@
-// Payloads, properties, bodies and messages.
-use super::{letters, position_at, producer_name, shared_text};
-use position_core::{Body, Content, Entry, Key, Message, Moment, Payload, Position, Properties};
+// Payloads, properties and bodies.
+use super::{letters, shared_text};
+use position_core::{Body, Content, Key, Payload, Properties};
 use std::collections::BTreeMap;
 use std::process::Abort;
 
@@ -79,28 +79,4 @@ fn a_body_shows_its_content(rt: HostRuntime) {
     assert_eq!(rt; content.payload.as_slice(), b"hello".as_slice());
     let colour = content.properties.as_map().get("colour");
     assert_eq!(rt; colour.map(|value| value.as_str()), Some("green"));
-}
-
-fn sent<R: Abort + AllocGlobal>(rt: &R, position: Position) -> Message {
-    let entry = Entry {
-        position,
-        producer: producer_name(rt, "p"),
-        sequence: 9,
-        time: Moment::new(1_700_000_000_000).expect(rt, "no moment"),
-        body: hello(rt),
-    };
-    Message::new(rt.alloc(), entry).expect(rt, "no memory")
-}
-
-#[test]
-fn a_message_shows_its_entry(rt: HostRuntime) {
-    let position = position_at(3, 5);
-    let message = sent(&rt, position).clone().expect(&rt, "no memory");
-    assert_eq!(rt; message.position(), position);
-    let entry = message.entry();
-    assert_eq!(rt; entry.producer.as_str(), "p");
-    assert_eq!(rt;
-        (entry.sequence, entry.time.millis()),
-        (9, 1_700_000_000_000)
-    );
 }

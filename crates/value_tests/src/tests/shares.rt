@@ -128,7 +128,7 @@ fn owners_along<R: Abort + AllocGlobal>(rt: &R, table: &SplitTable) -> Vec<Optio
 }
 
 /// Whether the members, and nobody else, have one run of hashes each.
-fn is_parted<R: Abort + AllocGlobal>(rt: &R, table: &SplitTable, members: &[u64]) -> bool {
+fn is_split<R: Abort + AllocGlobal>(rt: &R, table: &SplitTable, members: &[u64]) -> bool {
     let owners = owners_along(rt, table);
     if members.is_empty() {
         owners.as_slice() == [None].as_slice()
@@ -138,21 +138,21 @@ fn is_parted<R: Abort + AllocGlobal>(rt: &R, table: &SplitTable, members: &[u64]
     }
 }
 
-/// Whether the hashes are parted after each step.
-fn stays_parted<R: Abort + AllocGlobal>(rt: &R, joining: &[u64], leaving: &[u64]) -> bool {
+/// Whether the hashes are split after each step.
+fn stays_split<R: Abort + AllocGlobal>(rt: &R, joining: &[u64], leaving: &[u64]) -> bool {
     let mut table = SplitTable::new(rt.alloc());
     let mut members = Vec::new(rt.alloc());
     for consumer in joining {
         join(rt, &mut table, *consumer);
         members.push(*consumer).expect(rt, "no memory");
-        if !is_parted(rt, &table, &members) {
+        if !is_split(rt, &table, &members) {
             return false;
         }
     }
     for consumer in leaving {
         table.leave(*consumer);
         members.retain(|member| *member != *consumer);
-        if !is_parted(rt, &table, &members) {
+        if !is_split(rt, &table, &members) {
             return false;
         }
     }
@@ -165,7 +165,7 @@ fn in_each_order(rt: HostRuntime) {
     for joining in &orders {
         for leaving in &orders {
             assert!(rt;
-                stays_parted(&rt, joining, leaving),
+                stays_split(&rt, joining, leaving),
                 "{joining:?}, {leaving:?}"
             );
         }
@@ -187,7 +187,7 @@ fn as_they_come_and_go(rt: HostRuntime) {
             join(&rt, &mut table, consumer);
             members.push(consumer).expect(&rt, "no memory");
         }
-        assert!(rt; is_parted(&rt, &table, &members), "after {step}");
+        assert!(rt; is_split(&rt, &table, &members), "after {step}");
     }
 }
 
