@@ -12,8 +12,6 @@ mod payloads;
 mod producing;
 mod reading;
 mod seeking;
-#[cfg(test)]
-mod tests;
 mod words;
 
 pub use numbers::read_bounded;
