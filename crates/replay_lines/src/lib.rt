@@ -12,8 +12,6 @@ mod producing;
 mod reading;
 mod seeking;
 mod splitting;
-#[cfg(test)]
-mod tests;
 mod words;
 
 pub use numbers::read_bounded;

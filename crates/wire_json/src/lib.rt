@@ -8,8 +8,6 @@ mod laws;
 mod numbers;
 mod publishes;
 mod quoting;
-#[cfg(test)]
-mod tests;
 mod times;
 
 pub use answers::{SendError, error_text, ok_text};

@@ -1,9 +1,5 @@
 // Worked texts: what they say, and how they are refused.
-use super::answer;
-use std::test::Fail;
-
-const UNREAD: &str =
-    "{\"errorMsg\":\"Failed to deserialize from JSON\",\"result\":\"send-error:3\"}";
+use super::{UNREAD, check_answers, check_refusals, check_values};
 
 const BAD_JSON: &str =
     "{\"context\":\"c\",\"errorMsg\":\"Failed to deserialize from JSON\",\"result\":\"send-error:3\"}";
@@ -12,8 +8,8 @@ const BAD_PAYLOAD: &str =
     "{\"context\":\"c\",\"errorMsg\":\"Invalid payload encoding\",\"result\":\"send-error:7\"}";
 
 #[test]
-fn worked_texts(rt: HostRuntime) -> Result<(), Fail> {
-    let table = [
+fn worked_texts(rt: HostRuntime) {
+    let table: &[(&str, &str)] = &[
         (
             "{\"context\":7}",
             "{\"context\":\"7\",\"errorMsg\":\"Failed to deserialize from JSON\",\"result\":\"send-error:3\"}",
@@ -34,19 +30,12 @@ fn worked_texts(rt: HostRuntime) -> Result<(), Fail> {
             "5 - 'Hello World' key1=value1 key2=value2",
         ),
     ];
-    for (text, want) in table {
-        assert_eq!(rt;
-            answer(rt.alloc(), text.as_bytes())?.as_str(),
-            want,
-            "at {text}"
-        );
-    }
-    Ok(())
+    check_answers(&rt, table);
 }
 
 #[test]
-fn fields_that_say_something(rt: HostRuntime) -> Result<(), Fail> {
-    let table = [
+fn fields_that_say_something(rt: HostRuntime) {
+    let table: &[(&str, &str)] = &[
         (
             "{\"payload\":\"\",\"key\":\"k\",\"context\":\"c\"}",
             "c k ''",
@@ -66,19 +55,12 @@ fn fields_that_say_something(rt: HostRuntime) -> Result<(), Fail> {
             "- - ''",
         ),
     ];
-    for (text, want) in table {
-        assert_eq!(rt;
-            answer(rt.alloc(), text.as_bytes())?.as_str(),
-            want,
-            "at {text}"
-        );
-    }
-    Ok(())
+    check_answers(&rt, table);
 }
 
 #[test]
-fn refusals_in_their_order(rt: HostRuntime) -> Result<(), Fail> {
-    let table = [
+fn refusals_in_their_order(rt: HostRuntime) {
+    let table: &[(&str, &str)] = &[
         ("{\"payload\":\"%\",\"context\":1.5}", UNREAD),
         ("{\"payload\":\"%\",\"context\":[]}", UNREAD),
         ("{\"payload\":null,\"context\":\"c\"}", BAD_JSON),
@@ -101,47 +83,24 @@ fn refusals_in_their_order(rt: HostRuntime) -> Result<(), Fail> {
             BAD_JSON,
         ),
     ];
-    for (text, want) in table {
-        assert_eq!(rt;
-            answer(rt.alloc(), text.as_bytes())?.as_str(),
-            want,
-            "at {text}"
-        );
-    }
-    Ok(())
+    check_answers(&rt, table);
 }
 
 /// Vectors of RFC 4648, and forms that it leaves to a profile.
 #[test]
-fn payloads_in_base64(rt: HostRuntime) -> Result<(), Fail> {
-    let table = [
-        ("", Some("")),
-        ("Zg==", Some("f")),
-        ("Zg", Some("f")),
-        ("Zm8=", Some("fo")),
-        ("Zm8", Some("fo")),
-        ("Zm9v", Some("foo")),
-        ("Zm9vYmFy", Some("foobar")),
-        ("Pz8/Pz4+", Some("????>>")),
-        ("Zg=", None),
-        ("Zh==", None),
-        ("Zm9=", None),
-        ("Zm9v====", None),
-        ("Z", None),
-        ("Zm 8=", None),
-        ("Pz8_Pz4-", None),
+fn payloads_in_base64(rt: HostRuntime) {
+    let good: &[(&str, &str)] = &[
+        ("", ""),
+        ("Zg==", "f"),
+        ("Zg", "f"),
+        ("Zm8=", "fo"),
+        ("Zm8", "fo"),
+        ("Zm9v", "foo"),
+        ("Zm9vYmFy", "foobar"),
+        ("Pz8/Pz4+", "????>>"),
     ];
-    for (base64, want) in table {
-        let text = format!(in rt.alloc(); "{{\"context\":\"c\",\"payload\":\"{base64}\"}}")?;
-        let want = match want {
-            Some(payload) => format!(in rt.alloc(); "c - '{payload}'")?,
-            None => String::from_str(rt.alloc(), BAD_PAYLOAD)?,
-        };
-        assert_eq!(rt;
-            answer(rt.alloc(), text.as_bytes())?.as_str(),
-            want.as_str(),
-            "at {base64}"
-        );
-    }
-    Ok(())
+    let bad: &[&str] = &["Zg=", "Zh==", "Zm9=", "Zm9v====", "Z", "Zm 8=", "Pz8_Pz4-"];
+    let text = &["{\"context\":\"c\",\"payload\":\"", "\"}"];
+    check_values(&rt, text, &["c - '", "'"], good);
+    check_refusals(&rt, text, BAD_PAYLOAD, bad);
 }
