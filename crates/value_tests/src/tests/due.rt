@@ -27,19 +27,16 @@ fn first_is_the_least(rt: HostRuntime) {
                 list[at] = slot;
             }
             1 if at < tree.len() && at < list.len() => {
-                assert_eq!(rt; tree.swap_remove(at), list.swap_remove(at));
+                assert!(rt; tree.swap_remove(at) == list.swap_remove(at));
             }
             _ => {
                 tree.push(slot).expect(&rt, "no memory");
                 list.push(slot).expect(&rt, "no memory");
             }
         }
-        assert_eq!(rt;
-            tree.first(),
-            list.iter().filter_map(due_of).min(),
-            "after {step}"
-        );
-        assert_eq!(rt; tree.get(at), list.get(at).copied(), "after {step}");
+        let least = list.iter().filter_map(due_of).min();
+        assert!(rt; tree.first() == least, "after {step}");
+        assert!(rt; tree.get(at) == list.get(at).copied(), "after {step}");
     }
     assert_eq!(rt; tree.len(), list.len());
     tree.clear();
