@@ -3,7 +3,8 @@
 -- How the words of these definitions are made: a word in -ing changes a subscription or a member (`holding`, `leaving`);
 -- a participle, or a word with `with_` or `without_`, changes a state (`sent`, `stored`, `with_message`); a capital letter
 -- begins a relation or a fact (`Acks`, `IsEligible`); a word that ends in `_in` speaks of a log or of members alone, and the
--- same word of a state has no such end (`has_room_in`, `has_room`).
+-- same word of a state has no such end (`has_room_in`, `has_room`). A message stands at an index of the log, and
+-- anything else at a place of its list, both from 0 on.
 use Rattle.std.specs.Prelude.{ℕ, List, [], ℤ}
 use Rattle.std.specs.FinSet.{FinSet}
 use Rattle.std.specs.FinMap.{FinMap}
