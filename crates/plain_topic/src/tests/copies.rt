@@ -1,5 +1,5 @@
 // Copies of what a consumer was sent and has not collected.
-use super::scene::{dispatching, new_topic, position_at, publish, subscribing};
+use super::scene::{dispatching, new_topic, position_at, publish, subscribing, tell};
 use crate::PlainTopic;
 use delivery_machine::{Event, Kind, Topic};
 use std::process::Abort;
@@ -18,10 +18,10 @@ fn copies_at<R: Abort>(rt: &R, topic: &PlainTopic, consumer: u64) -> (usize, boo
 fn out_copies_are_what_was_not_collected(rt: HostRuntime) {
     let mut topic = new_topic(&rt);
     publish(&rt, &mut topic, 1);
-    let _ = topic.apply(&subscribing(&rt, Kind::Exclusive, 0));
-    let _ = topic.apply(&dispatching(&rt));
+    tell(&mut topic, subscribing(&rt, Kind::Exclusive, 0));
+    tell(&mut topic, dispatching(&rt));
     assert_eq!(rt; copies_at(&rt, &topic, 1), (1, true));
     assert_eq!(rt; copies_at(&rt, &topic, 2), (0, false));
-    let _ = topic.apply(&Event::Collect { consumer: 1 });
+    tell(&mut topic, Event::Collect { consumer: 1 });
     assert_eq!(rt; copies_at(&rt, &topic, 1), (0, false));
 }

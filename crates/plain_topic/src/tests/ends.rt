@@ -1,7 +1,7 @@
 // Where ordinals, numbers or ledgers end, and which refusal comes first then.
 use super::scene::{
-    connecting, dispatching, fault_number, new_topic, position_at, publish, publishing, refusing,
-    subscribing, ticking,
+    connecting, dispatching, fault_of, new_topic, position_at, publish, publishing, refusing,
+    subscribing, tell, ticking,
 };
 use crate::PlainTopic;
 use delivery_machine::{Event, Kind, Reply, Topic};
@@ -28,11 +28,15 @@ fn fate_by(reply: &Reply) -> Fate {
     }
 }
 
+fn fate_at(topic: &mut PlainTopic, tick: Event) -> Fate {
+    fate_by(&topic.apply(&tick))
+}
+
 /// Sends the next message, whose position is known, and refuses it until it is due.
 fn fate_of<R: Abort + AllocGlobal>(rt: &R, topic: &mut PlainTopic, position: Position) -> Fate {
-    let _ = topic.apply(&dispatching(rt));
-    let _ = topic.apply(&refusing(rt, position));
-    fate_by(&topic.apply(&ticking(rt)))
+    tell(topic, dispatching(rt));
+    tell(topic, refusing(rt, position));
+    fate_at(topic, ticking(rt))
 }
 
 #[test]
@@ -40,7 +44,7 @@ fn the_last_ordinal_is_given_once(rt: HostRuntime) {
     let mut topic = new_topic(&rt);
     topic.next_ordinal = LAST;
     publish(&rt, &mut topic, 3);
-    let _ = topic.apply(&subscribing(&rt, Kind::Shared, 1));
+    tell(&mut topic, subscribing(&rt, Kind::Shared, 1));
     let first = position_at(0);
     let second = position_at(1);
     assert!(rt; fate_of(&rt, &mut topic, first) == Fate::Released(first));
@@ -52,21 +56,21 @@ fn the_last_ordinal_is_given_once(rt: HostRuntime) {
 
 fn check_refused<R: Abort>(rt: &R, topic: &mut PlainTopic, events: &[(Event, u8)]) {
     for (event, number) in events {
-        assert_eq!(rt; fault_number(&topic.apply(event)), *number);
+        assert_eq!(rt; fault_of(topic, event), *number);
     }
 }
 
 #[test]
 fn a_kind_is_looked_at_before_the_counter(rt: HostRuntime) {
     let mut topic = new_topic(&rt);
-    let _ = topic.apply(&subscribing(&rt, Kind::Exclusive, 0));
+    tell(&mut topic, subscribing(&rt, Kind::Exclusive, 0));
     topic.next_consumer = 1 << 63;
     let events = [
         (subscribing(&rt, Kind::Shared, 0), 5),
         (subscribing(&rt, Kind::Exclusive, 0), 6),
     ];
     check_refused(&rt, &mut topic, &events);
-    let _ = topic.apply(&Event::Leave { consumer: 1 });
+    tell(&mut topic, Event::Leave { consumer: 1 });
     check_refused(&rt, &mut topic, &[(subscribing(&rt, Kind::Shared, 0), 7)])
 }
 
@@ -92,5 +96,5 @@ fn a_duplicate_is_told_before_a_full_log(rt: HostRuntime) {
     topic.ledger = (1 << 62) + 1;
     let again = topic.apply(&publishing(&rt, 1, 0));
     assert!(rt; matches!(&again, Reply::Duplicate { length: 1 }));
-    assert_eq!(rt; fault_number(&topic.apply(&publishing(&rt, 1, 1))), 4);
+    assert_eq!(rt; fault_of(&mut topic, &publishing(&rt, 1, 1)), 4);
 }

@@ -91,17 +91,27 @@ pub(super) fn ticking<R: Abort + AllocGlobal>(rt: &R) -> Event {
     }
 }
 
+/// Tells the topic of the event, whatever it answers.
+pub(super) fn tell(topic: &mut PlainTopic, event: Event) {
+    let _ = topic.apply(&event);
+}
+
+/// The number of the refusal that the event is answered with; 0 where there is none.
+pub(super) fn fault_of(topic: &mut PlainTopic, event: &Event) -> u8 {
+    fault_number(&topic.apply(event))
+}
+
 /// A producer publishes so many messages, which are stored.
 pub(super) fn publish<R: Abort + AllocGlobal>(rt: &R, topic: &mut PlainTopic, count: u8) {
-    let _ = topic.apply(&connecting(rt, "p"));
+    tell(topic, connecting(rt, "p"));
     for sequence in 0..count {
-        let _ = topic.apply(&publishing(rt, 1, i64::from(sequence)));
+        tell(topic, publishing(rt, 1, i64::from(sequence)));
     }
-    let _ = topic.apply(&Event::Stored);
+    tell(topic, Event::Stored);
 }
 
 /// The number of the refusal; 0 where there is none.
-pub(super) fn fault_number(reply: &Reply) -> u8 {
+fn fault_number(reply: &Reply) -> u8 {
     match reply {
         Reply::Refused(fault) => fault.number(),
         _ => 0,

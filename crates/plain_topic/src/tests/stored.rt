@@ -1,5 +1,5 @@
 // Storing what a snapshot had: so many messages, and none of those that came after it.
-use super::scene::{connecting, new_topic, publishing};
+use super::scene::{connecting, new_topic, publishing, tell};
 use crate::PlainTopic;
 use delivery_machine::{Event, Reply, Topic};
 use std::process::Abort;
@@ -15,9 +15,9 @@ fn durable_after<R: Abort>(rt: &R, topic: &mut PlainTopic, length: u64) -> u64 {
 #[test]
 fn so_many_messages_are_stored_and_no_fewer(rt: HostRuntime) {
     let mut topic = new_topic(&rt);
-    let _ = topic.apply(&connecting(&rt, "p"));
+    tell(&mut topic, connecting(&rt, "p"));
     for sequence in 0..2 {
-        let _ = topic.apply(&publishing(&rt, 1, sequence));
+        tell(&mut topic, publishing(&rt, 1, sequence));
     }
     assert_eq!(rt; durable_after(&rt, &mut topic, 1), 1);
     assert_eq!(rt; durable_after(&rt, &mut topic, 0), 1);
