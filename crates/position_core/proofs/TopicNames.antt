@@ -1,6 +1,7 @@
 -- How the text of a topic's name splits: a name has no `/`, so there is one way.
-use Rattle.std.proofs.Common.{rules, tests, ◌≡◌, ℕ, ◌<◌, Bool, true, false, List, [], ◌∷◌, ◌++◌, length, get_or, Option, Some, None, Bor, IsTrue, IsSomeAnd, MatchOption, refl, sym, ◌∙◌, ap, lit<, true≢false}
-use Rattle.std.specs.Prelude.{◌≢◌, ◌||◌}
+use Rattle.std.proofs.Common.{rules, tests, ◌≡◌, ℕ, ◌<◌, Bool, true, false, List, [], ◌∷◌, ◌++◌, length, get_or, Option, Some, None, Bor, IsTrue, IsSomeAnd, MatchOption, IfOk, IfNone, refl, sym, ◌∙◌, ap, lit<, true≢false}
+use Rattle.std.specs.Prelude.{◌≢◌, ◌||◌, ◌&&◌, Result, Ok, Err}
+use Rattle.std.specs.declared.alloc.AllocError.{AllocError}
 use Rattle.std.specs.List.{list_any}
 use Rattle.std.specs.Str.Pattern.{FindsTextPrefix, StripsPrefix}
 use Rattle.std.proofs.Math.Seq.{drop-append_seam}
@@ -9,7 +10,7 @@ use Rattle.std.proofs.lemmas.Str.Pattern.{IsSplitOnceResult, split_after}
 use Rattle.std.proofs.lemmas.Bool.{false≢true}
 use Rattle.position_core.specs.declared.topic_name.TopicName.{TopicName}
 use Rattle.position_core.specs.Name.{is_name, is_barred}
-use Rattle.position_core.specs.TopicName.{scheme, topic_text}
+use Rattle.position_core.specs.TopicName.{scheme, text_of_parts, topic_text, topic_of}
 
 none_barred : (name : List ℕ) → IsTrue (is_name name) → list_any is_barred name ≡ false
 none_barred name h = search (rules, tests)
@@ -61,3 +62,19 @@ one_topic s t tenant_s namespace_s tenant_t namespace_t e =
     let first = parts_same s.tenant t.tenant _ _ (none_barred s.tenant tenant_s) (none_barred t.tenant tenant_t) (after_scheme _ _ e) in
     let second = parts_same s.namespace t.namespace s.topic t.topic (none_barred s.namespace namespace_s) (none_barred t.namespace namespace_t) first.1 in
     topic_is t s.tenant s.namespace s.topic first.0 second.0 second.1
+
+named_is_some : (t : TopicName) → IsTrue (is_name t.tenant) → IsTrue (is_name t.namespace) → IsTrue (is_name t.topic) → topic_of t.tenant t.namespace t.topic ≡ Some t
+named_is_some t a b d = rw (a, b, d) refl
+
+-- three texts that are no names are the parts of no topic's text
+pub all_named : (bs tenant namespace topic : List ℕ) (r : Result (Option TopicName) AllocError) → IfOk r (λ found. found ≡ topic_of tenant namespace topic)
+    → ((t n p : List ℕ) → IsTrue (is_name t) → IsTrue (is_name n) → bs ≡ text_of_parts t n p → (tenant ≡ t) × (namespace ≡ n) × (topic ≡ p))
+    → IfOk r (λ found. IfNone found ((name : TopicName) → IsTrue (is_name name.tenant) → IsTrue (is_name name.namespace) → IsTrue (is_name name.topic) → bs ≡ topic_text name → ⊥))
+all_named bs tenant namespace topic (Err e) found parted = search rules
+all_named bs tenant namespace topic (Ok (Some name)) found parted = search rules
+all_named bs tenant namespace topic (Ok None) found parted =
+    λ name t n p e.
+    let same = parted name.tenant name.namespace name.topic t n e in
+    let some = named_is_some name t n p in
+    let none : None ≡ topic_of name.tenant name.namespace name.topic = rw (same.0, same.1, same.2) at found in
+    cc (none, some)

@@ -1,9 +1,9 @@
 // Topics' names and their texts.
-ghost use Rattle.std.specs.Prelude.{◌≡◌, ℕ, List, ◌∷◌, ◌++◌, IsTrue, IfSome, IsSomeAnd};
+ghost use Rattle.std.specs.Prelude.{◌≡◌, ℕ, List, ◌∷◌, ◌++◌, IsTrue, IfOk, IfSome, IsSomeAnd, string_bytes};
 ghost use Rattle.position_core.specs.Name.{is_name};
-ghost use Rattle.position_core.specs.TopicName.{scheme, text_of_parts};
+ghost use Rattle.position_core.specs.TopicName.{dead_letter_name, scheme, text_of_parts};
 
-use crate::name::Name;
+use crate::name::{Name, SubscriptionName};
 use std::alloc::{AllocError, Global};
 
 /// A topic's name: `persistent://tenant/namespace/topic`.
@@ -39,10 +39,25 @@ fn parts_of(text: &str) -> Option<(&str, &str, &str)>
     Some((tenant, namespace, topic))
 }
 
+fn dead_letter_name(
+    alloc: Global,
+    topic: &Name,
+    subscription: &SubscriptionName,
+) -> Result<String, AllocError>
+    ensures { IfOk result (λ text. string_bytes text ≡ dead_letter_name topic.now subscription.now) }
+{
+    let mut text = String::new(alloc);
+    text.push_str(topic.as_str())?;
+    text.push_str("-")?;
+    text.push_str(subscription.as_str())?;
+    text.push_str("-DLQ")?;
+    Ok(text)
+}
+
 impl TopicName {
     ghost use Rattle.std.specs.Prelude.{◌≡◌, IsTrue, IfOk, IfSome, IfNone};
     ghost use Rattle.position_core.specs.Name.{is_name};
-    ghost use Rattle.position_core.specs.TopicName.{topic_text, same_topic};
+    ghost use Rattle.position_core.specs.TopicName.{topic_of, topic_text, same_topic, dead_letter_default};
     ghost use Rattle.position_core.specs.declared.topic_name.TopicName.{TopicName};
 
     /// The topic's name that the text is, where it is one.
@@ -50,9 +65,21 @@ impl TopicName {
         ensures read { IfOk result (λ found. IfSome found (λ name. text.now ≡ topic_text name)) }
         ensures all_read { IfOk result (λ found. IfNone found ((name : TopicName) → IsTrue (is_name name.tenant) → IsTrue (is_name name.namespace) → IsTrue (is_name name.topic) → text.now ≡ topic_text name → ⊥)) }
     {
-        let Some((tenant, namespace, topic)) = parts_of(text) else {
-            return Ok(None);
-        };
+        match parts_of(text) {
+            Some((tenant, namespace, topic)) => Self::from_names(alloc, tenant, namespace, topic),
+            None => Ok(None),
+        }
+    }
+
+    /// The topic of three texts, where they are names.
+    pub fn from_names(
+        alloc: Global,
+        tenant: &str,
+        namespace: &str,
+        topic: &str,
+    ) -> Result<Option<TopicName>, AllocError>
+        ensures { IfOk result (λ found. found ≡ topic_of tenant.now namespace.now topic.now) }
+    {
         let Some(tenant) = Name::from_text(alloc, tenant)? else {
             return Ok(None);
         };
@@ -65,6 +92,26 @@ impl TopicName {
         Ok(Some(TopicName {
             tenant,
             namespace,
+            topic,
+        }))
+    }
+
+    /// The topic beside this one that messages go to which die in the subscription, where none was named.
+    /// None where its name would be too long.
+    pub fn dead_letter_default(
+        &self,
+        alloc: Global,
+        subscription: &SubscriptionName,
+    ) -> Result<Option<TopicName>, AllocError>
+        ensures { IfOk result (λ found. found ≡ dead_letter_default self.now subscription.now) }
+    {
+        let text = dead_letter_name(alloc, &self.topic, subscription)?;
+        let Some(topic) = Name::from_text(alloc, text.as_str())? else {
+            return Ok(None);
+        };
+        Ok(Some(TopicName {
+            tenant: self.tenant.clone()?,
+            namespace: self.namespace.clone()?,
             topic,
         }))
     }

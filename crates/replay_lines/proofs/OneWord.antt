@@ -189,7 +189,7 @@ one_target word None None is_s is_t = refl
 
 one_unsaid : (this : TopicName) (subscription : List ℕ) (limit : ℕ) (s t : TopicName) → IsUnsaidTopic this subscription limit s → IsUnsaidTopic this subscription limit t → s ≡ t
 one_unsaid this subscription zero s t is_s is_t = is_s ∙ sym is_t
-one_unsaid this subscription (suc limit) s t is_s is_t = is_s.0 ∙ sym is_t.0
+one_unsaid this subscription (suc limit) s t is_s is_t = cc (is_s, is_t)
 
 one_topic_word : (word : List ℕ) (s t : TopicName) → IsTopicWord word s → IsTopicWord word t → s ≡ t
 one_topic_word word s t is_s is_t = one_topic s t is_s.1.0 is_s.1.1 is_t.1.0 is_t.1.1 (one_text word (topic_text s) (topic_text t) is_s.0 is_t.0)

@@ -1,8 +1,8 @@
 -- Words that are names and keys, which are percent-decoded.
-use Rattle.std.specs.Prelude.{◌≡◌, ℕ, zero, suc, ◌≤◌, List, ◌++◌, length, Option, Some, None, ◌⊎◌, IsTrue, IsUtf8, codes}
+use Rattle.std.specs.Prelude.{◌≡◌, ℕ, zero, suc, ◌≤◌, List, length, Option, Some, None, ◌⊎◌, IsTrue, IsUtf8, codes}
 use Rattle.percent_encoding.specs.Percent.{percent_decode}
 use Rattle.position_core.specs.Name.{is_name}
-use Rattle.position_core.specs.TopicName.{topic_text}
+use Rattle.position_core.specs.TopicName.{topic_text, dead_letter_default}
 use Rattle.position_core.specs.declared.topic_name.TopicName.{TopicName}
 
 -- the text that a word stands for; `-` stands for none
@@ -26,18 +26,10 @@ AreNames name = IsTrue (is_name name.tenant) × IsTrue (is_name name.namespace) 
 abbrev pub IsTopicWord : List ℕ → TopicName → Type 0
 IsTopicWord word name = IsText word (topic_text name) × AreNames name
 
--- where the subscription's messages go that die, if nothing else is said
-abbrev pub default_topic : TopicName → List ℕ → TopicName
-default_topic this subscription = record this { topic = this.topic ++ codes "-" ++ subscription ++ codes "-DLQ" }
-
--- the default is a topic only where its name is one
-abbrev pub IsDefaultTopic : TopicName → List ℕ → TopicName → Type 0
-IsDefaultTopic this subscription name = (name ≡ default_topic this subscription) × IsTrue (is_name name.topic)
-
 -- what `-` stands for: the topic itself where no message dies, and else the default
 abbrev pub IsUnsaidTopic : TopicName → List ℕ → ℕ → TopicName → Type 0
 IsUnsaidTopic this subscription zero name = name ≡ this
-IsUnsaidTopic this subscription (suc limit) name = IsDefaultTopic this subscription name
+IsUnsaidTopic this subscription (suc limit) name = dead_letter_default this subscription ≡ Some name
 
 unfoldable pub IsDeadTopic : TopicName → List ℕ → ℕ → List ℕ → TopicName → Type 0
 IsDeadTopic this subscription limit word name =

@@ -1,8 +1,9 @@
 // The lines of dead letters, and the topics that they go to.
-ghost use Rattle.std.specs.Prelude.{string_bytes, ◌≡◌, ◌++◌, IfOk, codes};
+ghost use Rattle.std.specs.Prelude.{◌≡◌, Some};
+ghost use Rattle.position_core.specs.TopicName.{dead_letter_default};
 ghost use Rattle.position_core.specs.declared.topic_name.TopicName.{TopicName};
 ghost use Rattle.replay_lines.specs.Reads.{Reads};
-ghost use Rattle.replay_lines.specs.Names.{IsDeadTopic, IsDefaultTopic};
+ghost use Rattle.replay_lines.specs.Names.{IsDeadTopic};
 ghost use Rattle.replay_lines.specs.Grammar.{Complete, IsDeath};
 
 use crate::command::Command;
@@ -11,40 +12,20 @@ use crate::numbers::{read_bounded, read_number};
 use crate::reading::Line;
 use crate::words::{Unread, Words, is_none};
 use delivery_machine::Event;
-use position_core::{Name, RedeliverLimit, SubscriptionName, TopicName};
-use std::alloc::{AllocError, Global};
-
-fn default_text(
-    alloc: Global,
-    topic: &Name,
-    subscription: &SubscriptionName,
-) -> Result<String, AllocError>
-    ensures { IfOk result (λ text. string_bytes text ≡ topic.now ++ codes "-" ++ subscription.now ++ codes "-DLQ") }
-{
-    let mut text = String::new(alloc);
-    text.push_str(topic.as_str())?;
-    text.push_str("-")?;
-    text.push_str(subscription.as_str())?;
-    text.push_str("-DLQ")?;
-    Ok(text)
-}
+use position_core::{RedeliverLimit, SubscriptionName, TopicName};
+use std::alloc::Global;
 
 fn default_topic(
     alloc: Global,
     this: &TopicName,
     subscription: &SubscriptionName,
 ) -> Result<TopicName, Unread>
-    ensures { Reads (IsDefaultTopic this.now subscription.now) result }
+    ensures { Reads (λ name. dead_letter_default this.now subscription.now ≡ Some name) result }
 {
-    let text = default_text(alloc, &this.topic, subscription)?;
-    let Some(topic) = Name::from_text(alloc, text.as_str())? else {
-        return Err(Unread::BadLine);
-    };
-    Ok(TopicName {
-        tenant: this.tenant.clone()?,
-        namespace: this.namespace.clone()?,
-        topic,
-    })
+    match this.dead_letter_default(alloc, subscription)? {
+        Some(topic) => Ok(topic),
+        None => Err(Unread::BadLine),
+    }
 }
 
 /// The topic that the subscription's messages go to that die. A word of `-` is `this` where none dies, and

@@ -1,14 +1,18 @@
 // What the proofs do not see: texts from outside, and that calls with memory succeed.
+mod admins;
 mod answers;
+mod commands;
 mod deliveries;
 mod grammar;
 mod limits;
 mod lines;
 mod publishes;
+mod routes;
+mod statistics;
 
-use position_core::Fault;
+use position_core::{Content, Fault};
 use std::process::Abort;
-use wire_json::{BadPublish, PublishRequest, SendError, error_text, read_publish};
+use wire_json::{PublishReading, SendError, error_text, read_publish};
 
 fn push<R: Abort>(rt: &R, out: &mut String, part: &str) {
     out.push_str(part).expect(rt, "no memory");
@@ -36,35 +40,27 @@ fn repeated<R: Abort + AllocGlobal>(rt: &R, part: &str, count: usize) -> String 
 }
 
 /// What a text says.
-fn read<R: Abort + AllocGlobal>(rt: &R, text: &[u8]) -> Result<PublishRequest, BadPublish> {
-    let read = read_publish(rt.alloc(), text);
-    if let Err(unpublished) = &read {
-        assert!(rt; unpublished.fault != Fault::NoMemory);
-    }
-    read
+fn read<R: Abort + AllocGlobal>(rt: &R, text: &[u8]) -> PublishReading {
+    read_publish(rt.alloc(), text).expect(rt, "no memory")
 }
 
 /// The fault of a text, where it is refused.
 fn fault<R: Abort + AllocGlobal>(rt: &R, text: &[u8]) -> Option<Fault> {
-    match &read(rt, text) {
+    match &read(rt, text).content {
         Ok(_) => None,
-        Err(unpublished) => Some(unpublished.fault),
+        Err(fault) => Some(*fault),
     }
 }
 
-/// What a text says: its context, its key, its payload and its properties, with `-` for none.
-fn shown<R: Abort + AllocGlobal>(rt: &R, published: &PublishRequest) -> String {
-    let content = &published.content;
-    let context = match &published.context {
-        Some(context) => context.as_str(),
-        None => "-",
-    };
+/// What a content is: its key, its payload and its properties, with `-` for none.
+fn shown<R: Abort + AllocGlobal>(rt: &R, context: Option<&str>, content: &Content) -> String {
     let key = match &content.key {
         Some(key) => key.as_str(),
         None => "-",
     };
     let payload = std::str::from_utf8(content.payload.as_slice()).expect(rt, "no text");
-    let mut out = joined(rt, &[context, " ", key, " '", payload, "'"]);
+    let parts = [context.unwrap_or("-"), " ", key, " '", payload, "'"];
+    let mut out = joined(rt, &parts);
     for (name, value) in content.properties.as_map().iter() {
         push(rt, &mut out, " ");
         push(rt, &mut out, name.as_str());
@@ -75,20 +71,23 @@ fn shown<R: Abort + AllocGlobal>(rt: &R, published: &PublishRequest) -> String {
 }
 
 /// The text that answers a refusal.
-fn refused<R: Abort + AllocGlobal>(rt: &R, unpublished: &BadPublish) -> String {
-    let error = SendError::of_fault(unpublished.fault).expect(rt, "no error");
-    let context = match &unpublished.context {
-        Some(context) => Some(context.as_str()),
-        None => None,
-    };
-    error_text(rt.alloc(), context, error).expect(rt, "no memory")
+fn refused<R: Abort + AllocGlobal>(rt: &R, context: Option<&str>, fault: Fault) -> String {
+    let error = SendError::of_fault(fault).expect(rt, "no error");
+    let mut out = joined(rt, &["what stood before"]);
+    error_text(&mut out, context, error).expect(rt, "no memory");
+    out
 }
 
 /// What a text says, or the text that answers its refusal.
 fn answer<R: Abort + AllocGlobal>(rt: &R, text: &str) -> String {
-    match &read(rt, text.as_bytes()) {
-        Ok(published) => shown(rt, published),
-        Err(unpublished) => refused(rt, unpublished),
+    let reading = read(rt, text.as_bytes());
+    let context = match &reading.context {
+        Some(context) => Some(context.as_str()),
+        None => None,
+    };
+    match &reading.content {
+        Ok(content) => shown(rt, context, content),
+        Err(fault) => refused(rt, context, *fault),
     }
 }
 

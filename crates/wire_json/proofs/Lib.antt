@@ -1,12 +1,3 @@
-pub mod Appends
-pub mod Base64
-pub mod Calendar
-pub mod Contents
-pub mod Escapes
 pub mod Ids
-pub mod Objects
-pub mod Pairs
-pub mod PlainTimes
-pub mod Properties
-pub mod Sent
-pub mod Written
+pub mod PlainTexts
+pub mod Returns

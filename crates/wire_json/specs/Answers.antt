@@ -1,7 +1,8 @@
 -- What a producer is answered.
-use Rattle.std.specs.Prelude.{ℕ, List, [], ◌++◌, Option, Some, None, codes}
+use Rattle.std.specs.Prelude.{ℕ, List, [], ◌∷◌, ◌++◌, Option, Some, None, codes}
 use Rattle.std.specs.Fmt.{decimal}
-use Rattle.json.specs.Print.{quoted}
+use Rattle.json.specs.Json.{Json, string}
+use Rattle.json_values.specs.Written.{object_text}
 use Rattle.position_core.specs.declared.position.Position.{Position}
 use Rattle.position_core.specs.declared.fault.Fault.{Fault}
 use Rattle.position_core.specs.declared.fault.Fault.TheVariants.{BadJson, BadPayload, NoMemory, TopicFull}
@@ -39,29 +40,33 @@ of_fault NoMemory = Some Unknown
 of_fault TopicFull = Some Unknown
 of_fault fault = None
 
--- Each field but the last is followed by a comma.
-
--- where the request had a context
-abbrev pub context_field : Option (List ℕ) → List ℕ
+-- the context, where the request had one
+abbrev pub context_field : Option (List ℕ) → List (List ℕ × Json)
 context_field None = []
-context_field (Some context) = codes "\"context\":" ++ quoted context ++ codes ","
+context_field (Some context) = (codes "context", string context) ∷ []
 
 -- the id of the message
-abbrev pub id_field : Position → List ℕ
-id_field position = codes "\"messageId\":\"" ++ text_of position ++ codes "\","
+abbrev pub id_field : Position → List ℕ × Json
+id_field position = (codes "messageId", string (text_of position))
 
 -- the publish was taken, and has the id
+abbrev pub ok_fields : Option (List ℕ) → Position → List (List ℕ × Json)
+ok_fields context id = context_field context ++ id_field id ∷ (codes "result", string (codes "ok")) ∷ []
+
 abbrev pub ok_text : Option (List ℕ) → Position → List ℕ
-ok_text context id = codes "{" ++ context_field context ++ id_field id ++ codes "\"result\":\"ok\"}"
+ok_text context id = object_text (ok_fields context id)
 
 -- what the error says
-abbrev pub message_field : List ℕ → List ℕ
-message_field message = codes "\"errorMsg\":\"" ++ message ++ codes "\","
+abbrev pub message_field : SendError → List ℕ × Json
+message_field error = (codes "errorMsg", string (message_of error))
 
 -- the error's number
-abbrev pub number_field : SendError → List ℕ
-number_field error = codes "\"result\":\"send-error:" ++ decimal (number_of error) ++ codes "\""
+abbrev pub result_field : SendError → List ℕ × Json
+result_field error = (codes "result", string (codes "send-error:" ++ decimal (number_of error)))
 
 -- the publish was refused
+abbrev pub error_fields : Option (List ℕ) → SendError → List (List ℕ × Json)
+error_fields context error = context_field context ++ message_field error ∷ result_field error ∷ []
+
 abbrev pub error_text : Option (List ℕ) → SendError → List ℕ
-error_text context error = codes "{" ++ context_field context ++ message_field (message_of error) ++ number_field error ++ codes "}"
+error_text context error = object_text (error_fields context error)

@@ -1,51 +1,47 @@
 -- What a consumer is sent.
-use Rattle.std.specs.Prelude.{◌≡◌, ℕ, List, [], ◌∷◌, ◌++◌, flat_map, Option, Some, None, codes}
+use Rattle.std.specs.Prelude.{◌≡◌, ℕ, List, [], ◌∷◌, ◌++◌, map, Option, Some, None, codes}
 use Rattle.std.specs.Fmt.{decimal}
 use Rattle.base64.specs.GeneralPurpose.{encode_of}
 use Rattle.base64.specs.Engines.{standard}
-use Rattle.json.specs.Print.{quoted}
+use Rattle.json.specs.Json.{Json, number, string}
 use Rattle.position_core.specs.declared.message.Entry.{Entry}
+use Rattle.json_values.specs.Times.{IsTimeText}
+use Rattle.json_values.specs.Written.{object_text, object_with}
 use Rattle.wire_json.specs.Answers.{id_field}
-use Rattle.wire_json.specs.Times.{IsTimeText}
 
--- Each field but the last is followed by a comma.
-
--- where the message has a key
-abbrev pub key_field : Option (List ℕ) → List ℕ
+-- the key, where the message has one
+abbrev pub key_field : Option (List ℕ) → List (List ℕ × Json)
 key_field None = []
-key_field (Some key) = codes "\"key\":" ++ quoted key ++ codes ","
+key_field (Some key) = (codes "key", string key) ∷ []
 
 -- the bytes in base64
-abbrev pub payload_field : List ℕ → List ℕ
-payload_field payload = codes "\"payload\":\"" ++ encode_of standard payload ++ codes "\","
+abbrev pub payload_field : List ℕ → List ℕ × Json
+payload_field payload = (codes "payload", string (encode_of standard payload))
 
--- a property's name and its value
-abbrev pub property_text : List ℕ × List ℕ → List ℕ
-property_text property = quoted property.0 ++ codes ":" ++ quoted property.1
+-- a property's value under its name
+abbrev pub property_field : List ℕ × List ℕ → List ℕ × Json
+property_field property = (property.0, string property.1)
 
--- each property, with a comma before all but the first
-abbrev pub properties_text : List (List ℕ × List ℕ) → List ℕ
-properties_text [] = []
-properties_text (first ∷ others) = property_text first ++ flat_map (λ other. codes "," ++ property_text other) others
+abbrev pub property_fields : List (List ℕ × List ℕ) → List (List ℕ × Json)
+property_fields properties = map property_field properties
 
--- the properties
-abbrev pub properties_field : List (List ℕ × List ℕ) → List ℕ
-properties_field properties = codes "\"properties\":{" ++ properties_text properties ++ codes "},"
+abbrev pub properties_field : List (List ℕ × List ℕ) → List ℕ × Json
+properties_field properties = (codes "properties", object_with (property_fields properties))
 
 -- the moment, as it is written
-abbrev pub time_field : List ℕ → List ℕ
-time_field time = codes "\"publishTime\":\"" ++ time ++ codes "\","
+abbrev pub time_field : List ℕ → List ℕ × Json
+time_field time = (codes "publishTime", string time)
 
 -- how often the message was redelivered
-abbrev pub count_field : ℕ → List ℕ
-count_field count = codes "\"redeliveryCount\":" ++ decimal count
+abbrev pub count_field : ℕ → List ℕ × Json
+count_field count = (codes "redeliveryCount", number (decimal count))
 
 -- the message with a text for its time
-abbrev pub delivery_with : List ℕ → Entry → ℕ → List ℕ
-delivery_with time message count =
-    codes "{" ++ key_field message.body.key ++ id_field message.position ++ payload_field message.body.payload
-    ++ properties_field message.body.properties ++ time_field time ++ count_field count ++ codes "}"
+abbrev pub delivery_fields : List ℕ → Entry → ℕ → List (List ℕ × Json)
+delivery_fields time message count =
+    key_field message.body.key
+    ++ id_field message.position ∷ payload_field message.body.payload ∷ properties_field message.body.properties ∷ time_field time ∷ count_field count ∷ []
 
 -- the text of the delivery
 abbrev pub IsDelivery : Entry → ℕ → List ℕ → Type 0
-IsDelivery message count text = (time : List ℕ) × IsTimeText message.time time × (text ≡ delivery_with time message count)
+IsDelivery message count text = (time : List ℕ) × IsTimeText message.time time × (text ≡ object_text (delivery_fields time message count))

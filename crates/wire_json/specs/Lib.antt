@@ -1,7 +1,8 @@
+pub mod Admins
 pub mod Answers
-pub mod Escapes
-pub mod Times
+pub mod Commands
 pub mod Deliveries
-pub mod Fields
-pub mod Publishes
+pub mod Ids
 pub mod Laws
+pub mod Publishes
+pub mod Statistics

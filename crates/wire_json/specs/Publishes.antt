@@ -1,33 +1,18 @@
 -- What a producer's text stands for.
-use Rattle.std.specs.Prelude.{◌≡◌, ℕ, List, [], length, nat_le, ◌&&◌, ◌⊎◌, if◌then◌else◌, Option, Some, None, is_some, option_and_then, ok_or, codes, Result, Ok, Err}
-use Rattle.std.specs.Option.{option_or}
-use Rattle.std.specs.Str.{is_utf8}
-use Rattle.base64.specs.GeneralPurpose.{decoded_of}
-use Rattle.base64.specs.Engines.{standard, standard_no_pad}
+use Rattle.std.specs.Prelude.{ℕ, List, [], length, nat_le, if◌then◌else◌, Option, Some, None, option_and_then, ok_or, codes, Result, Ok, Err}
 use Rattle.serde_json.specs.Data.{Data}
-use Rattle.serde_json.specs.Find.{get, as_str, as_object}
-use Rattle.serde_json.specs.Read.{read}
+use Rattle.serde_json.specs.Find.{get}
 use Rattle.position_core.specs.declared.body.Content.{Content}
 use Rattle.position_core.specs.declared.fault.Fault.{Fault}
-use Rattle.position_core.specs.declared.fault.Fault.TheVariants.{BadJson, BadPayload, NoMemory}
-use Rattle.wire_json.specs.Fields.{word_of, short_text, said_at, optional, said_or, properties_of}
+use Rattle.position_core.specs.declared.fault.Fault.TheVariants.{BadJson, BadPayload}
+use Rattle.json_values.specs.Bytes.{bytes_of}
+use Rattle.json_values.specs.Fields.{word_of, short_text, said_at, optional, said_or, properties_of}
+use Rattle.json_values.specs.Objects.{object_of, text_at}
 
 -- what a text says: its context, where it has one, and the content or why it is refused
 pub record Reading : Type 0 where
   pub context : Option (List ℕ)
   pub content : Result Content Fault
-
--- a value that is an object
-abbrev pub if_object : Data → Option Data
-if_object d = if is_some (as_object d) then Some d else None
-
--- the object that a text of at most 2,097,152 bytes is
-abbrev pub object_of : List ℕ → Option Data
-object_of text = if nat_le (length text) 2097152 && is_utf8 text then option_and_then if_object (read text) else None
-
--- the bytes whose base64 the text is, with all its padding or none
-abbrev pub bytes_of : List ℕ → Option (List ℕ)
-bytes_of text = option_or (decoded_of standard text) (decoded_of standard_no_pad text)
 
 -- at most 1,048,576 bytes
 abbrev pub fitting_payload : List ℕ → Option (List ℕ)
@@ -40,7 +25,7 @@ payload_from (Some text) = ok_or (option_and_then fitting_payload (bytes_of text
 
 -- the payload of the object
 abbrev pub payload_in : Data → Result (List ℕ) Fault
-payload_in d = payload_from (option_and_then as_str (get (codes "payload") d))
+payload_in d = payload_from (text_at (codes "payload") d)
 
 -- its key, of at most 1,024 bytes
 abbrev pub key_in : Data → Result (Option (List ℕ)) Fault
@@ -78,8 +63,3 @@ reading_of (Some d) = reading_with (context_in d) (content_in d)
 -- what the text says
 abbrev pub publish_of : List ℕ → Reading
 publish_of text = reading_of (object_of text)
-
--- a refusal is the one that is meant, with the context; out of memory, the context is there as far as it was read
-abbrev pub IsRefusal : Reading → Option (List ℕ) → Fault → Type 0
-IsRefusal reading context NoMemory = (context ≡ None) ⊎ (context ≡ reading.context)
-IsRefusal reading context fault = (context ≡ reading.context) × (reading.content ≡ Err fault)

@@ -1,11 +1,11 @@
 // What a producer is answered.
-ghost use Rattle.std.specs.Prelude.{◌≡◌, ◌++◌, IfOk, OnOk, option_copied, string_bytes};
-ghost use Rattle.wire_json.specs.Answers.{context_field, id_field, error_text, message_field, message_of, number_field, number_of, of_fault, ok_text};
+ghost use Rattle.std.specs.Prelude.{◌≡◌, [], ◌∷◌, ◌++◌, codes, OnOk, option_copied, string_bytes};
+ghost use Rattle.json_values.specs.Written.{field_text, leading};
+ghost use Rattle.wire_json.specs.Answers.{context_field, error_text, id_field, message_field, message_of, number_of, of_fault, ok_text, result_field};
 
-use crate::numbers::push_decimal;
-use crate::quoting::{push_quoted, room_for};
+use json_values::{push_decimal, push_quoted, room_for};
 use position_core::{Fault, Position};
-use std::alloc::{AllocError, Global};
+use std::alloc::AllocError;
 
 /// How many bytes an answer has beside its context at most.
 const MOST_BESIDE_CONTEXT: usize = 128;
@@ -69,6 +69,14 @@ impl SendError {
     }
 }
 
+/// Empties the buffer and takes room for a text at once.
+pub(crate) fn begin(out: &mut String, room: usize) -> Result<(), AllocError>
+    ensures { OnOk result (string_bytes out.new ≡ []) }
+{
+    out.clear();
+    out.reserve(room)
+}
+
 fn room_for_context(context: Option<&str>) -> usize {
     match context {
         Some(context) => room_for(context).saturating_add(11),
@@ -77,69 +85,77 @@ fn room_for_context(context: Option<&str>) -> usize {
 }
 
 fn push_context(out: &mut String, context: Option<&str>) -> Result<(), AllocError>
-    ensures { OnOk result (string_bytes out.new ≡ string_bytes out.old ++ context_field (option_copied context.entry)) }
+    ensures { OnOk result (string_bytes out.new ≡ string_bytes out.old ++ leading (context_field (option_copied context.entry))) }
 {
     let Some(context) = context else {
         return Ok(());
     };
     out.push_str("\"context\":")?;
     push_quoted(out, context)?;
-    out.push_str(",")
+    out.push_str(",")?;
+    Ok(())
 }
 
 /// Appends a message's id, and a comma.
 pub(crate) fn push_id(out: &mut String, id: Position) -> Result<(), AllocError>
-    ensures { OnOk result (string_bytes out.new ≡ string_bytes out.old ++ id_field id) }
+    ensures { OnOk result (string_bytes out.new ≡ string_bytes out.old ++ leading (id_field id ∷ [])) }
 {
     out.push_str("\"messageId\":\"")?;
     id.append_text(out)?;
-    out.push_str("\",")
-}
-
-/// What a producer is answered when its publish was taken.
-pub fn ok_text(alloc: Global, context: Option<&str>, id: Position) -> Result<String, AllocError>
-    ensures { IfOk result (λ text. string_bytes text ≡ ok_text (option_copied context.entry) id) }
-{
-    let room = room_for_context(context).saturating_add(MOST_BESIDE_CONTEXT);
-    let mut out = String::with_capacity(alloc, room)?;
-    out.push_str("{")?;
-    push_context(&mut out, context)?;
-    push_id(&mut out, id)?;
-    out.push_str("\"result\":\"ok\"}")?;
-    Ok(out)
-}
-
-fn push_message(out: &mut String, message: &str) -> Result<(), AllocError>
-    ensures { OnOk result (string_bytes out.new ≡ string_bytes out.old ++ message_field message.now) }
-{
-    out.push_str("\"errorMsg\":\"")?;
-    out.push_str(message)?;
     out.push_str("\",")?;
     Ok(())
 }
 
-fn push_number(out: &mut String, error: SendError) -> Result<(), AllocError>
-    ensures { OnOk result (string_bytes out.new ≡ string_bytes out.old ++ number_field error) }
+fn push_start(out: &mut String, context: Option<&str>) -> Result<(), AllocError>
+    ensures { OnOk result (string_bytes out.new ≡ codes "{" ++ leading (context_field (option_copied context.entry))) }
+{
+    begin(
+        out,
+        room_for_context(context).saturating_add(MOST_BESIDE_CONTEXT),
+    )?;
+    out.push_str("{")?;
+    push_context(out, context)
+}
+
+/// Writes what a producer is answered when its publish was taken, in place of what `out` holds.
+pub fn ok_text(out: &mut String, context: Option<&str>, id: Position) -> Result<(), AllocError>
+    ensures { OnOk result (string_bytes out.new ≡ ok_text (option_copied context.entry) id) }
+{
+    push_start(out, context)?;
+    push_id(out, id)?;
+    out.push_str("\"result\":\"ok\"}")?;
+    Ok(())
+}
+
+fn push_message(out: &mut String, error: SendError) -> Result<(), AllocError>
+    ensures { OnOk result (string_bytes out.new ≡ string_bytes out.old ++ leading (message_field error ∷ [])) }
+{
+    out.push_str("\"errorMsg\":\"")?;
+    out.push_str(error.message())?;
+    out.push_str("\",")?;
+    Ok(())
+}
+
+fn push_result(out: &mut String, error: SendError) -> Result<(), AllocError>
+    ensures { OnOk result (string_bytes out.new ≡ string_bytes out.old ++ field_text (result_field error)) }
 {
     out.push_str("\"result\":\"send-error:")?;
     push_decimal(out, u64::from(error.number()))?;
-    out.push_str("\"")
+    out.push_str("\"")?;
+    Ok(())
 }
 
-/// What a producer is answered when its publish was refused.
+/// Writes what a producer is answered when its publish was refused, in place of what `out` holds.
 pub fn error_text(
-    alloc: Global,
+    out: &mut String,
     context: Option<&str>,
     error: SendError,
-) -> Result<String, AllocError>
-    ensures { IfOk result (λ text. string_bytes text ≡ error_text (option_copied context.entry) error) }
+) -> Result<(), AllocError>
+    ensures { OnOk result (string_bytes out.new ≡ error_text (option_copied context.entry) error) }
 {
-    let room = room_for_context(context).saturating_add(MOST_BESIDE_CONTEXT);
-    let mut out = String::with_capacity(alloc, room)?;
-    out.push_str("{")?;
-    push_context(&mut out, context)?;
-    push_message(&mut out, error.message())?;
-    push_number(&mut out, error)?;
+    push_start(out, context)?;
+    push_message(out, error)?;
+    push_result(out, error)?;
     out.push_str("}")?;
-    Ok(out)
+    Ok(())
 }

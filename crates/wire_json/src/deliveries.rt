@@ -1,16 +1,15 @@
 // What a consumer is sent.
-ghost use Rattle.std.specs.Prelude.{◌≡◌, ℕ, List, [], ◌∷◌, ◌++◌, codes, if◌then◌else◌, IfOk, OnOk, string_bytes};
+ghost use Rattle.std.specs.Prelude.{◌≡◌, ℕ, List, [], ◌∷◌, ◌++◌, codes, if◌then◌else◌, OnOk, string_bytes};
 ghost use Rattle.position_core.specs.Properties.{pairs_of};
-ghost use Rattle.wire_json.specs.Deliveries.{IsDelivery, count_field, key_field, payload_field, properties_field, properties_text, property_text, time_field};
-ghost use Rattle.wire_json.specs.Times.{IsTimeText};
+ghost use Rattle.json_values.specs.Times.{IsTimeText};
+ghost use Rattle.json_values.specs.Written.{field_text, fields_text, leading};
+ghost use Rattle.wire_json.specs.Deliveries.{IsDelivery, count_field, key_field, payload_field, properties_field, property_field, property_fields, time_field};
 
-use crate::answers::push_id;
-use crate::numbers::push_decimal;
-use crate::quoting::{push_quoted, room_for};
-use crate::times::push_time;
+use crate::answers::{begin, push_id};
 use base64::engine::general_purpose::STANDARD;
+use json_values::{push_decimal, push_quoted, push_time, room_for};
 use position_core::{Content, Entry, Key, Moment, Properties};
-use std::alloc::{AllocError, Global};
+use std::alloc::AllocError;
 use std::collections::BTreeMap;
 
 /// How many bytes a delivery has beside its key, payload and properties at most.
@@ -38,14 +37,21 @@ fn room_for_delivery(content: &Content) -> usize {
 }
 
 fn push_key(out: &mut String, key: &Option<Key>) -> Result<(), AllocError>
-    ensures { OnOk result (string_bytes out.new ≡ string_bytes out.old ++ key_field key.now) }
+    ensures { OnOk result (string_bytes out.new ≡ string_bytes out.old ++ leading (key_field key.now)) }
 {
     let Some(key) = key else {
         return Ok(());
     };
     out.push_str("\"key\":")?;
     push_quoted(out, key.as_str())?;
-    out.push_str(",")
+    out.push_str(",")?;
+    Ok(())
+}
+
+fn push_comma(out: &mut String, is_first: bool) -> Result<(), AllocError>
+    ensures { OnOk result (string_bytes out.new ≡ string_bytes out.old ++ (if is_first then [] else codes ",")) }
+{
+    if is_first { Ok(()) } else { out.push_str(",") }
 }
 
 fn push_property(
@@ -54,18 +60,17 @@ fn push_property(
     name: &str,
     value: &str,
 ) -> Result<(), AllocError>
-    ensures { OnOk result (string_bytes out.new ≡ string_bytes out.old ++ ((if is_first then [] else codes ",") ++ property_text (name.now, value.now))) }
+    ensures { OnOk result (string_bytes out.new ≡ string_bytes out.old ++ ((if is_first then [] else codes ",") ++ field_text (property_field (name.now, value.now)))) }
 {
-    if !is_first {
-        out.push_str(",")?;
-    }
+    push_comma(out, is_first)?;
     push_quoted(out, name)?;
     out.push_str(":")?;
-    push_quoted(out, value)
+    push_quoted(out, value)?;
+    Ok(())
 }
 
 fn push_property_list(out: &mut String, values: &BTreeMap<String, String>) -> Result<(), AllocError>
-    ensures { OnOk result (string_bytes out.new ≡ string_bytes out.old ++ properties_text (pairs_of values.now)) }
+    ensures { OnOk result (string_bytes out.new ≡ string_bytes out.old ++ fields_text (property_fields (pairs_of values.now))) }
 {
     let mut is_first = true;
     for (name, value) in values.iter() {
@@ -76,7 +81,7 @@ fn push_property_list(out: &mut String, values: &BTreeMap<String, String>) -> Re
 }
 
 fn push_properties(out: &mut String, properties: &Properties) -> Result<(), AllocError>
-    ensures { OnOk result (string_bytes out.new ≡ string_bytes out.old ++ properties_field properties.now) }
+    ensures { OnOk result (string_bytes out.new ≡ string_bytes out.old ++ leading (properties_field properties.now ∷ [])) }
 {
     out.push_str("\"properties\":{")?;
     push_property_list(out, properties.as_map())?;
@@ -85,15 +90,16 @@ fn push_properties(out: &mut String, properties: &Properties) -> Result<(), Allo
 }
 
 fn push_payload(out: &mut String, payload: &[u8]) -> Result<(), AllocError>
-    ensures { OnOk result (string_bytes out.new ≡ string_bytes out.old ++ payload_field payload.now) }
+    ensures { OnOk result (string_bytes out.new ≡ string_bytes out.old ++ leading (payload_field payload.now ∷ [])) }
 {
     out.push_str("\"payload\":\"")?;
     STANDARD.encode_string(payload, out)?;
-    out.push_str("\",")
+    out.push_str("\",")?;
+    Ok(())
 }
 
 fn push_publish_time(out: &mut String, moment: Moment) -> Result<(), AllocError>
-    ensures { OnOk result ((time : List ℕ) × IsTimeText moment time × (string_bytes out.new ≡ string_bytes out.old ++ time_field time)) }
+    ensures { OnOk result ((time : List ℕ) × IsTimeText moment time × (string_bytes out.new ≡ string_bytes out.old ++ leading (time_field time ∷ []))) }
 {
     out.push_str("\"publishTime\":\"")?;
     push_time(out, moment)?;
@@ -102,26 +108,26 @@ fn push_publish_time(out: &mut String, moment: Moment) -> Result<(), AllocError>
 }
 
 fn push_count(out: &mut String, count: u32) -> Result<(), AllocError>
-    ensures { OnOk result (string_bytes out.new ≡ string_bytes out.old ++ count_field count) }
+    ensures { OnOk result (string_bytes out.new ≡ string_bytes out.old ++ field_text (count_field count)) }
 {
     out.push_str("\"redeliveryCount\":")?;
     push_decimal(out, u64::from(count))?;
     Ok(())
 }
 
-/// What a consumer is sent: the message, and how often it was redelivered.
-pub fn delivery_text(alloc: Global, message: &Entry, count: u32) -> Result<String, AllocError>
-    ensures { IfOk result (λ text. IsDelivery message.now count (string_bytes text)) }
+/// Writes what a consumer is sent, the message and how often it was redelivered, in place of what `out` holds.
+pub fn delivery_text(out: &mut String, message: &Entry, count: u32) -> Result<(), AllocError>
+    ensures { OnOk result (IsDelivery message.now count (string_bytes out.new)) }
 {
     let content = message.body.content();
-    let mut out = String::with_capacity(alloc, room_for_delivery(content))?;
+    begin(out, room_for_delivery(content))?;
     out.push_str("{")?;
-    push_key(&mut out, &content.key)?;
-    push_id(&mut out, message.position)?;
-    push_payload(&mut out, content.payload.as_slice())?;
-    push_properties(&mut out, &content.properties)?;
-    push_publish_time(&mut out, message.time)?;
-    push_count(&mut out, count)?;
+    push_key(out, &content.key)?;
+    push_id(out, message.position)?;
+    push_payload(out, content.payload.as_slice())?;
+    push_properties(out, &content.properties)?;
+    push_publish_time(out, message.time)?;
+    push_count(out, count)?;
     out.push_str("}")?;
-    Ok(out)
+    Ok(())
 }

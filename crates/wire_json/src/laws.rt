@@ -1,9 +1,9 @@
 // What holds of the definitions.
-ghost use Rattle.wire_json.specs.Laws.{DeliveriesReadBack, ErrorsReadBack, OksReadBack, PayloadsAreBase64};
+ghost use Rattle.wire_json.specs.Laws.{AdminsReadBack, DeliveriesReadBack, ErrorsReadBack, IdsAreRead, OksReadBack};
 
-/// A payload's text stands for bytes exactly where it is their base64, with all its padding or none.
-pub fn payloads_are_base64()
-    ensures { PayloadsAreBase64 }
+/// An id is read as the one position that it is the text of, and no other text is.
+pub fn ids_are_read()
+    ensures { IdsAreRead }
 {}
 
 /// What answers a publish that was taken reads back as an object of its context, its id and its result.
@@ -19,4 +19,9 @@ pub fn errors_read_back()
 /// A delivery reads back as an object of its message.
 pub fn deliveries_read_back()
     ensures { DeliveriesReadBack }
+{}
+
+/// What answers an administrator reads back as an object of what it says.
+pub fn admins_read_back()
+    ensures { AdminsReadBack }
 {}

@@ -1,16 +1,20 @@
-//! The texts of the WebSocket API: what a producer sends, what it is answered, and what a consumer is sent.
+//! The texts of the WebSocket API: what producers, consumers and administrators send, and what they are answered and sent.
 #![tactic(auto)]
 
+mod admins;
 mod answers;
+mod commands;
 mod deliveries;
-mod fields;
 mod laws;
-mod numbers;
 mod publishes;
-mod quoting;
-mod times;
+mod statistics;
 
+pub use admins::{AdminCommand, read_admin};
 pub use answers::{SendError, error_text, ok_text};
+pub use commands::{Command, read_command};
 pub use deliveries::delivery_text;
-pub use laws::{deliveries_read_back, errors_read_back, oks_read_back, payloads_are_base64};
-pub use publishes::{BadPublish, PublishRequest, read_publish};
+pub use laws::{
+    admins_read_back, deliveries_read_back, errors_read_back, ids_are_read, oks_read_back,
+};
+pub use publishes::{PublishReading, read_publish};
+pub use statistics::{admin_text, end_of_topic_text};

@@ -5,7 +5,8 @@ use std::process::Abort;
 use wire_json::{SendError, error_text, ok_text};
 
 fn check_ok<R: Abort + AllocGlobal>(rt: &R, context: Option<&str>, id: Position, want: &str) {
-    let text = ok_text(rt.alloc(), context, id).expect(rt, "no memory");
+    let mut text = joined(rt, &["what stood before"]);
+    ok_text(&mut text, context, id).expect(rt, "no memory");
     assert!(rt; text.as_str() == want, "at {want}");
 }
 
@@ -69,7 +70,8 @@ fn contexts_are_escaped(rt: HostRuntime) {
 
 fn check_errors<R: Abort + AllocGlobal>(rt: &R, table: &[(SendError, &str)]) {
     for (error, want) in table {
-        let text = error_text(rt.alloc(), None, *error).expect(rt, "no memory");
+        let mut text = String::new(rt.alloc());
+        error_text(&mut text, None, *error).expect(rt, "no memory");
         assert!(rt; text.as_str() == *want, "at {want}");
     }
 }

@@ -3,7 +3,7 @@ use super::{joined, read};
 use position_core::{Body, Content, Entry, Moment, Position, ProducerName};
 use std::process::Abort;
 use std::sync::ArcStr;
-use wire_json::delivery_text;
+use wire_json::{PublishReading, delivery_text};
 
 /// The first message of a topic.
 fn entry<R: Abort + AllocGlobal>(rt: &R, content: Content, millis: u64) -> Entry {
@@ -21,8 +21,12 @@ fn entry<R: Abort + AllocGlobal>(rt: &R, content: Content, millis: u64) -> Entry
 }
 
 fn content_of<R: Abort + AllocGlobal>(rt: &R, text: &str) -> Content {
-    match read(rt, text.as_bytes()) {
-        Ok(published) => published.content,
+    let PublishReading {
+        context: _,
+        content,
+    } = read(rt, text.as_bytes());
+    match content {
+        Ok(content) => content,
         Err(_) => panic!(rt; "no publish"),
     }
 }
@@ -30,7 +34,8 @@ fn content_of<R: Abort + AllocGlobal>(rt: &R, text: &str) -> Content {
 /// The delivery of the content that a text has, published at the moment.
 fn check<R: Abort + AllocGlobal>(rt: &R, text: &str, millis: u64, count: u32, want: &str) {
     let message = entry(rt, content_of(rt, text), millis);
-    let sent = delivery_text(rt.alloc(), &message, count).expect(rt, "no memory");
+    let mut sent = joined(rt, &["what stood before"]);
+    delivery_text(&mut sent, &message, count).expect(rt, "no memory");
     assert!(rt; sent.as_str() == want, "at {want}");
 }
 

@@ -1,4 +1,4 @@
-use Rattle.wire_json.proofs.Sent.{deliveries_read_back}
+use Rattle.wire_json.proofs.Returns.{deliveries_read_back}
 use Rattle.wire_json.proofs.laws.deliveries_read_back.Goals as goal
 
 pub returns : goal.returns

@@ -1,4 +1,4 @@
-use Rattle.wire_json.proofs.Written.{oks_read_back}
+use Rattle.wire_json.proofs.Returns.{oks_read_back}
 use Rattle.wire_json.proofs.laws.oks_read_back.Goals as goal
 
 pub returns : goal.returns

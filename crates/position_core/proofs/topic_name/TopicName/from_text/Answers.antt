@@ -1,20 +1,8 @@
-use Rattle.std.proofs.lemmas.Bool.{false≢true}
+use Rattle.position_core.proofs.TopicNames.{all_named}
 use Rattle.position_core.proofs.topic_name.TopicName.from_text.Goals as goal
 
-pub returns-in_default-clause-all_read : goal.returns-in_default-clause-all_read
-returns-in_default-clause-all_read c name t n p e = c.in_default.ensures.all_parted name.tenant name.namespace name.topic t n e
+pub returns-in-Some-clause-all_read : goal.returns-in-Some-clause-all_read
+returns-in-Some-clause-all_read c = all_named c.args.text.now _ _ _ c.from_names.result c.from_names.ensures c.in-Some.ensures.all_parted
 
-pub returns-in_default-2-clause-all_read : goal.returns-in_default-2-clause-all_read
-returns-in_default-2-clause-all_read c name t n p e =
-    let same = c.in-Some.ensures.all_parted name.tenant name.namespace name.topic t n e in
-    false≢true ((rw c.in_default-2.is at c.in_ok-tenant.ensures.fits).1 (rw same.0 t))
-
-pub returns-in_default-3-clause-all_read : goal.returns-in_default-3-clause-all_read
-returns-in_default-3-clause-all_read c name t n p e =
-    let same = c.in-Some.ensures.all_parted name.tenant name.namespace name.topic t n e in
-    false≢true ((rw c.in_default-3.is at c.in_ok-namespace.ensures.fits).1 (rw same.1 n))
-
-pub returns-in_default-4-clause-all_read : goal.returns-in_default-4-clause-all_read
-returns-in_default-4-clause-all_read c name t n p e =
-    let same = c.in-Some.ensures.all_parted name.tenant name.namespace name.topic t n e in
-    false≢true ((rw c.in_default-4.is at c.in_ok-topic.ensures.fits).1 (rw same.2 p))
+pub returns-in-None-clause-all_read : goal.returns-in-None-clause-all_read
+returns-in-None-clause-all_read c name tenant namespace topic e = c.in-None.ensures.all_parted name.tenant name.namespace name.topic tenant namespace e

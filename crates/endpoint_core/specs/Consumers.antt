@@ -1,0 +1,69 @@
+-- A consumer's endpoint.
+use Rattle.std.specs.Prelude.{ℕ, ◌==◌, Bool, false, List, codes, Result, Ok, if◌then◌else◌}
+use Rattle.position_core.specs.declared.topic_name.TopicName.{TopicName}
+use Rattle.position_core.specs.declared.kind.Kind.{Kind}
+use Rattle.position_core.specs.declared.kind.Kind.TheVariants.{Exclusive}
+use Rattle.position_core.specs.declared.flow.Flow.{Flow}
+use Rattle.position_core.specs.declared.flow.Flow.TheVariants.{Window, Credit}
+use Rattle.delivery_machine.specs.declared.event.Initial.{Initial}
+use Rattle.delivery_machine.specs.declared.event.Initial.TheVariants.{Latest}
+use Rattle.endpoint_core.specs.declared.faults.Cause.{Cause}
+use Rattle.endpoint_core.specs.declared.consumers.ConsumerEndpoint.{ConsumerEndpoint}
+use Rattle.endpoint_core.specs.Faults.{and_then}
+use Rattle.endpoint_core.specs.Queries.{Parameter, said}
+use Rattle.endpoint_core.specs.Numbers.{number_up_to}
+use Rattle.endpoint_core.specs.Words.{truth_of, kind_of, initial_of}
+use Rattle.endpoint_core.specs.DeadLetters.{death_in}
+
+abbrev pub kind_said : List Parameter → Result Kind Cause
+kind_said query = said (codes "subscriptionType") Exclusive kind_of query
+
+abbrev pub level_said : List Parameter → Result ℕ Cause
+level_said query = said (codes "priorityLevel") 0 (number_up_to 2147483647) query
+
+-- a window of 0 counts as 1
+abbrev pub window_of : ℕ → Flow
+window_of size = if size == 0 then Window 1 else Window size
+
+abbrev pub window_said : List Parameter → Result Flow Cause
+window_said query =
+    and_then (said (codes "receiverQueueSize") 1000 (number_up_to 100000) query) (λ size. Ok (window_of size))
+
+abbrev pub pulls_said : List Parameter → Result Bool Cause
+pulls_said query = said (codes "pullMode") false truth_of query
+
+-- a consumer that pulls begins without credit, and has no window
+abbrev pub flow_said : List Parameter → Result Flow Cause
+flow_said query = and_then (pulls_said query) (λ pulls. if pulls then Ok (Credit 0) else window_said query)
+
+-- in milliseconds
+abbrev pub ack_timeout_said : List Parameter → Result ℕ Cause
+ack_timeout_said query = said (codes "ackTimeoutMillis") 0 (number_up_to 2147483647) query
+
+abbrev pub nack_delay_said : List Parameter → Result ℕ Cause
+nack_delay_said query = said (codes "negativeAckRedeliveryDelay") 60000 (number_up_to 2147483647) query
+
+abbrev pub initial_said : List Parameter → Result Initial Cause
+initial_said query = said (codes "subscriptionInitialPosition") Latest initial_of query
+
+abbrev pub consumer_of : TopicName → List ℕ → List Parameter → Result ConsumerEndpoint Cause
+consumer_of topic subscription query =
+    and_then (kind_said query) (λ kind.
+    and_then (level_said query) (λ level.
+    and_then (flow_said query) (λ flow.
+    and_then (ack_timeout_said query) (λ ack_timeout.
+    and_then (nack_delay_said query) (λ nack_delay.
+    and_then (death_in topic subscription kind query) (λ death.
+    and_then (initial_said query) (λ initial.
+    Ok (record {
+      topic = topic;
+      subscription = subscription;
+      kind = kind;
+      level = level;
+      flow = flow;
+      ack_timeout = ack_timeout;
+      nack_delay = nack_delay;
+      max_redeliver = death.0;
+      dead_topic = death.1;
+      initial = initial;
+    }))))))))

@@ -1,0 +1,10 @@
+pub mod Faults
+pub mod Texts
+pub mod Paths
+pub mod Queries
+pub mod Numbers
+pub mod Words
+pub mod DeadLetters
+pub mod Producers
+pub mod Consumers
+pub mod Routes

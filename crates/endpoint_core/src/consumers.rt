@@ -1,0 +1,129 @@
+// A consumer's endpoint.
+ghost use Rattle.std.specs.Prelude.{◌≡◌};
+ghost use Rattle.endpoint_core.specs.Faults.{Gives};
+ghost use Rattle.endpoint_core.specs.Consumers.{consumer_of, flow_said, initial_said, kind_said, pulls_said, window_of, window_said};
+
+use crate::dead_letters::death_in;
+use crate::faults::Cause;
+use crate::numbers::number_said;
+use crate::queries::Query;
+use crate::words::{initial_of, kind_of, truth_of};
+use delivery_machine::Initial;
+use position_core::{
+    Bounded, Credit, Flow, Kind, Level, Millis, RedeliverLimit, SubscriptionName, TopicName,
+    WindowSize,
+};
+use std::alloc::Global;
+
+/// A consumer of the subscription: what its `Subscribe` brings.
+#[derive(Clone, Debug, Drop)]
+pub struct ConsumerEndpoint {
+    pub topic: TopicName,
+    pub subscription: SubscriptionName,
+    pub kind: Kind,
+    pub level: Level,
+    pub flow: Flow,
+    /// 0 for none.
+    pub ack_timeout: Millis,
+    pub nack_delay: Millis,
+    /// 0 for never.
+    pub max_redeliver: RedeliverLimit,
+    /// The topic itself where no message dies.
+    pub dead_topic: TopicName,
+    pub initial: Initial,
+}
+
+fn kind_said(query: &Query) -> Result<Kind, Cause>
+    ensures { result ≡ kind_said query.now }
+{
+    match query.value_at("subscriptionType") {
+        Some(text) => kind_of(text).ok_or(Cause::BadParameter),
+        None => Ok(Kind::Exclusive),
+    }
+}
+
+fn initial_said(query: &Query) -> Result<Initial, Cause>
+    ensures { result ≡ initial_said query.now }
+{
+    match query.value_at("subscriptionInitialPosition") {
+        Some(text) => initial_of(text).ok_or(Cause::BadParameter),
+        None => Ok(Initial::Latest),
+    }
+}
+
+/// Whether the consumer pulls, instead of being pushed to.
+fn pulls(query: &Query) -> Result<bool, Cause>
+    ensures { result ≡ pulls_said query.now }
+{
+    match query.value_at("pullMode") {
+        Some(text) => truth_of(text).ok_or(Cause::BadParameter),
+        None => Ok(false),
+    }
+}
+
+fn window_of(size: Bounded<0, 100_000>) -> Flow
+    ensures { result ≡ window_of size }
+{
+    match WindowSize::new(size.get().max(1)) {
+        Some(size) => Flow::Window(size),
+        None => unreachable!(),
+    }
+}
+
+fn window_said(query: &Query) -> Result<Flow, Cause>
+    ensures { result ≡ window_said query.now }
+{
+    match number_said(query, "receiverQueueSize", 1000) {
+        Ok(size) => Ok(window_of(size)),
+        Err(cause) => Err(cause),
+    }
+}
+
+fn no_credit() -> Flow
+    ensures { result ≡ Flow.Credit 0 }
+{
+    match Credit::new(0) {
+        Some(none) => Flow::Credit(none),
+        None => unreachable!(),
+    }
+}
+
+fn flow_said(query: &Query) -> Result<Flow, Cause>
+    ensures { result ≡ flow_said query.now }
+{
+    match pulls(query) {
+        Ok(true) => Ok(no_credit()),
+        Ok(false) => window_said(query),
+        Err(cause) => Err(cause),
+    }
+}
+
+/// The consumer that a query describes.
+pub fn consumer_of(
+    alloc: Global,
+    topic: TopicName,
+    subscription: SubscriptionName,
+    query: &Query,
+) -> Result<ConsumerEndpoint, Cause>
+    ensures { Gives result (consumer_of topic subscription query.now) }
+{
+    let kind = kind_said(query)?;
+    let level = number_said(query, "priorityLevel", 0)?;
+    let flow = flow_said(query)?;
+    let ack_timeout = number_said(query, "ackTimeoutMillis", 0)?;
+    let nack_delay = number_said(query, "negativeAckRedeliveryDelay", 60_000)?;
+    let (max_redeliver, dead_topic) = death_in(alloc, &topic, &subscription, kind, query)?;
+    let initial = initial_said(query)?;
+    Ok(ConsumerEndpoint {
+        topic,
+        subscription,
+        kind,
+        level,
+        flow,
+        ack_timeout,
+        nack_delay,
+        max_redeliver,
+        dead_topic,
+        initial,
+    })
+}

@@ -1,0 +1,81 @@
+// The endpoint that a target stands for.
+ghost use Rattle.std.specs.Prelude.{◌≡◌, ◌⊎◌, Ok, Err, IfOk, IfErr, map};
+ghost use Rattle.endpoint_core.specs.declared.faults.Cause.TheVariants.{NoMemory};
+ghost use Rattle.endpoint_core.specs.Faults.{Gives};
+ghost use Rattle.endpoint_core.specs.Routes.{admin_at, consumer_at, endpoint_at, producer_at, route_of};
+
+use crate::consumers::{ConsumerEndpoint, consumer_of};
+use crate::faults::{Cause, Role, RouteFault};
+use crate::paths::{asked, segments_of, subscription_in, topic_in, url_of};
+use crate::producers::{ProducerEndpoint, producer_of};
+use crate::queries::Query;
+use position_core::TopicName;
+use std::alloc::Global;
+
+/// What a WebSocket is opened for.
+#[derive(Clone, Debug, Drop)]
+pub enum Endpoint {
+    Producer(ProducerEndpoint),
+    Consumer(ConsumerEndpoint),
+    Admin(AdminEndpoint),
+}
+
+/// The administration of the topic's subscriptions.
+#[derive(Clone, Debug, Drop)]
+pub struct AdminEndpoint {
+    pub topic: TopicName,
+}
+
+fn producer_at(alloc: Global, segments: &[&str], query: &str) -> Result<Endpoint, Cause>
+    ensures { Gives result (producer_at (map (λ segment. segment.now) segments.now) query.now) }
+{
+    let topic = topic_in(alloc, segments)?;
+    let query = Query::read(alloc, query)?;
+    let producer = producer_of(alloc, topic, &query)?;
+    Ok(Endpoint::Producer(producer))
+}
+
+fn consumer_at(alloc: Global, segments: &[&str], query: &str) -> Result<Endpoint, Cause>
+    ensures { Gives result (consumer_at (map (λ segment. segment.now) segments.now) query.now) }
+{
+    let (topic, subscription) = subscription_in(alloc, segments)?;
+    let query = Query::read(alloc, query)?;
+    let consumer = consumer_of(alloc, topic, subscription, &query)?;
+    Ok(Endpoint::Consumer(consumer))
+}
+
+fn admin_at(alloc: Global, segments: &[&str], query: &str) -> Result<Endpoint, Cause>
+    ensures { Gives result (admin_at (map (λ segment. segment.now) segments.now) query.now) }
+{
+    let topic = topic_in(alloc, segments)?;
+    let _ = Query::read(alloc, query)?;
+    Ok(Endpoint::Admin(AdminEndpoint { topic }))
+}
+
+fn endpoint_at(alloc: Global, role: Role, rest: &str, query: &str) -> Result<Endpoint, Cause>
+    ensures { Gives result (endpoint_at role rest.now query.now) }
+{
+    let segments = segments_of(alloc, rest)?;
+    match role {
+        Role::Unknown => Err(Cause::UnknownPath),
+        Role::Producer => producer_at(alloc, &segments, query),
+        Role::Consumer => consumer_at(alloc, &segments, query),
+        Role::Admin => admin_at(alloc, &segments, query),
+    }
+}
+
+/// Reads the target of a handshake's request.
+pub fn route(alloc: Global, target: &str) -> Result<Endpoint, RouteFault>
+    ensures ok { IfOk result (λ endpoint. route_of target.now ≡ Ok endpoint) }
+    ensures err { IfErr result (λ fault. (fault.cause ≡ NoMemory) ⊎ (route_of target.now ≡ Err fault)) }
+{
+    let url = match url_of(alloc, target) {
+        Ok(url) => url,
+        Err(cause) => return Err(RouteFault::of(Role::Unknown, cause)),
+    };
+    let (role, rest) = asked(url.path());
+    match endpoint_at(alloc, role, rest, url.query().unwrap_or("")) {
+        Ok(endpoint) => Ok(endpoint),
+        Err(cause) => Err(RouteFault::of(role, cause)),
+    }
+}

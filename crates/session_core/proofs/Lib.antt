@@ -1,0 +1,6 @@
+pub mod Telling
+pub mod Taking
+pub mod Series
+pub mod Unsent
+pub mod Turning
+pub mod Going

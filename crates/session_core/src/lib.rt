@@ -1,0 +1,18 @@
+//! Sessions: what a producer, a consumer or an administrator says over a connection becomes events of one topic, and what the
+//! topic replies becomes texts.
+#![tactic(auto)]
+
+mod asking;
+mod dues;
+mod opening;
+mod sending;
+mod serving;
+mod session;
+mod stop;
+mod texts;
+mod waiting;
+
+pub use opening::open;
+pub use serving::{TextCount, serve, turn};
+pub use session::Session;
+pub use waiting::Waits;

@@ -1,0 +1,115 @@
+// A turn of a session.
+ghost use Rattle.std.specs.Prelude.{◌≡◌, List, OnSome, true, false};
+ghost use Rattle.std.specs.Result.{result_err};
+ghost use Rattle.session_core.specs.Runs.{IsServed, IsSession};
+ghost use Rattle.session_core.specs.Steps.{CanClose, ClosesBy, SaysLast, Serves};
+ghost use Rattle.session_core.specs.Turns.{Turn};
+
+use crate::session::Session;
+use crate::stop::Stop;
+use delivery_machine::Moment;
+use position_core::Bounded;
+use session_links::{Caller, Conn, ask};
+use session_texts::{Party, reason};
+
+/// How many texts a turn takes at most.
+pub type TextCount = Bounded<1, 64>;
+
+impl Session {
+    /// A turn but for its end.
+    fn serve_open<C: Conn, K: Caller>(
+        &mut self,
+        conn: &mut C,
+        caller: &mut K,
+        now: Moment,
+        most: u32,
+    ) -> Result<(), Stop>
+        requires { C.is_open conn.old ≡ true }
+        ensures { Serves self.old now most (C.exchange conn.old) (K.calls caller.old) (result_err result) self.new (C.exchange conn.new) (K.calls caller.new) (C.is_open conn.new) (C.has_room conn.new) }
+    {
+        match self.take_texts(conn, caller, now, most) {
+            Ok(()) => {}
+            Err(stop) => return Err(stop),
+        }
+        match self.send_ready(conn) {
+            Ok(()) => {}
+            Err(stop) => return Err(stop),
+        }
+        let has_room = conn.has_room();
+        match self.ask_own(caller, now, has_room) {
+            Ok(true) => self.send_ready(conn),
+            Ok(false) => Ok(()),
+            Err(stop) => Err(stop),
+        }
+    }
+}
+
+/// Closes the connection, where there is a reason to.
+fn close_conn<C: Conn>(conn: &mut C, stop: Stop)
+    requires { CanClose stop (C.is_open conn.old) }
+    ensures closes { ClosesBy stop (C.exchange conn.old) (C.exchange conn.new) }
+    ensures fails { C.is_open conn.old ≡ false → C.is_open conn.new ≡ false }
+{
+    match stop {
+        Stop::Gone => {}
+        Stop::Closed(close) => conn.close(close.code, reason(close.fault)),
+    }
+}
+
+/// Calls the event with which the session ends, where it has one. What it is answered is passed over.
+fn say_last<K: Caller>(party: &Party, caller: &mut K)
+    ensures { SaysLast party.now (K.calls caller.old) (K.calls caller.new) }
+{
+    match party.farewell() {
+        Some(event) => {
+            let _ = ask(caller, event);
+        }
+        None => {}
+    }
+}
+
+/// Serves a session for one turn that takes up to so many texts: what came is handled, until nothing comes, 1,000
+/// texts are not answered, or the session ends; then the session asks and sends all that a turn does, once.
+///
+/// None where the session has ended. The connection is closed then, or is gone, and is not called again.
+pub fn serve<C: Conn, K: Caller>(
+    session: Session,
+    conn: &mut C,
+    caller: &mut K,
+    now: Moment,
+    most: TextCount,
+) -> Option<Session>
+    requires { C.is_open conn.old ≡ true }
+    ensures stays { OnSome result (C.is_open conn.new ≡ true) }
+    ensures run { (before : List Turn) → IsSession session before → IsServed session now most before (C.exchange conn.old) (K.calls caller.old) result (C.exchange conn.new) (K.calls caller.new) (C.is_open conn.new) (C.has_room conn.new) }
+{
+    let mut session = session;
+    match session.serve_open(conn, caller, now, most.get()) {
+        Ok(()) => {
+            session.rest(now);
+            Some(session)
+        }
+        Err(stop) => {
+            close_conn(conn, stop);
+            say_last(&session.party, caller);
+            None
+        }
+    }
+}
+
+/// Serves a session for one turn that takes one text.
+pub fn turn<C: Conn, K: Caller>(
+    session: Session,
+    conn: &mut C,
+    caller: &mut K,
+    now: Moment,
+) -> Option<Session>
+    requires { C.is_open conn.old ≡ true }
+    ensures stays { OnSome result (C.is_open conn.new ≡ true) }
+    ensures run { (before : List Turn) → IsSession session before → IsServed session now 1 before (C.exchange conn.old) (K.calls caller.old) result (C.exchange conn.new) (K.calls caller.new) (C.is_open conn.new) (C.has_room conn.new) }
+{
+    match TextCount::new(1) {
+        Some(one) => serve(session, conn, caller, now, one),
+        None => unreachable!(),
+    }
+}

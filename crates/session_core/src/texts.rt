@@ -1,0 +1,116 @@
+// Taking texts.
+ghost use Rattle.std.specs.Prelude.{◌≡◌, ◌<◌, true};
+ghost use Rattle.std.specs.Result.{result_err};
+ghost use Rattle.std.specs.VecDeque.{deque_capacity, deque_len};
+ghost use Rattle.session_core.specs.Steps.{TakesNext, TakesReply, TakesText, TakesTexts};
+
+use crate::session::Session;
+use crate::stop::Stop;
+use delivery_machine::{Event, Moment};
+use session_links::{Caller, Conn, Incoming, ask};
+use session_texts::{Asking, Context, Outcome, number_after, outcome_of, read_text};
+
+/// What came of receiving once.
+#[derive(Drop)]
+pub(crate) enum Received {
+    Text,
+    /// No further text is taken now.
+    Nothing,
+}
+
+impl Session {
+    /// Calls the event that a text asks for, and keeps its answer.
+    fn take_reply<K: Caller>(
+        &mut self,
+        caller: &mut K,
+        event: Event,
+        context: Context,
+    ) -> Result<(), Stop>
+        requires { deque_len self.old.waiting < deque_capacity self.old.waiting }
+        ensures { TakesReply self.old event context (K.calls caller.old) (result_err result) self.new (K.calls caller.new) }
+    {
+        if let Event::Nack {
+            consumer: _,
+            position: _,
+            now: _,
+        } = &event
+        {
+            self.dues.nack();
+        }
+        let reply = ask(caller, event);
+        self.next = number_after(self.next);
+        match outcome_of(&self.party, context, reply) {
+            Outcome::Answers(answer) => {
+                self.waiting.push_back_reserved(answer);
+                Ok(())
+            }
+            Outcome::Passes => Ok(()),
+            Outcome::Closes(close) => Err(Stop::Closed(close)),
+        }
+    }
+
+    fn take_text<K: Caller>(&mut self, caller: &mut K, now: Moment, text: &[u8]) -> Result<(), Stop>
+        requires { deque_len self.old.waiting < deque_capacity self.old.waiting }
+        ensures { TakesText self.old now text.now (K.calls caller.old) (result_err result) self.new (K.calls caller.new) }
+    {
+        let Ok(asking) = read_text(self.alloc, &self.party, now, self.next, text) else {
+            return Err(Stop::wants_memory());
+        };
+        match asking {
+            Asking::Asks { event, context } => self.take_reply(caller, event, context),
+            Asking::Answers(answer) => {
+                self.waiting.push_back_reserved(answer);
+                Ok(())
+            }
+            Asking::Closes(close) => Err(Stop::Closed(close)),
+        }
+    }
+
+    /// Receives once, and takes what came.
+    fn take_next<C: Conn, K: Caller>(
+        &mut self,
+        conn: &mut C,
+        caller: &mut K,
+        now: Moment,
+    ) -> Result<Received, Stop>
+        requires { C.is_open conn.old ≡ true }
+        ensures { TakesNext self.old now (C.exchange conn.old) (K.calls caller.old) result self.new (C.exchange conn.new) (K.calls caller.new) (C.is_open conn.new) }
+    {
+        if self.is_full() {
+            return Ok(Received::Nothing);
+        }
+        if self.waiting.reserve(1).is_err() {
+            return Err(Stop::wants_memory());
+        }
+        match conn.receive() {
+            Ok(Incoming::Nothing) => Ok(Received::Nothing),
+            Ok(Incoming::Text(text)) => match self.take_text(caller, now, text.as_slice()) {
+                Ok(()) => Ok(Received::Text),
+                Err(stop) => Err(stop),
+            },
+            Ok(Incoming::Gone) => Err(Stop::Gone),
+            Err(_) => Err(Stop::Gone),
+        }
+    }
+
+    /// Takes up to so many texts.
+    pub(crate) fn take_texts<C: Conn, K: Caller>(
+        &mut self,
+        conn: &mut C,
+        caller: &mut K,
+        now: Moment,
+        most: u32,
+    ) -> Result<(), Stop>
+        requires { C.is_open conn.old ≡ true }
+        ensures { TakesTexts self.old now most (C.exchange conn.old) (K.calls caller.old) (result_err result) self.new (C.exchange conn.new) (K.calls caller.new) (C.is_open conn.new) }
+    {
+        for _ in 0..most {
+            match self.take_next(conn, caller, now) {
+                Ok(Received::Text) => {}
+                Ok(Received::Nothing) => return Ok(()),
+                Err(stop) => return Err(stop),
+            }
+        }
+        Ok(())
+    }
+}

@@ -1,0 +1,75 @@
+// What a session waits for between its turns.
+ghost use Rattle.session_core.specs.Steps.{Rests};
+
+use crate::session::Session;
+use delivery_machine::{Deliveries, DueMoment, Moment};
+use session_texts::Party;
+
+/// How many bytes of room for a text a session at rest keeps.
+const MOST_KEPT: usize = 512;
+
+/// What a session waits for, beside a text of its client. It is a hint, and nothing is proved of it: a session that is
+/// served only when what it waits for has come sends the same texts as one that is served all the time.
+#[derive(Clone, Copy, Debug, PartialEq, Eq)]
+pub struct Waits {
+    /// The log is to be stored up to this length, for the first answer that is not sent yet.
+    pub durable: Option<u64>,
+    /// Messages may be dispatched to its consumer.
+    pub messages: bool,
+    /// A tick may release something from this moment on.
+    pub due: Option<DueMoment>,
+    /// The connection is to have room again.
+    pub room: bool,
+}
+
+impl Session {
+    /// What the session waits for, after a turn. A consumer's session that was sent 64 messages or more in a turn may
+    /// have more to be sent at once.
+    pub fn waits(&self) -> Waits {
+        let has_unsent = self.has_copies();
+        match self.waiting.front() {
+            Some(answer) if answer.least_durable() > self.durable => Waits {
+                durable: Some(answer.least_durable()),
+                messages: false,
+                due: None,
+                room: has_unsent,
+            },
+            Some(_) => Waits {
+                durable: None,
+                messages: false,
+                due: self.dues.first(),
+                room: true,
+            },
+            None => Waits {
+                durable: None,
+                messages: self.is_consumers() && !has_unsent,
+                due: self.dues.first(),
+                room: has_unsent,
+            },
+        }
+    }
+
+    fn is_consumers(&self) -> bool {
+        matches!(
+            self.party,
+            Party::Consumer {
+                number: _,
+                subscription: _
+            }
+        )
+    }
+
+    /// Lets go what a session at rest does not need: the messages that are sent, and room for a long text.
+    pub(crate) fn rest(&mut self, now: Moment)
+        ensures { Rests self.old self.new }
+    {
+        self.dues.pass(now, self.copies_sent > 0);
+        if !self.has_copies() {
+            self.copies = Deliveries::new(self.alloc);
+            self.copies_sent = 0;
+        }
+        if self.text.capacity() > MOST_KEPT {
+            self.text = String::new(self.alloc);
+        }
+    }
+}

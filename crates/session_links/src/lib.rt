@@ -1,0 +1,12 @@
+//! What a session stands between: its connection, and the caller of its topic.
+#![tactic(auto)]
+
+mod caller;
+mod conn;
+mod list_conn;
+mod topic_caller;
+
+pub use caller::{Caller, ask};
+pub use conn::{Conn, ConnFault, Incoming};
+pub use list_conn::{Closed, ListConn, Told};
+pub use topic_caller::TopicCaller;

@@ -1,0 +1,6 @@
+// What the proofs do not see: that calls with memory succeed, and worked sessions from outside.
+mod admins;
+mod closing;
+mod consumers;
+mod producers;
+mod stage;

@@ -1,0 +1,115 @@
+// Producers' sessions.
+use super::stage::{check, count};
+
+#[test]
+fn answers_wait_for_storing_and_for_their_turn(rt: HostRuntime) {
+    check(
+        &rt,
+        "open /ws/v2/producer/persistent/public/default/t?producerName=p
+text {\"payload\":\"aGk=\",\"context\":\"1\"}
+text {\"payload\":\"%%%\",\"context\":\"2\"}
+serve 1000",
+        "open\n",
+    );
+    check(
+        &rt,
+        "open /ws/v2/producer/persistent/public/default/t?producerName=p
+text {\"payload\":\"aGk=\",\"context\":\"1\"}
+text {\"payload\":\"%%%\",\"context\":\"2\"}
+turn 1000
+turn 1000
+stored
+turn 1001",
+        "{\"context\":\"1\",\"messageId\":\"CAAQAA==\",\"result\":\"ok\"}
+{\"context\":\"2\",\"errorMsg\":\"Invalid payload encoding\",\"result\":\"send-error:7\"}
+open
+",
+    );
+}
+
+#[test]
+fn a_duplicate_has_the_id_of_no_message(rt: HostRuntime) {
+    check(
+        &rt,
+        "open /ws/v2/producer/persistent/public/default/t?producerName=p&initialSequenceId=4
+text {\"payload\":\"YQ==\"}
+turn 1000
+stored
+turn 1000
+gone
+turn 1000
+open /ws/v2/producer/persistent/public/default/t?producerName=p&initialSequenceId=4
+text {\"payload\":\"YQ==\"}
+turn 1001
+text {\"payload\":\"YQ==\"}
+turn 1002
+stored
+turn 1003",
+        "{\"messageId\":\"CAAQAA==\",\"result\":\"ok\"}
+{\"messageId\":\"CP///////////wEQ////////////AQ==\",\"result\":\"ok\"}
+{\"messageId\":\"CAAQAQ==\",\"result\":\"ok\"}
+open
+",
+    );
+}
+
+#[test]
+fn numbers_go_on_from_the_last_and_refused_texts_take_none(rt: HostRuntime) {
+    check(
+        &rt,
+        "open /ws/v2/producer/persistent/public/default/t?producerName=p
+text {\"payload\":\"aGk=\"}
+text {\"payload\":true}
+text {\"payload\":\"aGk=\"}
+serve 1000
+stored
+gone
+turn 1000
+open /ws/v2/producer/persistent/public/default/t?producerName=p
+text {\"payload\":\"aGk=\"}
+text {\"payload\":\"aGk=\",\"cont
+serve 1000
+stored
+turn 1000",
+        "{\"messageId\":\"CAAQAg==\",\"result\":\"ok\"}
+{\"errorMsg\":\"Failed to deserialize from JSON\",\"result\":\"send-error:3\"}
+open
+",
+    );
+}
+
+#[test]
+fn a_connection_without_room_keeps_its_answers(rt: HostRuntime) {
+    check(
+        &rt,
+        "open /ws/v2/producer/persistent/public/default/t?producerName=p
+room 1
+text {\"context\":1}
+text {\"context\":2}
+text {\"context\":3}
+serve 1000
+room 1
+turn 1000",
+        "{\"context\":\"1\",\"errorMsg\":\"Failed to deserialize from JSON\",\"result\":\"send-error:3\"}
+{\"context\":\"2\",\"errorMsg\":\"Failed to deserialize from JSON\",\"result\":\"send-error:3\"}
+open
+",
+    );
+}
+
+#[test]
+fn a_thousand_without_answers_stop_the_reading(rt: HostRuntime) {
+    let mut script = String::new(rt.alloc());
+    let head = "open /ws/v2/producer/persistent/public/default/t\nroom 0\n";
+    script.push_str(head).expect(&rt, "no memory");
+    for _ in 0..1_010 {
+        script.push_str("text {}\n").expect(&rt, "no memory");
+    }
+    for _ in 0..20 {
+        script.push_str("serve 1000\n").expect(&rt, "no memory");
+    }
+    script
+        .push_str("room 3\nturn 1000\nroom 2000\nturn 1000")
+        .expect(&rt, "no memory");
+    assert_eq!(rt; count(&rt, script.as_str()), 1_002);
+}

@@ -1,0 +1,207 @@
+// Plays a session over lists and a plain topic, from a text of lines.
+use delivery_machine::{Event, Moment, Reply, Topic, TopicName};
+use endpoint_core::route;
+use plain_topic::PlainTopic;
+use position_core::{Body, Content, Fault, LedgerSize, Payload, Properties};
+use session_core::{Session, TextCount, open, serve};
+use session_links::{Caller, Incoming, ListConn, Told};
+use std::process::Abort;
+
+/// A topic, or what refuses each call in its place.
+#[derive(Drop)]
+struct Desk {
+    topic: PlainTopic,
+    refusal: Option<Fault>,
+}
+
+impl Caller for Desk {
+    ghost use Rattle.std.specs.Prelude.{None};
+
+    ghost calls = { λ desk. None };
+
+    fn call(&mut self, event: Event) -> Result<Reply, Fault> {
+        match self.refusal {
+            Some(fault) => Err(fault),
+            None => Ok(self.topic.apply(&event)),
+        }
+    }
+}
+
+#[derive(Drop)]
+struct Stage {
+    caller: Desk,
+    conn: ListConn,
+    session: Option<Session>,
+    /// How many texts were looked at.
+    seen: usize,
+}
+
+fn topic<R: Abort + AllocGlobal>(rt: &R) -> PlainTopic {
+    let name = TopicName::from_text(rt.alloc(), "persistent://public/default/t");
+    let name = name.expect(rt, "no memory").expect(rt, "a name");
+    let size = LedgerSize::new(10).expect(rt, "a size");
+    PlainTopic::new(rt.alloc(), name, size)
+}
+
+fn number<R: Abort>(rt: &R, word: &str) -> u64 {
+    let number: Result<u64, _> = word.parse();
+    match number {
+        Ok(number) => number,
+        Err(_) => None.expect(rt, "a number"),
+    }
+}
+
+fn opened<R: Abort + AllocGlobal>(rt: &R, stage: &mut Stage, target: &str) {
+    stage.conn = ListConn::new(rt.alloc());
+    stage.seen = 0;
+    let endpoint = route(rt.alloc(), target);
+    if stage.conn.is_open()
+        && let Ok(endpoint) = endpoint
+    {
+        stage.session = open(rt.alloc(), endpoint, &mut stage.conn, &mut stage.caller);
+    }
+}
+
+fn served<R: Abort>(rt: &R, stage: &mut Stage, most: u64, now: u64) {
+    let now = Moment::new(now).expect(rt, "a moment");
+    let most = if most < 64 { most as u32 } else { 64 };
+    let most = TextCount::new(most).expect(rt, "a count");
+    if stage.conn.is_open()
+        && let Some(session) = stage.session.take()
+    {
+        stage.session = serve(session, &mut stage.conn, &mut stage.caller, now, most);
+    }
+}
+
+fn comes<R: Abort + AllocGlobal>(rt: &R, stage: &mut Stage, text: &str) {
+    let bytes = Vec::from_slice(rt.alloc(), text.as_bytes()).expect(rt, "no memory");
+    let pushed: Result<(), _> = stage.conn.incoming.push_back(Incoming::Text(bytes));
+    assert!(rt; pushed.is_ok());
+}
+
+fn goes<R: Abort>(rt: &R, stage: &mut Stage) {
+    let pushed: Result<(), _> = stage.conn.incoming.push_back(Incoming::Gone);
+    assert!(rt; pushed.is_ok());
+}
+
+fn refusal<R: Abort>(rt: &R, word: &str) -> Option<Fault> {
+    match word {
+        "F1" => Some(Fault::NoMemory),
+        "F3" => Some(Fault::NoSession),
+        "F4" => Some(Fault::TopicFull),
+        "F8" => Some(Fault::NoSuchMessage),
+        "F13" => Some(Fault::TooManyPermits),
+        "F15" => Some(Fault::JournalFull),
+        "none" => None,
+        _ => None.expect(rt, "a refusal"),
+    }
+}
+
+/// The producer `p` publishes under the last number of 64 bits.
+fn last_number<R: Abort + AllocGlobal>(rt: &R, stage: &mut Stage) {
+    let content = Content {
+        key: None,
+        properties: Properties::none(rt.alloc()),
+        payload: Payload::new(Vec::new(rt.alloc())).expect(rt, "a payload"),
+    };
+    let body = Body::new(rt.alloc(), content).expect(rt, "no memory");
+    let _ = stage.caller.topic.apply(&Event::Publish {
+        producer: 1,
+        sequence: i64::MAX,
+        body,
+        now: Moment::new(0).expect(rt, "a moment"),
+    });
+    let _ = stage
+        .caller
+        .topic
+        .apply(&Event::DropProducer { producer: 1 });
+}
+
+/// Does what a line says.
+fn does<R: Abort + AllocGlobal>(rt: &R, stage: &mut Stage, word: &str, rest: &str) {
+    match word {
+        "open" => opened(rt, stage, rest),
+        "text" => comes(rt, stage, rest),
+        "gone" => goes(rt, stage),
+        "turn" => served(rt, stage, 1, number(rt, rest)),
+        "serve" => served(rt, stage, 64, number(rt, rest)),
+        "stored" => {
+            let _ = stage.caller.topic.apply(&Event::Stored);
+        }
+        "room" => stage.conn.room = number(rt, rest),
+        "fail" => stage.conn.calls = number(rt, rest),
+        "refuse" => stage.caller.refusal = refusal(rt, rest),
+        "last" => last_number(rt, stage),
+        _ => None.expect(rt, "a line"),
+    }
+}
+
+fn push<R: Abort>(rt: &R, out: &mut String, part: &str) {
+    out.push_str(part).expect(rt, "no memory");
+}
+
+/// What was told of the connection.
+fn told<'a, R: Abort>(rt: &R, stage: &'a Stage) -> &'a Told {
+    stage.conn.told().expect(rt, "no memory")
+}
+
+/// Writes the texts that were sent since the last look, one a line.
+fn show<R: Abort>(rt: &R, stage: &mut Stage, out: &mut String) {
+    for (i, text) in told(rt, stage).sent.iter().enumerate() {
+        if i >= stage.seen {
+            push(rt, out, text.as_str());
+            push(rt, out, "\n");
+        }
+    }
+    stage.seen = told(rt, stage).sent.len();
+}
+
+/// Writes how the connection was closed.
+fn show_closes<R: Abort + AllocGlobal>(rt: &R, stage: &Stage, out: &mut String) {
+    for closed in told(rt, stage).closes.iter() {
+        let code = closed.code;
+        let reason = closed.reason.as_str();
+        let line = format!(in rt.alloc(); "closed {code} {reason}\n").expect(rt, "no memory");
+        push(rt, out, line.as_str());
+    }
+}
+
+fn played<R: Abort + AllocGlobal>(rt: &R, script: &str) -> String {
+    let mut stage = Stage {
+        caller: Desk {
+            topic: topic(rt),
+            refusal: None,
+        },
+        conn: ListConn::new(rt.alloc()),
+        session: None,
+        seen: 0,
+    };
+    let mut out = String::new(rt.alloc());
+    for line in script.lines() {
+        let (word, rest) = line.split_once(' ').unwrap_or((line, ""));
+        does(rt, &mut stage, word, rest);
+        show(rt, &mut stage, &mut out);
+    }
+    show_closes(rt, &stage, &mut out);
+    if stage.session.is_some() {
+        push(rt, &mut out, "open\n");
+    }
+    out
+}
+
+/// What is sent first is a front of what is sent in all.
+pub(crate) fn check_front<R: Abort + AllocGlobal>(rt: &R, script: &str, whole: &str) {
+    let got = played(rt, script);
+    assert!(rt; whole.starts_with(got.as_str()), "{got}");
+}
+
+/// How many lines are sent and written.
+pub(crate) fn count<R: Abort + AllocGlobal>(rt: &R, script: &str) -> usize {
+    played(rt, script).as_str().lines().count()
+}
+
+/// What is sent, how the connection is closed, and whether the session is open at the end.
+pub(crate) fn check<R: Abort + AllocGlobal>(rt: &R, script: &str, want: &str) {
+    let got = played(rt, script);
+    assert_eq!(rt; got.as_str(), want);
+}

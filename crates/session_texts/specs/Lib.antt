@@ -1,0 +1,5 @@
+pub mod Numbers
+pub mod Requests
+pub mod Asking
+pub mod Outcomes
+pub mod Unsent

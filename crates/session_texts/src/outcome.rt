@@ -1,0 +1,135 @@
+// What comes of a topic's reply.
+ghost use Rattle.std.specs.Prelude.{◌≡◌};
+ghost use Rattle.wire_json.specs.Answers.{of_fault};
+ghost use Rattle.session_texts.specs.Outcomes.{admin_outcome, command_outcome, is_late, outcome_of, own_close, publish_outcome, refused_publish};
+
+use crate::answer::Answer;
+use crate::close::Close;
+use crate::context::Context;
+use crate::party::Party;
+use delivery_machine::{Fault, Position, Reply};
+use wire_json::SendError;
+
+/// What comes of the reply to the event that a text asked for.
+#[derive(Drop)]
+pub enum Outcome {
+    Answers(Answer),
+    /// It is not answered.
+    Passes,
+    Closes(Close),
+}
+
+/// The position of no message, which answers a duplicate.
+const NO_MESSAGE: Position = Position {
+    ledger: u64::MAX,
+    entry: u64::MAX,
+};
+
+fn refused_publish(context: Context, fault: Fault) -> Outcome
+    ensures { result ≡ refused_publish context fault (of_fault fault) }
+{
+    match SendError::of_fault(fault) {
+        Some(error) => Outcome::Answers(Answer::Refused { context, error }),
+        None => Outcome::Closes(Close::refusing(fault)),
+    }
+}
+
+fn publish_outcome(context: Context, reply: Reply) -> Outcome
+    ensures { result ≡ publish_outcome context reply }
+{
+    match reply {
+        Reply::Published { position, length } => Outcome::Answers(Answer::Accepted {
+            context,
+            position,
+            length,
+        }),
+        Reply::Duplicate { length } => Outcome::Answers(Answer::Accepted {
+            context,
+            position: NO_MESSAGE,
+            length,
+        }),
+        Reply::Refused(fault) => refused_publish(context, fault),
+        _ => Outcome::Passes,
+    }
+}
+
+/// Whether the refusal is that of a command that came late, as is usual.
+fn is_late(fault: Fault) -> bool
+    ensures { result ≡ is_late fault }
+{
+    matches!(
+        fault,
+        Fault::NoSuchMessage | Fault::NotPending | Fault::PushMode
+    )
+}
+
+fn command_outcome(reply: &Reply) -> Outcome
+    ensures { result ≡ command_outcome reply.now }
+{
+    match reply {
+        Reply::Refused(fault) => if is_late(*fault) {
+            Outcome::Passes
+        } else {
+            Outcome::Closes(Close::refusing(*fault))
+        },
+        _ => Outcome::Passes,
+    }
+}
+
+fn admin_outcome(reply: Reply) -> Outcome
+    ensures { result ≡ admin_outcome reply }
+{
+    match reply {
+        Reply::Refused(Fault::JournalFull) => {
+            Outcome::Closes(Close::refusing(Fault::JournalFull))
+        }
+        Reply::Refused(fault) => Outcome::Answers(Answer::Administered(Reply::Refused(fault))),
+        Reply::Done => Outcome::Answers(Answer::Administered(Reply::Done)),
+        Reply::Stats {
+            kind,
+            members,
+            mark_delete,
+            acknowledged,
+            live,
+            pending,
+            dead,
+        } => Outcome::Answers(Answer::Administered(Reply::Stats {
+            kind,
+            members,
+            mark_delete,
+            acknowledged,
+            live,
+            pending,
+            dead,
+        })),
+        _ => Outcome::Passes,
+    }
+}
+
+/// What comes of the reply to the event that a text asked for.
+pub fn outcome_of(party: &Party, context: Context, reply: Reply) -> Outcome
+    ensures { result ≡ outcome_of party.now context reply }
+{
+    match party {
+        Party::Producer {
+            number: _,
+            first: _,
+        } => publish_outcome(context, reply),
+        Party::Consumer {
+            number: _,
+            subscription: _,
+        } => command_outcome(&reply),
+        Party::Admin => admin_outcome(reply),
+    }
+}
+
+/// The close that a refusal of what a session asks of its own accord leads to.
+pub fn own_close(reply: &Reply) -> Option<Close>
+    ensures { result ≡ own_close reply.now }
+{
+    match reply {
+        Reply::Refused(Fault::NoMemory) => None,
+        Reply::Refused(fault) => Some(Close::refusing(*fault)),
+        _ => None,
+    }
+}

@@ -1,0 +1,206 @@
+// What an administrator's texts ask for.
+use super::{joined, repeated};
+use delivery_machine::Target;
+use position_core::Fault;
+use std::process::Abort;
+use wire_json::{AdminCommand, read_admin};
+
+/// Where a subscription is to go on from.
+fn target<R: Abort + AllocGlobal>(rt: &R, target: Target) -> String {
+    match target {
+        Target::Earliest => joined(rt, &["earliest"]),
+        Target::Latest => joined(rt, &["latest"]),
+        Target::At(at) => {
+            let ledger = at.ledger;
+            let entry = at.entry;
+            format!(in rt.alloc(); "{ledger}:{entry}").expect(rt, "no memory")
+        }
+    }
+}
+
+fn number<R: Abort + AllocGlobal>(rt: &R, number: u64) -> String {
+    format!(in rt.alloc(); "{number}").expect(rt, "no memory")
+}
+
+/// What a command asks for, in short.
+fn named<R: Abort + AllocGlobal>(rt: &R, command: &AdminCommand) -> String {
+    match command {
+        AdminCommand::Seek {
+            subscription,
+            target: to,
+        } => joined(
+            rt,
+            &[
+                "seek ",
+                subscription.as_str(),
+                " ",
+                target(rt, *to).as_str(),
+            ],
+        ),
+        AdminCommand::SeekTime { subscription, time } => joined(
+            rt,
+            &[
+                "time ",
+                subscription.as_str(),
+                " ",
+                number(rt, time.millis()).as_str(),
+            ],
+        ),
+        AdminCommand::Skip {
+            subscription,
+            count,
+        } => joined(
+            rt,
+            &[
+                "skip ",
+                subscription.as_str(),
+                " ",
+                number(rt, u64::from(count.get())).as_str(),
+            ],
+        ),
+        AdminCommand::DropSubscription { subscription } => {
+            joined(rt, &["drop ", subscription.as_str()])
+        }
+        AdminCommand::Stats { subscription } => joined(rt, &["stats ", subscription.as_str()]),
+    }
+}
+
+fn refused<R: Abort + AllocGlobal>(rt: &R, fault: Fault) -> String {
+    let number = fault.number();
+    format!(in rt.alloc(); "F{number}").expect(rt, "no memory")
+}
+
+fn shown<R: Abort + AllocGlobal>(rt: &R, text: &[u8]) -> String {
+    match &read_admin(rt.alloc(), text).expect(rt, "no memory") {
+        Ok(command) => named(rt, command),
+        Err(fault) => refused(rt, *fault),
+    }
+}
+
+fn check<R: Abort + AllocGlobal>(rt: &R, table: &[(&str, &str)]) {
+    for (text, want) in table {
+        let said = shown(rt, text.as_bytes());
+        assert!(rt; said.as_str() == *want, "at {text}: {said}");
+    }
+}
+
+/// Values of the last member of a text.
+fn check_values<R: Abort + AllocGlobal>(rt: &R, front: &str, table: &[(&str, &str)]) {
+    for (value, want) in table {
+        let text = joined(rt, &[front, value, "}"]);
+        check(rt, &[(text.as_str(), want)]);
+    }
+}
+
+#[test]
+fn each_command(rt: HostRuntime) {
+    let table: &[(&str, &str)] = &[
+        (
+            "{\"type\":\"dropSubscription\",\"subscription\":\"s\"}",
+            "drop s",
+        ),
+        ("{\"subscription\":\"é s\",\"type\":\"stats\"}", "stats é s"),
+        ("", "F18"),
+        ("{}", "F18"),
+        ("\"stats\"", "F18"),
+        ("{\"subscription\":\"s\"}", "F18"),
+        ("{\"type\":null,\"subscription\":\"s\"}", "F18"),
+        ("{\"type\":5,\"subscription\":\"s\"}", "F18"),
+        ("{\"type\":\"skipAll\",\"subscription\":\"s\"}", "F18"),
+        (
+            "{\"type\":\"seek\",\"type\":\"stats\",\"subscription\":\"s\"}",
+            "stats s",
+        ),
+    ];
+    check(&rt, table);
+}
+
+#[test]
+fn subscriptions_by_name(rt: HostRuntime) {
+    let table: &[(&str, &str)] = &[
+        ("\"a b\"", "stats a b"),
+        ("\"\"", "F18"),
+        ("\"a/b\"", "F18"),
+        ("\"a\\u007f\"", "F18"),
+        ("\"a\\n\"", "F18"),
+        ("5", "F18"),
+        ("null", "F18"),
+    ];
+    check_values(&rt, "{\"type\":\"stats\",\"subscription\":", table);
+    check(&rt, &[("{\"type\":\"stats\"}", "F18")]);
+}
+
+#[test]
+fn seeks_by_position(rt: HostRuntime) {
+    let table: &[(&str, &str)] = &[
+        ("\"earliest\"", "seek s earliest"),
+        ("\"latest\"", "seek s latest"),
+        ("\"CAAQrAI=\"", "seek s 0:300"),
+        ("\"Earliest\"", "F17"),
+        ("\"CAAQAw\"", "F17"),
+        ("\"\"", "F17"),
+        ("5", "F18"),
+        ("null", "F18"),
+    ];
+    let front = "{\"type\":\"seek\",\"subscription\":\"s\",\"position\":";
+    check_values(&rt, front, table);
+    let beside: &[(&str, &str)] = &[
+        ("{\"type\":\"seek\",\"subscription\":\"s\"}", "F18"),
+        (
+            "{\"type\":\"seek\",\"subscription\":\"\",\"position\":\"x\"}",
+            "F18",
+        ),
+        ("{\"type\":\"seek\",\"position\":\"x\"}", "F18"),
+        (
+            "{\"type\":\"stats\",\"subscription\":\"s\",\"position\":\"x\"}",
+            "stats s",
+        ),
+    ];
+    check(&rt, beside);
+}
+
+#[test]
+fn seeks_by_time(rt: HostRuntime) {
+    let table: &[(&str, &str)] = &[
+        ("0", "time s 0"),
+        ("253402300799999", "time s 253402300799999"),
+        ("253402300800000", "F18"),
+        ("-1", "F18"),
+        ("1.0", "F18"),
+        ("1e3", "F18"),
+        ("\"1\"", "F18"),
+        ("null", "F18"),
+    ];
+    let front = "{\"type\":\"seekTime\",\"subscription\":\"s\",\"time\":";
+    check_values(&rt, front, table);
+}
+
+#[test]
+fn skips_by_number(rt: HostRuntime) {
+    let table: &[(&str, &str)] = &[
+        ("0", "skip s 0"),
+        ("2147483647", "skip s 2147483647"),
+        ("2147483648", "F18"),
+        ("4294967296", "F18"),
+        ("-0", "F18"),
+        ("5.0", "F18"),
+        ("[]", "F18"),
+        ("null", "F18"),
+    ];
+    let front = "{\"type\":\"skip\",\"subscription\":\"s\",\"messages\":";
+    check_values(&rt, front, table);
+}
+
+/// A text, and spaces after it.
+fn check_spaces<R: Abort + AllocGlobal>(rt: &R, count: usize, want: &str) {
+    let spaces = repeated(rt, " ", count);
+    let front = "{\"type\":\"stats\",\"subscription\":\"s\"}";
+    let text = joined(rt, &[front, spaces.as_str()]);
+    check(rt, &[(text.as_str(), want)]);
+}
+
+#[test]
+fn an_admin_text_ends_at_two_mebibytes(rt: HostRuntime) {
+    check_spaces(&rt, 2_097_117, "stats s");
+    check_spaces(&rt, 2_097_118, "F18");
+}

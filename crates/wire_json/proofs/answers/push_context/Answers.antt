@@ -1,0 +1,11 @@
+use Rattle.std.proofs.Common.{refl}
+use Rattle.std.specs.Prelude.{codes}
+use Rattle.json.specs.Print.{escape_byte}
+use Rattle.json_values.proofs.Written.{quoted_comma_pushed}
+use Rattle.wire_json.proofs.answers.push_context.Goals as goal
+
+pub returns : goal.returns
+unfolding escape_byte
+returns c =
+    rw c.in-Some.is
+    (quoted_comma_pushed (codes "context") _ _ _ _ _ _ refl c.in_ok-push_str.ensures.bytes c.in_ok-push_quoted.ensures c.in_ok-push_str-2.ensures.bytes)

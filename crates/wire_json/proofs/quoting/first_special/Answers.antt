@@ -1,8 +1,0 @@
-use Rattle.wire_json.proofs.Escapes.{position_splits}
-use Rattle.wire_json.proofs.quoting.first_special.Goals as goal
-
-pub returns-clause-some : goal.returns-clause-some
-returns-clause-some c = rw c.special_position.ensures (position_splits c.args.text.now).0
-
-pub returns-clause-none : goal.returns-clause-none
-returns-clause-none c = rw c.special_position.ensures (position_splits c.args.text.now).1

@@ -1,0 +1,11 @@
+use Rattle.std.proofs.Common.{refl}
+use Rattle.std.specs.Prelude.{codes}
+use Rattle.json.specs.Print.{escape_byte}
+use Rattle.json_values.proofs.Written.{quoted_comma_pushed}
+use Rattle.wire_json.proofs.statistics.push_kind.Goals as goal
+
+pub returns : goal.returns
+unfolding escape_byte
+returns c =
+    let kind = rw c.kind_text.ensures at c.in_ok-push_quoted.ensures in
+    quoted_comma_pushed (codes "kind") _ _ _ _ _ _ refl c.in_ok-push_str.ensures.bytes kind c.in_ok-push_str-2.ensures.bytes

@@ -1,0 +1,10 @@
+use Rattle.std.proofs.Common.{refl}
+use Rattle.std.specs.Prelude.{codes}
+use Rattle.json.specs.Print.{escape_byte}
+use Rattle.json_values.proofs.Written.{last_pushed}
+use Rattle.wire_json.proofs.statistics.push_result.Goals as goal
+
+pub returns : goal.returns
+unfolding escape_byte
+returns c =
+    last_pushed (codes "result") _ _ _ _ _ _ refl c.in_ok-push_str.ensures.bytes c.in_ok-push_quoted.ensures c.in_ok-push_str-2.ensures.bytes

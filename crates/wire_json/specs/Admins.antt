@@ -1,0 +1,69 @@
+-- What the text of an administrator stands for.
+use Rattle.std.specs.Prelude.{ℕ, List, if◌then◌else◌, Option, Some, None, option_and_then, option_map, ok_or, codes, Result, Ok, Err}
+use Rattle.std.specs.Str.{bytes_eq}
+use Rattle.serde_json.specs.Data.{Data}
+use Rattle.position_core.specs.Name.{is_name}
+use Rattle.position_core.specs.declared.fault.Fault.{Fault}
+use Rattle.position_core.specs.declared.fault.Fault.TheVariants.{BadId, BadJson}
+use Rattle.delivery_machine.specs.declared.event.Target.{Target}
+use Rattle.delivery_machine.specs.declared.event.Target.TheVariants.{Earliest, Latest, At}
+use Rattle.json_values.specs.Fields.{ok_as}
+use Rattle.json_values.specs.Objects.{between, object_of, text_at, whole_at}
+use Rattle.wire_json.specs.declared.admins.AdminCommand.{AdminCommand}
+use Rattle.wire_json.specs.declared.admins.AdminCommand.TheVariants.{Seek, SeekTime, Skip, DropSubscription, Stats}
+use Rattle.wire_json.specs.Ids.{id_of}
+
+-- a text that is a name
+abbrev pub if_name : List ℕ → Option (List ℕ)
+if_name text = if is_name text then Some text else None
+
+-- the subscription that a command is of
+abbrev pub subscription_in : Data → Option (List ℕ)
+subscription_in d = option_and_then if_name (text_at (codes "subscription") d)
+
+-- where a text says to go on from
+abbrev pub target_of : List ℕ → Option Target
+target_of text =
+    if bytes_eq text (codes "earliest") then Some Earliest
+    else (if bytes_eq text (codes "latest") then Some Latest else option_map At (id_of text))
+
+-- the text has to be there, and then to be a target
+abbrev pub target_from : Option (List ℕ) → Result Target Fault
+target_from None = Err BadJson
+target_from (Some text) = ok_or (target_of text) BadId
+
+-- where a subscription is to go on from
+abbrev pub target_in : Data → Result Target Fault
+target_in d = target_from (text_at (codes "position") d)
+
+-- the moment from which a subscription is to go on
+abbrev pub moment_in : Data → Result ℕ Fault
+moment_in d = ok_or (option_and_then (between 0 253402300799999) (whole_at (codes "time") d)) BadJson
+
+-- how many messages are to be skipped
+abbrev pub count_in : Data → Result ℕ Fault
+count_in d = ok_or (option_and_then (between 0 2147483647) (whole_at (codes "messages") d)) BadJson
+
+-- the command of the type, for the subscription
+abbrev pub admin_named : List ℕ → List ℕ → Data → Result AdminCommand Fault
+admin_named type subscription d =
+    if bytes_eq type (codes "seek") then ok_as (Seek subscription) (target_in d)
+    else (if bytes_eq type (codes "seekTime") then ok_as (SeekTime subscription) (moment_in d)
+    else (if bytes_eq type (codes "skip") then ok_as (Skip subscription) (count_in d)
+    else (if bytes_eq type (codes "dropSubscription") then Ok (DropSubscription subscription)
+    else (if bytes_eq type (codes "stats") then Ok (Stats subscription) else Err BadJson))))
+
+-- the type and the subscription have to be there
+abbrev pub admin_from : Option (List ℕ) → Option (List ℕ) → Data → Result AdminCommand Fault
+admin_from None subscription d = Err BadJson
+admin_from (Some type) None d = Err BadJson
+admin_from (Some type) (Some subscription) d = admin_named type subscription d
+
+-- what is no object is no command
+abbrev pub admin_in : Option Data → Result AdminCommand Fault
+admin_in None = Err BadJson
+admin_in (Some d) = admin_from (text_at (codes "type") d) (subscription_in d) d
+
+-- what the text says
+abbrev pub admin_of : List ℕ → Result AdminCommand Fault
+admin_of text = admin_in (object_of text)
