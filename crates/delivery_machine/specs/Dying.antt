@@ -1,5 +1,5 @@
 -- Dead letters: a message that was redelivered too often dies, and is moved to another topic once its death is stored.
-use Rattle.std.specs.Prelude.{◌≡◌, ℕ, ◌+◌, ◌-◌, ◌^◌, ◌==◌, nat_lt, nat_le, Bool, false, not, ◌&&◌, List, [], ◌∷◌, ◌++◌, map, drop, Option, Some, None, IsSomeAnd, slice_get, if◌then◌else◌}
+use Rattle.std.specs.Prelude.{◌≡◌, ℕ, ◌+◌, ◌-◌, ◌^◌, ◌==◌, nat_lt, nat_le, Bool, false, true, not, ◌&&◌, List, [], ◌∷◌, ◌++◌, map, drop, Option, Some, None, IsSomeAnd, slice_get, if◌then◌else◌}
 use Rattle.std.specs.List.{find}
 use Rattle.std.specs.Option.{option_map, option_map_or, option_and_then}
 use Rattle.std.specs.FinMap as map_of
@@ -56,6 +56,11 @@ first_safe sub = if nat_lt 0 sub.safe then slice_get sub.dead 0 else None
 -- the first letter that is safe, with its message
 abbrev pub next_letter : State → Subscription → Option (state.DeadLetter × Entry)
 next_letter s sub = option_and_then (λ d. option_map (λ e. (d, e)) (find (has_position d.position) s.log)) (first_safe sub)
+
+-- whether a reply shows a letter
+abbrev pub is_letter : Reply → Bool
+is_letter (Dead message target ordinal) = true
+is_letter reply = false
 
 abbrev pub ShowsLetter : State → Subscription → Reply → State → Type 0
 ShowsLetter s sub reply t = (reply ≡ option_map_or (λ p. Dead p.1 p.0.target p.0.ordinal) (next_letter s sub) NoDead) × (t ≡ s)

@@ -1,8 +1,13 @@
 // Replies: one form for each way that an event may come out.
+ghost use Rattle.std.specs.Prelude.{◌≡◌, IfOk, IsOk, Some, List, false};
+ghost use Rattle.delivery_machine.specs.Dying.{is_letter};
+ghost use Rattle.delivery_machine.specs.declared.delivery.Delivery.{Delivery};
+
 use crate::delivery::Deliveries;
 use position_core::{
     ConsumerNumber, Fault, Kind, Message, Ordinal, Position, ProducerNumber, TopicName,
 };
+use std::alloc::AllocError;
 
 /// What a topic answers.
 #[derive(Drop)]
@@ -79,4 +84,118 @@ pub enum Reply {
     NoDead,
     /// The event changed nothing.
     Refused(Fault),
+}
+
+fn twin_of_letter(
+    message: &Message,
+    target: &TopicName,
+    ordinal: Ordinal,
+) -> Result<Reply, AllocError>
+    ensures { IfOk result (λ twin. twin ≡ Reply.Dead message.now target.now ordinal) }
+{
+    Ok(Reply::Dead {
+        message: message.clone()?,
+        target: target.clone()?,
+        ordinal,
+    })
+}
+
+impl Reply {
+    /// An equal reply. The copies are those of its messages, where it hands messages out; a dead letter
+    /// gets one more owner, which may be refused, and nothing else takes memory.
+    pub fn twin(&self, copies: Option<Deliveries>) -> Result<Reply, AllocError>
+        requires copies { (handed : List Delivery) → self.now ≡ Reply.Copies handed → copies ≡ Some handed }
+        ensures ok { IfOk result (λ twin. twin ≡ self.now) }
+        ensures given { is_letter self.now ≡ false → IsOk result }
+    {
+        match self {
+            Reply::ProducerAdded {
+                producer,
+                auto,
+                last,
+            } => Ok(Reply::ProducerAdded {
+                producer: *producer,
+                auto: *auto,
+                last: *last,
+            }),
+            Reply::Published { position, length } => Ok(Reply::Published {
+                position: *position,
+                length: *length,
+            }),
+            Reply::Duplicate { length } => Ok(Reply::Duplicate { length: *length }),
+            Reply::Durable(count) => Ok(Reply::Durable(*count)),
+            Reply::Progress { durable, length } => Ok(Reply::Progress {
+                durable: *durable,
+                length: *length,
+            }),
+            Reply::Subscribed { consumer } => Ok(Reply::Subscribed {
+                consumer: *consumer,
+            }),
+            Reply::Done => Ok(Reply::Done),
+            Reply::Sent {
+                consumer,
+                position,
+                count,
+            } => Ok(Reply::Sent {
+                consumer: *consumer,
+                position: *position,
+                count: *count,
+            }),
+            Reply::Idle => Ok(Reply::Idle),
+            Reply::Copies(_) => match copies {
+                Some(copies) => Ok(Reply::Copies(copies)),
+                None => Err(AllocError),
+            },
+            Reply::Released { position } => Ok(Reply::Released {
+                position: *position,
+            }),
+            Reply::Died { position, ordinal } => Ok(Reply::Died {
+                position: *position,
+                ordinal: *ordinal,
+            }),
+            Reply::Rewound { count } => Ok(Reply::Rewound { count: *count }),
+            Reply::Quiet => Ok(Reply::Quiet),
+            Reply::Stats {
+                kind,
+                members,
+                mark_delete,
+                acknowledged,
+                live,
+                pending,
+                dead,
+            } => Ok(Reply::Stats {
+                kind: *kind,
+                members: *members,
+                mark_delete: *mark_delete,
+                acknowledged: *acknowledged,
+                live: *live,
+                pending: *pending,
+                dead: *dead,
+            }),
+            Reply::Dead {
+                message,
+                target,
+                ordinal,
+            } => twin_of_letter(message, target, *ordinal),
+            Reply::NoDead => Ok(Reply::NoDead),
+            Reply::Refused(fault) => Ok(Reply::Refused(*fault)),
+        }
+    }
+}
+
+fn copies_of(reply: &Reply) -> Result<Option<Deliveries>, AllocError>
+    ensures { IfOk result (λ copies. (handed : List Delivery) → reply.now ≡ Reply.Copies handed → copies ≡ Some handed) }
+{
+    match reply {
+        Reply::Copies(handed) => Ok(Some(handed.clone()?)),
+        _ => Ok(None),
+    }
+}
+
+impl Clone for Reply {
+    ghost is_clone = { λ reply copy. copy ≡ reply };
+
+    fn clone(&self) -> Result<Self, AllocError> {
+        self.twin(copies_of(self)?)
+    }
 }
