@@ -12,7 +12,9 @@ mod murmur;
 mod pending;
 mod report;
 mod table;
+mod texts;
 mod timing;
+mod turns;
 
 use mode::Mode;
 use report::Report;
@@ -46,7 +48,15 @@ fn cases(rt: &HostRuntime, mode: Mode) -> io::Result<()> {
         table: Table::Keys,
     };
     keys.head()?;
-    murmur::cases(&keys)
+    murmur::cases(&keys)?;
+    let payloads = Report {
+        rt,
+        mode,
+        table: Table::Payloads,
+    };
+    payloads.head()?;
+    texts::cases(&payloads)?;
+    turns::cases(&payloads)
 }
 
 /// Runs the cases, and answers the status to end with.

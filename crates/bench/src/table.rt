@@ -7,10 +7,15 @@ pub(crate) enum Table {
     Slots,
     /// By how many bytes a key has: a case makes `CALLS_A_KEY` calls.
     Keys,
+    /// By how many bytes a payload has: a case makes `CALLS_A_PAYLOAD` calls.
+    Payloads,
 }
 
 /// How many calls a case of keys makes.
 pub(crate) const CALLS_A_KEY: u64 = 1_000_000;
+
+/// How many calls a case of payloads makes.
+pub(crate) const CALLS_A_PAYLOAD: u64 = 6_400;
 
 impl Table {
     ghost use Rattle.std.specs.Prelude.{◌≡◌, ◌<◌};
@@ -20,7 +25,7 @@ impl Table {
     pub(crate) fn name(self) -> &'static str {
         match self {
             Table::Slots => "slots",
-            Table::Keys => "bytes",
+            Table::Keys | Table::Payloads => "bytes",
         }
     }
 
@@ -29,6 +34,7 @@ impl Table {
         match self {
             Table::Slots => 1_000,
             Table::Keys => 8,
+            Table::Payloads => 100,
         }
     }
 
@@ -37,6 +43,7 @@ impl Table {
         match self {
             Table::Slots => &[1_000, 10_000, 100_000, 1_000_000],
             Table::Keys => &[8, 32, 1_024],
+            Table::Payloads => &[100, 1_024],
         }
     }
 
@@ -48,6 +55,7 @@ impl Table {
         match self {
             Table::Slots => size.max(1),
             Table::Keys => CALLS_A_KEY,
+            Table::Payloads => CALLS_A_PAYLOAD,
         }
     }
 }

@@ -30,6 +30,7 @@ fn begin(alloc: Global, party: Party, dues: Dues) -> Session
         waiting: VecDeque::new(alloc),
         text: String::new(alloc),
         dues,
+        had_room: true,
     }
 }
 

@@ -86,7 +86,7 @@ pub fn serve<C: Conn, K: Caller>(
     let mut session = session;
     match session.serve_open(conn, caller, now, most.get()) {
         Ok(()) => {
-            session.rest(now);
+            session.rest(now, conn.has_room());
             Some(session)
         }
         Err(stop) => {

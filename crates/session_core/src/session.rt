@@ -29,6 +29,8 @@ pub struct Session {
     pub(crate) text: String,
     /// When what it was sent may be due.
     pub(crate) dues: Dues,
+    /// Whether the connection had room when the last turn ended.
+    pub(crate) had_room: bool,
 }
 
 impl Session {

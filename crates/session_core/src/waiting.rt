@@ -42,9 +42,9 @@ impl Session {
             },
             None => Waits {
                 durable: None,
-                messages: self.is_consumers() && !has_unsent,
+                messages: self.is_consumers() && !has_unsent && self.had_room,
                 due: self.dues.first(),
-                room: has_unsent,
+                room: has_unsent || (self.is_consumers() && !self.had_room),
             },
         }
     }
@@ -60,9 +60,10 @@ impl Session {
     }
 
     /// Lets go what a session at rest does not need: the messages that are sent, and room for a long text.
-    pub(crate) fn rest(&mut self, now: Moment)
+    pub(crate) fn rest(&mut self, now: Moment, has_room: bool)
         ensures { Rests self.old self.new }
     {
+        self.had_room = has_room;
         self.dues.pass(now, self.copies_sent > 0);
         if !self.has_copies() {
             self.copies = Deliveries::new(self.alloc);

@@ -1,8 +1,10 @@
--- What a connection over lists tells.
+-- What a connection over lists tells, and a caller over a topic.
 use Rattle.std.specs.Prelude.{List, map, string_bytes}
-use Rattle.session_links.specs.Links.{Closing, Exchange, receipt_of}
+use Rattle.session_links.specs.Links.{Call, Closing, Exchange, receipt_of}
 use Rattle.session_links.specs.declared.list_conn.Closed.{Closed}
 use Rattle.session_links.specs.declared.list_conn.Told.{Told}
+use Rattle.session_links.specs.declared.topic_caller.Line.{Line}
+use Rattle.session_links.specs.declared.topic_caller.Lines.{Lines}
 
 -- a close of the list
 abbrev pub closing_of : Closed → Closing
@@ -11,3 +13,11 @@ closing_of closed = record { code = closed.code; reason = string_bytes closed.re
 -- what the lists have
 abbrev pub exchange_of : Told → Exchange
 exchange_of told = record { received = map receipt_of told.received.items; sent = map string_bytes told.sent.items; closes = map closing_of told.closes.items }
+
+-- a call of the list
+abbrev pub call_of : Line → Call
+call_of line = record { event = line.event; reply = line.reply }
+
+-- what the lines have
+abbrev pub calls_of : Lines → List Call
+calls_of lines = map call_of lines.items.items

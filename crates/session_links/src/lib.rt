@@ -9,4 +9,4 @@ mod topic_caller;
 pub use caller::{Caller, ask};
 pub use conn::{Conn, ConnFault, Incoming};
 pub use list_conn::{Closed, ListConn, Told};
-pub use topic_caller::TopicCaller;
+pub use topic_caller::{Line, Lines, TopicCaller};

@@ -1,5 +1,5 @@
 // A connection over lists, for tests and trials.
-ghost use Rattle.std.specs.Prelude.{◌≡◌, IfOk, IfSome, option_map};
+ghost use Rattle.std.specs.Prelude.{◌≡◌, IfOk, IfSome, option_map, true};
 ghost use Rattle.session_links.specs.Links.{Tells, receipt_of, with_close, with_receipt, with_sent};
 ghost use Rattle.session_links.specs.Lists.{exchange_of};
 
@@ -119,7 +119,9 @@ pub struct ListConn {
 
 impl ListConn {
     /// A connection on which nothing comes yet, and which takes all texts.
-    pub fn new(alloc: Global) -> Self {
+    pub fn new(alloc: Global) -> Self
+        ensures { result.is_open ≡ true }
+    {
         ListConn {
             incoming: VecDeque::new(alloc),
             room: u64::MAX,
@@ -128,6 +130,15 @@ impl ListConn {
             told: Some(Told::new(alloc)),
             is_open: true,
         }
+    }
+
+    /// One that tells nothing, and takes no memory for that.
+    pub fn silent(alloc: Global) -> Self
+        ensures { result.is_open ≡ true }
+    {
+        let mut conn = ListConn::new(alloc);
+        conn.told = None;
+        conn
     }
 
     /// What was received, sent and closed, where there was memory for all of it.

@@ -1,33 +1,103 @@
 // A caller over one topic, for tests and trials.
+ghost use Rattle.std.specs.Prelude.{◌≡◌, IfOk, IfSome, option_map};
+ghost use Rattle.session_links.specs.Links.{Tells, reply_of, with_call};
+ghost use Rattle.session_links.specs.Lists.{calls_of};
+
 use crate::caller::Caller;
 use delivery_machine::{Event, Fault, Reply, Topic};
+use std::alloc::{AllocError, Global};
 
-/// Hands events to a topic of its own. To proofs it tells nothing.
+/// An event, and what it was answered.
+#[derive(Drop)]
+pub struct Line {
+    pub event: Event,
+    pub reply: Reply,
+}
+
+/// The calls so far, in order.
+#[derive(Drop)]
+pub struct Lines {
+    pub items: Vec<Line>,
+}
+
+// What the event was answered, where a call that fails refuses it.
+fn reply_in(answer: &Result<Reply, Fault>) -> Result<Reply, AllocError>
+    ensures { IfOk result (λ reply. reply ≡ reply_of answer.now) }
+{
+    match answer {
+        Ok(reply) => reply.clone(),
+        Err(fault) => Ok(Reply::Refused(*fault)),
+    }
+}
+
+impl Lines {
+    fn and_call(self, event: Event, answer: &Result<Reply, Fault>) -> Option<Lines>
+        ensures { IfSome result (λ lines. calls_of lines ≡ with_call (record { event = event; reply = reply_of answer.now }) (calls_of self)) }
+    {
+        let mut lines = self;
+        let reply = reply_in(answer).ok()?;
+        if lines.items.push(Line { event, reply }).is_err() {
+            return None;
+        }
+        Some(lines)
+    }
+}
+
+fn tell(lines: Option<Lines>, event: Event, answer: &Result<Reply, Fault>) -> Option<Lines>
+    ensures { Tells (with_call (record { event = event; reply = reply_of answer.now })) (option_map calls_of lines) (option_map calls_of result) }
+{
+    match lines {
+        Some(lines) => lines.and_call(event, answer),
+        None => None,
+    }
+}
+
+/// Hands events to a topic of its own. It tells which, and what they were answered, as long as there is memory for that.
 #[derive(Drop)]
 pub struct TopicCaller<T: Drop> {
     pub topic: T,
-    /// Whether each call is refused as by a full journal.
-    pub is_full: bool,
+    /// What each call is refused with, where it is.
+    pub refusal: Option<Fault>,
+    lines: Option<Lines>,
 }
 
 impl<T: Drop> TopicCaller<T> {
-    pub fn new(topic: T) -> Self {
+    pub fn new(alloc: Global, topic: T) -> Self {
         TopicCaller {
             topic,
-            is_full: false,
+            refusal: None,
+            lines: Some(Lines {
+                items: Vec::new(alloc),
+            }),
+        }
+    }
+
+    /// The calls so far, where there was memory for all of them.
+    pub fn lines(&self) -> Option<&Lines> {
+        self.lines.as_ref()
+    }
+}
+
+impl<T: Topic + Drop> TopicCaller<T> {
+    fn answer_to(&mut self, event: &Event) -> Result<Reply, Fault>
+        ensures { self.new.lines ≡ self.old.lines }
+    {
+        match self.refusal {
+            Some(fault) => Err(fault),
+            None => Ok(self.topic.apply(event)),
         }
     }
 }
 
 impl<T: Topic + Drop> Caller for TopicCaller<T> {
-    ghost use Rattle.std.specs.Prelude.{None};
+    ghost use Rattle.std.specs.Prelude.{option_map};
+    ghost use Rattle.session_links.specs.Lists.{calls_of};
 
-    ghost calls = { λ c. None };
+    ghost calls = { λ c. option_map calls_of c.lines };
 
     fn call(&mut self, event: Event) -> Result<Reply, Fault> {
-        if self.is_full {
-            return Err(Fault::JournalFull);
-        }
-        Ok(self.topic.apply(&event))
+        let answer = self.answer_to(&event);
+        self.lines = tell(self.lines.take(), event, &answer);
+        answer
     }
 }

@@ -3,4 +3,6 @@ mod admins;
 mod closing;
 mod consumers;
 mod producers;
+mod side;
 mod stage;
+mod waits;

@@ -1,87 +1,24 @@
 // Plays a session over lists and a plain topic, from a text of lines.
-use delivery_machine::{Event, Moment, Reply, Topic, TopicName};
-use endpoint_core::route;
-use plain_topic::PlainTopic;
-use position_core::{Body, Content, Fault, LedgerSize, Payload, Properties};
-use session_core::{Session, TextCount, open, serve};
-use session_links::{Caller, Incoming, ListConn, Told};
+use super::side::{Desk, Side, desk};
+use delivery_machine::{Event, Moment, Topic};
+use position_core::{Body, Content, Fault, Payload, Properties};
+use session_links::Told;
 use std::process::Abort;
-
-/// A topic, or what refuses each call in its place.
-#[derive(Drop)]
-struct Desk {
-    topic: PlainTopic,
-    refusal: Option<Fault>,
-}
-
-impl Caller for Desk {
-    ghost use Rattle.std.specs.Prelude.{None};
-
-    ghost calls = { λ desk. None };
-
-    fn call(&mut self, event: Event) -> Result<Reply, Fault> {
-        match self.refusal {
-            Some(fault) => Err(fault),
-            None => Ok(self.topic.apply(&event)),
-        }
-    }
-}
 
 #[derive(Drop)]
 struct Stage {
-    caller: Desk,
-    conn: ListConn,
-    session: Option<Session>,
+    desk: Desk,
+    side: Side,
     /// How many texts were looked at.
     seen: usize,
 }
 
-fn topic<R: Abort + AllocGlobal>(rt: &R) -> PlainTopic {
-    let name = TopicName::from_text(rt.alloc(), "persistent://public/default/t");
-    let name = name.expect(rt, "no memory").expect(rt, "a name");
-    let size = LedgerSize::new(10).expect(rt, "a size");
-    PlainTopic::new(rt.alloc(), name, size)
-}
-
-fn number<R: Abort>(rt: &R, word: &str) -> u64 {
+pub(super) fn number<R: Abort>(rt: &R, word: &str) -> u64 {
     let number: Result<u64, _> = word.parse();
     match number {
         Ok(number) => number,
         Err(_) => None.expect(rt, "a number"),
     }
-}
-
-fn opened<R: Abort + AllocGlobal>(rt: &R, stage: &mut Stage, target: &str) {
-    stage.conn = ListConn::new(rt.alloc());
-    stage.seen = 0;
-    let endpoint = route(rt.alloc(), target);
-    if stage.conn.is_open()
-        && let Ok(endpoint) = endpoint
-    {
-        stage.session = open(rt.alloc(), endpoint, &mut stage.conn, &mut stage.caller);
-    }
-}
-
-fn served<R: Abort>(rt: &R, stage: &mut Stage, most: u64, now: u64) {
-    let now = Moment::new(now).expect(rt, "a moment");
-    let most = if most < 64 { most as u32 } else { 64 };
-    let most = TextCount::new(most).expect(rt, "a count");
-    if stage.conn.is_open()
-        && let Some(session) = stage.session.take()
-    {
-        stage.session = serve(session, &mut stage.conn, &mut stage.caller, now, most);
-    }
-}
-
-fn comes<R: Abort + AllocGlobal>(rt: &R, stage: &mut Stage, text: &str) {
-    let bytes = Vec::from_slice(rt.alloc(), text.as_bytes()).expect(rt, "no memory");
-    let pushed: Result<(), _> = stage.conn.incoming.push_back(Incoming::Text(bytes));
-    assert!(rt; pushed.is_ok());
-}
-
-fn goes<R: Abort>(rt: &R, stage: &mut Stage) {
-    let pushed: Result<(), _> = stage.conn.incoming.push_back(Incoming::Gone);
-    assert!(rt; pushed.is_ok());
 }
 
 fn refusal<R: Abort>(rt: &R, word: &str) -> Option<Fault> {
@@ -105,44 +42,44 @@ fn last_number<R: Abort + AllocGlobal>(rt: &R, stage: &mut Stage) {
         payload: Payload::new(Vec::new(rt.alloc())).expect(rt, "a payload"),
     };
     let body = Body::new(rt.alloc(), content).expect(rt, "no memory");
-    let _ = stage.caller.topic.apply(&Event::Publish {
+    let _ = stage.desk.topic.apply(&Event::Publish {
         producer: 1,
         sequence: i64::MAX,
         body,
         now: Moment::new(0).expect(rt, "a moment"),
     });
-    let _ = stage
-        .caller
-        .topic
-        .apply(&Event::DropProducer { producer: 1 });
+    let _ = stage.desk.topic.apply(&Event::DropProducer { producer: 1 });
 }
 
 /// Does what a line says.
 fn does<R: Abort + AllocGlobal>(rt: &R, stage: &mut Stage, word: &str, rest: &str) {
     match word {
-        "open" => opened(rt, stage, rest),
-        "text" => comes(rt, stage, rest),
-        "gone" => goes(rt, stage),
-        "turn" => served(rt, stage, 1, number(rt, rest)),
-        "serve" => served(rt, stage, 64, number(rt, rest)),
-        "stored" => {
-            let _ = stage.caller.topic.apply(&Event::Stored);
+        "open" => {
+            stage.seen = 0;
+            stage.side.open(rt, &mut stage.desk, rest);
         }
-        "room" => stage.conn.room = number(rt, rest),
-        "fail" => stage.conn.calls = number(rt, rest),
-        "refuse" => stage.caller.refusal = refusal(rt, rest),
+        "text" => stage.side.comes(rt, rest),
+        "gone" => stage.side.goes(rt),
+        "turn" => stage.side.serve(rt, &mut stage.desk, 1, number(rt, rest)),
+        "serve" => stage.side.serve(rt, &mut stage.desk, 64, number(rt, rest)),
+        "stored" => {
+            let _ = stage.desk.topic.apply(&Event::Stored);
+        }
+        "room" => stage.side.conn.room = number(rt, rest),
+        "fail" => stage.side.conn.calls = number(rt, rest),
+        "refuse" => stage.desk.refusal = refusal(rt, rest),
         "last" => last_number(rt, stage),
         _ => None.expect(rt, "a line"),
     }
 }
 
-fn push<R: Abort>(rt: &R, out: &mut String, part: &str) {
+pub(super) fn push<R: Abort>(rt: &R, out: &mut String, part: &str) {
     out.push_str(part).expect(rt, "no memory");
 }
 
 /// What was told of the connection.
 fn told<'a, R: Abort>(rt: &R, stage: &'a Stage) -> &'a Told {
-    stage.conn.told().expect(rt, "no memory")
+    stage.side.conn.told().expect(rt, "no memory")
 }
 
 /// Writes the texts that were sent since the last look, one a line.
@@ -168,12 +105,8 @@ fn show_closes<R: Abort + AllocGlobal>(rt: &R, stage: &Stage, out: &mut String) 
 
 fn played<R: Abort + AllocGlobal>(rt: &R, script: &str) -> String {
     let mut stage = Stage {
-        caller: Desk {
-            topic: topic(rt),
-            refusal: None,
-        },
-        conn: ListConn::new(rt.alloc()),
-        session: None,
+        desk: desk(rt),
+        side: Side::new(rt),
         seen: 0,
     };
     let mut out = String::new(rt.alloc());
@@ -183,7 +116,7 @@ fn played<R: Abort + AllocGlobal>(rt: &R, script: &str) -> String {
         show(rt, &mut stage, &mut out);
     }
     show_closes(rt, &stage, &mut out);
-    if stage.session.is_some() {
+    if stage.side.session.is_some() {
         push(rt, &mut out, "open\n");
     }
     out

@@ -1,0 +1,220 @@
+// A session that is served only when what it waits for has come sends the same texts as one that is served all the time.
+use super::side::{Desk, Side, desk};
+use super::stage::{number, push};
+use delivery_machine::{Event, Reply, SubscriptionName, Topic};
+use session_core::Waits;
+use std::process::Abort;
+
+/// So many milliseconds are played.
+const END: u64 = 600;
+
+/// A producer and a consumer of one topic.
+#[derive(Drop)]
+struct World {
+    desk: Desk,
+    producer: Side,
+    consumer: Side,
+    /// How many turns were served.
+    turns: u64,
+}
+
+fn durable(desk: &mut Desk) -> u64 {
+    match desk.topic.apply(&Event::Progress) {
+        Reply::Progress { durable, length: _ } => durable,
+        _ => 0,
+    }
+}
+
+/// Whether a message waits in the subscription `s`.
+fn has_waiting<R: Abort + AllocGlobal>(rt: &R, desk: &mut Desk) -> bool {
+    let name = SubscriptionName::from_text(rt.alloc(), "s").expect(rt, "no memory");
+    let subscription = name.expect(rt, "a name");
+    match desk.topic.apply(&Event::Stats { subscription }) {
+        Reply::Stats {
+            kind: _,
+            members: _,
+            mark_delete: _,
+            acknowledged: _,
+            live,
+            pending,
+            dead: _,
+        } => live > pending,
+        _ => false,
+    }
+}
+
+fn is_over<R: Abort + AllocGlobal>(
+    rt: &R,
+    waits: Waits,
+    has_room: bool,
+    desk: &mut Desk,
+    now: u64,
+) -> bool {
+    (waits.room && has_room)
+        || waits.due.is_some_and(|due| due <= now)
+        || waits.durable.is_some_and(|length| length <= durable(desk))
+        || (waits.messages && has_waiting(rt, desk))
+}
+
+/// Whether a text came, or what the session waits for.
+fn is_woken<R: Abort + AllocGlobal>(rt: &R, side: &Side, desk: &mut Desk, now: u64) -> bool {
+    match &side.session {
+        Some(session) => {
+            !side.conn.incoming.is_empty()
+                || is_over(rt, session.waits(), side.conn.room > 0, desk, now)
+        }
+        None => false,
+    }
+}
+
+fn publishes<R: Abort + AllocGlobal>(rt: &R, producer: &mut Side, count: u64) {
+    for _ in 0..count {
+        producer.comes(rt, "{\"payload\":\"aGk=\"}");
+    }
+}
+
+fn does<R: Abort + AllocGlobal>(rt: &R, world: &mut World, word: &str, rest: &str) {
+    match word {
+        "publishes" => publishes(rt, &mut world.producer, number(rt, rest)),
+        "producer" => world.producer.comes(rt, rest),
+        "consumer" => world.consumer.comes(rt, rest),
+        "stored" => {
+            let _ = world.desk.topic.apply(&Event::Stored);
+        }
+        "producer_room" => world.producer.conn.room = number(rt, rest),
+        "consumer_room" => world.consumer.conn.room = number(rt, rest),
+        _ => None.expect(rt, "a line"),
+    }
+}
+
+/// Does what the lines say of this moment.
+fn comes<R: Abort + AllocGlobal>(rt: &R, world: &mut World, script: &str, now: u64) {
+    for line in script.lines() {
+        let (at, rest) = line.split_once(' ').unwrap_or((line, ""));
+        let (word, rest) = rest.split_once(' ').unwrap_or((rest, ""));
+        if number(rt, at) == now {
+            does(rt, world, word, rest);
+        }
+    }
+}
+
+fn serves<R: Abort + AllocGlobal>(rt: &R, world: &mut World, is_eager: bool, now: u64) {
+    if is_eager || is_woken(rt, &world.producer, &mut world.desk, now) {
+        world.producer.serve(rt, &mut world.desk, 64, now);
+        world.turns = world.turns.saturating_add(1);
+    }
+    if is_eager || is_woken(rt, &world.consumer, &mut world.desk, now) {
+        world.consumer.serve(rt, &mut world.desk, 64, now);
+        world.turns = world.turns.saturating_add(1);
+    }
+}
+
+/// Writes the texts that were sent.
+fn show<R: Abort>(rt: &R, side: &Side, out: &mut String) {
+    for text in side.conn.told().expect(rt, "no memory").sent.iter() {
+        push(rt, out, text.as_str());
+        push(rt, out, "\n");
+    }
+}
+
+/// What is sent, and in how many turns.
+fn played<R: Abort + AllocGlobal>(
+    rt: &R,
+    consumer: &str,
+    script: &str,
+    is_eager: bool,
+) -> (String, u64) {
+    let mut world = World {
+        desk: desk(rt),
+        producer: Side::new(rt),
+        consumer: Side::new(rt),
+        turns: 0,
+    };
+    let producer = "/ws/v2/producer/persistent/public/default/t";
+    world.producer.open(rt, &mut world.desk, producer);
+    world.consumer.open(rt, &mut world.desk, consumer);
+    for now in 0..END {
+        comes(rt, &mut world, script, now);
+        serves(rt, &mut world, is_eager || now == 0, now);
+    }
+    let mut out = String::new(rt.alloc());
+    show(rt, &world.producer, &mut out);
+    show(rt, &world.consumer, &mut out);
+    (out, world.turns)
+}
+
+/// The texts are the same, so many, and a session that waits is served in at most so many turns.
+fn check<R: Abort + AllocGlobal>(rt: &R, consumer: &str, script: &str, texts: usize, most: u64) {
+    let (always, _) = played(rt, consumer, script, true);
+    let (woken, turns) = played(rt, consumer, script, false);
+    assert_eq!(rt; woken.as_str(), always.as_str());
+    assert_eq!(rt; always.as_str().lines().count(), texts);
+    assert!(rt; turns <= most, "{turns}");
+}
+
+#[test]
+fn answers_wait_for_the_store_and_for_room(rt: HostRuntime) {
+    check(
+        &rt,
+        "/ws/v2/consumer/persistent/public/default/t/s",
+        "3 publishes 2
+5 producer {\"payload\":\"%%%\"}
+9 publishes 1
+50 stored
+80 producer_room 1
+90 publishes 3
+91 stored
+200 producer_room 9",
+        13,
+        40,
+    );
+}
+
+#[test]
+fn messages_come_again_at_their_moments(rt: HostRuntime) {
+    check(
+        &rt,
+        "/ws/v2/consumer/persistent/public/default/t/s?subscriptionType=Shared&receiverQueueSize=2&ackTimeoutMillis=100&negativeAckRedeliveryDelay=50",
+        "0 publishes 3
+10 stored
+20 consumer {\"messageId\":\"CAAQAA==\"}
+30 consumer {\"type\":\"negativeAcknowledge\",\"messageId\":\"CAAQAQ==\"}
+300 consumer {\"messageId\":\"CAAQAQ==\"}
+301 consumer {\"messageId\":\"CAAQAg==\"}",
+        11,
+        80,
+    );
+}
+
+#[test]
+fn more_than_a_turn_sends_comes_in_several(rt: HostRuntime) {
+    check(
+        &rt,
+        "/ws/v2/consumer/persistent/public/default/t/s",
+        "0 publishes 150
+20 stored
+100 consumer_room 0
+200 publishes 3
+210 stored
+300 consumer_room 500",
+        306,
+        40,
+    );
+}
+
+#[test]
+fn a_consumer_that_pulls_waits_for_its_permits(rt: HostRuntime) {
+    check(
+        &rt,
+        "/ws/v2/consumer/persistent/public/default/t/s?pullMode=true",
+        "0 publishes 3
+20 stored
+40 consumer {\"type\":\"permit\",\"permitMessages\":2}
+60 consumer {\"type\":\"isEndOfTopic\"}
+400 consumer {\"type\":\"permit\",\"permitMessages\":2}
+500 publishes 1
+510 stored",
+        9,
+        600,
+    );
+}
