@@ -54,3 +54,5 @@ pub mod SharedOut
 pub mod SharesReached
 pub mod WellReached
 pub mod WellFormedStates
+pub mod Journaling
+pub mod ReachedOn

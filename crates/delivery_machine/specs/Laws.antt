@@ -37,6 +37,10 @@ IsBeginning s =
     ((name : TopicName) × (ledger_size : ℕ) × (s ≡ fresh name ledger_size))
     ⊎ ((kept : Snapshot) × IsSound kept × (s ≡ restarted kept))
 
+-- a run comes to the state
+abbrev pub IsReached : State → Type 0
+IsReached t = (s : State) × (events : List Event) × (replies : List Reply) × IsBeginning s × Run s events replies t
+
 -- it holds of every state that a run comes to
 abbrev pub HoldsAlways : (State → Type 0) → Type 0
 HoldsAlways P = (s : State) (events : List Event) (replies : List Reply) (t : State) → IsBeginning s → Run s events replies t → P t

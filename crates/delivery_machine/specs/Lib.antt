@@ -15,4 +15,6 @@ pub mod Ticking
 pub mod Run
 pub mod Snapshot
 pub mod WellFormed
+pub mod Places
 pub mod Laws
+pub mod Journals

@@ -1,5 +1,5 @@
 // Messages on their way to a consumer.
-ghost use Rattle.std.specs.Prelude.{◌≡◌, ◌-◌, [], ◌∷◌, ◌++◌, OnOk, OnErr, length, take};
+ghost use Rattle.std.specs.Prelude.{◌≡◌, ◌↔◌, IsTrue, ◌-◌, [], ◌∷◌, ◌++◌, OnOk, OnErr, length, take};
 ghost use Rattle.delivery_machine.specs.Acknowledging.{is_one_of, without};
 
 use position_core::{Message, Position};
@@ -18,6 +18,29 @@ pub fn is_one_of(positions: &[Position], position: Position) -> bool
     ensures { result ≡ is_one_of positions.now position }
 {
     positions.iter().any(|other| position.is(*other))
+}
+
+impl Delivery {
+    /// Whether two deliveries are the same.
+    pub fn is(&self, other: &Delivery) -> bool
+        ensures { IsTrue result ↔ self.now ≡ other.now }
+    {
+        self.message.is(&other.message) && self.count == other.count
+    }
+}
+
+fn are_same(items: &[Delivery], others: &[Delivery]) -> bool
+    ensures { IsTrue result ↔ items.now ≡ others.now }
+{
+    if items.len() != others.len() {
+        return false;
+    }
+    'each: for i in 0..items.len() {
+        if !items[i].is(&others[i]) {
+            return false;
+        }
+    }
+    true
 }
 
 fn leave_out(items: &mut Vec<Delivery>, positions: &[Position])
@@ -82,6 +105,13 @@ impl Deliveries {
         ensures { self.new ≡ without positions.now self.old }
     {
         leave_out(&mut self.items, positions);
+    }
+
+    /// Whether two lists have the same deliveries in the same order.
+    pub fn are(&self, others: &Deliveries) -> bool
+        ensures { IsTrue result ↔ self.now ≡ others.now }
+    {
+        are_same(self.as_slice(), others.as_slice())
     }
 }
 

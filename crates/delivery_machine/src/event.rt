@@ -1,4 +1,6 @@
 // What may be asked of a topic.
+ghost use Rattle.std.specs.Prelude.{◌≡◌, ◌↔◌, IsTrue};
+
 use position_core::{
     Base, Body, ConsumerNumber, Flow, Kind, Level, Millis, Moment, Ordinal, Permits, Position,
     ProducerName, ProducerNumber, RedeliverLimit, SkipLength, SubscriptionName, TopicName,
@@ -136,4 +138,116 @@ pub enum Event {
         subscription: SubscriptionName,
         ordinal: Ordinal,
     },
+}
+
+fn same_name(name: &Option<ProducerName>, other: &Option<ProducerName>) -> bool
+    ensures { IsTrue result ↔ name.now ≡ other.now }
+{
+    match name {
+        Some(name) => match other {
+            Some(other) => name.is(other),
+            None => false,
+        },
+        None => other.is_none(),
+    }
+}
+
+impl Event {
+    /// Whether two events are the same.
+    pub fn is(&self, other: &Event) -> bool
+        ensures { IsTrue result ↔ self.now ≡ other.now }
+    {
+        match self {
+            Event::AddProducer { name, base } =>
+                matches!(other, Event::AddProducer { name: n, base: b } if same_name(name, n) && base == b),
+            Event::DropProducer { producer } =>
+                matches!(other, Event::DropProducer { producer: d } if producer == d),
+            Event::Publish {
+                producer,
+                sequence,
+                body,
+                now,
+            } =>
+                matches!(other, Event::Publish { producer: d, sequence: q, body: b, now: n } if producer == d && sequence == q && body.is(b) && now == n),
+            Event::Stored => matches!(other, Event::Stored),
+            Event::StoredTo { length, ordinal } =>
+                matches!(other, Event::StoredTo { length: l, ordinal: o } if length == l && ordinal == o),
+            Event::Progress => matches!(other, Event::Progress),
+            Event::Subscribe {
+                subscription,
+                kind,
+                level,
+                flow,
+                ack_timeout,
+                nack_delay,
+                max_redeliver,
+                dead_topic,
+                initial,
+            } => match other {
+                Event::Subscribe {
+                    subscription: their_subscription,
+                    kind: their_kind,
+                    level: their_level,
+                    flow: their_flow,
+                    ack_timeout: their_ack_timeout,
+                    nack_delay: their_nack_delay,
+                    max_redeliver: their_max_redeliver,
+                    dead_topic: their_dead_topic,
+                    initial: their_initial,
+                } => subscription.is(their_subscription)
+                    && kind == their_kind
+                    && level == their_level
+                    && flow == their_flow
+                    && ack_timeout == their_ack_timeout
+                    && nack_delay == their_nack_delay
+                    && max_redeliver == their_max_redeliver
+                    && dead_topic.is(their_dead_topic)
+                    && initial == their_initial,
+                _ => false,
+            },
+            Event::Leave { consumer } =>
+                matches!(other, Event::Leave { consumer: c } if consumer == c),
+            Event::Permit { consumer, permits } =>
+                matches!(other, Event::Permit { consumer: c, permits: m } if consumer == c && permits == m),
+            Event::Ack { consumer, position } =>
+                matches!(other, Event::Ack { consumer: c, position: p } if consumer == c && position == p),
+            Event::AckUpTo { consumer, position } =>
+                matches!(other, Event::AckUpTo { consumer: c, position: p } if consumer == c && position == p),
+            Event::Nack {
+                consumer,
+                position,
+                now,
+            } =>
+                matches!(other, Event::Nack { consumer: c, position: p, now: n } if consumer == c && position == p && now == n),
+            Event::Tick { subscription, now } =>
+                matches!(other, Event::Tick { subscription: s, now: n } if subscription.is(s) && now == n),
+            Event::Seek {
+                subscription,
+                target,
+            } =>
+                matches!(other, Event::Seek { subscription: s, target: t } if subscription.is(s) && target == t),
+            Event::SeekTime { subscription, time } =>
+                matches!(other, Event::SeekTime { subscription: s, time: t } if subscription.is(s) && time == t),
+            Event::Skip {
+                subscription,
+                count,
+            } =>
+                matches!(other, Event::Skip { subscription: s, count: k } if subscription.is(s) && count == k),
+            Event::DropSubscription { subscription } =>
+                matches!(other, Event::DropSubscription { subscription: s } if subscription.is(s)),
+            Event::Stats { subscription } =>
+                matches!(other, Event::Stats { subscription: s } if subscription.is(s)),
+            Event::Dispatch { subscription, now } =>
+                matches!(other, Event::Dispatch { subscription: s, now: n } if subscription.is(s) && now == n),
+            Event::Collect { consumer } =>
+                matches!(other, Event::Collect { consumer: c } if consumer == c),
+            Event::DeadNext { subscription } =>
+                matches!(other, Event::DeadNext { subscription: s } if subscription.is(s)),
+            Event::DeadDone {
+                subscription,
+                ordinal,
+            } =>
+                matches!(other, Event::DeadDone { subscription: s, ordinal: o } if subscription.is(s) && ordinal == o),
+        }
+    }
 }

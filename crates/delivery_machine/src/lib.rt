@@ -4,14 +4,18 @@
 mod dead_letter;
 mod delivery;
 mod event;
+mod kept_subscription;
 pub mod laws;
 mod reply;
 mod runs;
+mod saved;
+mod snapshot;
 mod topic;
 
 pub use dead_letter::DeadLetter;
 pub use delivery::{Deliveries, Delivery, is_one_of};
 pub use event::{Event, Initial, Target};
+pub use kept_subscription::KeptSubscription;
 pub use position_core::{
     Base, Body, ConsumerNumber, DueMoment, Fault, Flow, Kind, Level, LogIndex, Message, Millis,
     Moment, Ordinal, Permits, Position, ProducerName, ProducerNumber, RedeliverLimit, SkipLength,
@@ -19,4 +23,6 @@ pub use position_core::{
 };
 pub use reply::Reply;
 pub use runs::run;
+pub use saved::{Opened, Saved};
+pub use snapshot::Snapshot;
 pub use topic::Topic;

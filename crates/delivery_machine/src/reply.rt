@@ -1,5 +1,5 @@
 // Replies: one form for each way that an event may come out.
-ghost use Rattle.std.specs.Prelude.{◌≡◌, IfOk, IsOk, Some, List, false};
+ghost use Rattle.std.specs.Prelude.{◌≡◌, ◌↔◌, IfOk, IsOk, IsTrue, Some, List, false};
 ghost use Rattle.delivery_machine.specs.Dying.{is_letter};
 ghost use Rattle.delivery_machine.specs.declared.delivery.Delivery.{Delivery};
 
@@ -197,5 +197,134 @@ impl Clone for Reply {
 
     fn clone(&self) -> Result<Self, AllocError> {
         self.twin(copies_of(self)?)
+    }
+}
+
+impl Reply {
+    /// Whether two replies are the same.
+    pub fn is(&self, other: &Reply) -> bool
+        ensures { IsTrue result ↔ self.now ≡ other.now }
+    {
+        match self {
+            Reply::ProducerAdded {
+                producer,
+                auto,
+                last,
+            } => match other {
+                Reply::ProducerAdded {
+                    producer: their_producer,
+                    auto: their_auto,
+                    last: their_last,
+                } => producer == their_producer && auto == their_auto && last == their_last,
+                _ => false,
+            },
+            Reply::Published { position, length } => match other {
+                Reply::Published {
+                    position: their_position,
+                    length: their_length,
+                } => position == their_position && length == their_length,
+                _ => false,
+            },
+            Reply::Duplicate { length } => match other {
+                Reply::Duplicate { length: other } => length == other,
+                _ => false,
+            },
+            Reply::Durable(value) => match other {
+                Reply::Durable(other) => value == other,
+                _ => false,
+            },
+            Reply::Progress { durable, length } => match other {
+                Reply::Progress {
+                    durable: their_durable,
+                    length: their_length,
+                } => durable == their_durable && length == their_length,
+                _ => false,
+            },
+            Reply::Subscribed { consumer } => match other {
+                Reply::Subscribed { consumer: other } => consumer == other,
+                _ => false,
+            },
+            Reply::Done => matches!(other, Reply::Done),
+            Reply::Sent {
+                consumer,
+                position,
+                count,
+            } => match other {
+                Reply::Sent {
+                    consumer: their_consumer,
+                    position: their_position,
+                    count: their_count,
+                } => consumer == their_consumer
+                    && position == their_position
+                    && count == their_count,
+                _ => false,
+            },
+            Reply::Idle => matches!(other, Reply::Idle),
+            Reply::Copies(value) => match other {
+                Reply::Copies(other) => value.are(other),
+                _ => false,
+            },
+            Reply::Released { position } => match other {
+                Reply::Released { position: other } => position == other,
+                _ => false,
+            },
+            Reply::Died { position, ordinal } => match other {
+                Reply::Died {
+                    position: their_position,
+                    ordinal: their_ordinal,
+                } => position == their_position && ordinal == their_ordinal,
+                _ => false,
+            },
+            Reply::Rewound { count } => match other {
+                Reply::Rewound { count: other } => count == other,
+                _ => false,
+            },
+            Reply::Quiet => matches!(other, Reply::Quiet),
+            Reply::Stats {
+                kind,
+                members,
+                mark_delete,
+                acknowledged,
+                live,
+                pending,
+                dead,
+            } => match other {
+                Reply::Stats {
+                    kind: their_kind,
+                    members: their_members,
+                    mark_delete: their_mark_delete,
+                    acknowledged: their_acknowledged,
+                    live: their_live,
+                    pending: their_pending,
+                    dead: their_dead,
+                } => kind == their_kind
+                    && members == their_members
+                    && mark_delete == their_mark_delete
+                    && acknowledged == their_acknowledged
+                    && live == their_live
+                    && pending == their_pending
+                    && dead == their_dead,
+                _ => false,
+            },
+            Reply::Dead {
+                message,
+                target,
+                ordinal,
+            } => match other {
+                Reply::Dead {
+                    message: their_message,
+                    target: their_target,
+                    ordinal: their_ordinal,
+                } => message.is(their_message)
+                    && target.is(their_target)
+                    && ordinal == their_ordinal,
+                _ => false,
+            },
+            Reply::NoDead => matches!(other, Reply::NoDead),
+            Reply::Refused(value) => match other {
+                Reply::Refused(other) => value == other,
+                _ => false,
+            },
+        }
     }
 }

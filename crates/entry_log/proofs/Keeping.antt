@@ -13,7 +13,8 @@ use Rattle.std.proofs.lemmas.List.Sums.{sum_by_push, sum_by-cons}
 use Rattle.position_core.specs.declared.position.Position.{Position}
 use Rattle.position_core.specs.declared.message.Entry.{Entry}
 use Rattle.position_core.specs.Position.{position_cmp}
-use Rattle.entry_log.specs.Log.{used_in, position_after, front}
+use Rattle.entry_log.specs.Log.{used_in, position_after}
+use Rattle.log_pieces.specs.Pieces.{front}
 use Rattle.entry_log.specs.Kept.{IsAt, is_before}
 use Rattle.delivery_machine.proofs.Rising.{sorted_push, before_next}
 use Rattle.delivery_machine.proofs.Deciding.{within}

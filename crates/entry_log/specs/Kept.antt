@@ -4,8 +4,8 @@ use Rattle.std.specs.List.Sorted.{IsStrictlySortedBy}
 use Rattle.position_core.specs.declared.position.Position.{Position}
 use Rattle.position_core.specs.declared.message.Entry.{Entry}
 use Rattle.position_core.specs.Position.{position_cmp}
-use Rattle.entry_log.specs.Log.{used_in, front}
-use Rattle.entry_log.specs.Pieces.{Parts, joined}
+use Rattle.entry_log.specs.Log.{used_in}
+use Rattle.log_pieces.specs.Pieces.{Parts, joined, front}
 use Rattle.entry_log.specs.declared.open_ledger.OpenLedger.{OpenLedger}
 
 -- the position is in an earlier ledger, or among the first entries of this one

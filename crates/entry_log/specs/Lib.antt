@@ -1,3 +1,2 @@
 pub mod Log
-pub mod Pieces
 pub mod Kept

@@ -1,11 +1,12 @@
 -- A topic's log, and what its calls do, in the words of the delivery machine.
-use Rattle.std.specs.Prelude.{◌≡◌, ℕ, ◌+◌, ◌-◌, ◌^◌, ◌==◌, nat_le, nat_lt, min, Bool, ◌||◌, List, [], ◌∷◌, ◌++◌, length, take, Option, Some, None, if◌then◌else◌}
+use Rattle.std.specs.Prelude.{◌≡◌, ℕ, ◌+◌, ◌^◌, ◌==◌, nat_le, nat_lt, min, Bool, ◌||◌, List, [], ◌∷◌, ◌++◌, length, Option, Some, None, if◌then◌else◌}
 use Rattle.std.specs.List.{count_by, position}
 use Rattle.std.specs.Option.{option_map_or}
 use Rattle.position_core.specs.declared.position.Position.{Position}
 use Rattle.position_core.specs.declared.message.Entry.{Entry}
 use Rattle.delivery_machine.specs.State.{State}
 use Rattle.delivery_machine.specs.Words.{has_position}
+use Rattle.log_pieces.specs.Pieces.{front}
 
 -- messages go into `ledger` until that is full; `undo` is what it was before the last message, where that may be taken back
 pub record Log : Type 0 where
@@ -39,10 +40,6 @@ is_full_log q = nat_le 1048576 (length q.log) || nat_lt (2 ^ 62) (next_in q).led
 
 abbrev pub appended : Entry → Log → Log
 appended e q = record q { log = q.log ++ e ∷ []; ledger = e.position.ledger; undo = Some q.ledger }
-
--- without its last message
-abbrev pub front : List Entry → List Entry
-front log = take (length log - 1) log
 
 -- the last message is taken back, where it may be
 abbrev pub popped : Log → Log

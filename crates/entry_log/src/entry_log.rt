@@ -10,8 +10,8 @@ ghost use Rattle.delivery_machine.specs.Producing.{with_message};
 ghost use Rattle.entry_log.specs.Log.{IsLogOf, empty_log, next_in, is_full_log, appended, popped, rolled, index_of};
 
 use crate::open_ledger::{LAST_LEDGER, OpenLedger};
-use crate::pieces::Pieces;
 use crate::search;
+use log_pieces::Pieces;
 use position_core::{LedgerSize, Message, Position};
 use std::alloc::{AllocError, Global};
 use std::marker::Model;
@@ -33,7 +33,7 @@ pub struct EntryLog {
 impl Model for EntryLog {
     ghost use Rattle.std.specs.Option.{option_map};
     ghost use Rattle.entry_log.specs.Log.{Log};
-    ghost use Rattle.entry_log.specs.Pieces.{joined};
+    ghost use Rattle.log_pieces.specs.Pieces.{joined};
     ghost use Rattle.entry_log.specs.Kept.{IsKept};
 
     ghost Value = { Log };

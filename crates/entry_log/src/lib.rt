@@ -3,8 +3,6 @@
 
 mod entry_log;
 mod open_ledger;
-mod pieces;
 mod search;
-mod segment;
 
 pub use entry_log::EntryLog;

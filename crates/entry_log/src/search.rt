@@ -3,9 +3,9 @@ ghost use Rattle.std.specs.Prelude.{◌≡◌, map};
 ghost use Rattle.std.specs.List.Sorted.{IsStrictlySortedBy};
 ghost use Rattle.position_core.specs.Position.{position_cmp};
 ghost use Rattle.entry_log.specs.Log.{index_of};
-ghost use Rattle.entry_log.specs.Pieces.{joined};
+ghost use Rattle.log_pieces.specs.Pieces.{joined};
 
-use crate::pieces::Pieces;
+use log_pieces::Pieces;
 use position_core::Position;
 use std::cmp::Ordering;
 

@@ -9,10 +9,9 @@ use Rattle.position_core.specs.declared.held.Held.{Held}
 use Rattle.position_core.specs.declared.kind.Kind.{Kind}
 use Rattle.position_core.specs.declared.kind.Kind.TheVariants.{Exclusive, Failover, Shared, KeyShared}
 use Rattle.delivery_machine.specs.State.{DeadLetter, Subscription}
-use Rattle.delivery_machine.specs.Codes.{coded_text, coded_dead}
+use Rattle.delivery_machine.specs.Codes.{coded_text, coded_dead, coded_positions, coded_pending, coded_counts}
 use Rattle.position_core.specs.declared.block.Block.{Block}
 use Rattle.hash_ranges.specs.Codes.{coded_shares}
-use Rattle.plain_tables.specs.Codes.{coded_positions, coded_pending, coded_counts}
 
 abbrev pub kind_number : Kind → ℕ
 kind_number Exclusive = 0

@@ -2,6 +2,7 @@
 #![tactic(auto)]
 
 mod auto;
+mod kept;
 mod letter;
 mod member;
 mod members;

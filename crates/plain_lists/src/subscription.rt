@@ -22,14 +22,14 @@ use std::marker::Model;
 /// A subscription, and what became of each message in it.
 #[derive(Drop)]
 pub struct Subscription {
-    name: SubscriptionName,
-    kind: Kind,
+    pub(crate) name: SubscriptionName,
+    pub(crate) kind: Kind,
     pub(crate) acknowledged: PositionSet,
     pub(crate) pending: PendingTable,
     pub(crate) counts: CountTable,
-    shares: SplitTable,
+    pub(crate) shares: SplitTable,
     /// The consumer that was sent a message last; 0 where there is none.
-    last_served: u64,
+    pub(crate) last_served: u64,
     pub(crate) dead: Vec<DeadLetter>,
     /// So many of the first letters' deaths are stored.
     pub(crate) safe: usize,

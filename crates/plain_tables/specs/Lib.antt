@@ -1,3 +1,3 @@
-pub mod Codes
 pub mod Keyed
 pub mod Counted
+pub mod Places

@@ -26,7 +26,7 @@ impl Model for CountTable {
     ghost use Rattle.std.specs.Prelude.{ℕ};
     ghost use Rattle.std.specs.FinMap as map_of;
     ghost use Rattle.position_core.specs.Position.{position_cmp};
-    ghost use Rattle.plain_tables.specs.Codes.{coded_counts};
+    ghost use Rattle.delivery_machine.specs.Codes.{coded_counts};
 
     ghost Value = { map_of.FinMap position_cmp ℕ };
 

@@ -3,6 +3,7 @@
 
 mod counts;
 mod pending;
+mod places;
 mod positions;
 mod table;
 

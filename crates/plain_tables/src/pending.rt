@@ -24,7 +24,7 @@ impl Model for PendingTable {
     ghost use Rattle.std.specs.FinMap as map_of;
     ghost use Rattle.position_core.specs.Position.{position_cmp};
     ghost use Rattle.position_core.specs.declared.held.Held.{Held};
-    ghost use Rattle.plain_tables.specs.Codes.{coded_pending};
+    ghost use Rattle.delivery_machine.specs.Codes.{coded_pending};
     ghost use Rattle.plain_tables.specs.Keyed.{is_keyed};
 
     ghost Value = { map_of.FinMap position_cmp Held };

@@ -2,7 +2,12 @@
 ghost use Rattle.std.specs.Prelude.{◌≡◌, ◌++◌, OnOk, OnErr, IfOk, map};
 ghost use Rattle.std.specs.FinSet as set;
 ghost use Rattle.delivery_machine.specs.Acknowledging.{is_one_of, positions_up_to};
+ghost use Rattle.delivery_machine.specs.Places.{positions_at};
+ghost use Rattle.delivery_machine.specs.WellFormed.{AreMessagesOf};
+ghost use Rattle.plain_tables.specs.Places.{ArePlacesOf};
 
+use crate::places::{places_of, positions_at};
+use ack_ranges::AckSet;
 use delivery_machine::is_one_of;
 use position_core::{Message, Position};
 use std::alloc::{AllocError, Global};
@@ -17,7 +22,7 @@ pub struct PositionSet {
 impl Model for PositionSet {
     ghost use Rattle.std.specs.FinSet as set;
     ghost use Rattle.position_core.specs.Position.{position_cmp};
-    ghost use Rattle.plain_tables.specs.Codes.{coded_positions};
+    ghost use Rattle.delivery_machine.specs.Codes.{coded_positions};
 
     ghost Value = { set.FinSet position_cmp };
 
@@ -48,6 +53,24 @@ impl PositionSet {
         ensures { result ≡ set.contains self.now position }
     {
         is_one_of(&self.items, position)
+    }
+
+    /// The positions of the messages that stand at the places.
+    pub fn at_places(alloc: Global, log: &[Message], places: &AckSet) -> Result<Self, AllocError>
+        ensures { IfOk result (λ s. s ≡ positions_at log.now places.now) }
+    {
+        Ok(PositionSet {
+            items: positions_at(alloc, log, places)?,
+        })
+    }
+
+    /// The places in the log of the messages whose positions are in the set.
+    #[tactic(auto, using(crate::proofs::Placed::positions_back))]
+    pub fn places(&self, alloc: Global, log: &[Message]) -> Result<AckSet, AllocError>
+        ensures places { IfOk result (λ places. ArePlacesOf log.now self.now places) }
+        ensures back { AreMessagesOf log.now self.now → IfOk result (λ places. positions_at log.now places ≡ self.now) }
+    {
+        places_of(alloc, log, self)
     }
 
     pub fn add(&mut self, positions: &[Position]) -> Result<(), AllocError>

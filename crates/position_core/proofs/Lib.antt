@@ -1,3 +1,4 @@
 pub mod Varint
 pub mod Ids
 pub mod TopicNames
+pub mod SamePairs

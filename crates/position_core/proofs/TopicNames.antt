@@ -1,6 +1,6 @@
 -- How the text of a topic's name splits: a name has no `/`, so there is one way.
 use Rattle.std.proofs.Common.{rules, tests, ◌≡◌, ℕ, ◌<◌, Bool, true, false, List, [], ◌∷◌, ◌++◌, length, get_or, Option, Some, None, Bor, IsTrue, IsSomeAnd, MatchOption, IfOk, IfNone, refl, sym, ◌∙◌, ap, lit<, true≢false}
-use Rattle.std.specs.Prelude.{◌≢◌, ◌||◌, ◌&&◌, Result, Ok, Err}
+use Rattle.std.specs.Prelude.{◌≢◌, ◌||◌, Result, Ok, Err}
 use Rattle.std.specs.declared.alloc.AllocError.{AllocError}
 use Rattle.std.specs.List.{list_any}
 use Rattle.std.specs.Str.Pattern.{FindsTextPrefix, StripsPrefix}

@@ -1,5 +1,5 @@
 // What a producer hands in, shared by all who hold it.
-ghost use Rattle.std.specs.Prelude.{◌≡◌, IfOk};
+ghost use Rattle.std.specs.Prelude.{◌≡◌, ◌↔◌, IsTrue, IfOk};
 
 use crate::payload::Payload;
 use crate::properties::Properties;
@@ -14,6 +14,29 @@ pub struct Content {
     pub key: Option<Key>,
     pub properties: Properties,
     pub payload: Payload,
+}
+
+fn same_key(key: &Option<Key>, other: &Option<Key>) -> bool
+    ensures { IsTrue result ↔ key.now ≡ other.now }
+{
+    match key {
+        Some(key) => match other {
+            Some(other) => key.is(other),
+            None => false,
+        },
+        None => other.is_none(),
+    }
+}
+
+impl Content {
+    /// Whether two contents are the same.
+    pub fn is(&self, other: &Content) -> bool
+        ensures { IsTrue result ↔ self.now ≡ other.now }
+    {
+        same_key(&self.key, &other.key)
+            && self.properties.is(&other.properties)
+            && self.payload.is(&other.payload)
+    }
 }
 
 /// A content that is shared. A clone is one more owner of the same bytes.
@@ -43,6 +66,13 @@ impl Body {
         ensures { result.now ≡ self.now }
     {
         &self.content
+    }
+
+    /// Whether two bodies have the same content.
+    pub fn is(&self, other: &Self) -> bool
+        ensures { IsTrue result ↔ self.now ≡ other.now }
+    {
+        self.content().is(other.content())
     }
 }
 

@@ -1,5 +1,5 @@
 // A message of a topic's log, shared by the log and all to whom it is sent.
-ghost use Rattle.std.specs.Prelude.{◌≡◌, IfOk};
+ghost use Rattle.std.specs.Prelude.{◌≡◌, ◌↔◌, IsTrue, IfOk};
 
 use crate::body::Body;
 use crate::moment::Moment;
@@ -17,6 +17,19 @@ pub struct Entry {
     pub sequence: i64,
     pub time: Moment,
     pub body: Body,
+}
+
+impl Entry {
+    /// Whether two entries are the same.
+    pub fn is(&self, other: &Entry) -> bool
+        ensures { IsTrue result ↔ self.now ≡ other.now }
+    {
+        self.position == other.position
+            && self.producer.is(&other.producer)
+            && self.sequence == other.sequence
+            && self.time == other.time
+            && self.body.is(&other.body)
+    }
 }
 
 /// An entry that is shared. A clone is one more owner of the same entry.
@@ -52,6 +65,13 @@ impl Message {
         ensures { result ≡ self.now.position }
     {
         self.entry.position
+    }
+
+    /// Whether two messages are the same entry.
+    pub fn is(&self, other: &Self) -> bool
+        ensures { IsTrue result ↔ self.now ≡ other.now }
+    {
+        self.entry().is(other.entry())
     }
 }
 

@@ -1,5 +1,5 @@
 // The bytes that a message carries.
-ghost use Rattle.std.specs.Prelude.{◌≡◌, ℕ, ◌≤◌, ◌↔◌, List, length, IsSome, IfSome};
+ghost use Rattle.std.specs.Prelude.{◌≡◌, ℕ, ◌≤◌, ◌↔◌, List, length, IsTrue, IsSome, IfSome};
 
 use std::marker::Model;
 
@@ -35,5 +35,12 @@ impl Payload {
         ensures within { length result.now ≤ 1048576 }
     {
         self.bytes.as_slice()
+    }
+
+    /// Whether two payloads are the same.
+    pub fn is(&self, other: &Self) -> bool
+        ensures { IsTrue result ↔ self.now ≡ other.now }
+    {
+        self.bytes == other.bytes
     }
 }

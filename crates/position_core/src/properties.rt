@@ -73,4 +73,11 @@ impl Properties {
     {
         &self.values
     }
+
+    /// Whether two have the same names and values.
+    pub fn is(&self, other: &Self) -> bool
+        ensures { IsTrue result ↔ self.now ≡ other.now }
+    {
+        self.values == other.values
+    }
 }

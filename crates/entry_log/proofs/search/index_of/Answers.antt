@@ -3,7 +3,7 @@ use Rattle.std.specs.List.{slice_get}
 use Rattle.std.specs.declared.cmp.Ordering.TheVariants.{Less, Equal, Greater}
 use Rattle.position_core.specs.declared.position.Position.{Position}
 use Rattle.position_core.specs.Position.{position_cmp}
-use Rattle.entry_log.specs.Pieces.{joined}
+use Rattle.log_pieces.specs.Pieces.{joined}
 use Rattle.entry_log.proofs.Searching.{steps_up, steps_down, nowhere, found}
 use Rattle.entry_log.proofs.search.index_of.Goals as goal
 

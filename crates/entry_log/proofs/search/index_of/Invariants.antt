@@ -1,5 +1,5 @@
 use Rattle.std.proofs.Common.{◌-◌}
-use Rattle.entry_log.specs.Pieces.{joined}
+use Rattle.log_pieces.specs.Pieces.{joined}
 use Rattle.entry_log.proofs.Searching.{IsBetween}
 use Rattle.entry_log.proofs.search.index_of.Given as goal
 

@@ -2,8 +2,8 @@ use Rattle.std.proofs.Common.{◌≡◌, ℕ, ◌+◌, ◌^◌, ◌++◌, ◌∷
 use Rattle.std.specs.Prelude.{◌==◌}
 use Rattle.position_core.specs.declared.position.Position.{Position}
 use Rattle.position_core.specs.declared.message.Entry.{Entry}
-use Rattle.entry_log.specs.Log.{Log, next_in, position_after, used_in, front}
-use Rattle.entry_log.specs.Pieces.{joined}
+use Rattle.entry_log.specs.Log.{Log, next_in, position_after, used_in}
+use Rattle.log_pieces.specs.Pieces.{joined, front}
 use Rattle.entry_log.specs.Kept.{IsAt}
 use Rattle.entry_log.proofs.Keeping.{appended_at, front_push}
 use Rattle.entry_log.proofs.entry_log.EntryLog.append.Goals as goal

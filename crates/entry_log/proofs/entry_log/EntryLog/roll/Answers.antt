@@ -1,4 +1,4 @@
-use Rattle.entry_log.specs.Pieces.{joined}
+use Rattle.log_pieces.specs.Pieces.{joined}
 use Rattle.entry_log.proofs.Keeping.{rolled_at}
 use Rattle.entry_log.proofs.entry_log.EntryLog.roll.Goals as goal
 

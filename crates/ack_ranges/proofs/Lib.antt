@@ -1,0 +1,12 @@
+pub mod Adding
+pub mod Covers
+pub mod Equal
+pub mod Joins
+pub mod Low
+pub mod Members
+pub mod Missing
+pub mod Reading
+pub mod Rises
+pub mod Sets
+pub mod Sizes
+pub mod Unions

@@ -1,0 +1,181 @@
+// The set, by the numbers that are in it.
+ghost use Rattle.std.specs.Prelude.{◌≡◌, ◌+◌, ◌^◌, ◌<◌, ℕ, List, length, false, true, OnOk, OnErr, IfOk, IfSome, IfNone, IsTrue, ◌↔◌, if◌then◌else◌};
+ghost use Rattle.std.specs.Ordering.{nat_cmp};
+ghost use Rattle.std.specs.FinSet as set;
+ghost use Rattle.ack_ranges.specs.Ranges.{below, from_to, AreRangesOf, HasGapBefore, IsNextMissing, MayFollow};
+
+use crate::ranges::Ranges;
+use crate::{joining, lookup, swallowing};
+use position_core::LogIndex;
+use std::alloc::{AllocError, Global};
+use std::collections::BTreeMap;
+use std::marker::Model;
+
+/// The acknowledged messages of a subscription, by their places in the log. A look-up or a change takes
+/// the logarithm of the number of ranges, and as much again for each range that goes; a copy and a
+/// comparison go over all ranges.
+#[derive(Drop)]
+pub struct AckSet {
+    /// The first place that is not in the set.
+    low: LogIndex,
+    /// From the start of each range above `low` to its end.
+    ranges: BTreeMap<LogIndex, LogIndex>,
+    count: u64,
+}
+
+impl Model for AckSet {
+    ghost use Rattle.std.specs.Ordering.{nat_cmp};
+    ghost use Rattle.std.specs.FinSet as set;
+    ghost use Rattle.std.specs.Coded.{coded_ℕ};
+    ghost use Rattle.ack_ranges.specs.Kept.{set_of, IsKept};
+
+    ghost Value = { set.FinSet nat_cmp };
+
+    ghost coded = { set.code coded_ℕ };
+
+    ghost view = { λ a. set_of a.low a.ranges.entries };
+
+    ghost invariant = { λ a. IsKept a.low a.ranges.entries a.count };
+}
+
+impl AckSet {
+    pub fn new(alloc: Global) -> Self
+        ensures { result ≡ set.empty }
+    {
+        AckSet {
+            low: 0,
+            ranges: BTreeMap::new(alloc),
+            count: 0,
+        }
+    }
+
+    /// How many places are in the set.
+    pub fn len(&self) -> u64
+        ensures { result ≡ set.len self.now }
+    {
+        self.count
+    }
+
+    pub fn contains(&self, place: LogIndex) -> bool
+        ensures { result ≡ set.contains self.now place }
+    {
+        self.next_missing(place) != place
+    }
+
+    /// The least place from `from` on that is not in the set.
+    pub fn next_missing(&self, from: LogIndex) -> LogIndex
+        ensures { IsNextMissing self.now from result }
+    {
+        lookup::next_missing(self.low, &self.ranges, from)
+    }
+
+    /// The least place that is not in the set, at once.
+    pub fn first_missing(&self) -> LogIndex
+        ensures { IsNextMissing self.now 0 result }
+    {
+        self.low
+    }
+
+    /// The last place of those that are in the set with all before them.
+    pub fn mark_delete(&self) -> Option<LogIndex>
+        ensures some { IfSome result (λ place. IsNextMissing self.now 0 (place + 1)) }
+        ensures none { IfNone result (set.contains self.now 0 ≡ false) }
+    {
+        self.low.checked_sub(1)
+    }
+
+    /// Takes no memory where the place before is in the set, or this place is the first that is missing.
+    pub fn add(&mut self, place: LogIndex) -> Result<(), AllocError>
+        requires { place + 1 < 2 ^ 64 }
+        ensures ok { OnOk result (self.new ≡ set.insert self.old place) }
+        ensures err { OnErr result (self.new ≡ self.old) }
+        ensures gap { OnErr result (HasGapBefore self.old place) }
+    {
+        match joining::add(&mut self.low, &mut self.ranges, place) {
+            Ok(true) => {
+                self.count += 1;
+                Ok(())
+            }
+            Ok(false) => Ok(()),
+            Err(e) => Err(e),
+        }
+    }
+
+    /// Adds all places below `end`. Takes no memory.
+    pub fn add_below(&mut self, end: LogIndex)
+        ensures { self.new ≡ set.union self.old (below end) }
+    {
+        if end <= self.low {
+            return;
+        }
+        let above = self.count - self.low;
+        let taken = swallowing::take_up_to(&mut self.ranges, end);
+        self.low = taken.end;
+        self.count = taken.end + (above - taken.count);
+    }
+
+    /// Leaves the places below `end` and no other. Takes no memory.
+    pub fn reset(&mut self, end: LogIndex)
+        ensures { self.new ≡ below end }
+    {
+        self.ranges.clear();
+        self.low = end;
+        self.count = end;
+    }
+
+    /// Adds the places from `start` up to `end`, without `end`, where they may follow, and says whether
+    /// they do. It refuses a range that is empty, or that begins at the end of another or before it.
+    pub fn push_range(&mut self, start: LogIndex, end: LogIndex) -> Result<bool, AllocError>
+        ensures pushed { IfOk result (λ b. IsTrue b ↔ MayFollow self.old start end) }
+        ensures ok { IfOk result
+            (λ b. self.new ≡ (if b then set.union self.old (from_to start end) else self.old)) }
+        ensures err { OnErr result (self.new ≡ self.old) }
+    {
+        if !lookup::may_follow(self.low, &self.ranges, start, end) {
+            return Ok(false);
+        }
+        match joining::append(&mut self.low, &mut self.ranges, start, end) {
+            Ok(()) => {
+                self.count += end - start;
+                Ok(true)
+            }
+            Err(e) => Err(e),
+        }
+    }
+
+    /// The ranges in order, each as its first place and the one after its last.
+    pub fn ranges(&self) -> Ranges<'_>
+        ensures { AreRangesOf self.now result }
+    {
+        Ranges::of(self.low, self.ranges.iter())
+    }
+
+    /// How many ranges there are.
+    pub fn range_count(&self) -> usize
+        ensures { (rs : List (ℕ × ℕ)) × AreRangesOf self.now rs × (result ≡ length rs) }
+    {
+        self.ranges.len() + usize::from(self.low > 0)
+    }
+
+    /// Whether both sets have the same places.
+    pub fn is(&self, other: &Self) -> bool
+        ensures { IsTrue result ↔ (self.now ≡ other.now) }
+    {
+        self.low == other.low && self.ranges == other.ranges
+    }
+}
+
+impl Clone for AckSet {
+    ghost is_clone = { λ places copy. copy ≡ places };
+
+    fn clone(&self) -> Result<Self, AllocError> {
+        match self.ranges.clone() {
+            Ok(ranges) => Ok(AckSet {
+                low: self.low,
+                ranges,
+                count: self.count,
+            }),
+            Err(e) => Err(e),
+        }
+    }
+}

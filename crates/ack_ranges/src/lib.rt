@@ -1,0 +1,13 @@
+//! The acknowledged messages of a subscription: a set of places in the log, kept as ranges.
+#![tactic(auto)]
+
+mod ack_set;
+mod joining;
+mod lookup;
+mod ranges;
+mod swallowing;
+#[cfg(test)]
+mod tests;
+
+pub use ack_set::AckSet;
+pub use ranges::Ranges;

@@ -1,0 +1,135 @@
+// Snapshots: what a store keeps of a topic.
+ghost use Rattle.std.specs.Prelude.{◌≡◌, map};
+ghost use Rattle.log_pieces.specs.Pieces.{joined};
+ghost use Rattle.delivery_machine.specs.Places.{MayRestart, kept_in};
+
+use crate::kept_subscription::KeptSubscription;
+use log_pieces::Pieces;
+use position_core::{LedgerSize, Ordinal, TopicName};
+use std::alloc::AllocError;
+use std::marker::Model;
+
+/// What is kept of a topic, from which a topic may go on. The messages are shared with the topic, and a
+/// clone shares them too: it takes a step for each segment of the log, each range of what is acknowledged
+/// and each dead letter.
+#[derive(Drop)]
+pub struct Snapshot {
+    name: TopicName,
+    ledger_size: LedgerSize,
+    ledger: u64,
+    next_ordinal: Ordinal,
+    log: Pieces,
+    subscriptions: Vec<KeptSubscription>,
+}
+
+impl Model for Snapshot {
+    ghost use Rattle.std.specs.Prelude.{map};
+    ghost use Rattle.log_pieces.specs.Pieces.{joined};
+    ghost use Rattle.std.specs.Coded.{codes};
+    ghost use Rattle.delivery_machine.specs.Codes.{coded_positions};
+    ghost use Rattle.delivery_machine.specs.Places.{MayRestart, kept_in};
+    ghost use Rattle.delivery_machine.specs.Snapshot.{Snapshot};
+
+    ghost Value = { Snapshot };
+
+    ghost coded = { Prim.hlevel (codes, coded_positions) };
+
+    ghost view = { λ k. record {
+      name = k.name;
+      ledger_size = k.ledger_size;
+      ledger = k.ledger;
+      next_ordinal = k.next_ordinal;
+      log = joined k.log;
+      subscriptions = map (kept_in (joined k.log)) k.subscriptions.items;
+    } };
+
+    ghost invariant = { λ k. MayRestart (record {
+      name = k.name;
+      ledger_size = k.ledger_size;
+      ledger = k.ledger;
+      next_ordinal = k.next_ordinal;
+      log = joined k.log;
+      subscriptions = map (kept_in (joined k.log)) k.subscriptions.items;
+    }) };
+}
+
+impl Snapshot {
+    /// Of its parts, where a topic may go on from them.
+    pub fn of(
+        name: TopicName,
+        ledger_size: LedgerSize,
+        ledger: u64,
+        next_ordinal: Ordinal,
+        log: Pieces,
+        subscriptions: Vec<KeptSubscription>,
+    ) -> Self
+        requires { MayRestart (record { name = name; ledger_size = ledger_size; ledger = ledger; next_ordinal = next_ordinal; log = joined log; subscriptions = map (kept_in (joined log)) subscriptions.items }) }
+        ensures { result ≡ record { name = name; ledger_size = ledger_size; ledger = ledger; next_ordinal = next_ordinal; log = joined log; subscriptions = map (kept_in (joined log)) subscriptions.items } }
+    {
+        Snapshot {
+            name,
+            ledger_size,
+            ledger,
+            next_ordinal,
+            log,
+            subscriptions,
+        }
+    }
+
+    pub fn name(&self) -> &TopicName
+        ensures { result.now ≡ self.now.name }
+    {
+        &self.name
+    }
+
+    pub fn ledger_size(&self) -> LedgerSize
+        ensures { result ≡ self.now.ledger_size }
+    {
+        self.ledger_size
+    }
+
+    /// The ledger that was open: a topic that goes on begins the next one.
+    pub fn ledger(&self) -> u64
+        ensures { result ≡ self.now.ledger }
+    {
+        self.ledger
+    }
+
+    pub fn next_ordinal(&self) -> Ordinal
+        ensures { result ≡ self.now.next_ordinal }
+    {
+        self.next_ordinal
+    }
+
+    pub fn log(&self) -> &Pieces
+        ensures value { joined result.now ≡ self.now.log }
+        ensures restarts { MayRestart self.now }
+    {
+        &self.log
+    }
+
+    /// In the order of their names.
+    pub fn subscriptions(&self) -> &[KeptSubscription]
+        ensures { map (kept_in self.now.log) result.now ≡ self.now.subscriptions }
+    {
+        &self.subscriptions
+    }
+}
+
+impl Clone for Snapshot {
+    ghost is_clone = { λ snapshot copy. copy ≡ snapshot };
+
+    fn clone(&self) -> Result<Self, AllocError> {
+        let name = self.name.clone()?;
+        let log = self.log.clone()?;
+        let subscriptions = self.subscriptions.clone()?;
+        Ok(Snapshot {
+            name,
+            ledger_size: self.ledger_size,
+            ledger: self.ledger,
+            next_ordinal: self.next_ordinal,
+            log,
+            subscriptions,
+        })
+    }
+}

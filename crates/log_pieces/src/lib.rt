@@ -1,0 +1,7 @@
+//! Messages in pieces: a long list of messages of which a copy shares all but the last ones.
+#![tactic(auto)]
+
+mod pieces;
+mod segment;
+
+pub use pieces::Pieces;
