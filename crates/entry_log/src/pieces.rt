@@ -1,0 +1,112 @@
+// Messages in pieces, most of which several logs may share.
+ghost use Rattle.std.specs.Prelude.{◌≡◌, ◌+◌, ◌*◌, ◌<◌, ◌≤◌, [], ◌∷◌, ◌++◌, length, OnOk, OnErr, slice_get};
+ghost use Rattle.std.specs.Option.{option_copied};
+ghost use Rattle.entry_log.specs.Log.{front};
+ghost use Rattle.entry_log.specs.Pieces.{joined};
+
+use crate::segment::{Segment, message_at};
+use position_core::Message;
+use std::alloc::{AllocError, Global};
+use std::marker::Model;
+
+/// How many messages a segment has.
+const SEGMENT: usize = 1024;
+
+/// Messages of which all but the last ones stand in segments. A clone shares the segments.
+#[derive(Drop)]
+pub(crate) struct Pieces {
+    sealed: Vec<Segment>,
+    loose: Vec<Message>,
+}
+
+impl Model for Pieces {
+    ghost use Rattle.entry_log.specs.Pieces.{Parts, ArePieces};
+
+    ghost Value = { Parts };
+
+    ghost view = { λ p. record { sealed = p.sealed.items; loose = p.loose.items } };
+
+    ghost invariant = { λ p. ArePieces (record { sealed = p.sealed.items; loose = p.loose.items }) };
+}
+
+impl Pieces {
+    pub(crate) fn new(alloc: Global) -> Self
+        ensures { joined result ≡ [] }
+    {
+        Pieces {
+            sealed: Vec::new(alloc),
+            loose: Vec::new(alloc),
+        }
+    }
+
+    /// How many messages stand in segments.
+    fn sealed_count(&self) -> usize
+        ensures value { result ≡ 1024 * length self.now.sealed }
+        ensures within { result ≤ 1048576 }
+    {
+        self.sealed.len() * SEGMENT
+    }
+
+    pub(crate) fn count(&self) -> usize
+        ensures { result ≡ length (joined self.now) }
+    {
+        self.sealed_count() + self.loose.len()
+    }
+
+    pub(crate) fn get(&self, index: usize) -> Option<&Message>
+        ensures { option_copied result ≡ slice_get (joined self.now) index }
+    {
+        let sealed = self.sealed_count();
+        if index < sealed {
+            self.sealed[index / SEGMENT].get(index % SEGMENT)
+        } else {
+            message_at(&self.loose, index - sealed)
+        }
+    }
+
+    /// Puts the message after those that are sealed with it.
+    fn seal(&mut self, alloc: Global, message: Message) -> Result<(), AllocError>
+        requires full { length self.old.loose ≡ 1024 }
+        requires room { length self.old.sealed < 1024 }
+        ensures ok { OnOk result ((joined self.new ≡ joined self.old ++ message ∷ []) × (self.new.loose ≡ message ∷ [])) }
+        ensures err { OnErr result (self.new ≡ self.old) }
+    {
+        let segment = Segment::of(alloc, &self.loose)?;
+        self.sealed.push(segment)?;
+        self.loose.truncate(1);
+        self.loose[0] = message;
+        Ok(())
+    }
+
+    pub(crate) fn push(&mut self, alloc: Global, message: Message) -> Result<(), AllocError>
+        requires { length (joined self.old) < 1048576 }
+        ensures ok { OnOk result (joined self.new ≡ joined self.old ++ message ∷ []) }
+        ensures some { OnOk result (0 < length self.new.loose) }
+        ensures err { OnErr result (self.new ≡ self.old) }
+    {
+        if self.loose.len() == SEGMENT {
+            return self.seal(alloc, message);
+        }
+        self.loose.push(message)?;
+        Ok(())
+    }
+
+    /// Takes the last message out.
+    pub(crate) fn pop(&mut self)
+        requires { 0 < length self.old.loose }
+        ensures { joined self.new ≡ front (joined self.old) }
+    {
+        self.loose.pop();
+    }
+}
+
+impl Clone for Pieces {
+    ghost is_clone = { λ pieces copy. copy ≡ pieces };
+
+    fn clone(&self) -> Result<Self, AllocError> {
+        Ok(Pieces {
+            sealed: self.sealed.clone()?,
+            loose: self.loose.clone()?,
+        })
+    }
+}

@@ -1,0 +1,62 @@
+// A run of messages that several logs may share.
+ghost use Rattle.std.specs.Prelude.{◌≡◌, IfOk, slice_get};
+ghost use Rattle.std.specs.Option.{option_copied};
+
+use position_core::Message;
+use std::alloc::{AllocError, Global};
+use std::marker::Model;
+use std::sync::Arc;
+
+pub(crate) fn message_at(messages: &[Message], place: usize) -> Option<&Message>
+    ensures { option_copied result ≡ slice_get messages.now place }
+{
+    messages.get(place)
+}
+
+fn shared(messages: &Vec<Message>) -> Result<Vec<Message>, AllocError>
+    ensures { IfOk result (λ copy. copy.items ≡ messages.now.items) }
+{
+    messages.clone()
+}
+
+/// Messages that do not change any more. A clone is one more owner of the same messages.
+#[derive(Drop)]
+pub(crate) struct Segment {
+    messages: Arc<Vec<Message>>,
+}
+
+impl Model for Segment {
+    ghost use Rattle.std.specs.Prelude.{List};
+    ghost use Rattle.position_core.specs.declared.message.Entry.{Entry};
+
+    ghost Value = { List Entry };
+
+    ghost view = { λ s. s.messages.value.items };
+}
+
+impl Segment {
+    /// Shares the messages.
+    pub(crate) fn of(alloc: Global, messages: &Vec<Message>) -> Result<Self, AllocError>
+        ensures { IfOk result (λ segment. segment ≡ messages.now.items) }
+    {
+        Ok(Segment {
+            messages: Arc::new(alloc, shared(messages)?)?,
+        })
+    }
+
+    pub(crate) fn get(&self, place: usize) -> Option<&Message>
+        ensures { option_copied result ≡ slice_get self.now place }
+    {
+        message_at(&self.messages, place)
+    }
+}
+
+impl Clone for Segment {
+    ghost is_clone = { λ segment copy. copy ≡ segment };
+
+    fn clone(&self) -> Result<Self, AllocError> {
+        Ok(Segment {
+            messages: Arc::try_clone(&self.messages)?,
+        })
+    }
+}

@@ -1,0 +1,10 @@
+//! Lines of a journal, short in memory: what was asked at a seat, and what was answered.
+#![tactic(auto)]
+
+mod call;
+mod line;
+mod short;
+#[cfg(test)]
+mod tests;
+
+pub use line::{Draft, Line};

@@ -1,0 +1,95 @@
+// What the tests ask of a topic, and the events that say it.
+use delivery_machine::{Event, Flow, Initial, Kind};
+use plain_topic::PlainTopic;
+use position_core::{
+    Base, Body, Content, LedgerSize, Level, Millis, Moment, Name, Payload, ProducerName,
+    Properties, RedeliverLimit, SubscriptionName, TopicName, WindowSize,
+};
+use std::process::Abort;
+use std::sync::ArcStr;
+
+/// What a caller asks for; its name is its producer's and its subscription's.
+#[derive(Clone, Copy)]
+pub(super) enum Ask {
+    Connect,
+    Join,
+    Publish { producer: u64, sequence: i64 },
+    Store,
+    Progress,
+    Dispatch,
+    Collect { consumer: u64 },
+    Disconnect { producer: u64 },
+    Leave { consumer: u64 },
+}
+
+fn topic_name<R: Abort + AllocGlobal>(rt: &R, text: &str) -> TopicName {
+    let name = TopicName::from_text(rt.alloc(), text);
+    name.expect(rt, "no memory").expect(rt, "no name")
+}
+
+pub(super) fn size<R: Abort>(rt: &R) -> LedgerSize {
+    LedgerSize::new(50_000).expect(rt, "no ledger size")
+}
+
+pub(super) fn name<R: Abort + AllocGlobal>(rt: &R) -> TopicName {
+    topic_name(rt, "persistent://public/default/t")
+}
+
+fn subscription<R: Abort + AllocGlobal>(rt: &R, who: &str) -> SubscriptionName {
+    let name = Name::from_text(rt.alloc(), who);
+    name.expect(rt, "no memory").expect(rt, "no name")
+}
+
+fn connecting<R: Abort + AllocGlobal>(rt: &R, who: &str) -> Event {
+    let name = ArcStr::from_str(rt.alloc(), who).expect(rt, "no memory");
+    Event::AddProducer {
+        name: Some(ProducerName::new(name).expect(rt, "no producer's name")),
+        base: Base::new(-1).expect(rt, "no base"),
+    }
+}
+
+fn publishing<R: Abort + AllocGlobal>(rt: &R, who: &str, producer: u64, sequence: i64) -> Event {
+    let payload = who.as_bytes().to_vec(rt.alloc()).expect(rt, "no memory");
+    let content = Content {
+        key: None,
+        properties: Properties::none(rt.alloc()),
+        payload: Payload::new(payload).expect(rt, "no payload"),
+    };
+    Event::Publish {
+        producer,
+        sequence,
+        body: Body::new(rt.alloc(), content).expect(rt, "no memory"),
+        now: Moment::new(1000).expect(rt, "no moment"),
+    }
+}
+
+fn joining<R: Abort + AllocGlobal>(rt: &R, who: &str) -> Event {
+    Event::Subscribe {
+        subscription: subscription(rt, who),
+        kind: Kind::Exclusive,
+        level: Level::new(0).expect(rt, "no level"),
+        flow: Flow::Window(WindowSize::new(1000).expect(rt, "no window")),
+        ack_timeout: Millis::new(0).expect(rt, "no timeout"),
+        nack_delay: Millis::new(60_000).expect(rt, "no delay"),
+        max_redeliver: RedeliverLimit::new(0).expect(rt, "no limit"),
+        dead_topic: topic_name(rt, "persistent://public/default/t-DLQ"),
+        initial: Initial::Earliest,
+    }
+}
+
+pub(super) fn event_of<R: Abort + AllocGlobal>(rt: &R, who: &str, ask: Ask) -> Event {
+    match ask {
+        Ask::Connect => connecting(rt, who),
+        Ask::Join => joining(rt, who),
+        Ask::Publish { producer, sequence } => publishing(rt, who, producer, sequence),
+        Ask::Store => Event::Stored,
+        Ask::Progress => Event::Progress,
+        Ask::Dispatch => Event::Dispatch {
+            subscription: subscription(rt, who),
+            now: Moment::new(1000).expect(rt, "no moment"),
+        },
+        Ask::Collect { consumer } => Event::Collect { consumer },
+        Ask::Disconnect { producer } => Event::DropProducer { producer },
+        Ask::Leave { consumer } => Event::Leave { consumer },
+    }
+}

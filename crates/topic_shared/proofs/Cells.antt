@@ -1,0 +1,133 @@
+-- What a cell keeps, after one line more.
+use Rattle.std.proofs.Common.{◌≡◌, ◌+◌, ◌<◌, ◌≤◌, ◌++◌, ◌∷◌, [], length, ℕ, Bool, true, false, List, map, arith, length-append, refl, sym, ap, subst, ◌∙◌, true≢false}
+use Rattle.std.specs.Prelude.{◌||◌, ◌==◌, is_some, if◌then◌else◌}
+use Rattle.std.proofs.lemmas.Grind.{common_steps}
+use Rattle.std.specs.List.{find}
+use Rattle.position_core.specs.declared.fault.Fault.{Fault}
+use Rattle.delivery_machine.specs.State.{State, Producer, Member}
+use Rattle.delivery_machine.specs.Words.{removed, is_producer, is_member}
+use Rattle.delivery_machine.specs.Snapshot.{snapshot_of}
+use Rattle.delivery_machine.specs.Run.{Step}
+use Rattle.delivery_machine.specs.Journals.{producers_in, consumers_in, producers_noted, consumers_noted, changes_snapshot}
+use Rattle.delivery_machine.specs.declared.event.Event.{Event}
+use Rattle.delivery_machine.specs.declared.event.Event.TheVariants.{DropProducer, Leave}
+use Rattle.delivery_machine.specs.declared.reply.Reply.{Reply}
+use Rattle.delivery_machine.specs.declared.reply.Reply.TheVariants.{ProducerAdded, Subscribed, Done, Refused}
+use Rattle.delivery_machine.proofs.Journaling.{producers_are, consumers_are, snapshot_stays}
+use Rattle.journal_lines.specs.Lines.{Line, line, Legal}
+use Rattle.topic_shared.specs.Attached.{is_among, detaches, asks_to_attach, attaches, needs}
+use Rattle.topic_shared.specs.Kept.{Kept, IsKept, spoken_for, needed_by}
+use Rattle.journal_lines.proofs.Legality.{legal_snoc}
+use Rattle.topic_shared.proofs.Replies.{attached_asked}
+
+-- ---- numbers that go
+
+fewer : (p : ℕ → Bool) (xs : List ℕ) → length (removed p xs) ≤ length xs
+fewer p [] = omega arith
+fewer p (x ∷ xs) = let h = fewer p xs in grind (arith, common_steps)
+
+one_fewer : (n : ℕ) (xs : List ℕ) → is_among xs n ≡ true → length (removed (λ m. m == n) xs) + 1 ≤ length xs
+one_fewer n [] h = absurd (true≢false (sym h))
+one_fewer n (x ∷ xs) h = let i = one_fewer n xs in grind (arith, common_steps, i)
+
+producer_found : (n : ℕ) (xs : List Producer) → is_among (map (λ (p : Producer). p.number) xs) n ≡ is_some (find (is_producer n) xs)
+producer_found n [] = refl
+producer_found n (x ∷ xs) = let h = producer_found n xs in grind (arith, common_steps, h)
+
+member_found : (n : ℕ) (xs : List Member) → is_among (map (λ (m : Member). m.number) xs) n ≡ is_some (find (is_member n) xs)
+member_found n [] = refl
+member_found n (x ∷ xs) = let h = member_found n xs in grind (arith, common_steps, h)
+
+-- ---- lines for those who are attached
+
+noted_most : (ps cs : List ℕ) (e : Event) (r : Reply) → length (producers_noted ps e r) + length (consumers_noted cs e r) ≤ length ps + length cs + (if attaches r then 1 else 0)
+noted_most ps cs e (ProducerAdded producer auto last) = omega (arith, length-append ps (producer ∷ []))
+noted_most ps cs e (Subscribed consumer) = omega (arith, length-append cs (consumer ∷ []))
+noted_most ps cs (DropProducer producer) Done = omega (arith, fewer (λ n. n == producer) ps)
+noted_most ps cs (Leave consumer) Done = omega (arith, fewer (λ n. n == consumer) cs)
+noted_most ps cs e r = omega arith
+
+-- who is attached may go
+goes : (s : State) (e : Event) (r : Reply) (t : State) → Step s e r t → detaches (producers_in s) (consumers_in s) e ≡ true → r ≡ Done
+goes s (DropProducer producer) (Refused fault) t h is = let found = producer_found producer s.producers in let refused = h.0 in grind (arith, common_steps, found, refused, is)
+goes s (DropProducer producer) r t h is = h.1.0
+goes s (Leave consumer) (Refused fault) t h is = let found = member_found consumer s.members in let refused = h.0 in grind (arith, common_steps, found, refused, is)
+goes s (Leave consumer) r t h is = h.1.0
+goes s e r t h is = absurd (true≢false (sym is))
+
+gone_fit : (ps cs : List ℕ) (e : Event) → detaches ps cs e ≡ true → length (producers_noted ps e Done) + length (consumers_noted cs e Done) + 1 ≤ length ps + length cs
+gone_fit ps cs (DropProducer producer) is = omega (arith, one_fewer producer ps is)
+gone_fit ps cs (Leave consumer) is = omega (arith, one_fewer consumer cs is)
+gone_fit ps cs e is = absurd (true≢false (sym is))
+
+-- one line more, with those that are kept then
+attached_fit : (s : State) (e : Event) (r : Reply) (t : State) → Step s e r t
+    → length (producers_noted (producers_in s) e r) + length (consumers_noted (consumers_in s) e r) + 1 ≤ length (producers_in s) + length (consumers_in s) + needs (producers_in s) (consumers_in s) e
+attached_fit s e r t h = by (detaches ps cs e) (asks_to_attach e) (attaches r) refl refl refl
+  where
+    ps : List ℕ
+    ps = producers_in s
+
+    cs : List ℕ
+    cs = consumers_in s
+
+    noted : (b : Bool) → attaches r ≡ b → length (producers_noted ps e r) + length (consumers_noted cs e r) ≤ length ps + length cs + (if b then 1 else 0)
+    noted b is = subst (λ x. length (producers_noted ps e r) + length (consumers_noted cs e r) ≤ length ps + length cs + (if x then 1 else 0)) is (noted_most ps cs e r)
+
+    by : (d a b : Bool) → detaches ps cs e ≡ d → asks_to_attach e ≡ a → attaches r ≡ b
+        → length (producers_noted ps e r) + length (consumers_noted cs e r) + 1 ≤ length ps + length cs + (if d then 0 else if a then 2 else 1)
+    by true a b d_is a_is b_is =
+        subst (λ (x : Reply). length (producers_noted ps e x) + length (consumers_noted cs e x) + 1 ≤ length ps + length cs + 0) (sym (goes s e r t h d_is)) (omega (arith, gone_fit ps cs e d_is))
+    by false true true d_is a_is b_is = omega (arith, noted true b_is)
+    by false true false d_is a_is b_is = omega (arith, noted false b_is)
+    by false false true d_is a_is b_is = absurd (true≢false (sym (attached_asked s e r t h b_is) ∙ a_is))
+    by false false false d_is a_is b_is = omega (arith, noted false b_is)
+
+-- an event needs a line, or has one kept
+pub needs_some : (ps cs : List ℕ) (e : Event) → 1 ≤ length ps + length cs + needs ps cs e
+needs_some ps cs e = by (detaches ps cs e) (asks_to_attach e) refl
+  where
+    by : (d a : Bool) → detaches ps cs e ≡ d → 1 ≤ length ps + length cs + (if d then 0 else if a then 2 else 1)
+    by true a is = omega (arith, gone_fit ps cs e is)
+    by false true is = omega arith
+    by false false is = omega arith
+
+-- ---- a cell
+
+or_false : (a b : Bool) → (a || b) ≡ false → (a ≡ false) × (b ≡ false)
+or_false true b h = absurd (true≢false h)
+or_false false b h = (refl, h)
+
+pub kept_more : (k l : Kept) (ps cs ps' cs' : List ℕ) (capacity capacity' : ℕ) (seat : ℕ) (e : Event) (r : Reply)
+    → IsKept k ps cs capacity → Step k.state e r l.state
+    → l.opening ≡ k.opening → l.viewed ≡ k.viewed → l.limit ≡ k.limit → l.own_line ≡ k.own_line
+    → l.lines ≡ k.lines ++ line seat e r ∷ [] → l.unsaved ≡ (k.unsaved || changes_snapshot e r)
+    → ps' ≡ producers_noted ps e r → cs' ≡ consumers_noted cs e r
+    → spoken_for k + needed_by k e ≤ k.limit → spoken_for k + needed_by k e ≤ capacity'
+    → IsKept l ps' cs' capacity'
+kept_more k l ps cs ps' cs' capacity capacity' seat e r kept step opening viewed limit own lines unsaved ps_are cs_are room reserved =
+    let producers : producers_in l.state ≡ producers_noted (producers_in k.state) e r = producers_are k.state e r l.state step in
+    let consumers : consumers_in l.state ≡ consumers_noted (consumers_in k.state) e r = consumers_are k.state e r l.state step in
+    let more : length l.lines ≡ length k.lines + 1 = ap length lines ∙ length-append k.lines (line seat e r ∷ []) in
+    let fit = attached_fit k.state e r l.state step in
+    let many = ap length producers in
+    let few = ap length consumers in
+    let own_as : ◌≡◌ {A = ℕ} (if l.own_line then 1 else 0) (if k.own_line then 1 else 0) = ap (λ (b : Bool). if b then 1 else 0) own in
+    let spoken : spoken_for l ≤ spoken_for k + needed_by k e = omega (arith, more, fit, many, few, own_as) in
+    record {
+      legal = subst (λ x. Legal x l.lines l.state) (sym opening) (subst (λ x. Legal k.opening x l.state) (sym lines) (legal_snoc k.opening k.lines k.state (line seat e r) l.state kept.legal step));
+      producers_are = ps_are ∙ ap (λ x. producers_noted x e r) kept.producers_are ∙ sym producers;
+      consumers_are = cs_are ∙ ap (λ x. consumers_noted x e r) kept.consumers_are ∙ sym consumers;
+      room = omega (arith, spoken, room, limit);
+      reserved = omega (arith, spoken, reserved);
+      as_viewed = λ unchanged.
+          let both = or_false k.unsaved (changes_snapshot e r) (sym unsaved ∙ unchanged) in
+          snapshot_stays k.state e r l.state step both.1 ∙ kept.as_viewed both.0 ∙ ap snapshot_of (sym viewed);
+    }
+
+-- the same, over other lists and more room
+pub kept_again : (k l : Kept) (ps cs ps' cs' : List ℕ) (capacity capacity' : ℕ) → IsKept k ps cs capacity → l ≡ k → ps' ≡ ps → cs' ≡ cs → capacity ≤ capacity' → IsKept l ps' cs' capacity'
+kept_again k l ps cs ps' cs' capacity capacity' kept same ps_are cs_are more =
+    let reserved : spoken_for k ≤ capacity' = omega (arith, kept.reserved, more) in
+    let again : IsKept k ps cs capacity' = record { legal = kept.legal; producers_are = kept.producers_are; consumers_are = kept.consumers_are; room = kept.room; reserved = reserved; as_viewed = kept.as_viewed } in
+    subst (λ (x : Kept × List ℕ × List ℕ). IsKept x.0 x.1 x.2 capacity') (λ i. (sym same i, sym ps_are i, sym cs_are i)) again

@@ -1,0 +1,4 @@
+pub mod Replies
+pub mod Cells
+pub mod AllHere
+pub mod Crosses

@@ -1,0 +1,6 @@
+pub mod Attached
+pub mod Seats
+pub mod Kept
+pub mod Accounts
+pub mod Inside
+pub mod Laws

@@ -1,0 +1,86 @@
+// A topic's answer, twice: for the journal and for the caller. And what an answer changes.
+ghost use Rattle.std.specs.Prelude.{◌≡◌, ◌||◌, IfOk, IfErr, OnErr, IsOk, Some, true};
+ghost use Rattle.position_core.specs.declared.fault.Fault.TheVariants.{NoMemory};
+ghost use Rattle.delivery_machine.specs.declared.event.Event.TheVariants.{Collect};
+ghost use Rattle.delivery_machine.specs.Delivering.{out_of};
+ghost use Rattle.delivery_machine.specs.Run.{Step};
+ghost use Rattle.delivery_machine.specs.Journals.{changes_snapshot, is_kept_once_done};
+ghost use Rattle.topic_shared.specs.Attached.{is_farewell, is_no_memory};
+
+use delivery_machine::{Deliveries, Event, Fault, Reply, Topic};
+
+fn is_no_memory(reply: &Reply) -> bool
+    ensures { result ≡ is_no_memory reply.now }
+{
+    matches!(reply, Reply::Refused(Fault::NoMemory))
+}
+
+/// A copy of what a `Collect` will answer, and of nothing for another event.
+fn copies_for<T: Topic>(topic: &T, event: &Event) -> Result<Option<Deliveries>, Fault>
+    ensures ok { IfOk result (λ copies. (consumer : _) → event.now ≡ Collect consumer → copies ≡ Some (out_of (T.state topic.now) consumer)) }
+    ensures err { IfErr result (λ fault. fault ≡ NoMemory) }
+    ensures ends { is_farewell event.now ≡ true → IsOk result }
+{
+    match event {
+        Event::Collect { consumer } => match topic.out_copy(*consumer) {
+            Ok(copies) => Ok(Some(copies)),
+            Err(fault) => Err(fault),
+        },
+        _ => Ok(None),
+    }
+}
+
+/// What the topic answers, and the same again. Only where memory is wanting for either is there none,
+/// and the topic is then as it was. To go needs no memory.
+pub fn answer<T: Topic>(topic: &mut T, event: &Event) -> Result<(Reply, Reply), Fault>
+    ensures step { IfOk result (λ replies. Step (T.state topic.old) event.now replies.0 (T.state topic.new)) }
+    ensures twin { IfOk result (λ replies. replies.1 ≡ replies.0) }
+    ensures err { OnErr result (T.state topic.new ≡ T.state topic.old) }
+    ensures fault { IfErr result (λ fault. fault ≡ NoMemory) }
+    ensures ends { is_farewell event.now ≡ true → IsOk result }
+{
+    let copies = match copies_for(topic, event) {
+        Ok(copies) => copies,
+        Err(fault) => return Err(fault),
+    };
+    let reply = topic.apply(event);
+    if is_no_memory(&reply) {
+        return Err(Fault::NoMemory);
+    }
+    match reply.twin(copies) {
+        Ok(twin) => Ok((reply, twin)),
+        Err(_) => Err(Fault::NoMemory),
+    }
+}
+
+fn is_kept_once_done(event: &Event) -> bool
+    ensures { result ≡ is_kept_once_done event.now }
+{
+    matches!(
+        event,
+        Event::Ack { .. }
+            | Event::AckUpTo { .. }
+            | Event::Seek { .. }
+            | Event::SeekTime { .. }
+            | Event::Skip { .. }
+            | Event::DropSubscription { .. }
+            | Event::DeadDone { .. }
+    )
+}
+
+fn changes_snapshot(event: &Event, reply: &Reply) -> bool
+    ensures { result ≡ changes_snapshot event.now reply.now }
+{
+    match reply {
+        Reply::Published { .. } | Reply::Subscribed { .. } | Reply::Died { .. } => true,
+        Reply::Done => is_kept_once_done(event),
+        _ => false,
+    }
+}
+
+/// Whether a snapshot of the topic may be another after the answer than the last one that was taken.
+pub fn marked(unsaved: bool, event: &Event, reply: &Reply) -> bool
+    ensures { result ≡ (unsaved || changes_snapshot event.now reply.now) }
+{
+    unsaved || changes_snapshot(event, reply)
+}
