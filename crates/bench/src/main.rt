@@ -4,6 +4,7 @@
 
 ghost use Rattle.std.specs.Prelude.{◌≡◌, ◌↔◌, IsNone};
 
+mod calls;
 mod dead;
 mod dedup;
 mod entries;
@@ -56,7 +57,8 @@ fn cases(rt: &HostRuntime, mode: Mode) -> io::Result<()> {
     };
     payloads.head()?;
     texts::cases(&payloads)?;
-    turns::cases(&payloads)
+    turns::cases(&payloads)?;
+    calls::cases(&payloads)
 }
 
 /// Runs the cases, and answers the status to end with.

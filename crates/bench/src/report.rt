@@ -38,6 +38,11 @@ impl Report<'_> {
         }
     }
 
+    /// A number that is the same at each size.
+    pub(crate) fn fact(&self, name: &str, value: usize) -> io::Result<()> {
+        println!(self.rt; "{name} {value}")
+    }
+
     fn check(&self, name: &str, case: Case) -> io::Result<()>
         requires { IsAlwaysCallable case }
     {

@@ -21,7 +21,8 @@ fn payload(alloc: Global, size: u64) -> io::Result<Payload> {
     Ok(Payload::new(bytes).ok_or(io::ErrorKind::InvalidInput)?)
 }
 
-fn body(alloc: Global, size: u64) -> io::Result<Body> {
+/// A body whose payload has so many bytes.
+pub(crate) fn body(alloc: Global, size: u64) -> io::Result<Body> {
     let content = Content {
         key: None,
         properties: Properties::none(alloc),

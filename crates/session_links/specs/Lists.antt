@@ -1,5 +1,5 @@
 -- What a connection over lists tells, and a caller over a topic.
-use Rattle.std.specs.Prelude.{List, map, string_bytes}
+use Rattle.std.specs.Prelude.{List, [], map, string_bytes}
 use Rattle.session_links.specs.Links.{Call, Closing, Exchange, receipt_of}
 use Rattle.session_links.specs.declared.list_conn.Closed.{Closed}
 use Rattle.session_links.specs.declared.list_conn.Told.{Told}
@@ -9,6 +9,10 @@ use Rattle.session_links.specs.declared.topic_caller.Lines.{Lines}
 -- a close of the list
 abbrev pub closing_of : Closed → Closing
 closing_of closed = record { code = closed.code; reason = string_bytes closed.reason }
+
+-- nothing came or went
+abbrev pub nothing_yet : Exchange
+nothing_yet = record { received = []; sent = []; closes = [] }
 
 -- what the lists have
 abbrev pub exchange_of : Told → Exchange

@@ -1,7 +1,8 @@
 // A connection over lists, for tests and trials.
-ghost use Rattle.std.specs.Prelude.{◌≡◌, IfOk, IfSome, option_map, true};
+ghost use Rattle.std.specs.Prelude.{◌≡◌, IfOk, IfSome, Some, None, option_map, true};
 ghost use Rattle.session_links.specs.Links.{Tells, receipt_of, with_close, with_receipt, with_sent};
-ghost use Rattle.session_links.specs.Lists.{exchange_of};
+ghost use Rattle.std.specs.Option.{option_copied};
+ghost use Rattle.session_links.specs.Lists.{exchange_of, nothing_yet};
 
 use crate::conn::{Conn, ConnFault, Incoming};
 use std::alloc::{AllocError, Global};
@@ -33,7 +34,9 @@ fn copy_of(alloc: Global, incoming: &Incoming) -> Result<Incoming, AllocError>
 }
 
 impl Told {
-    fn new(alloc: Global) -> Told {
+    fn new(alloc: Global) -> Told
+        ensures { exchange_of result ≡ nothing_yet }
+    {
         Told {
             received: Vec::new(alloc),
             sent: Vec::new(alloc),
@@ -120,7 +123,8 @@ pub struct ListConn {
 impl ListConn {
     /// A connection on which nothing comes yet, and which takes all texts.
     pub fn new(alloc: Global) -> Self
-        ensures { result.is_open ≡ true }
+        ensures open { result.is_open ≡ true }
+        ensures told { option_map exchange_of result.told ≡ Some nothing_yet }
     {
         ListConn {
             incoming: VecDeque::new(alloc),
@@ -134,7 +138,8 @@ impl ListConn {
 
     /// One that tells nothing, and takes no memory for that.
     pub fn silent(alloc: Global) -> Self
-        ensures { result.is_open ≡ true }
+        ensures open { result.is_open ≡ true }
+        ensures told { result.told ≡ None }
     {
         let mut conn = ListConn::new(alloc);
         conn.told = None;
@@ -142,7 +147,9 @@ impl ListConn {
     }
 
     /// What was received, sent and closed, where there was memory for all of it.
-    pub fn told(&self) -> Option<&Told> {
+    pub fn told(&self) -> Option<&Told>
+        ensures { option_copied result ≡ self.now.told }
+    {
         self.told.as_ref()
     }
 

@@ -1,5 +1,6 @@
 // A caller over one topic, for tests and trials.
-ghost use Rattle.std.specs.Prelude.{◌≡◌, IfOk, IfSome, option_map};
+ghost use Rattle.std.specs.Prelude.{◌≡◌, [], IfOk, IfSome, Some, None, option_map};
+ghost use Rattle.std.specs.Option.{option_copied};
 ghost use Rattle.session_links.specs.Links.{Tells, reply_of, with_call};
 ghost use Rattle.session_links.specs.Lists.{calls_of};
 
@@ -62,7 +63,11 @@ pub struct TopicCaller<T: Drop> {
 }
 
 impl<T: Drop> TopicCaller<T> {
-    pub fn new(alloc: Global, topic: T) -> Self {
+    pub fn new(alloc: Global, topic: T) -> Self
+        ensures topic { result.topic ≡ topic }
+        ensures refusal { result.refusal ≡ None }
+        ensures told { option_map calls_of result.lines ≡ Some [] }
+    {
         TopicCaller {
             topic,
             refusal: None,
@@ -73,7 +78,9 @@ impl<T: Drop> TopicCaller<T> {
     }
 
     /// The calls so far, where there was memory for all of them.
-    pub fn lines(&self) -> Option<&Lines> {
+    pub fn lines(&self) -> Option<&Lines>
+        ensures { option_copied result ≡ self.now.lines }
+    {
         self.lines.as_ref()
     }
 }
