@@ -328,7 +328,7 @@ fn sequences_to_begin_after(rt: HostRuntime) {
         "1+",
         "1.0",
         "0x1",
-        "%D9%A1",
+        "%d9%a1",
     ];
     check_refused(&rt, target.as_str(), "4001 F20 BadParameter", bad);
 }
