@@ -1,8 +1,9 @@
 -- What a program keeps by place in the log, in the machine's words: the set of the positions that stand there.
-use Rattle.std.specs.Prelude.{ℕ, suc, ◌≤◌, Bool, cond, List, [], ◌∷◌, length}
+use Rattle.std.specs.Prelude.{◌≡◌, ℕ, suc, ◌<◌, ◌≤◌, Bool, true, cond, List, [], ◌∷◌, length, map, All}
 use Rattle.std.specs.Ordering.{nat_cmp}
 use Rattle.std.specs.FinSet as set
 use Rattle.position_core.specs.declared.position.Position.{Position}
+use Rattle.position_core.specs.declared.topic_name.TopicName.{TopicName}
 use Rattle.position_core.specs.declared.message.Entry.{Entry}
 use Rattle.position_core.specs.declared.kind.Kind.{Kind}
 use Rattle.position_core.specs.Position.{position_cmp}
@@ -29,7 +30,31 @@ pub record KeptPlaces : Type 0 where
 abbrev pub kept_in : List Entry → KeptPlaces → KeptSubscription
 kept_in log kept = record { name = kept.name; kind = kept.kind; acknowledged = positions_at log kept.acknowledged; dead = kept.dead }
 
--- a topic may go on from it: it is sound, and its log is no longer than a topic's
-pub record MayRestart (kept : Snapshot) : Type 0 where
-  pub sound : IsSound kept
+-- what is kept of a topic, where `acknowledged` has places in the log
+pub record KeptTopic : Type 0 where
+  pub name : TopicName
+  pub ledger_size : ℕ
+  pub ledger : ℕ
+  pub next_ordinal : ℕ
+  pub log : List Entry
+  pub subscriptions : List KeptPlaces
+
+-- the snapshot that is so kept
+abbrev pub snapshot_in : KeptTopic → Snapshot
+snapshot_in kept = record {
+  name = kept.name;
+  ledger_size = kept.ledger_size;
+  ledger = kept.ledger;
+  next_ordinal = kept.next_ordinal;
+  log = kept.log;
+  subscriptions = map (kept_in kept.log) kept.subscriptions;
+}
+
+abbrev pub AreBelow : ℕ → set.FinSet nat_cmp → Type 0
+AreBelow end places = (place : ℕ) → set.contains places place ≡ true → place < end
+
+-- a topic may go on from it: it is sound, its log is no longer than a topic's, and its places are those of messages
+pub record MayRestart (kept : KeptTopic) : Type 0 where
+  pub sound : IsSound (snapshot_in kept)
   pub short : length kept.log ≤ 1048576
+  pub within : All (λ (sub : KeptPlaces). AreBelow (length kept.log) sub.acknowledged) kept.subscriptions

@@ -181,6 +181,62 @@ impl Reply {
             Reply::Refused(fault) => Ok(Reply::Refused(*fault)),
         }
     }
+
+    /// Whether two replies are the same.
+    pub fn is(&self, other: &Reply) -> bool
+        ensures { IsTrue result ↔ self.now ≡ other.now }
+    {
+        match self {
+            Reply::ProducerAdded {
+                producer,
+                auto,
+                last,
+            } =>
+                matches!(other, Reply::ProducerAdded { producer: p, auto: a, last: l } if producer == p && auto == a && last == l),
+            Reply::Published { position, length } =>
+                matches!(other, Reply::Published { position: p, length: l } if position == p && length == l),
+            Reply::Duplicate { length } =>
+                matches!(other, Reply::Duplicate { length: l } if length == l),
+            Reply::Durable(count) => matches!(other, Reply::Durable(c) if count == c),
+            Reply::Progress { durable, length } =>
+                matches!(other, Reply::Progress { durable: d, length: l } if durable == d && length == l),
+            Reply::Subscribed { consumer } =>
+                matches!(other, Reply::Subscribed { consumer: c } if consumer == c),
+            Reply::Done => matches!(other, Reply::Done),
+            Reply::Sent {
+                consumer,
+                position,
+                count,
+            } =>
+                matches!(other, Reply::Sent { consumer: c, position: p, count: n } if consumer == c && position == p && count == n),
+            Reply::Idle => matches!(other, Reply::Idle),
+            Reply::Copies(copies) => matches!(other, Reply::Copies(c) if copies.are(c)),
+            Reply::Released { position } =>
+                matches!(other, Reply::Released { position: p } if position == p),
+            Reply::Died { position, ordinal } =>
+                matches!(other, Reply::Died { position: p, ordinal: o } if position == p && ordinal == o),
+            Reply::Rewound { count } => matches!(other, Reply::Rewound { count: c } if count == c),
+            Reply::Quiet => matches!(other, Reply::Quiet),
+            Reply::Stats {
+                kind,
+                members,
+                mark_delete,
+                acknowledged,
+                live,
+                pending,
+                dead,
+            } =>
+                matches!(other, Reply::Stats { kind: k, members: m, mark_delete: p, acknowledged: a, live: l, pending: n, dead: d } if kind == k && members == m && mark_delete == p && acknowledged == a && live == l && pending == n && dead == d),
+            Reply::Dead {
+                message,
+                target,
+                ordinal,
+            } =>
+                matches!(other, Reply::Dead { message: m, target: t, ordinal: o } if message.is(m) && target.is(t) && ordinal == o),
+            Reply::NoDead => matches!(other, Reply::NoDead),
+            Reply::Refused(fault) => matches!(other, Reply::Refused(f) if fault == f),
+        }
+    }
 }
 
 fn copies_of(reply: &Reply) -> Result<Option<Deliveries>, AllocError>
@@ -197,134 +253,5 @@ impl Clone for Reply {
 
     fn clone(&self) -> Result<Self, AllocError> {
         self.twin(copies_of(self)?)
-    }
-}
-
-impl Reply {
-    /// Whether two replies are the same.
-    pub fn is(&self, other: &Reply) -> bool
-        ensures { IsTrue result ↔ self.now ≡ other.now }
-    {
-        match self {
-            Reply::ProducerAdded {
-                producer,
-                auto,
-                last,
-            } => match other {
-                Reply::ProducerAdded {
-                    producer: their_producer,
-                    auto: their_auto,
-                    last: their_last,
-                } => producer == their_producer && auto == their_auto && last == their_last,
-                _ => false,
-            },
-            Reply::Published { position, length } => match other {
-                Reply::Published {
-                    position: their_position,
-                    length: their_length,
-                } => position == their_position && length == their_length,
-                _ => false,
-            },
-            Reply::Duplicate { length } => match other {
-                Reply::Duplicate { length: other } => length == other,
-                _ => false,
-            },
-            Reply::Durable(value) => match other {
-                Reply::Durable(other) => value == other,
-                _ => false,
-            },
-            Reply::Progress { durable, length } => match other {
-                Reply::Progress {
-                    durable: their_durable,
-                    length: their_length,
-                } => durable == their_durable && length == their_length,
-                _ => false,
-            },
-            Reply::Subscribed { consumer } => match other {
-                Reply::Subscribed { consumer: other } => consumer == other,
-                _ => false,
-            },
-            Reply::Done => matches!(other, Reply::Done),
-            Reply::Sent {
-                consumer,
-                position,
-                count,
-            } => match other {
-                Reply::Sent {
-                    consumer: their_consumer,
-                    position: their_position,
-                    count: their_count,
-                } => consumer == their_consumer
-                    && position == their_position
-                    && count == their_count,
-                _ => false,
-            },
-            Reply::Idle => matches!(other, Reply::Idle),
-            Reply::Copies(value) => match other {
-                Reply::Copies(other) => value.are(other),
-                _ => false,
-            },
-            Reply::Released { position } => match other {
-                Reply::Released { position: other } => position == other,
-                _ => false,
-            },
-            Reply::Died { position, ordinal } => match other {
-                Reply::Died {
-                    position: their_position,
-                    ordinal: their_ordinal,
-                } => position == their_position && ordinal == their_ordinal,
-                _ => false,
-            },
-            Reply::Rewound { count } => match other {
-                Reply::Rewound { count: other } => count == other,
-                _ => false,
-            },
-            Reply::Quiet => matches!(other, Reply::Quiet),
-            Reply::Stats {
-                kind,
-                members,
-                mark_delete,
-                acknowledged,
-                live,
-                pending,
-                dead,
-            } => match other {
-                Reply::Stats {
-                    kind: their_kind,
-                    members: their_members,
-                    mark_delete: their_mark_delete,
-                    acknowledged: their_acknowledged,
-                    live: their_live,
-                    pending: their_pending,
-                    dead: their_dead,
-                } => kind == their_kind
-                    && members == their_members
-                    && mark_delete == their_mark_delete
-                    && acknowledged == their_acknowledged
-                    && live == their_live
-                    && pending == their_pending
-                    && dead == their_dead,
-                _ => false,
-            },
-            Reply::Dead {
-                message,
-                target,
-                ordinal,
-            } => match other {
-                Reply::Dead {
-                    message: their_message,
-                    target: their_target,
-                    ordinal: their_ordinal,
-                } => message.is(their_message)
-                    && target.is(their_target)
-                    && ordinal == their_ordinal,
-                _ => false,
-            },
-            Reply::NoDead => matches!(other, Reply::NoDead),
-            Reply::Refused(value) => match other {
-                Reply::Refused(other) => value == other,
-                _ => false,
-            },
-        }
     }
 }

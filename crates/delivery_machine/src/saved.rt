@@ -3,6 +3,7 @@ ghost use Rattle.std.specs.Prelude.{◌≡◌, ◌⊎◌, IfOk, IfErr, IsOk, OnO
 ghost use Rattle.position_core.specs.declared.fault.Fault.TheVariants.{JournalFull, NoMemory};
 ghost use Rattle.delivery_machine.specs.State.{State, fresh};
 ghost use Rattle.delivery_machine.specs.Snapshot.{snapshot_of, restarted};
+ghost use Rattle.delivery_machine.specs.Places.{snapshot_in};
 ghost use Rattle.delivery_machine.specs.Run.{Step};
 ghost use Rattle.delivery_machine.specs.declared.event.Event.TheVariants.{Stored};
 
@@ -32,7 +33,7 @@ pub trait Saved {
 
     /// The snapshot of the state.
     fn view(&self) -> Result<Snapshot, Fault>
-        ensures ok { IfOk result (λ kept. kept ≡ snapshot_of (saved self.now)) }
+        ensures ok { IfOk result (λ kept. snapshot_in kept ≡ snapshot_of (saved self.now)) }
         ensures err { IfErr result (λ fault. fault ≡ NoMemory) };
 
     /// All that a snapshot has now is stored.
@@ -50,7 +51,7 @@ pub trait Opened: Topic + Saved {
 
     /// It goes on from the snapshot: nobody is there, and messages go into the next ledger.
     fn restart(alloc: Global, snapshot: &Snapshot) -> Result<Self, Fault>
-        ensures ok { IfOk result (λ topic. Self.state topic ≡ restarted snapshot.now) }
+        ensures ok { IfOk result (λ topic. Self.state topic ≡ restarted (snapshot_in snapshot.now)) }
         ensures err { IfErr result (λ fault. fault ≡ NoMemory) };
 
     /// What is saved is the state that it is in.

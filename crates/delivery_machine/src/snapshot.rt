@@ -1,7 +1,7 @@
 // Snapshots: what a store keeps of a topic.
-ghost use Rattle.std.specs.Prelude.{◌≡◌, map};
+ghost use Rattle.std.specs.Prelude.{◌≡◌};
 ghost use Rattle.log_pieces.specs.Pieces.{joined};
-ghost use Rattle.delivery_machine.specs.Places.{MayRestart, kept_in};
+ghost use Rattle.delivery_machine.specs.Places.{MayRestart};
 
 use crate::kept_subscription::KeptSubscription;
 use log_pieces::Pieces;
@@ -23,16 +23,14 @@ pub struct Snapshot {
 }
 
 impl Model for Snapshot {
-    ghost use Rattle.std.specs.Prelude.{map};
     ghost use Rattle.log_pieces.specs.Pieces.{joined};
     ghost use Rattle.std.specs.Coded.{codes};
-    ghost use Rattle.delivery_machine.specs.Codes.{coded_positions};
-    ghost use Rattle.delivery_machine.specs.Places.{MayRestart, kept_in};
-    ghost use Rattle.delivery_machine.specs.Snapshot.{Snapshot};
+    ghost use Rattle.delivery_machine.specs.Codes.{coded_places};
+    ghost use Rattle.delivery_machine.specs.Places.{KeptTopic, MayRestart};
 
-    ghost Value = { Snapshot };
+    ghost Value = { KeptTopic };
 
-    ghost coded = { Prim.hlevel (codes, coded_positions) };
+    ghost coded = { Prim.hlevel (codes, coded_places) };
 
     ghost view = { λ k. record {
       name = k.name;
@@ -40,7 +38,7 @@ impl Model for Snapshot {
       ledger = k.ledger;
       next_ordinal = k.next_ordinal;
       log = joined k.log;
-      subscriptions = map (kept_in (joined k.log)) k.subscriptions.items;
+      subscriptions = k.subscriptions.items;
     } };
 
     ghost invariant = { λ k. MayRestart (record {
@@ -49,7 +47,7 @@ impl Model for Snapshot {
       ledger = k.ledger;
       next_ordinal = k.next_ordinal;
       log = joined k.log;
-      subscriptions = map (kept_in (joined k.log)) k.subscriptions.items;
+      subscriptions = k.subscriptions.items;
     }) };
 }
 
@@ -63,8 +61,8 @@ impl Snapshot {
         log: Pieces,
         subscriptions: Vec<KeptSubscription>,
     ) -> Self
-        requires { MayRestart (record { name = name; ledger_size = ledger_size; ledger = ledger; next_ordinal = next_ordinal; log = joined log; subscriptions = map (kept_in (joined log)) subscriptions.items }) }
-        ensures { result ≡ record { name = name; ledger_size = ledger_size; ledger = ledger; next_ordinal = next_ordinal; log = joined log; subscriptions = map (kept_in (joined log)) subscriptions.items } }
+        requires { MayRestart (record { name = name; ledger_size = ledger_size; ledger = ledger; next_ordinal = next_ordinal; log = joined log; subscriptions = subscriptions.items }) }
+        ensures { result ≡ record { name = name; ledger_size = ledger_size; ledger = ledger; next_ordinal = next_ordinal; log = joined log; subscriptions = subscriptions.items } }
     {
         Snapshot {
             name,
@@ -110,7 +108,7 @@ impl Snapshot {
 
     /// In the order of their names.
     pub fn subscriptions(&self) -> &[KeptSubscription]
-        ensures { map (kept_in self.now.log) result.now ≡ self.now.subscriptions }
+        ensures { result.now ≡ self.now.subscriptions }
     {
         &self.subscriptions
     }

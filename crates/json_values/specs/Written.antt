@@ -1,6 +1,6 @@
 -- Objects as they are written: compact JSON.
-use Rattle.std.specs.Prelude.{ℕ, List, [], ◌∷◌, ◌++◌, flat_map, codes}
-use Rattle.json.specs.Json.{Json, object, Members, no_members, member}
+use Rattle.std.specs.Prelude.{ℕ, List, [], ◌∷◌, ◌++◌, flat_map, map, codes}
+use Rattle.json.specs.Json.{Json, string, object, Members, no_members, member}
 use Rattle.json.specs.Print.{print, quoted}
 use Rattle.json.specs.Tree.{json_tokens}
 
@@ -31,3 +31,10 @@ leading fields = flat_map (λ field. field_text field ++ codes ",") fields
 abbrev pub fields_text : List (List ℕ × Json) → List ℕ
 fields_text [] = []
 fields_text (first ∷ others) = field_text first ++ flat_map (λ other. codes "," ++ field_text other) others
+
+-- a property's value under its name
+abbrev pub property_field : List ℕ × List ℕ → List ℕ × Json
+property_field property = (property.0, string property.1)
+
+abbrev pub property_fields : List (List ℕ × List ℕ) → List (List ℕ × Json)
+property_fields properties = map property_field properties

@@ -2,7 +2,7 @@
 ghost use Rattle.std.specs.Prelude.{◌≡◌, [], IfOk, IfSome, Some, None, option_map};
 ghost use Rattle.std.specs.Option.{option_copied};
 ghost use Rattle.session_links.specs.Links.{Tells, reply_of, with_call};
-ghost use Rattle.session_links.specs.Lists.{calls_of};
+ghost use Rattle.session_links.specs.Lists.{Asks, calls_of};
 
 use crate::caller::Caller;
 use delivery_machine::{Event, Fault, Reply, Topic};
@@ -87,7 +87,9 @@ impl<T: Drop> TopicCaller<T> {
 
 impl<T: Topic + Drop> TopicCaller<T> {
     fn answer_to(&mut self, event: &Event) -> Result<Reply, Fault>
-        ensures { self.new.lines ≡ self.old.lines }
+        ensures lines { self.new.lines ≡ self.old.lines }
+        ensures refusal { self.new.refusal ≡ self.old.refusal }
+        ensures asks { Asks self.old.refusal (T.state self.old.topic) event.now result (T.state self.new.topic) }
     {
         match self.refusal {
             Some(fault) => Err(fault),
@@ -102,7 +104,11 @@ impl<T: Topic + Drop> Caller for TopicCaller<T> {
 
     ghost calls = { λ c. option_map calls_of c.lines };
 
-    fn call(&mut self, event: Event) -> Result<Reply, Fault> {
+    fn call(&mut self, event: Event) -> Result<Reply, Fault>
+        ensures tells { Tells (with_call (record { event = event; reply = reply_of result })) (option_map calls_of self.old.lines) (option_map calls_of self.new.lines) }
+        ensures asks { Asks self.old.refusal (T.state self.old.topic) event result (T.state self.new.topic) }
+        ensures refusal { self.new.refusal ≡ self.old.refusal }
+    {
         let answer = self.answer_to(&event);
         self.lines = tell(self.lines.take(), event, &answer);
         answer

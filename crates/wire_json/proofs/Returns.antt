@@ -10,11 +10,11 @@ use Rattle.position_core.specs.declared.message.Entry.{Entry}
 use Rattle.position_core.specs.declared.position.Position.{Position}
 use Rattle.delivery_machine.specs.declared.reply.Reply.TheVariants.{Done, Refused, Stats}
 use Rattle.position_core.specs.Fault.{number_of}
-use Rattle.json_values.specs.Written.{members_of, object_text, object_with}
+use Rattle.json_values.specs.Written.{members_of, object_text, object_with, property_fields}
 use Rattle.json_values.proofs.Written.{reads_back}
 use Rattle.wire_json.specs.Answers.{error_fields, ok_fields}
 use Rattle.wire_json.specs.Answers.{id_field}
-use Rattle.wire_json.specs.Deliveries.{count_field, key_field, payload_field, properties_field, property_fields, time_field}
+use Rattle.wire_json.specs.Deliveries.{count_field, key_field, payload_field, properties_field, time_field}
 use Rattle.wire_json.specs.Laws.{AdminsReadBack, DeliveriesReadBack, ErrorsReadBack, HasFittingCounts, OksReadBack}
 use Rattle.wire_json.specs.Statistics.{done_fields, refused_fields, statistics_fields}
 

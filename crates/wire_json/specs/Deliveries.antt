@@ -1,12 +1,12 @@
 -- What a consumer is sent.
-use Rattle.std.specs.Prelude.{◌≡◌, ℕ, List, [], ◌∷◌, ◌++◌, map, Option, Some, None, codes}
+use Rattle.std.specs.Prelude.{◌≡◌, ℕ, List, [], ◌∷◌, ◌++◌, Option, Some, None, codes}
 use Rattle.std.specs.Fmt.{decimal}
 use Rattle.base64.specs.GeneralPurpose.{encode_of}
 use Rattle.base64.specs.Engines.{standard}
 use Rattle.json.specs.Json.{Json, number, string}
 use Rattle.position_core.specs.declared.message.Entry.{Entry}
 use Rattle.json_values.specs.Times.{IsTimeText}
-use Rattle.json_values.specs.Written.{object_text, object_with}
+use Rattle.json_values.specs.Written.{object_text, object_with, property_fields}
 use Rattle.wire_json.specs.Answers.{id_field}
 
 -- the key, where the message has one
@@ -17,13 +17,6 @@ key_field (Some key) = (codes "key", string key) ∷ []
 -- the bytes in base64
 abbrev pub payload_field : List ℕ → List ℕ × Json
 payload_field payload = (codes "payload", string (encode_of standard payload))
-
--- a property's value under its name
-abbrev pub property_field : List ℕ × List ℕ → List ℕ × Json
-property_field property = (property.0, string property.1)
-
-abbrev pub property_fields : List (List ℕ × List ℕ) → List (List ℕ × Json)
-property_fields properties = map property_field properties
 
 abbrev pub properties_field : List (List ℕ × List ℕ) → List ℕ × Json
 properties_field properties = (codes "properties", object_with (property_fields properties))

@@ -2,8 +2,8 @@
 ghost use Rattle.std.specs.Prelude.{◌≡◌, ℕ, List, [], ◌∷◌, ◌++◌, codes, if◌then◌else◌, OnOk, string_bytes};
 ghost use Rattle.position_core.specs.Properties.{pairs_of};
 ghost use Rattle.json_values.specs.Times.{IsTimeText};
-ghost use Rattle.json_values.specs.Written.{field_text, fields_text, leading};
-ghost use Rattle.wire_json.specs.Deliveries.{IsDelivery, count_field, key_field, payload_field, properties_field, property_field, property_fields, time_field};
+ghost use Rattle.json_values.specs.Written.{field_text, fields_text, leading, property_field, property_fields};
+ghost use Rattle.wire_json.specs.Deliveries.{IsDelivery, count_field, key_field, payload_field, properties_field, time_field};
 
 use crate::answers::{begin, push_id};
 use base64::engine::general_purpose::STANDARD;

@@ -3,7 +3,7 @@ use Rattle.std.proofs.lemmas.List.{map-append}
 use Rattle.std.specs.Map.Iter.{deref_pair}
 use Rattle.std.proofs.lemmas.Map.Iter.{iter_end}
 use Rattle.json_values.proofs.Written.{next_written, none_after_one}
-use Rattle.wire_json.specs.Deliveries.{property_field}
+use Rattle.json_values.specs.Written.{property_field}
 use Rattle.wire_json.proofs.deliveries.push_property_list.Goals as goal
 
 pub loop-name-preserved : goal.loop-name-preserved

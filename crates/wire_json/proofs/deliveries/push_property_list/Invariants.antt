@@ -1,8 +1,7 @@
 use Rattle.std.proofs.Common.{◌≡◌, ◌++◌, map, string_bytes}
 use Rattle.std.specs.Map.Iter.{deref_pair}
-use Rattle.json_values.specs.Written.{fields_text}
+use Rattle.json_values.specs.Written.{fields_text, property_fields}
 use Rattle.json_values.proofs.Written.{has_none}
-use Rattle.wire_json.specs.Deliveries.{property_fields}
 use Rattle.wire_json.proofs.deliveries.push_property_list.Given as goal
 
 abbrev pub invariant-loop-name : goal.invariant-loop-name
