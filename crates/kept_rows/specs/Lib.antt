@@ -1,0 +1,2 @@
+-- What the contracts of stored snapshots cite.
+pub mod Noted

@@ -1,0 +1,54 @@
+-- What a history of stores names: what is kept of a topic, or the rows that a commit left.
+use Rattle.std.specs.Prelude.{◌≡◌, ℕ, List, [], IsPermutation}
+use mathlib.Core.List.{IsPrefix}
+use Rattle.position_core.specs.TopicName.{topic_text}
+use Rattle.sqlite.specs.Tree.{Trees}
+use Rattle.delivery_machine.specs.Places.{KeptTopic}
+use Rattle.row_forms.specs.Cells.{TOPIC, ENTRY, SUB, ACK, DEAD, bodies, of_topic}
+use Rattle.row_forms.specs.Forms.{TopicRows, AreRowsOf, no_rows}
+
+-- the rows of all topics, table by table
+abbrev pub all_rows : Trees → TopicRows
+all_rows db = record {
+  topics = bodies TOPIC (db TOPIC);
+  entries = bodies ENTRY (db ENTRY);
+  subs = bodies SUB (db SUB);
+  acks = bodies ACK (db ACK);
+  deads = bodies DEAD (db DEAD);
+}
+
+-- among the rows of all topics, those of this topic are these, in any order
+pub record HasAmong (topic : List ℕ) (rows all : TopicRows) : Type 0 where
+  pub topics : IsPermutation rows.topics (of_topic topic all.topics)
+  pub entries : IsPermutation rows.entries (of_topic topic all.entries)
+  pub subs : IsPermutation rows.subs (of_topic topic all.subs)
+  pub acks : IsPermutation rows.acks (of_topic topic all.acks)
+  pub deads : IsPermutation rows.deads (of_topic topic all.deads)
+
+-- the topic's rows among these are those of what is kept of it
+abbrev pub StandsAmong : KeptTopic → TopicRows → Type 0
+StandsAmong kept all = (rows : TopicRows) × AreRowsOf kept rows × HasAmong (topic_text kept.name) rows all
+
+pub record Noted : Type 0 where
+  pub kept : KeptTopic
+  pub rows : TopicRows
+
+-- nothing is kept of it: no topic has this name
+abbrev pub nothing_kept : KeptTopic
+nothing_kept = record {
+  name = record { tenant = []; namespace = []; topic = [] };
+  ledger_size = 0;
+  ledger = 0;
+  next_ordinal = 0;
+  log = [];
+  subscriptions = [];
+}
+
+-- what is kept of a topic stands in rows that were committed
+abbrev pub IsStored : Noted → Type 0
+IsStored n = StandsAmong n.kept n.rows
+
+-- both are of one topic, and the second log begins with the first
+pub record GoesOn (base kept : KeptTopic) : Type 0 where
+  pub name : kept.name ≡ base.name
+  pub log : IsPrefix base.log kept.log

@@ -1,0 +1,54 @@
+// A snapshot that stands in rows that were committed.
+ghost use Rattle.std.specs.Prelude.{◌≡◌, IsTrue};
+ghost use Rattle.kept_rows.specs.Noted.{IsStored, StandsAmong};
+
+use crate::notes::Note;
+use marks::{Mark, Naming};
+use std::marker::Model;
+
+/// The proof that a snapshot stands in rows that were committed. It keeps the mark that the snapshot had.
+/// Contracts see the snapshot and the rows.
+#[derive(Drop)]
+pub struct Kept<J: Naming> {
+    mark: Mark<Note, J>,
+    rows: Mark<Note, J>,
+}
+
+impl<J: Naming> Model for Kept<J> {
+    ghost use Rattle.std.specs.Coded.{codes};
+    ghost use Rattle.delivery_machine.specs.Codes.{coded_places};
+    ghost use Rattle.kept_rows.specs.Noted.{Noted, StandsAmong};
+
+    ghost Value = { Noted };
+
+    ghost coded = { Prim.hlevel (codes, coded_places) };
+
+    ghost view = { λ k. record { kept = k.mark.kept; rows = k.rows.rows } };
+
+    ghost invariant = { λ k. StandsAmong k.mark.kept k.rows.rows };
+}
+
+impl<J: Naming> Kept<J> {
+    /// The snapshot of the first mark stands in the rows of the second.
+    pub fn new(mark: Mark<Note, J>, rows: Mark<Note, J>) -> Kept<J>
+        requires { StandsAmong mark.kept rows.rows }
+        ensures { result ≡ record { kept = mark.kept; rows = rows.rows } }
+    {
+        Kept { mark, rows }
+    }
+
+    /// The mark that the snapshot had.
+    pub fn mark(&self) -> Mark<Note, J>
+        ensures { result.kept ≡ self.now.kept }
+    {
+        self.mark.again()
+    }
+
+    /// Whether the snapshot had this mark. Then it is the mark's snapshot, and it stands in the rows.
+    pub fn is(&self, mark: &Mark<Note, J>) -> bool
+        ensures same { IsTrue result → self.now.kept ≡ mark.now.kept }
+        ensures stands { IsStored self.now }
+    {
+        self.mark.is(mark)
+    }
+}
