@@ -10,13 +10,13 @@ use Rattle.delivery_machine.specs.Snapshot.{snapshot_of}
 use Rattle.delivery_machine.specs.Run.{Step}
 use Rattle.delivery_machine.specs.Journals.{producers_in, consumers_in, producers_noted, consumers_noted, changes_snapshot}
 use Rattle.delivery_machine.specs.declared.event.Event.{Event}
-use Rattle.delivery_machine.specs.declared.event.Event.TheVariants.{DropProducer, Leave}
+use Rattle.delivery_machine.specs.declared.event.Event.TheVariants.{DropProducer, Leave, Stored, StoredTo}
 use Rattle.delivery_machine.specs.declared.reply.Reply.{Reply}
-use Rattle.delivery_machine.specs.declared.reply.Reply.TheVariants.{ProducerAdded, Subscribed, Done, Refused}
+use Rattle.delivery_machine.specs.declared.reply.Reply.TheVariants.{ProducerAdded, Subscribed, Durable, Done, Refused}
 use Rattle.delivery_machine.proofs.Journaling.{producers_are, consumers_are, snapshot_stays}
 use Rattle.journal_lines.specs.Lines.{Line, line, Legal}
 use Rattle.topic_shared.specs.Attached.{is_among, detaches, asks_to_attach, attaches, needs}
-use Rattle.topic_shared.specs.Kept.{Kept, IsKept, spoken_for, needed_by}
+use Rattle.topic_shared.specs.Kept.{Kept, IsKept, StoresLine, is_storing, spoken_for, needed_by}
 use Rattle.journal_lines.proofs.Legality.{legal_snoc}
 use Rattle.topic_shared.proofs.Replies.{attached_asked}
 
@@ -100,12 +100,12 @@ or_false false b h = (refl, h)
 
 pub kept_more : (k l : Kept) (ps cs ps' cs' : List ℕ) (capacity capacity' : ℕ) (seat : ℕ) (e : Event) (r : Reply)
     → IsKept k ps cs capacity → Step k.state e r l.state
-    → l.opening ≡ k.opening → l.viewed ≡ k.viewed → l.limit ≡ k.limit → l.own_line ≡ k.own_line
+    → l.opening ≡ k.opening → l.viewed ≡ k.viewed → l.limit ≡ k.limit → l.own_line ≡ k.own_line → l.promised ≡ k.promised
     → l.lines ≡ k.lines ++ line seat e r ∷ [] → l.unsaved ≡ (k.unsaved || changes_snapshot e r)
     → ps' ≡ producers_noted ps e r → cs' ≡ consumers_noted cs e r
     → spoken_for k + needed_by k e ≤ k.limit → spoken_for k + needed_by k e ≤ capacity'
     → IsKept l ps' cs' capacity'
-kept_more k l ps cs ps' cs' capacity capacity' seat e r kept step opening viewed limit own lines unsaved ps_are cs_are room reserved =
+kept_more k l ps cs ps' cs' capacity capacity' seat e r kept step opening viewed limit own promised lines unsaved ps_are cs_are room reserved =
     let producers : producers_in l.state ≡ producers_noted (producers_in k.state) e r = producers_are k.state e r l.state step in
     let consumers : consumers_in l.state ≡ consumers_noted (consumers_in k.state) e r = consumers_are k.state e r l.state step in
     let more : length l.lines ≡ length k.lines + 1 = ap length lines ∙ length-append k.lines (line seat e r ∷ []) in
@@ -113,7 +113,8 @@ kept_more k l ps cs ps' cs' capacity capacity' seat e r kept step opening viewed
     let many = ap length producers in
     let few = ap length consumers in
     let own_as : ◌≡◌ {A = ℕ} (if l.own_line then 1 else 0) (if k.own_line then 1 else 0) = ap (λ (b : Bool). if b then 1 else 0) own in
-    let spoken : spoken_for l ≤ spoken_for k + needed_by k e = omega (arith, more, fit, many, few, own_as) in
+    let promised_as : ◌≡◌ {A = ℕ} (if l.promised then 1 else 0) (if k.promised then 1 else 0) = ap (λ (b : Bool). if b then 1 else 0) promised in
+    let spoken : spoken_for l ≤ spoken_for k + needed_by k e = omega (arith, more, fit, many, few, own_as, promised_as) in
     record {
       legal = subst (λ x. Legal x l.lines l.state) (sym opening) (subst (λ x. Legal k.opening x l.state) (sym lines) (legal_snoc k.opening k.lines k.state (line seat e r) l.state kept.legal step));
       producers_are = ps_are ∙ ap (λ x. producers_noted x e r) kept.producers_are ∙ sym producers;
@@ -131,3 +132,37 @@ kept_again k l ps cs ps' cs' capacity capacity' kept same ps_are cs_are more =
     let reserved : spoken_for k ≤ capacity' = omega (arith, kept.reserved, more) in
     let again : IsKept k ps cs capacity' = record { legal = kept.legal; producers_are = kept.producers_are; consumers_are = kept.consumers_are; room = kept.room; reserved = reserved; as_viewed = kept.as_viewed } in
     subst (λ (x : Kept × List ℕ × List ℕ). IsKept x.0 x.1 x.2 capacity') (λ i. (sym same i, sym ps_are i, sym cs_are i)) again
+
+-- an event of storing attaches nobody and lets nobody go, and no snapshot is another after it
+storing_notes : (ps cs : List ℕ) (e : Event) (count : ℕ) → is_storing e ≡ true
+    → (producers_noted ps e (Durable count) ≡ ps) × (consumers_noted cs e (Durable count) ≡ cs) × (changes_snapshot e (Durable count) ≡ false)
+storing_notes ps cs Stored count is = (refl, refl, refl)
+storing_notes ps cs (StoredTo length ordinal) count is = (refl, refl, refl)
+storing_notes ps cs e count is = absurd (true≢false (sym is))
+
+-- a line that was promised is written
+pub kept_stored : (k l : Kept) (ps cs : List ℕ) (capacity capacity' : ℕ) (e : Event) (count : ℕ)
+    → IsKept k ps cs capacity → is_storing e ≡ true → k.promised ≡ true → StoresLine k e count l → capacity' ≡ capacity → IsKept l ps cs capacity'
+kept_stored k l ps cs capacity capacity' e count kept storing promised stores as_much =
+    let notes = storing_notes (producers_in k.state) (consumers_in k.state) e count storing in
+    let producers : producers_in l.state ≡ producers_in k.state = producers_are k.state e (Durable count) l.state stores.step ∙ notes.0 in
+    let consumers : consumers_in l.state ≡ consumers_in k.state = consumers_are k.state e (Durable count) l.state stores.step ∙ notes.1 in
+    let same = stores.others in
+    let more : length l.lines ≡ length k.lines + 1 = ap length stores.line ∙ length-append k.lines (line 0 e (Durable count) ∷ []) in
+    let many = ap length producers in
+    let few = ap length consumers in
+    let limit : l.limit ≡ k.limit = ap (λ (x : Kept). x.limit) same in
+    let own_as : ◌≡◌ {A = ℕ} (if l.own_line then 1 else 0) (if k.own_line then 1 else 0) = ap (λ (x : Kept). if x.own_line then 1 else 0) same in
+    let was : ◌≡◌ {A = ℕ} (if k.promised then 1 else 0) 1 = ap (λ (b : Bool). if b then 1 else 0) promised in
+    let is : ◌≡◌ {A = ℕ} (if l.promised then 1 else 0) 0 = ap (λ (x : Kept). if x.promised then 1 else 0) same in
+    let spoken : spoken_for l ≡ spoken_for k = omega (arith, more, many, few, own_as, was, is) in
+    record {
+      legal = subst (λ x. Legal x l.lines l.state) (sym (ap (λ (x : Kept). x.opening) same)) (subst (λ x. Legal k.opening x l.state) (sym stores.line) (legal_snoc k.opening k.lines k.state (line 0 e (Durable count)) l.state kept.legal stores.step));
+      producers_are = kept.producers_are ∙ sym producers;
+      consumers_are = kept.consumers_are ∙ sym consumers;
+      room = omega (arith, spoken, kept.room, limit);
+      reserved = omega (arith, spoken, kept.reserved, as_much);
+      as_viewed = λ unchanged.
+          snapshot_stays k.state e (Durable count) l.state stores.step notes.2 ∙ kept.as_viewed (sym (ap (λ (x : Kept). x.unsaved) same) ∙ unchanged)
+          ∙ ap (λ (x : Kept). snapshot_of x.viewed) (sym same);
+    }

@@ -1,16 +1,19 @@
 -- A topic with its journal, as contracts see it.
-use Rattle.std.specs.Prelude.{◌≡◌, ℕ, ◌+◌, ◌≤◌, Bool, false, List, length, if◌then◌else◌}
+use Rattle.std.specs.Prelude.{◌≡◌, ℕ, ◌+◌, ◌≤◌, ◌++◌, ◌∷◌, nat_lt, Bool, true, false, List, [], length, if◌then◌else◌}
 use Rattle.delivery_machine.specs.State.{State}
 use Rattle.delivery_machine.specs.Snapshot.{snapshot_of}
+use Rattle.delivery_machine.specs.Run.{Step}
 use Rattle.delivery_machine.specs.declared.event.Event.{Event}
-use Rattle.journal_lines.specs.Lines.{Line, Legal}
+use Rattle.delivery_machine.specs.declared.event.Event.TheVariants.{Stored, StoredTo}
+use Rattle.delivery_machine.specs.declared.reply.Reply.TheVariants.{Durable}
+use Rattle.journal_lines.specs.Lines.{Line, line, Legal}
 use Rattle.topic_shared.specs.Attached.{detaches, needs}
 use Rattle.delivery_machine.specs.Journals.{producers_in, consumers_in}
 
 -- `opening` is the state before the lines, and `viewed` the one of which a snapshot was last taken; `taken` says of each
--- seat, from seat 1 on, whether it is taken; `own_line` is whether the cell keeps its own line still; `settled`, whether no
--- line was written since the cell was made, or the last one is the cell's own; `unsaved`, whether a snapshot may have changed
--- since the last one was taken
+-- seat, from seat 1 on, whether it is taken; `own_line` is whether the cell keeps its last line for itself still, and
+-- `promised`, whether a line is kept for what a store is about to confirm; `settled`, whether no line was written since the
+-- cell was made, or the last one is the cell's own; `unsaved`, whether a snapshot may have changed since the last one was taken
 pub record Kept : Type 0 where
   pub opening : State
   pub state : State
@@ -19,12 +22,14 @@ pub record Kept : Type 0 where
   pub limit : ℕ
   pub taken : List Bool
   pub own_line : Bool
+  pub promised : Bool
   pub settled : Bool
   pub unsaved : Bool
 
 -- one line for each producer and consumer that is attached, and the cell's own
 abbrev pub kept_lines : Kept → ℕ
-kept_lines k = length (producers_in k.state) + length (consumers_in k.state) + (if k.own_line then 1 else 0)
+kept_lines k =
+    length (producers_in k.state) + length (consumers_in k.state) + (if k.own_line then 1 else 0) + (if k.promised then 1 else 0)
 
 -- the lines that are written, and those that are kept
 abbrev pub spoken_for : Kept → ℕ
@@ -45,6 +50,36 @@ pub record KeepsSeats (k l : Kept) : Type 0 where
   pub limit : l.limit ≡ k.limit
   pub taken : l.taken ≡ k.taken
   pub own_line : l.own_line ≡ k.own_line
+  pub promised : l.promised ≡ k.promised
+
+-- a line is promised, if it was not: one that is not kept where there is one, else the cell's last
+abbrev pub with_promise : Kept → Kept
+with_promise k =
+    if k.promised then k
+    else if nat_lt (spoken_for k) k.limit then record k { promised = true }
+    else record k { own_line = false; promised = true }
+
+-- no line is left, not even the cell's last
+pub record HasNoLine (k : Kept) : Type 0 where
+  pub none_promised : k.promised ≡ false
+  pub full : k.limit ≤ spoken_for k
+  pub none_own : k.own_line ≡ false
+
+-- the same, but for the lines that the cell keeps for itself
+abbrev pub SameButPromise : Kept → Kept → Type 0
+SameButPromise k l = l ≡ record k { own_line = l.own_line; promised = l.promised }
+
+-- the events by which a store says what it holds
+abbrev pub is_storing : Event → Bool
+is_storing Stored = true
+is_storing (StoredTo count ordinal) = true
+is_storing event = false
+
+-- the cell's own line of what is stored: the topic took the step, and a line was promised no more
+pub record StoresLine (k : Kept) (event : Event) (count : ℕ) (l : Kept) : Type 0 where
+  pub step : Step k.state event (Durable count) l.state
+  pub line : l.lines ≡ k.lines ++ line 0 event (Durable count) ∷ []
+  pub others : l ≡ record k { state = l.state; lines = l.lines; promised = false; settled = true }
 
 -- what every cell keeps, with its lists of attached numbers and the room of its lines
 pub record IsKept (k : Kept) (producers consumers : List ℕ) (capacity : ℕ) : Type 0 where

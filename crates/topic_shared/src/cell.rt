@@ -22,7 +22,7 @@ use std::marker::Model;
 use std::snapshot::Snapshot;
 
 /// Writes the draft's line into room that is there.
-fn write(lines: &mut Vec<Line>, seat: u64, draft: Draft, reply: Reply)
+pub(crate) fn write(lines: &mut Vec<Line>, seat: u64, draft: Draft, reply: Reply)
     requires room { vec_len lines.old < vec_capacity lines.old }
     requires fits { is_long draft ≡ false → is_long_reply reply ≡ false }
     ensures line { lines.new.items ≡ lines.old.items ++ line seat draft reply ∷ [] }
@@ -34,17 +34,18 @@ fn write(lines: &mut Vec<Line>, seat: u64, draft: Draft, reply: Reply)
 /// A topic with the journal of its calls, which leads from the opening state to the topic's.
 #[derive(Drop)]
 pub struct Cell<T: Topic> {
-    alloc: Global,
-    topic: T,
+    pub(crate) alloc: Global,
+    pub(crate) topic: T,
     opening: Snapshot<T>,
     viewed: Snapshot<T>,
-    lines: Vec<Line>,
+    pub(crate) lines: Vec<Line>,
     producers: Vec<ProducerNumber>,
     consumers: Vec<ConsumerNumber>,
     limit: LineLimit,
     taken: Vec<bool>,
-    own_line: bool,
-    settled: bool,
+    pub(crate) own_line: bool,
+    pub(crate) promised: bool,
+    pub(crate) settled: bool,
     unsaved: bool,
 }
 
@@ -59,16 +60,16 @@ impl<T: Topic> Model for Cell<T> {
 
     ghost coded = { Prim.hlevel (codes, coded_positions, coded_pending, coded_counts) };
 
-    ghost view = { λ c. record { opening = T.state c.opening.value; state = T.state c.topic; viewed = T.state c.viewed.value; lines = c.lines.items; limit = c.limit; taken = c.taken.items; own_line = c.own_line; settled = c.settled; unsaved = c.unsaved } };
+    ghost view = { λ c. record { opening = T.state c.opening.value; state = T.state c.topic; viewed = T.state c.viewed.value; lines = c.lines.items; limit = c.limit; taken = c.taken.items; own_line = c.own_line; promised = c.promised; settled = c.settled; unsaved = c.unsaved } };
 
-    ghost invariant = { λ c. IsKept (record { opening = T.state c.opening.value; state = T.state c.topic; viewed = T.state c.viewed.value; lines = c.lines.items; limit = c.limit; taken = c.taken.items; own_line = c.own_line; settled = c.settled; unsaved = c.unsaved }) c.producers.items c.consumers.items (vec_capacity c.lines) };
+    ghost invariant = { λ c. IsKept (record { opening = T.state c.opening.value; state = T.state c.topic; viewed = T.state c.viewed.value; lines = c.lines.items; limit = c.limit; taken = c.taken.items; own_line = c.own_line; promised = c.promised; settled = c.settled; unsaved = c.unsaved }) c.producers.items c.consumers.items (vec_capacity c.lines) };
 }
 
 impl<T: Topic + Drop> Cell<T> {
     /// A cell over a topic where nobody is attached, with its own line kept. All seats are free.
     pub fn new(alloc: Global, base: T, limit: LineLimit, seats: SeatCount) -> Result<Cell<T>, Fault>
         requires nobody { ((T.state base).producers ≡ []) × ((T.state base).members ≡ []) }
-        ensures ok { IfOk result (λ c. c ≡ record { opening = T.state base; state = T.state base; viewed = T.state base; lines = []; limit = limit; taken = replicate seats false; own_line = true; settled = true; unsaved = false }) }
+        ensures ok { IfOk result (λ c. c ≡ record { opening = T.state base; state = T.state base; viewed = T.state base; lines = []; limit = limit; taken = replicate seats false; own_line = true; promised = false; settled = true; unsaved = false }) }
         ensures err { IfErr result (λ fault. fault ≡ NoMemory) }
     {
         let Ok(lines) = Vec::with_capacity(alloc, 1) else {
@@ -91,6 +92,7 @@ impl<T: Topic + Drop> Cell<T> {
             limit,
             taken,
             own_line: true,
+            promised: false,
             settled: true,
             unsaved: false,
         })
@@ -172,6 +174,7 @@ impl<T: Topic + Drop> Cell<T> {
             limit: _,
             taken: _,
             own_line: _,
+            promised: _,
             settled: _,
             unsaved: _,
         } = self;
@@ -195,16 +198,17 @@ impl<T: Topic> Cell<T> {
         self.spoken_for() >= self.limit.get() as u64
     }
 
-    fn kept_lines(&self) -> u64
+    pub(crate) fn kept_lines(&self) -> u64
         ensures value { result ≡ kept_lines self.now }
         ensures within { result ≤ self.now.limit }
     {
         self.producers.len() as u64
             + self.consumers.len() as u64
-            + if self.own_line { 1 } else { 0 }
+            + u64::from(self.own_line)
+            + u64::from(self.promised)
     }
 
-    fn spoken_for(&self) -> u64
+    pub(crate) fn spoken_for(&self) -> u64
         ensures value { result ≡ spoken_for self.now }
         ensures within { result ≤ self.now.limit }
     {

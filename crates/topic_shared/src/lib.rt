@@ -13,6 +13,7 @@ mod room;
 mod seat;
 mod seats;
 mod shared;
+mod storing;
 
 pub use cell::Cell;
 pub use journal::Journal;

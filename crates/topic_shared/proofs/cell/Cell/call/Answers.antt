@@ -27,7 +27,7 @@ invariant_of-self-2 g c =
     let kept = c.kept_lines-kept.ensures.value ∙ ap kept_lines (sym c.self.view_is) in
     kept_more _ _ _ _ _ _ _ _ c.args.seat c.args.event c.in-Ok-answer.replies.0 k
     (subst (λ e. Step (g.T.Topic.state c.self.inside.topic) e c.in-Ok-answer.replies.0 (g.T.Topic.state c.answer.new.topic)) is c.in-Ok-answer.ensures.step)
-    refl refl refl refl
+    refl refl refl refl refl
     (search rules)
     (search rules)
     (search rules)
