@@ -56,3 +56,4 @@ pub mod WellReached
 pub mod WellFormedStates
 pub mod Journaling
 pub mod ReachedOn
+pub mod Growing

@@ -1,10 +1,10 @@
--- What a journal of events and replies tells: whether a snapshot has changed, and who is attached.
+-- What a journal of events and replies tells: whether a snapshot has changed, whether a store spoke, and who is attached.
 use Rattle.std.specs.Prelude.{◌==◌, Bool, true, false, List, [], ◌∷◌, ◌++◌, map}
 use Rattle.position_core.specs.Numbers.{ProducerNumber, ConsumerNumber}
 use Rattle.delivery_machine.specs.State.{State}
 use Rattle.delivery_machine.specs.Words.{removed}
 use Rattle.delivery_machine.specs.declared.event.Event.{Event}
-use Rattle.delivery_machine.specs.declared.event.Event.TheVariants.{DropProducer, Leave, Ack, AckUpTo, Seek, SeekTime, Skip, DropSubscription, DeadDone}
+use Rattle.delivery_machine.specs.declared.event.Event.TheVariants.{Stored, StoredTo, DropProducer, Leave, Ack, AckUpTo, Seek, SeekTime, Skip, DropSubscription, DeadDone}
 use Rattle.delivery_machine.specs.declared.reply.Reply.{Reply}
 use Rattle.delivery_machine.specs.declared.reply.Reply.TheVariants.{ProducerAdded, Published, Subscribed, Done, Died}
 
@@ -28,6 +28,12 @@ changes_snapshot event (Subscribed consumer) = true
 changes_snapshot event (Died position ordinal) = true
 changes_snapshot event Done = is_kept_once_done event
 changes_snapshot event reply = false
+
+-- the events by which a store says what it holds
+abbrev pub is_storing : Event → Bool
+is_storing Stored = true
+is_storing (StoredTo count ordinal) = true
+is_storing event = false
 
 -- ---- who is attached
 

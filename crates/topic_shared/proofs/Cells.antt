@@ -8,7 +8,7 @@ use Rattle.delivery_machine.specs.State.{State, Producer, Member}
 use Rattle.delivery_machine.specs.Words.{removed, is_producer, is_member}
 use Rattle.delivery_machine.specs.Snapshot.{snapshot_of}
 use Rattle.delivery_machine.specs.Run.{Step}
-use Rattle.delivery_machine.specs.Journals.{producers_in, consumers_in, producers_noted, consumers_noted, changes_snapshot}
+use Rattle.delivery_machine.specs.Journals.{producers_in, consumers_in, producers_noted, consumers_noted, changes_snapshot, is_storing}
 use Rattle.delivery_machine.specs.declared.event.Event.{Event}
 use Rattle.delivery_machine.specs.declared.event.Event.TheVariants.{DropProducer, Leave, Stored, StoredTo}
 use Rattle.delivery_machine.specs.declared.reply.Reply.{Reply}
@@ -16,7 +16,7 @@ use Rattle.delivery_machine.specs.declared.reply.Reply.TheVariants.{ProducerAdde
 use Rattle.delivery_machine.proofs.Journaling.{producers_are, consumers_are, snapshot_stays}
 use Rattle.journal_lines.specs.Lines.{Line, line, Legal}
 use Rattle.topic_shared.specs.Attached.{is_among, detaches, asks_to_attach, attaches, needs}
-use Rattle.topic_shared.specs.Kept.{Kept, IsKept, StoresLine, is_storing, spoken_for, needed_by}
+use Rattle.topic_shared.specs.Kept.{Kept, IsKept, StoresLine, spoken_for, needed_by}
 use Rattle.journal_lines.proofs.Legality.{legal_snoc}
 use Rattle.topic_shared.proofs.Replies.{attached_asked}
 

@@ -4,7 +4,6 @@ use Rattle.delivery_machine.specs.State.{State}
 use Rattle.delivery_machine.specs.Snapshot.{snapshot_of}
 use Rattle.delivery_machine.specs.Run.{Step}
 use Rattle.delivery_machine.specs.declared.event.Event.{Event}
-use Rattle.delivery_machine.specs.declared.event.Event.TheVariants.{Stored, StoredTo}
 use Rattle.delivery_machine.specs.declared.reply.Reply.TheVariants.{Durable}
 use Rattle.journal_lines.specs.Lines.{Line, line, Legal}
 use Rattle.topic_shared.specs.Attached.{detaches, needs}
@@ -68,12 +67,6 @@ pub record HasNoLine (k : Kept) : Type 0 where
 -- the same, but for the lines that the cell keeps for itself
 abbrev pub SameButPromise : Kept → Kept → Type 0
 SameButPromise k l = l ≡ record k { own_line = l.own_line; promised = l.promised }
-
--- the events by which a store says what it holds
-abbrev pub is_storing : Event → Bool
-is_storing Stored = true
-is_storing (StoredTo count ordinal) = true
-is_storing event = false
 
 -- the cell's own line of what is stored: the topic took the step, and a line was promised no more
 pub record StoresLine (k : Kept) (event : Event) (count : ℕ) (l : Kept) : Type 0 where

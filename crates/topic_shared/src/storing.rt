@@ -4,7 +4,8 @@ ghost use Rattle.position_core.specs.declared.fault.Fault.TheVariants.{NoMemory,
 ghost use Rattle.delivery_machine.specs.declared.event.Event.TheVariants.{Stored, StoredTo};
 ghost use Rattle.delivery_machine.specs.declared.reply.Reply.TheVariants.{Durable};
 ghost use Rattle.delivery_machine.specs.Run.{Step};
-ghost use Rattle.topic_shared.specs.Kept.{HasNoLine, StoresLine, is_storing, with_promise};
+ghost use Rattle.delivery_machine.specs.Journals.{is_storing};
+ghost use Rattle.topic_shared.specs.Kept.{HasNoLine, StoresLine, with_promise};
 
 use crate::cell::{Cell, write};
 use delivery_machine::{Event, Fault, Opened, Ordinal, Reply, Saved, Snapshot, Topic};
