@@ -37,6 +37,13 @@ impl<J: Naming> Kept<J> {
         Kept { mark, rows }
     }
 
+    /// What its type keeps: the snapshot stands in the rows.
+    pub fn stands(&self)
+        ensures { IsStored self.now }
+    {
+        let _ = &self.mark;
+    }
+
     /// The mark that the snapshot had.
     pub fn mark(&self) -> Mark<Note, J>
         ensures { result.kept ≡ self.now.kept }
@@ -44,10 +51,9 @@ impl<J: Naming> Kept<J> {
         self.mark.again()
     }
 
-    /// Whether the snapshot had this mark. Then it is the mark's snapshot, and it stands in the rows.
+    /// Whether the snapshot had this mark. Then it is the mark's snapshot.
     pub fn is(&self, mark: &Mark<Note, J>) -> bool
-        ensures same { IsTrue result → self.now.kept ≡ mark.now.kept }
-        ensures stands { IsStored self.now }
+        ensures { IsTrue result → self.now.kept ≡ mark.now.kept }
     {
         self.mark.is(mark)
     }

@@ -1,0 +1,15 @@
+use Rattle.std.proofs.Common.{rules, ◌≡◌, subst, sym, ◌∙◌, ap, Bool, Some, true}
+use Rattle.delivery_machine.specs.Places.{KeptTopic, snapshot_in}
+use Rattle.delivery_machine.specs.Snapshot.{snapshot_of}
+use Rattle.topic_shared.specs.Kept.{Kept, with_promise}
+use Rattle.stored_cell.proofs.Sound.{promise_stays, sound_viewed}
+use Rattle.stored_cell.proofs.cell.StoredCell.ready_view.Goals as goal
+
+pub invariant_of-self-2 : goal.invariant_of-self-2
+invariant_of-self-2 g c =
+    let kept : c.new.result ≡ c.in-Ok-view.snapshot = search rules in
+    let promise : c.promise.new.self ≡ with_promise c.self.inside.cell = c.in-Ok.ensures.ok in
+    let same : c.view_taken.new.self.state ≡ c.self.inside.cell.state = ap (λ (k : Kept). k.state) c.view_taken.ensures ∙ (ap (λ (k : Kept). k.state) promise ∙ promise_stays c.self.inside.cell) in
+    let promised : c.view_taken.new.self.promised ≡ true = ap (λ (k : Kept). k.promised) c.view_taken.ensures ∙ c.in-Ok.ensures.promised in
+    let viewed : snapshot_in c.new.result ≡ snapshot_of c.view_taken.new.self.state = ap snapshot_in kept ∙ (c.in-Ok-view.ensures.ok ∙ sym (ap (λ (k : Kept). snapshot_of k.state) c.view_taken.ensures)) in
+    sound_viewed _ c.view_taken.new.self c.new.result c.self.invariant same promised viewed

@@ -1,0 +1,11 @@
+use Rattle.std.proofs.Common.{rules, ◌≡◌, subst, sym, ◌∙◌, ap}
+use Rattle.kept_rows.specs.Noted.{Noted, IsStored}
+use Rattle.delivery_machine.specs.Snapshot.{restarted}
+use Rattle.delivery_machine.specs.Places.{snapshot_in}
+use Rattle.stored_cell.proofs.Sound.{sound_restarted}
+use Rattle.stored_cell.proofs.cell.StoredCell.restarted.Goals as goal
+
+pub invariant_of-result : goal.invariant_of-result
+invariant_of-result g c =
+    let same : c.new.result ≡ c.args.kept = c.new.ensures.value in
+    sound_restarted c.args.cell c.new.result (subst (λ (n : Noted). c.args.cell.state ≡ restarted (snapshot_in n.kept)) (sym same) c.requires.restarted) c.new.ensures.stands

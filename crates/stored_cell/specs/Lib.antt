@@ -1,0 +1,2 @@
+-- What the contracts of stored cells cite.
+pub mod Held

@@ -1,0 +1,86 @@
+// The three steps of a store, as a topic takes part in them: it is viewed, and later what was stored is confirmed.
+ghost use Rattle.std.specs.Prelude.{ℕ, ◌≡◌, ◌==◌, ◌&&◌, not, ◌⊎◌, ◌≤◌, ◌↔◌, Err, None, Some, IfOk, IfErr, IfSome, OnOk, OnErr, IsTrue, IsFalse, length, false, true};
+ghost use Rattle.position_core.specs.declared.fault.Fault.TheVariants.{NoMemory, JournalFull, StoreFailed};
+ghost use Rattle.delivery_machine.specs.Snapshot.{snapshot_of};
+ghost use Rattle.delivery_machine.specs.Places.{snapshot_in};
+ghost use Rattle.delivery_machine.specs.declared.event.Event.TheVariants.{StoredTo};
+ghost use Rattle.topic_shared.specs.Kept.{HasNoLine, StoresLine, with_promise};
+ghost use Rattle.stored_cell.specs.Held.{SameButPromise};
+
+use crate::cell::StoredCell;
+use crate::viewed::{Stored, Viewed};
+use delivery_machine::{Fault, Opened, Saved};
+use kept_rows::{Kept, Note, Notes, Part};
+use marks::{Mark, Naming};
+
+/// The mark of the snapshot that was stored last.
+pub(crate) fn base_of<J: Naming>(stored: &Option<Stored<J>>) -> Option<Mark<Note, J>>
+    ensures none { stored.now ≡ None → result ≡ None }
+    ensures some { IfSome stored.now (λ kept. IfSome result (λ mark. mark.kept ≡ kept.kept)) }
+{
+    match stored {
+        Some(stored) => Some(stored.kept().mark()),
+        None => None,
+    }
+}
+
+/// More is durable by a caller's word than was confirmed.
+fn is_more(by_word: bool, durable: u64, length: u64) -> bool
+    ensures { result ≡ (by_word && not (durable == length)) }
+{
+    by_word && durable != length
+}
+
+impl<T: Opened + Drop, J: Naming> StoredCell<T, J> {
+    /// The topic as it is, to be stored. A line is kept for its confirmation, whatever is asked meanwhile;
+    /// an earlier view that was not confirmed is none any more. Refused (F15) where not even the last line
+    /// is left, (F16) where 2^62 marks were drawn, or for want of memory.
+    pub fn ready_view(&mut self, notes: &mut Notes<J>) -> Result<Part<J>, Fault>
+        ensures part { IfOk result (λ part. snapshot_in part ≡ snapshot_of self.old.cell.state) }
+        ensures ok { IfOk result (λ part. self.new ≡ record self.old { cell = record (with_promise self.old.cell) { viewed = self.old.cell.state; unsaved = false }; outstanding = Some part }) }
+        ensures err { OnErr result (SameButPromise self.old self.new) }
+        ensures full { (result ≡ Err JournalFull) ↔ HasNoLine self.old.cell }
+        ensures faults { IfErr result (λ fault. (fault ≡ NoMemory) ⊎ (fault ≡ JournalFull) ⊎ (fault ≡ StoreFailed)) }
+    {
+        match self.cell.promise() {
+            Ok(()) => {}
+            Err(fault) => return Err(fault),
+        }
+        let snapshot = match self.cell.view() {
+            Ok(snapshot) => snapshot,
+            Err(fault) => return Err(fault),
+        };
+        let Some(mark) = notes.view(&snapshot) else {
+            return Err(Fault::StoreFailed);
+        };
+        let base = base_of(&self.stored);
+        self.cell.view_taken();
+        self.outstanding = Some(Viewed::new(&snapshot, mark.again()));
+        Ok(Part::new(snapshot, mark, base))
+    }
+
+    /// Makes durable what was stored, if it is what was viewed last: the store holds its messages and its
+    /// deaths. Whether it was.
+    pub fn confirm(&mut self, kept: Kept<J>) -> bool
+        ensures nothing { IsFalse result → self.new ≡ self.old }
+        ensures outstanding { IsTrue result → self.old.outstanding ≡ Some kept.kept }
+        ensures stored { IsTrue result → (self.new.stored ≡ Some kept) × (self.new.outstanding ≡ None) }
+        ensures line { IsTrue result → (count : ℕ) × StoresLine self.old.cell (StoredTo (length kept.kept.log) kept.kept.next_ordinal) count self.new.cell }
+        ensures word { self.old.by_word ≡ false → self.new.by_word ≡ false }
+        ensures durable { self.old.cell.state.durable ≤ self.new.cell.state.durable }
+    {
+        let Some(viewed) = &self.outstanding else {
+            return false;
+        };
+        if !kept.is(viewed.mark()) {
+            return false;
+        }
+        let length = viewed.length();
+        let ordinal = viewed.ordinal();
+        let durable = self.cell.confirm(length, ordinal);
+        self.by_word = is_more(self.by_word, durable, length);
+        self.stored = Some(Stored::new(kept, length));
+        self.outstanding = None;
+        true
+    }
+}

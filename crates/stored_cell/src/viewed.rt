@@ -1,0 +1,111 @@
+// Snapshots that were viewed or stored, with how much they hold.
+ghost use Rattle.std.specs.Prelude.{◌≡◌, length};
+ghost use Rattle.kept_rows.specs.Noted.{IsStored};
+
+use delivery_machine::Snapshot;
+use kept_rows::{Kept, Note};
+use marks::{Mark, Naming};
+use position_core::Ordinal;
+use std::marker::Model;
+
+/// A snapshot that was viewed and is not confirmed. Contracts see the snapshot.
+#[derive(Drop)]
+pub struct Viewed<J: Naming> {
+    mark: Mark<Note, J>,
+    count: u64,
+    ordinal: Ordinal,
+}
+
+impl<J: Naming> Model for Viewed<J> {
+    ghost use Rattle.std.specs.Prelude.{◌≡◌, length};
+    ghost use Rattle.std.specs.Coded.{codes};
+    ghost use Rattle.delivery_machine.specs.Codes.{coded_places};
+    ghost use Rattle.delivery_machine.specs.Places.{KeptTopic};
+
+    ghost Value = { KeptTopic };
+
+    ghost coded = { Prim.hlevel (codes, coded_places) };
+
+    ghost view = { λ v. v.mark.kept };
+
+    ghost invariant = { λ v. (v.count ≡ length v.mark.kept.log) × (v.ordinal ≡ v.mark.kept.next_ordinal) };
+}
+
+impl<J: Naming> Viewed<J> {
+    pub fn new(snapshot: &Snapshot, mark: Mark<Note, J>) -> Self
+        requires { mark.kept ≡ snapshot.now }
+        ensures { result ≡ snapshot.now }
+    {
+        Viewed {
+            mark,
+            count: snapshot.log().count() as u64,
+            ordinal: snapshot.next_ordinal(),
+        }
+    }
+
+    pub fn mark(&self) -> &Mark<Note, J>
+        ensures { result.now.kept ≡ self.now }
+    {
+        &self.mark
+    }
+
+    /// How many messages its log has.
+    pub fn length(&self) -> u64
+        ensures { result ≡ length self.now.log }
+    {
+        self.count
+    }
+
+    /// The next death's, when it was viewed.
+    pub fn ordinal(&self) -> Ordinal
+        ensures { result ≡ self.now.next_ordinal }
+    {
+        self.ordinal
+    }
+}
+
+/// A snapshot that stands in rows that were committed. Contracts see both.
+#[derive(Drop)]
+pub struct Stored<J: Naming> {
+    kept: Kept<J>,
+    count: u64,
+}
+
+impl<J: Naming> Model for Stored<J> {
+    ghost use Rattle.std.specs.Prelude.{◌≡◌, length};
+    ghost use Rattle.std.specs.Coded.{codes};
+    ghost use Rattle.delivery_machine.specs.Codes.{coded_places};
+    ghost use Rattle.kept_rows.specs.Noted.{Noted, IsStored};
+
+    ghost Value = { Noted };
+
+    ghost coded = { Prim.hlevel (codes, coded_places) };
+
+    ghost view = { λ s. s.kept };
+
+    ghost invariant = { λ s. (s.count ≡ length s.kept.kept.log) × IsStored s.kept };
+}
+
+impl<J: Naming> Stored<J> {
+    pub fn new(kept: Kept<J>, count: u64) -> Self
+        requires { count ≡ length kept.kept.log }
+        ensures value { result ≡ kept }
+        ensures stands { IsStored result }
+    {
+        kept.stands();
+        Stored { kept, count }
+    }
+
+    pub fn kept(&self) -> &Kept<J>
+        ensures { result.now ≡ self.now }
+    {
+        &self.kept
+    }
+
+    /// How many messages its log has.
+    pub fn length(&self) -> u64
+        ensures { result ≡ length self.now.kept.log }
+    {
+        self.count
+    }
+}
