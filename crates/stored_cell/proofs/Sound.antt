@@ -11,13 +11,13 @@ use Rattle.delivery_machine.specs.Places.{KeptTopic, snapshot_in}
 use Rattle.delivery_machine.specs.Run.{Step}
 use Rattle.delivery_machine.specs.Journals.{is_storing}
 use Rattle.delivery_machine.specs.declared.event.Event.{Event}
-use Rattle.delivery_machine.specs.declared.event.Event.TheVariants.{StoredTo}
+use Rattle.delivery_machine.specs.declared.event.Event.TheVariants.{Stored, StoredTo}
 use Rattle.delivery_machine.specs.declared.reply.Reply.{Reply}
 use Rattle.delivery_machine.specs.declared.reply.Reply.TheVariants.{Durable}
 use Rattle.delivery_machine.proofs.Growing.{IsGrown, step_grows, prefix_same}
 use Rattle.topic_shared.specs.Kept.{Kept, StoresLine, spoken_for, with_promise}
 use Rattle.kept_rows.specs.Noted.{Noted, IsStored}
-use Rattle.stored_cell.specs.Held.{Held, IsBeginning, IsProof, IsSound}
+use Rattle.stored_cell.specs.Held.{Held, IsBeginning, IsProof, IsSound, has_stored}
 
 prefix_shorter : {A : Type 0} (xs ys : List A) → IsPrefix xs ys → length xs ≤ length ys
 prefix_shorter xs ys p = let whole = ap length p.1 in omega (arith, whole, length-append xs p.0)
@@ -70,7 +70,7 @@ sound_restarted k n is stands =
       log = subst (IsPrefix n.kept.log) (sym (ap (λ (s : State). s.log) is)) (prefix_same n.kept.log);
     } in
     record {
-      stored = kept;
+      stored = (kept, stands);
       durable = λ _. record { kept = kept; durable = subst (λ d. d ≤ length n.kept.log) (sym (ap (λ (s : State). s.durable) is)) (omega arith); stored = stands };
       outstanding = tt;
       within = λ _. tt;
@@ -82,7 +82,7 @@ pub sound_called : (h : Held) (l : Kept) (e : Event) (r : Reply) → IsSound h �
 sound_called h l e r sound step promised =
     let grown = step_grows h.cell.state e r l.state step in
     record {
-      stored = some_weaker h.stored _ _ (λ n at. beginning_grows h.cell.state l.state e n.kept grown at) sound.stored;
+      stored = some_weaker h.stored _ _ (λ n at. (beginning_grows h.cell.state l.state e n.kept grown at.0, at.1)) sound.stored;
       durable = λ said.
           let both = or_false h.by_word (is_storing e) said in
           of_stored h.stored (grown.durable both.1) (λ n at. proof_grows h.cell.state l.state e n grown both.1 at) (sound.durable both.0);
@@ -103,7 +103,7 @@ pub sound_viewed : (h : Held) (l : Kept) (kept : KeptTopic) → IsSound h → l.
 sound_viewed h l kept sound same promised viewed =
     let log : kept.log ≡ l.state.log = ap (λ (x : Snapshot). x.log) viewed in
     record {
-      stored = subst (λ (s : State). IfSome h.stored (λ n. IsBeginning s n.kept)) (sym same) sound.stored;
+      stored = subst (λ (s : State). IfSome h.stored (λ n. IsBeginning s n.kept × IsStored n)) (sym same) sound.stored;
       durable = subst (λ (s : State). h.by_word ≡ false → MatchOption h.stored (s.durable ≡ 0) (IsProof s)) (sym same) sound.durable;
       outstanding = beginning_of l.state kept viewed;
       within = λ said.
@@ -121,7 +121,7 @@ sound_confirmed h l n count sound viewed stands line =
     let within : h.by_word ≡ false → h.cell.state.durable ≤ length n.kept.log = subst (λ o. h.by_word ≡ false → IfSome o (λ (kept : KeptTopic). h.cell.state.durable ≤ length kept.log)) viewed sound.within in
     let kept = beginning_grows h.cell.state l.state (StoredTo (length n.kept.log) n.kept.next_ordinal) n.kept grown before in
     record {
-      stored = kept;
+      stored = (kept, stands);
       durable = λ said. record { kept = kept; durable = all h.by_word refl said within; stored = stands };
       outstanding = tt;
       within = λ _. tt;
@@ -137,3 +137,40 @@ sound_confirmed h l n count sound viewed stands line =
     all : (b : Bool) → h.by_word ≡ b → (b && not (count == length n.kept.log)) ≡ false → (h.by_word ≡ false → h.cell.state.durable ≤ length n.kept.log) → l.state.durable ≤ length n.kept.log
     all true is said within = let so = after in let many = counted in grind (arith, nat_tests, common_steps)
     all false is said within = let most = within is in let so = after in grind (arith, common_steps)
+
+-- a snapshot of now is kept
+pub sound_kept : (h : Held) (n : Noted) → IsSound h → snapshot_in n.kept ≡ snapshot_of h.cell.state → IsStored n → IsSound (record h { stored = Some n })
+sound_kept h n sound now stands =
+    let kept = beginning_of h.cell.state n.kept now in
+    let log : n.kept.log ≡ h.cell.state.log = ap (λ (x : Snapshot). x.log) now in
+    record {
+      stored = (kept, stands);
+      durable = λ said. let within = durable_within h.cell.state h.stored (sound.durable said) in record { kept = kept; durable = omega (arith, within, ap length log); stored = stands };
+      outstanding = sound.outstanding;
+      within = sound.within;
+      promised = sound.promised;
+    }
+
+-- all that there is is durable by a word, which is no word alone where a snapshot of all of it was stored
+pub sound_stored : (h : Held) (l : Kept) (count : ℕ) → IsSound h → StoresLine (record h.cell { viewed = h.cell.state; unsaved = false }) Stored count l
+    → IsSound (record { cell = l; stored = h.stored; outstanding = None; by_word = not (has_stored h.stored count) })
+sound_stored h l count sound line =
+    let grown = step_grows h.cell.state Stored (Durable count) l.state line.step in
+    record {
+      stored = some_weaker h.stored _ _ (λ n at. (beginning_grows h.cell.state l.state Stored n.kept grown at.0, at.1)) sound.stored;
+      durable = of_stored grown h.stored sound.stored;
+      outstanding = tt;
+      within = λ _. tt;
+      promised = λ none. absurd cc;
+    }
+  where
+    after : l.state.durable ≡ count
+    after = let reply = line.step.1.0 in let is = ap (λ (s : State). s.durable) line.step.1.1 in cc
+
+    of_stored : IsGrown h.cell.state Stored l.state → (o : Option Noted) → IfSome o (λ n. IsBeginning h.cell.state n.kept × IsStored n)
+        → not (has_stored o count) ≡ false → MatchOption o (l.state.durable ≡ 0) (IsProof l.state)
+    of_stored grown None at said = let many = after in grind (arith, nat_tests, common_steps)
+    of_stored grown (Some n) at said =
+        let many = after in
+        let same : length n.kept.log ≡ count = grind (arith, nat_tests, common_steps) in
+        record { kept = beginning_grows h.cell.state l.state Stored n.kept grown at.0; durable = omega (arith, many, same); stored = at.1 }

@@ -1,5 +1,5 @@
 -- A topic with its journal and with what of it is stored, and why what it calls durable is durable.
-use Rattle.std.specs.Prelude.{◌≡◌, ℕ, ◌≤◌, Bool, true, false, List, Option, IfSome, IsSome, MatchOption, length}
+use Rattle.std.specs.Prelude.{◌≡◌, ℕ, ◌≤◌, ◌==◌, Bool, true, false, List, Option, None, Some, IfSome, IsSome, MatchOption, length}
 use mathlib.Core.List.{IsPrefix}
 use Rattle.delivery_machine.specs.State.{State}
 use Rattle.delivery_machine.specs.Places.{KeptTopic}
@@ -31,11 +31,16 @@ IsDurable h = h.by_word ≡ false → MatchOption h.stored (h.cell.state.durable
 
 -- what every such cell keeps
 pub record IsSound (h : Held) : Type 0 where
-  pub stored : IfSome h.stored (λ n. IsBeginning h.cell.state n.kept)
+  pub stored : IfSome h.stored (λ n. IsBeginning h.cell.state n.kept × IsStored n)
   pub durable : IsDurable h
   pub outstanding : IfSome h.outstanding (IsBeginning h.cell.state)
   pub within : h.by_word ≡ false → IfSome h.outstanding (λ kept. h.cell.state.durable ≤ length kept.log)
   pub promised : IsSome h.outstanding → h.cell.promised ≡ true
+
+-- what was stored last has just so many messages
+abbrev pub has_stored : Option Noted → ℕ → Bool
+has_stored None count = count == 0
+has_stored (Some n) count = length n.kept.log == count
 
 -- the same, but for the lines that the cell keeps for itself
 abbrev pub SameButPromise : Held → Held → Type 0

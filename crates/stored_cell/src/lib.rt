@@ -4,6 +4,7 @@
 
 mod cell;
 mod confirming;
+mod saving;
 mod viewed;
 
 pub use cell::StoredCell;

@@ -1,5 +1,5 @@
 // What a cell does for a store: it keeps a line for what is about to be confirmed, and writes it.
-ghost use Rattle.std.specs.Prelude.{ℕ, ◌≡◌, ◌↔◌, ◌⊎◌, ◌+◌, ◌≤◌, ◌<◌, ◌^◌, vec_len, vec_capacity, IfErr, OnOk, OnErr, Err, true, false};
+ghost use Rattle.std.specs.Prelude.{◌≡◌, ◌↔◌, ◌⊎◌, ◌+◌, ◌≤◌, ◌<◌, ◌^◌, vec_len, vec_capacity, IfErr, OnOk, OnErr, Err, true, false};
 ghost use Rattle.position_core.specs.declared.fault.Fault.TheVariants.{NoMemory, JournalFull};
 ghost use Rattle.delivery_machine.specs.declared.event.Event.TheVariants.{Stored, StoredTo};
 ghost use Rattle.delivery_machine.specs.declared.reply.Reply.TheVariants.{Durable};
@@ -83,6 +83,16 @@ impl<T: Topic + Drop> Cell<T> {
         count
     }
 
+    /// The store holds all that the topic has now: the cell's own line, which was promised. How much is
+    /// durable then.
+    pub fn store_all(&mut self) -> u64
+        requires { self.old.promised ≡ true }
+        ensures { StoresLine (record self.old { viewed = self.old.state; unsaved = false }) Stored result self.new }
+    {
+        self.view_taken();
+        self.store_line(Event::Stored)
+    }
+
     /// The store holds the first messages, so many, and the deaths below the ordinal: the cell's own line,
     /// which was promised. How much is durable then.
     pub fn confirm(&mut self, length: u64, ordinal: Ordinal) -> u64
@@ -110,12 +120,7 @@ impl<T: Opened + Drop> Saved for Cell<T> {
         self.topic.view()
     }
 
-    fn stored(&mut self) -> Reply
-        requires { self.old.promised ≡ true }
-        ensures step { Step self.old.state Stored result self.new.state }
-        ensures line { (count : ℕ) × (result ≡ Durable count) × StoresLine (record self.old { viewed = self.old.state; unsaved = false }) Stored count self.new }
-    {
-        self.view_taken();
-        Reply::Durable(self.store_line(Event::Stored))
+    fn stored(&mut self) -> Reply {
+        Reply::Durable(self.store_all())
     }
 }
