@@ -1,5 +1,5 @@
 -- What a history of stores names: what is kept of a topic, or the rows that a commit left.
-use Rattle.std.specs.Prelude.{◌≡◌, ℕ, List, [], IsPermutation}
+use Rattle.std.specs.Prelude.{◌≡◌, ℕ, Bool, true, List, [], IsPermutation}
 use mathlib.Core.List.{IsPrefix}
 use Rattle.position_core.specs.TopicName.{topic_text}
 use Rattle.sqlite.specs.Tree.{Trees}
@@ -29,9 +29,11 @@ pub record HasAmong (topic : List ℕ) (rows all : TopicRows) : Type 0 where
 abbrev pub StandsAmong : KeptTopic → TopicRows → Type 0
 StandsAmong kept all = (rows : TopicRows) × AreRowsOf kept rows × HasAmong (topic_text kept.name) rows all
 
+-- `clean` is whether up to the commit the disk returned what was written to it
 pub record Noted : Type 0 where
   pub kept : KeptTopic
   pub rows : TopicRows
+  pub clean : Bool
 
 -- nothing is kept of it: no topic has this name
 abbrev pub nothing_kept : KeptTopic
@@ -44,9 +46,9 @@ nothing_kept = record {
   subscriptions = [];
 }
 
--- what is kept of a topic stands in rows that were committed
+-- what is kept of a topic stands in rows that were committed, over a disk that returns what is written to it
 abbrev pub IsStored : Noted → Type 0
-IsStored n = StandsAmong n.kept n.rows
+IsStored n = n.clean ≡ true → StandsAmong n.kept n.rows
 
 -- both are of one topic, and the second log begins with the first
 pub record GoesOn (base kept : KeptTopic) : Type 0 where

@@ -1,5 +1,5 @@
 // A snapshot that stands in rows that were committed.
-ghost use Rattle.std.specs.Prelude.{◌≡◌, IsTrue};
+ghost use Rattle.std.specs.Prelude.{◌≡◌, IsTrue, true};
 ghost use Rattle.kept_rows.specs.Noted.{IsStored, StandsAmong};
 
 use crate::notes::Note;
@@ -17,27 +17,27 @@ pub struct Kept<J: Naming> {
 impl<J: Naming> Model for Kept<J> {
     ghost use Rattle.std.specs.Coded.{codes};
     ghost use Rattle.delivery_machine.specs.Codes.{coded_places};
-    ghost use Rattle.kept_rows.specs.Noted.{Noted, StandsAmong};
+    ghost use Rattle.kept_rows.specs.Noted.{Noted, IsStored};
 
     ghost Value = { Noted };
 
     ghost coded = { Prim.hlevel (codes, coded_places) };
 
-    ghost view = { λ k. record { kept = k.mark.kept; rows = k.rows.rows } };
+    ghost view = { λ k. record { kept = k.mark.kept; rows = k.rows.rows; clean = k.rows.clean } };
 
-    ghost invariant = { λ k. StandsAmong k.mark.kept k.rows.rows };
+    ghost invariant = { λ k. IsStored (record { kept = k.mark.kept; rows = k.rows.rows; clean = k.rows.clean }) };
 }
 
 impl<J: Naming> Kept<J> {
-    /// The snapshot of the first mark stands in the rows of the second.
+    /// The snapshot of the first mark stands in the rows of the second, over a clean disk.
     pub fn new(mark: Mark<Note, J>, rows: Mark<Note, J>) -> Kept<J>
-        requires { StandsAmong mark.kept rows.rows }
-        ensures { result ≡ record { kept = mark.kept; rows = rows.rows } }
+        requires { rows.clean ≡ true → StandsAmong mark.kept rows.rows }
+        ensures { result ≡ record { kept = mark.kept; rows = rows.rows; clean = rows.clean } }
     {
         Kept { mark, rows }
     }
 
-    /// What its type keeps: the snapshot stands in the rows.
+    /// What its type keeps: the snapshot stands in the rows, over a clean disk.
     pub fn stands(&self)
         ensures { IsStored self.now }
     {

@@ -20,19 +20,21 @@ impl Model for Note {
     ghost use Rattle.delivery_machine.specs.Codes.{coded_places};
     ghost use Rattle.kept_rows.specs.Noted.{Noted, nothing_kept};
     ghost use Rattle.row_forms.specs.Forms.{no_rows};
+    ghost use Rattle.std.specs.Prelude.{false};
 
     ghost Value = { Noted };
 
     ghost coded = { Prim.hlevel (codes, coded_places) };
 
-    ghost view = { λ n. record { kept = nothing_kept; rows = no_rows } };
+    ghost view = { λ n. record { kept = nothing_kept; rows = no_rows; clean = false } };
 }
 
 impl Blank for Note {
     ghost use Rattle.kept_rows.specs.Noted.{nothing_kept};
     ghost use Rattle.row_forms.specs.Forms.{no_rows};
+    ghost use Rattle.std.specs.Prelude.{false};
 
-    ghost blank = { record { kept = nothing_kept; rows = no_rows } };
+    ghost blank = { record { kept = nothing_kept; rows = no_rows; clean = false } };
 }
 
 /// What a snapshot is noted as.
@@ -40,8 +42,9 @@ struct Viewed;
 
 impl Asks<Snapshot, Note> for Viewed {
     ghost use Rattle.row_forms.specs.Forms.{no_rows};
+    ghost use Rattle.std.specs.Prelude.{false};
 
-    ghost ask = { λ snapshot. record { kept = snapshot; rows = no_rows } };
+    ghost ask = { λ snapshot. record { kept = snapshot; rows = no_rows; clean = false } };
 }
 
 /// What a database is noted as: what it has committed.
@@ -51,7 +54,7 @@ impl<S: Alter> Asks<Connection<S>, Note> for Committed {
     ghost use Rattle.sqlite.specs.Held.{state};
     ghost use Rattle.kept_rows.specs.Noted.{nothing_kept, all_rows};
 
-    ghost ask = { λ conn. record { kept = nothing_kept; rows = all_rows (state S.Store conn).committed.trees } };
+    ghost ask = { λ conn. record { kept = nothing_kept; rows = all_rows (state S.Store conn).committed.trees; clean = (state S.Store conn).is_clean } };
 }
 
 /// Draws the marks of the history of `J`: of snapshots, and of what a database has committed. Nothing
@@ -79,7 +82,8 @@ impl<J: Naming> Notes<J> {
 
     /// A mark for the rows that the database has committed. There is none where 2^62 were drawn.
     pub fn commit<S: Alter>(&mut self, conn: &Connection<S>) -> Option<Mark<Note, J>>
-        ensures { IfSome result (λ mark. mark.rows ≡ all_rows (state S.Store conn.now).committed.trees) }
+        ensures rows { IfSome result (λ mark. mark.rows ≡ all_rows (state S.Store conn.now).committed.trees) }
+        ensures clean { IfSome result (λ mark. mark.clean ≡ (state S.Store conn.now).is_clean) }
     {
         self.marker.mark::<Connection<S>, Committed>(conn)
     }
