@@ -44,8 +44,17 @@ map-twice f g (x ∷ xs) = ap (λ ys. g (f x) ∷ ys) (map-twice f g xs)
 
 abbrev pub going : TopicName → ℕ → ℕ → ℕ → ℕ → ℕ → ℕ → List Entry → List Producer → List Member → List Subscription → State
 going name size ledger ordinal producer consumer durable log producers members subs = record {
-  name = name; ledger_size = size; ledger = ledger; next_ordinal = ordinal; next_producer = producer; next_consumer = consumer;
-  log = log; durable = durable; producers = producers; members = members; subscriptions = subs;
+  name = name;
+  ledger_size = size;
+  ledger = ledger;
+  next_ordinal = ordinal;
+  next_producer = producer;
+  next_consumer = consumer;
+  log = log;
+  durable = durable;
+  producers = producers;
+  members = members;
+  subscriptions = subs;
 }
 
 pub goes_on : (kept : KeptTopic) (name : TopicName) (size ledger ordinal producer consumer durable : ℕ) (log : List Entry) (producers : List Producer) (members : List Member) (subs : List Subscription)
