@@ -1,6 +1,6 @@
 // A subscription as a store keeps it, and one that goes on from that.
-ghost use Rattle.std.specs.Prelude.{◌≡◌, IfOk};
-ghost use Rattle.delivery_machine.specs.Places.{kept_in};
+ghost use Rattle.std.specs.Prelude.{◌≡◌, IfOk, length};
+ghost use Rattle.delivery_machine.specs.Places.{AreBelow, kept_in};
 ghost use Rattle.delivery_machine.specs.Snapshot.{kept_of, subscription_from};
 ghost use Rattle.delivery_machine.specs.WellFormed.{AreMessagesOf};
 
@@ -14,7 +14,8 @@ use std::alloc::{AllocError, Global};
 impl Subscription {
     /// What a store keeps of it, where the log is its topic's.
     pub fn kept(&self, alloc: Global, log: &[Message]) -> Result<KeptSubscription, AllocError>
-        ensures { AreMessagesOf log.now self.now.acknowledged → IfOk result (λ kept. kept_in log.now kept ≡ kept_of self.now) }
+        ensures same { AreMessagesOf log.now self.now.acknowledged → IfOk result (λ kept. kept_in log.now kept ≡ kept_of self.now) }
+        ensures within { IfOk result (λ kept. AreBelow (length log.now) kept.acknowledged) }
     {
         let name = self.name.clone()?;
         let acknowledged = self.acknowledged.places(alloc, log)?;

@@ -1,5 +1,5 @@
 -- Positions by the places of their messages, and back.
-use Rattle.std.proofs.Common.{arith, ℕ, suc, zero, ◌+◌, ◌≡◌, List, [], ◌∷◌, ◌++◌, Some, Bool, true, false, cond, refl, ap, ◌∙◌, sym, subst, take, add-zero}
+use Rattle.std.proofs.Common.{arith, ℕ, suc, zero, ◌+◌, ◌<◌, length, ◌≡◌, List, [], ◌∷◌, ◌++◌, Some, Bool, true, false, cond, refl, ap, ◌∙◌, sym, subst, take, add-zero}
 use Rattle.std.specs.Prelude.{◌||◌, slice_get}
 use Rattle.std.specs.List.{list_any}
 use Rattle.std.specs.Ordering.{nat_cmp, eq_by_cmp}
@@ -12,7 +12,7 @@ use Rattle.position_core.specs.declared.position.Position.{Position}
 use Rattle.position_core.specs.declared.message.Entry.{Entry}
 use Rattle.position_core.specs.Position.{position_cmp, same_position, positions_total, exact_positions}
 use Rattle.delivery_machine.specs.Words.{has_position}
-use Rattle.delivery_machine.specs.Places.{positions_from, positions_at}
+use Rattle.delivery_machine.specs.Places.{AreBelow, positions_from, positions_at}
 use Rattle.delivery_machine.specs.WellFormed.{AreMessagesOf}
 use Rattle.plain_tables.specs.Places.{ArePlacesOf, is_place_of}
 
@@ -74,6 +74,16 @@ positions_back log s places are of_log = set.same_set positions_total exact_posi
     by : (q : Position) (b : Bool) → set.contains s q ≡ b → list_any (same_position q) (positions_from 0 (set.contains places) log) ≡ set.contains s q
     by q true e = any_in s q 0 (set.contains places) log from_zero e ∙ of_log q e ∙ sym e
     by q false e = none_in s q 0 (set.contains places) log from_zero e ∙ sym e
+
+-- no message stands beyond the log
+place_within : (s : set.FinSet position_cmp) (log : List Entry) (place : ℕ) → is_place_of log s place ≡ true → place < length log
+place_within s [] zero is = cc
+place_within s [] (suc place) is = cc
+place_within s (x ∷ log) zero is = omega arith
+place_within s (x ∷ log) (suc place) is = let below = place_within s log place is in omega (arith, below)
+
+pub places_below : (log : List Entry) (s : set.FinSet position_cmp) (places : set.FinSet nat_cmp) → ArePlacesOf log s places → AreBelow (length log) places
+places_below log s places are = λ place is. place_within s log place (sym (are place) ∙ is)
 
 -- ---- one message more
 

@@ -1,8 +1,8 @@
 // Sets that are searched from their first element on.
-ghost use Rattle.std.specs.Prelude.{◌≡◌, ◌++◌, OnOk, OnErr, IfOk, map};
+ghost use Rattle.std.specs.Prelude.{◌≡◌, ◌++◌, OnOk, OnErr, IfOk, length, map};
 ghost use Rattle.std.specs.FinSet as set;
 ghost use Rattle.delivery_machine.specs.Acknowledging.{is_one_of, positions_up_to};
-ghost use Rattle.delivery_machine.specs.Places.{positions_at};
+ghost use Rattle.delivery_machine.specs.Places.{AreBelow, positions_at};
 ghost use Rattle.delivery_machine.specs.WellFormed.{AreMessagesOf};
 ghost use Rattle.plain_tables.specs.Places.{ArePlacesOf};
 
@@ -65,9 +65,10 @@ impl PositionSet {
     }
 
     /// The places in the log of the messages whose positions are in the set.
-    #[tactic(auto, using(crate::proofs::Placed::positions_back))]
+    #[tactic(auto, using(crate::proofs::Placed::positions_back, crate::proofs::Placed::places_below))]
     pub fn places(&self, alloc: Global, log: &[Message]) -> Result<AckSet, AllocError>
         ensures places { IfOk result (λ places. ArePlacesOf log.now self.now places) }
+        ensures within { IfOk result (AreBelow (length log.now)) }
         ensures back { AreMessagesOf log.now self.now → IfOk result (λ places. positions_at log.now places ≡ self.now) }
     {
         places_of(alloc, log, self)

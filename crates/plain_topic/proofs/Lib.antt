@@ -4,3 +4,4 @@ pub mod Placed
 pub mod Handed
 pub mod Joins
 pub mod Moved
+pub mod Saved

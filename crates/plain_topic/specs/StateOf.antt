@@ -1,8 +1,8 @@
 -- The machine's state that the lists stand for.
 use Rattle.delivery_machine.specs.State.{State}
-use Rattle.plain_topic.specs.declared.plain.PlainTopic.{PlainTopic}
+use Rattle.plain_topic.specs.declared.lists.Lists.{Lists}
 
-abbrev pub state_of : PlainTopic → State
+abbrev pub state_of : Lists → State
 state_of t = record {
   name = t.name;
   ledger_size = t.ledger_size;

@@ -3,7 +3,7 @@ ghost use Rattle.std.specs.Prelude.{◌≡◌};
 ghost use Rattle.std.specs.List.{list_any};
 ghost use Rattle.delivery_machine.specs.Words.{has_position};
 
-use crate::plain::PlainTopic;
+use crate::lists::Lists;
 use delivery_machine::Reply;
 use plain_lists::{leave_out_at, member_at, place_of_subscription};
 use plain_queries::is_in_order_at;
@@ -19,7 +19,7 @@ fn has_position(messages: &[Message], position: Position) -> bool
         .any(|message| message.position().is(position))
 }
 
-impl PlainTopic {
+impl Lists {
     ghost use Rattle.std.specs.Prelude.{◌≡◌, [], ◌∷◌, OnOk, OnErr};
     ghost use Rattle.std.specs.List.{list_any};
     ghost use Rattle.delivery_machine.specs.Words.{has_position, visible};

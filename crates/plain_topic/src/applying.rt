@@ -1,10 +1,10 @@
-// The plain topic as a topic: each event by its own method.
-use crate::plain::PlainTopic;
+// The lists as a topic: each event by its own method.
+use crate::lists::Lists;
 use delivery_machine::{Deliveries, Event, Reply, Topic};
 use plain_lists::Terms;
 use position_core::{ConsumerNumber, Fault};
 
-impl Topic for PlainTopic {
+impl Topic for Lists {
     ghost use Rattle.plain_topic.specs.StateOf.{state_of};
 
     ghost state = { state_of };

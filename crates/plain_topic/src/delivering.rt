@@ -1,12 +1,12 @@
 // Dispatching a message to a consumer, and collecting.
-use crate::plain::PlainTopic;
+use crate::lists::Lists;
 use delivery_machine::{Deliveries, Delivery, Kind, Reply};
 use plain_lists::{Member, Subscription, member_at, place_of_member, place_of_subscription};
 use plain_queries::{active_at, first_waiting, has_room, next_in_turn, next_of_any_hash};
 use position_core::{ConsumerNumber, Fault, Held, Message, Moment, Position, SubscriptionName};
 use std::alloc::AllocError;
 
-impl PlainTopic {
+impl Lists {
     ghost use Rattle.std.specs.Prelude.{◌≡◌, IfSome, IfNone, IfOk, IfErr};
     ghost use Rattle.position_core.specs.declared.fault.Fault.TheVariants.{NoMemory};
     ghost use Rattle.delivery_machine.specs.Run.{Answers};

@@ -1,7 +1,7 @@
 // The death of a message, and how its letter is moved to another topic.
 ghost use Rattle.std.specs.Prelude.{◌≡◌, IfOk};
 
-use crate::plain::PlainTopic;
+use crate::lists::Lists;
 use delivery_machine::{DeadLetter, Reply};
 use plain_lists::{Member, Subscription, leave_out_at, place_of_subscription, subscription_at};
 use plain_queries::message_at;
@@ -23,7 +23,7 @@ pub(crate) fn letter_of(
     })
 }
 
-impl PlainTopic {
+impl Lists {
     ghost use Rattle.std.specs.Prelude.{◌≡◌, ◌<◌, ◌^◌, OnOk, OnErr, IfSome, IfNone, None, Some};
     ghost use Rattle.delivery_machine.specs.Run.{Answers};
     ghost use Rattle.delivery_machine.specs.Dying.{next_letter};

@@ -1,5 +1,5 @@
 // Joining a subscription.
-use crate::plain::PlainTopic;
+use crate::lists::Lists;
 use delivery_machine::{Initial, Reply};
 use plain_lists::{Member, Subscription, Terms, place_for, place_of_subscription, subscription_at};
 use plain_queries::{count_at, has_kind};
@@ -7,7 +7,7 @@ use plain_tables::PositionSet;
 use position_core::{ConsumerNumber, Fault, Kind, RedeliverLimit, SubscriptionName, TopicName};
 use std::alloc::AllocError;
 
-impl PlainTopic {
+impl Lists {
     ghost use Rattle.std.specs.Prelude.{◌≡◌, IfOk, OnOk, OnErr, vec_capacity};
     ghost use Rattle.delivery_machine.specs.Run.{Answers};
     ghost use Rattle.delivery_machine.specs.Joining.{acknowledged_at_first, joined};

@@ -1,10 +1,10 @@
 // Leaving a subscription.
-use crate::plain::PlainTopic;
+use crate::lists::Lists;
 use delivery_machine::Reply;
 use plain_lists::{member_at, place_of_subscription, take_member};
 use position_core::{ConsumerNumber, Fault};
 
-impl PlainTopic {
+impl Lists {
     ghost use Rattle.std.specs.Prelude.{◌≡◌};
     ghost use Rattle.std.specs.List.{find};
     ghost use Rattle.std.specs.Option.{option_and_then};

@@ -1,10 +1,10 @@
 // Permits for consumers that pull.
-use crate::plain::PlainTopic;
+use crate::lists::Lists;
 use delivery_machine::Reply;
 use plain_lists::place_of_member;
 use position_core::{ConsumerNumber, Fault, Permits};
 
-impl PlainTopic {
+impl Lists {
     ghost use Rattle.std.specs.Prelude.{◌≡◌};
     ghost use Rattle.delivery_machine.specs.Run.{Answers};
     ghost use Rattle.delivery_machine.specs.declared.event.Event.TheVariants.{Permit};

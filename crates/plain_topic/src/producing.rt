@@ -1,7 +1,7 @@
 // Producers and the log: connecting, leaving, publishing, storing.
 ghost use Rattle.std.specs.Prelude.{◌≡◌, ◌++◌, IfOk, OnOk, map};
 
-use crate::plain::PlainTopic;
+use crate::lists::Lists;
 use delivery_machine::Reply;
 use plain_lists::{
     Producer, auto_name, drop_producer, is_connected, least_free, producer_at, store_all,
@@ -52,7 +52,7 @@ fn message_of(
     Message::new(alloc, entry)
 }
 
-impl PlainTopic {
+impl Lists {
     ghost use Rattle.std.specs.Prelude.{◌≡◌, ◌<◌, ◌^◌, IfOk, OnOk, OnErr};
     ghost use Rattle.delivery_machine.specs.Run.{Answers};
     ghost use Rattle.delivery_machine.specs.Words.{last_sequence, next_position};

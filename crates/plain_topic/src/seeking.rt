@@ -1,12 +1,12 @@
 // Where a subscription goes on from: seeking and skipping. Dropping it.
-use crate::plain::PlainTopic;
+use crate::lists::Lists;
 use delivery_machine::{Reply, Target};
 use plain_lists::{drop_subscription, empty_at, place_of_subscription, subscription_at};
 use plain_queries::{count_at, count_before, count_earlier, first_live};
 use position_core::{Fault, Moment, SkipLength, SubscriptionName};
 use std::alloc::AllocError;
 
-impl PlainTopic {
+impl Lists {
     ghost use Rattle.std.specs.Prelude.{◌≡◌, ◌≤◌, OnOk, OnErr, length};
     ghost use Rattle.delivery_machine.specs.Run.{Answers};
     ghost use Rattle.delivery_machine.specs.Refusals.{is_hidden};

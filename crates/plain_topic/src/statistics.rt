@@ -1,11 +1,11 @@
 // How far a subscription is.
-use crate::plain::PlainTopic;
+use crate::lists::Lists;
 use delivery_machine::Reply;
 use plain_lists::subscription_at;
 use plain_queries::{count_at, mark_delete, number_acknowledged, number_live, number_pending};
 use position_core::{Fault, SubscriptionName};
 
-impl PlainTopic {
+impl Lists {
     ghost use Rattle.std.specs.Prelude.{◌≡◌};
     ghost use Rattle.delivery_machine.specs.Run.{Answers};
     ghost use Rattle.delivery_machine.specs.declared.event.Event.TheVariants.{Stats};

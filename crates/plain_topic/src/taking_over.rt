@@ -1,10 +1,10 @@
 // Which member of a Failover is active, and what happens when another one is.
-use crate::plain::PlainTopic;
+use crate::lists::Lists;
 use plain_lists::{empty_at, place_of_subscription};
 use plain_queries::{active_at, has_kind};
 use position_core::{Kind, SubscriptionName};
 
-impl PlainTopic {
+impl Lists {
     ghost use Rattle.std.specs.Prelude.{◌≡◌, vec_capacity};
     ghost use Rattle.delivery_machine.specs.Words.{active_at};
     ghost use Rattle.delivery_machine.specs.Joining.{is_taken_over, taken_over};

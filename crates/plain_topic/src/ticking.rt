@@ -1,13 +1,13 @@
 // Negative acknowledgements, and ticks, which release what is due, or let it die.
 use crate::dying::letter_of;
-use crate::plain::PlainTopic;
+use crate::lists::Lists;
 use delivery_machine::Reply;
 use plain_lists::{leave_out_at, member_at, place_of_subscription, subscription_at};
 use plain_queries::{dying_at, first_due, pending_positions};
 use position_core::{ConsumerNumber, Fault, Moment, Position, SubscriptionName};
 use std::alloc::AllocError;
 
-impl PlainTopic {
+impl Lists {
     ghost use Rattle.std.specs.Prelude.{◌≡◌, OnOk, OnErr};
     ghost use Rattle.delivery_machine.specs.Run.{Answers};
     ghost use Rattle.delivery_machine.specs.Ticking.{redelivered};

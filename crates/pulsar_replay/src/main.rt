@@ -3,7 +3,7 @@
 
 ghost use Rattle.std.specs.Prelude.{◌≡◌, IfOk, Err};
 ghost use Rattle.delivery_machine.specs.State.{fresh};
-ghost use Rattle.replay_core.specs.Replay.{sides, this_topic};
+ghost use Rattle.replay_core.specs.Replay.{opening, sides, this_topic};
 ghost use Rattle.replay_core.specs.Stops.{EndsWith};
 ghost use Rattle.pulsar_replay.specs.declared.Unasked.TheVariants.{Arguments, Memory};
 
@@ -43,7 +43,7 @@ fn run<R: Read, W: Write>(
     reader: &mut R,
     writer: &mut W,
 ) -> u8
-    ensures replays { IfOk size (λ size. EndsWith (sides (R.remaining reader.old) (W.contents writer.old) (fresh this_topic size)) result
+    ensures replays { IfOk size (λ size. EndsWith (sides (R.remaining reader.old) (W.contents writer.old) (opening (fresh this_topic size))) result
         (R.remaining reader.new) (W.contents writer.new)) }
     ensures arguments { size ≡ Err Arguments → result ≡ 2 }
     ensures memory { size ≡ Err Memory → result ≡ 1 }

@@ -5,10 +5,10 @@ use Rattle.std.specs.declared.result.Result.TheVariants.{Ok, Err}
 use Rattle.std.specs.Io.KnownBytes.{Appends, Consumes, IsAtEnd}
 use Rattle.std.proofs.KnownBytes.{Appends-trans, Appends-nil, Consumes-nil}
 use Rattle.position_core.specs.declared.topic_name.TopicName.{TopicName}
-use Rattle.delivery_machine.specs.State.{State}
+use Rattle.delivery_machine.specs.State.{fresh}
 use Rattle.replay_lines.specs.Grammar.{IsBadLine}
 use Rattle.replay_core.specs.Lines.{lines_of, ends_in}
-use Rattle.replay_core.specs.Replay.{Answer, AreAnswered, IsAnswered, BeginsWith, IsTooLong, HaveEnded, IsNext, IsBadNext, IsLost, IsWritten, IsReplay, Ends, Sides, sides, lines_after, texts, bad_line_text, last_words}
+use Rattle.replay_core.specs.Replay.{Standing, opening, this_topic, Answer, AreAnswered, IsAnswered, BeginsWith, IsTooLong, HaveEnded, IsNext, IsBadNext, IsLost, IsWritten, IsReplay, Ends, Sides, sides, lines_after, texts, bad_line_text, last_words}
 use Rattle.replay_core.specs.Output.{WritesFront}
 use Rattle.replay_core.specs.Outcomes.{bad_line_in, failed_writing}
 use Rattle.replay_core.specs.Progress.{Progress, Start, Moment, Stopped, Because, LeavesBefore, Ended, AreApart, BeginsWithLine, has_end, joined, moment, with_gathered}
@@ -45,10 +45,10 @@ ends_because this input left tail other answers Write lines ended most why = tt
 ends_because this input left tail other answers Memory lines ended most why = tt
 
 -- the state that was left
-abbrev pub LeavesAfter : TopicName → List ℕ → Option (List ℕ) → List Answer → State → Result (Unit {0}) Stop → State → Type 0
+abbrev pub LeavesAfter : TopicName → List ℕ → Option (List ℕ) → List Answer → Standing → Result (Unit {0}) Stop → Standing → Type 0
 LeavesAfter this input left answers last outcome state = (state ≡ last) ⊎ ((outcome ≡ Err Memory) × IsLost this input left answers last state)
 
-leaves_here : (this : TopicName) (input : List ℕ) (left : Option (List ℕ)) (tail other : List ℕ) (answers : List Answer) (last : State) (stop : Stop) (state : State) → lines_after input answers ≡ lines_of tail → EndsIn input left other → length answers + ends_in tail ≤ ends_in other → LeavesBefore this tail last stop state → LeavesAfter this input left answers last (Err stop) state
+leaves_here : (this : TopicName) (input : List ℕ) (left : Option (List ℕ)) (tail other : List ℕ) (answers : List Answer) (last : Standing) (stop : Stop) (state : Standing) → lines_after input answers ≡ lines_of tail → EndsIn input left other → length answers + ends_in tail ≤ ends_in other → LeavesBefore this tail last stop state → LeavesAfter this input left answers last (Err stop) state
 leaves_here this input left tail other answers last stop state lines ended most (inl same) = inl same
 leaves_here this input left tail other answers last stop state lines ended most (inr lost) =
     inr (ap (λ (x : Stop). Err x) lost.0, (lost.1, next_here (λ line. IsAnswered this line lost.1) input left tail other answers lines ended most lost.2, lost.3))
@@ -74,7 +74,7 @@ Ended-stopped s input other left m stop h same ended =
       ends = ends_because s.name input left h.tail other h.answers stop after ended most h.because;
       appended = h.appended;
       written = with_words (with_gathered h.text m) h.answers (Err stop) h.written;
-      leaves = leaves_here s.name input left h.tail other h.answers h.last stop m.state after ended most h.leaves;
+      leaves = leaves_here s.name input left h.tail other h.answers h.last stop m.topic after ended most h.leaves;
     }
 
 -- at the end of the input, where no line is begun
@@ -84,7 +84,7 @@ Ended-whole s input other left m at_end p same none =
     record {
       name = p.name;
       answers = p.answers;
-      last = m.state;
+      last = m.topic;
       text = p.text;
       answered = answered_here s.name p.whole [] input p.answers lines p.answered;
       ended = inr at_end;
@@ -104,7 +104,7 @@ Ended-fault s input left m p =
     record {
       name = p.name;
       answers = p.answers;
-      last = m.state;
+      last = m.topic;
       text = p.text;
       answered = answered_here s.name p.whole m.replay.begun.items input p.answers lines p.answered;
       ended = inl (omega (arith, count));
@@ -180,14 +180,14 @@ more_written answers text gathered words n (inl all) =
     sym (append_assoc text gathered words) ∙ ap (λ (x : List ℕ). x ++ words) (all ∙ append-nil (texts answers))
 more_written answers text gathered words n (inr failed) = cc
 
-still_there : (this : TopicName) (input : List ℕ) (left : Option (List ℕ)) (answers : List Answer) (last : State) (n : ℕ) (state : State) → LeavesAfter this input left answers last (Err (BadLine n)) state → state ≡ last
+still_there : (this : TopicName) (input : List ℕ) (left : Option (List ℕ)) (answers : List Answer) (last : Standing) (n : ℕ) (state : Standing) → LeavesAfter this input left answers last (Err (BadLine n)) state → state ≡ last
 still_there this input left answers last n state (inl same) = same
 still_there this input left answers last n state (inr lost) = cc
 
 -- the text of the bad line is gathered
 pub Ended-bad : (s : Start) (input : List ℕ) (left : Option (List ℕ)) (m : Moment) (q : Replay) (n : ℕ)
     → Ended s input left m (Err (BadLine n)) [] → q.name ≡ m.replay.name → q.output.text.items ≡ m.replay.output.text.items ++ bad_line_text n
-    → Ended s input left (moment q m.written m.state) (Err (BadLine n)) (bad_line_text n)
+    → Ended s input left (moment q m.written m.topic) (Err (BadLine n)) (bad_line_text n)
 Ended-bad s input left m q n h name text =
     record {
       name = name ∙ h.name;
@@ -200,13 +200,13 @@ Ended-bad s input left m q n h name text =
       ends = h.ends;
       appended = h.appended;
       written = inl (ap (λ (x : List ℕ). h.text ++ x) text ∙ more_written h.answers h.text m.replay.output.text.items (bad_line_text n) n h.written);
-      leaves = inl (still_there s.name input left h.answers h.last n m.state h.leaves);
+      leaves = inl (still_there s.name input left h.answers h.last n m.topic h.leaves);
     }
 
 -- there is no memory for it
 pub Ended-lost : (s : Start) (input : List ℕ) (left : Option (List ℕ)) (m : Moment) (q : Replay) (n : ℕ)
     → Ended s input left m (Err (BadLine n)) [] → q.name ≡ m.replay.name → q.output.text.items ≡ m.replay.output.text.items
-    → Ended s input left (moment q m.written m.state) (Err Memory) []
+    → Ended s input left (moment q m.written m.topic) (Err Memory) []
 Ended-lost s input left m q n h name text =
     record {
       name = name ∙ h.name;
@@ -219,7 +219,7 @@ Ended-lost s input left m q n h name text =
       ends = tt;
       appended = h.appended;
       written = inl (ap (λ (x : List ℕ). h.text ++ x) (text ∙ sym (append-nil m.replay.output.text.items)) ∙ more_written h.answers h.text m.replay.output.text.items [] n h.written);
-      leaves = inl (still_there s.name input left h.answers h.last n m.state h.leaves);
+      leaves = inl (still_there s.name input left h.answers h.last n m.topic h.leaves);
     }
 
 no_words : (outcome : Result (Unit {0}) Stop) → ((n : ℕ) → outcome ≡ Err (BadLine n) → ⊥) → last_words outcome ≡ []
@@ -242,7 +242,7 @@ all_written text gathered whole outcome other (inr failed) = absurd (other faile
 -- all that was gathered was written too
 pub Replayed-all : (s : Start) (input : List ℕ) (before left : Option (List ℕ)) (m : Moment) (after : Option (List ℕ)) (outcome : Result (Unit {0}) Stop)
     → Consumes before left input → Ended s input left m outcome (last_words outcome) → (outcome ≡ Err Write → ⊥) → Appends m.written after m.replay.output.text.items
-    → IsReplay s.name (sides before s.written s.state) outcome (sides left after m.state)
+    → IsReplay s.name (sides before s.written s.topic) outcome (sides left after m.topic)
 Replayed-all s input before left m after outcome consumed h other more =
     let gathered : List ℕ = m.replay.output.text.items in
     record {
@@ -265,7 +265,7 @@ Replayed-all s input before left m after outcome consumed h other more =
 -- a front of it
 pub Replayed-front : (s : Start) (input : List ℕ) (before left : Option (List ℕ)) (m : Moment) (after : Option (List ℕ)) (outcome : Result (Unit {0}) Stop)
     → Consumes before left input → Ended s input left m outcome (last_words outcome) → (outcome ≡ Err Write → ⊥) → WritesFront m.written after m.replay.output.text.items
-    → IsReplay s.name (sides before s.written s.state) (Err Write) (sides left after m.state)
+    → IsReplay s.name (sides before s.written s.topic) (Err Write) (sides left after m.topic)
 Replayed-front s input before left m after outcome consumed h other front =
     let gathered : List ℕ = m.replay.output.text.items in
     let split : (h.text ++ front.0) ++ front.1 ≡ h.text ++ gathered = append_assoc h.text front.0 front.1 ∙ ap (λ (x : List ℕ). h.text ++ x) (sym front.2) in
@@ -293,10 +293,10 @@ front_only text gathered whole (inr failed) = inr (refl, gathered ++ failed.1, s
 -- nothing, where writing had failed
 pub Replayed-before : (s : Start) (input : List ℕ) (before left : Option (List ℕ)) (m : Moment) (outcome : Result (Unit {0}) Stop)
     → Consumes before left input → outcome ≡ Err Write → Ended s input left m outcome (last_words outcome)
-    → IsReplay s.name (sides before s.written s.state) outcome (sides left m.written m.state)
+    → IsReplay s.name (sides before s.written s.topic) outcome (sides left m.written m.topic)
 Replayed-before s input before left m outcome consumed is ended =
     let h : Ended s input left m (Err Write) [] = subst (λ (o : Result (Unit {0}) Stop). Ended s input left m o (last_words o)) is ended in
-    subst (λ (o : Result (Unit {0}) Stop). IsReplay s.name (sides before s.written s.state) o (sides left m.written m.state)) (sym is) (record {
+    subst (λ (o : Result (Unit {0}) Stop). IsReplay s.name (sides before s.written s.topic) o (sides left m.written m.topic)) (sym is) (record {
       read = input;
       consumed = consumed;
       answers = h.answers;
@@ -322,7 +322,7 @@ no_replay this old =
       answers = [];
       answered = tt;
       ended = inl (omega arith);
-      last = old.state;
+      last = old.topic;
       run = refl;
       cause = Err Memory;
       same = inl refl;
@@ -336,6 +336,24 @@ no_replay this old =
 pub Replayed-as : (this : TopicName) (old new : Sides) (outcome other : Result (Unit {0}) Stop) → other ≡ outcome → IsReplay this old outcome new → IsReplay this old other new
 Replayed-as this old new outcome other is h = subst (λ (o : Result (Unit {0}) Stop). IsReplay this old o new) (sym is) h
 
+abbrev the_name : List ℕ → List ℕ → List ℕ → TopicName
+the_name tenant namespace topic = record { tenant = tenant; namespace = namespace; topic = topic }
+
+same_parts : (a b : TopicName) → (a.tenant ≡ b.tenant) × (a.namespace ≡ b.namespace) × (a.topic ≡ b.topic) → a ≡ b
+same_parts a b same =
+    ap (λ (x : List ℕ). the_name x a.namespace a.topic) same.0
+    ∙ ap (λ (x : List ℕ). the_name b.tenant x a.topic) same.1
+    ∙ ap (λ (x : List ℕ). the_name b.tenant b.namespace x) same.2
+
+-- the replay of a fresh topic of the name
+pub Replayed-fresh : (name copy : TopicName) (size : ℕ) (topic : Standing) (left written : Option (List ℕ)) (outcome : Result (Unit {0}) Stop) (new : Sides)
+    → name ≡ this_topic → (copy.tenant ≡ name.tenant) × (copy.namespace ≡ name.namespace) × (copy.topic ≡ name.topic) → topic ≡ opening (fresh copy size) → IsReplay name (sides left written topic) outcome new
+    → IsReplay this_topic (sides left written (opening (fresh this_topic size))) outcome new
+Replayed-fresh name copy size topic left written outcome new name_is copy_is topic_is h =
+    let same : topic ≡ opening (fresh this_topic size) = topic_is ∙ ap (λ (n : TopicName). opening (fresh n size)) (same_parts copy name copy_is ∙ name_is) in
+    subst (λ (n : TopicName). IsReplay n (sides left written (opening (fresh this_topic size))) outcome new) name_is
+    (subst (λ (t : Standing). IsReplay name (sides left written t) outcome new) same h)
+
 -- ---- the loop over the reads
 
 pub Progress-same : (s : Start) (input : List ℕ) (m : Moment) → Progress s (input ++ []) m → Progress s input m
@@ -348,7 +366,7 @@ pub Ended-failed : (s : Start) (input : List ℕ) (left : Option (List ℕ)) (m 
 Ended-failed s input left m outcome stop h is = subst (λ (o : Result (Unit {0}) Stop). Ended s input left m o []) (sym is) (Ended-stopped s input input left m stop h refl (λ count most. inl most))
 
 -- before the first read
-pub Progress-first : (t : State) (w : Option (List ℕ)) (r : Replay) → r.lines ≡ 0 → r.begun.items ≡ [] → r.output.text.items ≡ [] → Progress (record { name = r.name; written = w; state = t }) [] (moment r w t)
+pub Progress-first : (t : Standing) (w : Option (List ℕ)) (r : Replay) → r.lines ≡ 0 → r.begun.items ≡ [] → r.output.text.items ≡ [] → Progress (record { name = r.name; written = w; topic = t }) [] (moment r w t)
 Progress-first t w r lines begun text =
     record {
       name = refl;

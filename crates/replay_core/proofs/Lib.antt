@@ -1,3 +1,4 @@
+pub mod Standings
 pub mod Written
 pub mod LinesLemmas
 pub mod Steps

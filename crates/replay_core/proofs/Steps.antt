@@ -1,20 +1,13 @@
 -- The steps of a replay.
 use Rattle.std.proofs.Common.{◌≡◌, ℕ, ◌+◌, ◌==◌, List, [], ◌∷◌, ◌++◌, Bool, true, false, length, Option, sym, ap, ◌∙◌, subst, inl, inr, refl, append_assoc, append-nil, length-append, arith}
 use Rattle.std.specs.Prelude.{◌&&◌, ◌⊎◌, not}
-use Rattle.std.specs.List.{filter_map}
 use Rattle.std.specs.Io.KnownBytes.{Appends}
 use Rattle.std.proofs.KnownBytes.{Appends-trans}
 use Rattle.std.proofs.lemmas.Grind.{flat_map-append}
-use Rattle.std.proofs.lemmas.List.Elements.{filter_map-append}
 use Rattle.std.proofs.lemmas.List.Folds.{list_any-append, list_all-append}
 use Rattle.position_core.specs.declared.topic_name.TopicName.{TopicName}
-use Rattle.delivery_machine.specs.State.{State}
-use Rattle.delivery_machine.specs.Run.{Run}
-use Rattle.delivery_machine.specs.declared.event.Event.{Event}
-use Rattle.delivery_machine.specs.declared.reply.Reply.{Reply}
-use Rattle.delivery_machine.proofs.RunSteps.{Run-push}
 use Rattle.replay_lines.specs.Grammar.{IsBadLine}
-use Rattle.replay_core.specs.Replay.{Answer, replied, bad_id, event_in, reply_in, answer_text, texts, IsRun, IsAnswered, IsStepOf}
+use Rattle.replay_core.specs.Replay.{Standing, Answer, answer_text, texts, IsRun, IsAnswered, IsStepOf}
 use Rattle.replay_core.specs.Progress.{Progress, Start, Moment, Stopped, Because, LeavesBefore, BeginsWithLine, BeginsTooLong, has_end, joined, moment}
 use Rattle.replay_core.specs.declared.engine.Replay.{Replay}
 use Rattle.replay_core.specs.declared.stop.Stop.{Stop}
@@ -24,15 +17,9 @@ use Rattle.delivery_machine.proofs.Deciding.{both_false}
 
 -- ---- runs
 
-run_step : (s : State) (answers : List Answer) (t : State) (answer : Answer) (u : State) → IsRun s answers t → IsStepOf t answer u → IsRun s (answers ++ answer ∷ []) u
-run_step s answers t (replied event reply) u run step =
-    let longer = Run-push s (filter_map event_in answers) (filter_map reply_in answers) t event reply u run step in
-    subst (λ (es : List Event). Run s es (filter_map reply_in (answers ++ replied event reply ∷ [])) u) (sym (filter_map-append event_in answers (replied event reply ∷ [])))
-    (subst (λ (rs : List Reply). Run s (filter_map event_in answers ++ event ∷ []) rs u) (sym (filter_map-append reply_in answers (replied event reply ∷ []))) longer)
-run_step s answers t bad_id u run step =
-    let same : IsRun s answers u = subst (IsRun s answers) (sym step) run in
-    subst (λ (es : List Event). Run s es (filter_map reply_in (answers ++ bad_id ∷ [])) u) (sym (filter_map-append event_in answers (bad_id ∷ []) ∙ append-nil (filter_map event_in answers)))
-    (subst (λ (rs : List Reply). Run s (filter_map event_in answers) rs u) (sym (filter_map-append reply_in answers (bad_id ∷ []) ∙ append-nil (filter_map reply_in answers))) same)
+run_step : (s : Standing) (answers : List Answer) (t : Standing) (answer : Answer) (u : Standing) → IsRun s answers t → IsStepOf t answer u → IsRun s (answers ++ answer ∷ []) u
+run_step s [] t answer u run step = (u, subst (λ (x : Standing). IsStepOf x answer u) run step, refl)
+run_step s (first ∷ answers) t answer u run step = (run.0, run.1, run_step run.0 answers t answer u run.2 step)
 
 texts-push : (answers : List Answer) (answer : Answer) → texts (answers ++ answer ∷ []) ≡ texts answers ++ answer_text answer
 texts-push answers answer = flat_map-append answer_text answers (answer ∷ []) ∙ ap (λ (x : List ℕ). texts answers ++ x) (append-nil (answer_text answer))
@@ -49,7 +36,7 @@ no_end begun part p q = list_any-append (λ byte. byte == 10) begun part ∙ bot
 -- more of the next line has come
 pub Progress-part : (s : Start) (input : List ℕ) (m : Moment) (q : Replay) (part : List ℕ)
     → Progress s input m → has_end part ≡ false → q.begun.items ≡ m.replay.begun.items ++ part → q.name ≡ m.replay.name → q.lines ≡ m.replay.lines → q.output.text.items ≡ m.replay.output.text.items
-    → Progress s (input ++ part) (moment q m.written m.state)
+    → Progress s (input ++ part) (moment q m.written m.topic)
 Progress-part s input m q part p e begun name lines text =
     record {
       name = name ∙ p.name;
@@ -68,8 +55,8 @@ Progress-part s input m q part p e begun name lines text =
     }
 
 -- the next line has its end, and is answered
-pub Progress-line : (s : Start) (input : List ℕ) (m : Moment) (q : Replay) (u : State) (part : List ℕ) (answer : Answer)
-    → Progress s input m → has_end part ≡ false → IsAnswered m.replay.name (m.replay.begun.items ++ part) answer → IsStepOf m.state answer u
+pub Progress-line : (s : Start) (input : List ℕ) (m : Moment) (q : Replay) (u : Standing) (part : List ℕ) (answer : Answer)
+    → Progress s input m → has_end part ≡ false → IsAnswered m.replay.name (m.replay.begun.items ++ part) answer → IsStepOf m.topic answer u
     → q.begun.items ≡ [] → q.name ≡ m.replay.name → q.lines ≡ m.replay.lines + 1 → q.output.text.items ≡ m.replay.output.text.items ++ answer_text answer
     → Progress s (input ++ (part ++ 10 ∷ [])) (moment q m.written u)
 Progress-line s input m q u part answer p e stands step begun name lines text =
@@ -91,7 +78,7 @@ Progress-line s input m q u part answer p e stands step begun name lines text =
       begun = ap has_end begun;
       all = omega (arith, p.all, length-append p.whole (line ∷ []), length-append p.answers (answer ∷ []));
       answered = AreAnswered-push s.name p.whole line p.answers answer p.all p.answered (subst (λ name. IsAnswered name line answer) p.name stands);
-      run = run_step s.state p.answers m.state answer u p.run step;
+      run = run_step s.topic p.answers m.topic answer u p.run step;
       count = omega (arith, lines, p.count, length-append p.answers (answer ∷ []));
       appended = p.appended;
       written =
@@ -105,7 +92,7 @@ Progress-line s input m q u part answer p e stands step begun name lines text =
 pub Progress-written : (s : Start) (input : List ℕ) (m : Moment) (q : Replay) (after : Option (List ℕ))
     → Progress s input m → Appends m.written after m.replay.output.text.items
     → q.begun.items ≡ m.replay.begun.items → q.name ≡ m.replay.name → q.lines ≡ m.replay.lines → q.output.text.items ≡ []
-    → Progress s input (moment q after m.state)
+    → Progress s input (moment q after m.topic)
 Progress-written s input m q after p more begun name lines text =
     let gathered : List ℕ = m.replay.output.text.items in
     record {
@@ -127,9 +114,9 @@ Progress-written s input m q after p more begun name lines text =
 -- ---- stops before the end of the input
 
 -- between two lines
-pub Stopped-at : (s : Start) (input : List ℕ) (m : Moment) (q : Replay) (u : State) (part : List ℕ) (stop : Stop)
+pub Stopped-at : (s : Start) (input : List ℕ) (m : Moment) (q : Replay) (u : Standing) (part : List ℕ) (stop : Stop)
     → Progress s input m → q.name ≡ m.replay.name → q.output.text.items ≡ m.replay.output.text.items
-    → Because m.replay.name m.replay.lines (m.replay.begun.items ++ part) stop → LeavesBefore m.replay.name (m.replay.begun.items ++ part) m.state stop u
+    → Because m.replay.name m.replay.lines (m.replay.begun.items ++ part) stop → LeavesBefore m.replay.name (m.replay.begun.items ++ part) m.topic stop u
     → Stopped s (input ++ part) (moment q m.written u) stop
 Stopped-at s input m q u part stop p name text why leaves =
     let tail : List ℕ = m.replay.begun.items ++ part in
@@ -138,7 +125,7 @@ Stopped-at s input m q u part stop p name text why leaves =
       whole = p.whole;
       tail = tail;
       answers = p.answers;
-      last = m.state;
+      last = m.topic;
       text = p.text;
       split = ap (λ (x : List ℕ). x ++ part) p.split ∙ append_assoc (joined p.whole) m.replay.begun.items part;
       apart = p.apart;
@@ -148,13 +135,13 @@ Stopped-at s input m q u part stop p name text why leaves =
       because = subst (λ (n : ℕ). Because s.name n tail stop) p.count (subst (λ name. Because name m.replay.lines tail stop) p.name why);
       appended = p.appended;
       written = inl (ap (λ (x : List ℕ). p.text ++ x) text ∙ p.written);
-      leaves = subst (λ name. LeavesBefore name tail m.state stop u) p.name leaves;
+      leaves = subst (λ name. LeavesBefore name tail m.topic stop u) p.name leaves;
     }
 
 -- where a front of the gathered answers was written
 pub Stopped-writing : (s : Start) (input : List ℕ) (m : Moment) (q : Replay) (after : Option (List ℕ)) (front rest : List ℕ)
     → Progress s input m → q.name ≡ m.replay.name → m.replay.output.text.items ≡ front ++ rest → Appends m.written after front → q.output.text.items ≡ []
-    → Stopped s input (moment q after m.state) Write
+    → Stopped s input (moment q after m.topic) Write
 Stopped-writing s input m q after front rest p name split more none =
     let text : List ℕ = p.text ++ front in
     let all : text ++ rest ≡ texts p.answers = append_assoc p.text front rest ∙ ap (λ (x : List ℕ). p.text ++ x) (sym split) ∙ p.written in
@@ -163,7 +150,7 @@ Stopped-writing s input m q after front rest p name split more none =
       whole = p.whole;
       tail = m.replay.begun.items;
       answers = p.answers;
-      last = m.state;
+      last = m.topic;
       text = text;
       split = p.split;
       apart = p.apart;
@@ -183,7 +170,7 @@ still_because this count tail more Read why = why
 still_because this count tail more Write why = why
 still_because this count tail more Memory why = why
 
-still_leaves : (this : TopicName) (tail more : List ℕ) (last : State) (stop : Stop) (state : State) → LeavesBefore this tail last stop state → LeavesBefore this (tail ++ more) last stop state
+still_leaves : (this : TopicName) (tail more : List ℕ) (last : Standing) (stop : Stop) (state : Standing) → LeavesBefore this tail last stop state → LeavesBefore this (tail ++ more) last stop state
 still_leaves this tail more last stop state (inl same) = inl same
 still_leaves this tail more last stop state (inr lost) = inr (lost.0, lost.1, begins_line-more (λ line. IsAnswered this line lost.1) tail more lost.2, lost.3)
 
@@ -205,5 +192,5 @@ Stopped-more s input m stop more h =
       because = still_because s.name (length h.answers) h.tail more stop h.because;
       appended = h.appended;
       written = h.written;
-      leaves = still_leaves s.name h.tail more h.last stop m.state h.leaves;
+      leaves = still_leaves s.name h.tail more h.last stop m.topic h.leaves;
     }

@@ -5,9 +5,8 @@ use Rattle.std.specs.declared.result.Result.{Result}
 use Rattle.std.specs.declared.result.Result.TheVariants.{Ok, Err}
 use Rattle.std.specs.Io.KnownBytes.{Appends}
 use Rattle.position_core.specs.declared.topic_name.TopicName.{TopicName}
-use Rattle.delivery_machine.specs.State.{State}
 use Rattle.replay_lines.specs.Grammar.{IsBadLine}
-use Rattle.replay_core.specs.Replay.{Answer, IsAnswered, answer_text}
+use Rattle.replay_core.specs.Replay.{Standing, Answer, IsAnswered, answer_text}
 use Rattle.replay_core.specs.Answering.{IsAnsweredBy, MayBeLost, StopsAt}
 use Rattle.replay_core.specs.Output.{WritesFront}
 use Rattle.replay_core.specs.Progress.{Progress, Start, Moment, Stopped, Takes, Because, LeavesBefore, BeginsWithLine, has_end, moment}
@@ -24,27 +23,27 @@ TakesFrom s input outcome m = MatchResult outcome (λ done. Progress s input m) 
 whole_line : (P : List ℕ → Type 0) (line text : List ℕ) → text ≡ line ++ 10 ∷ [] → has_end line ≡ false → P line → BeginsWithLine P text
 whole_line P line text is e p = (line, [], is, e, p)
 
-because : (this : TopicName) (line text : List ℕ) (count : ℕ) (t : State) (stop : Stop) (u : State) → text ≡ line ++ 10 ∷ [] → has_end line ≡ false → StopsAt this line (count + 1) t stop u → Because this count text stop
+because : (this : TopicName) (line text : List ℕ) (count : ℕ) (t : Standing) (stop : Stop) (u : Standing) → text ≡ line ++ 10 ∷ [] → has_end line ≡ false → StopsAt this line (count + 1) t stop u → Because this count text stop
 because this line text count t (BadLine n) u is e at = (at.1, inl (whole_line (IsBadLine this) line text is e at.0))
 because this line text count t Read u is e at = absurd at
 because this line text count t Write u is e at = absurd at
 because this line text count t Memory u is e at = tt
 
-lost_before : (this : TopicName) (line text : List ℕ) (t u : State) → text ≡ line ++ 10 ∷ [] → has_end line ≡ false → MayBeLost this line t u → LeavesBefore this text t Memory u
+lost_before : (this : TopicName) (line text : List ℕ) (t u : Standing) → text ≡ line ++ 10 ∷ [] → has_end line ≡ false → MayBeLost this line t u → LeavesBefore this text t Memory u
 lost_before this line text t u is e (inl same) = inl same
 lost_before this line text t u is e (inr lost) = inr (refl, lost.0, whole_line (λ l. IsAnswered this l lost.0) line text is e lost.1.0, lost.1.1)
 
-leaves_before : (this : TopicName) (line text : List ℕ) (count : ℕ) (t : State) (stop : Stop) (u : State) → text ≡ line ++ 10 ∷ [] → has_end line ≡ false → StopsAt this line (count + 1) t stop u → LeavesBefore this text t stop u
+leaves_before : (this : TopicName) (line text : List ℕ) (count : ℕ) (t : Standing) (stop : Stop) (u : Standing) → text ≡ line ++ 10 ∷ [] → has_end line ≡ false → StopsAt this line (count + 1) t stop u → LeavesBefore this text t stop u
 leaves_before this line text count t (BadLine n) u is e at = inl at.2
 leaves_before this line text count t Read u is e at = absurd at
 leaves_before this line text count t Write u is e at = absurd at
 leaves_before this line text count t Memory u is e at = lost_before this line text t u is e at
 
 -- the line that has its end was answered, or was not
-pub line_taken : (s : Start) (input : List ℕ) (m : Moment) (q : Replay) (u : State) (part line : List ℕ) (outcome : Result (Unit {0}) Stop)
+pub line_taken : (s : Start) (input : List ℕ) (m : Moment) (q : Replay) (u : Standing) (part line : List ℕ) (outcome : Result (Unit {0}) Stop)
     → Progress s input m → has_end part ≡ false → line ≡ m.replay.begun.items ++ part
-    → OnOk outcome ((answer : Answer) × IsAnsweredBy m.replay.name line m.state answer u × (q.output.text.items ≡ m.replay.output.text.items ++ answer_text answer))
-    → OnErr outcome (q.output.text.items ≡ m.replay.output.text.items) → IfErr outcome (λ stop. StopsAt m.replay.name line (m.replay.lines + 1) m.state stop u) → OnOk outcome (q.lines ≡ m.replay.lines + 1)
+    → OnOk outcome ((answer : Answer) × IsAnsweredBy m.replay.name line m.topic answer u × (q.output.text.items ≡ m.replay.output.text.items ++ answer_text answer))
+    → OnErr outcome (q.output.text.items ≡ m.replay.output.text.items) → IfErr outcome (λ stop. StopsAt m.replay.name line (m.replay.lines + 1) m.topic stop u) → OnOk outcome (q.lines ≡ m.replay.lines + 1)
     → q.begun.items ≡ [] → q.name ≡ m.replay.name
     → TakesFrom s (input ++ (part ++ 10 ∷ [])) outcome (moment q m.written u)
 line_taken s input m q u part line (Ok done) p e is answered same why count begun name =
@@ -54,19 +53,19 @@ line_taken s input m q u part line (Err stop) p e is answered same why count beg
     let text : m.replay.begun.items ++ (part ++ 10 ∷ []) ≡ line ++ 10 ∷ [] = sym (append_assoc m.replay.begun.items part (10 ∷ [])) ∙ ap (λ (x : List ℕ). x ++ 10 ∷ []) (sym is) in
     let none : has_end line ≡ false = ap has_end is ∙ no_end m.replay.begun.items part p.begun e in
     Stopped-at s input m q u (part ++ 10 ∷ []) stop p name same
-    (because m.replay.name line _ m.replay.lines m.state stop u text none why)
-    (leaves_before m.replay.name line _ m.replay.lines m.state stop u text none why)
+    (because m.replay.name line _ m.replay.lines m.topic stop u text none why)
+    (leaves_before m.replay.name line _ m.replay.lines m.topic stop u text none why)
 
 -- the gathered answers are written, or a front of them
 pub answers_written : (s : Start) (input : List ℕ) (m : Moment) (q : Replay) (after : Option (List ℕ)) (outcome : Result (Unit {0}) Stop)
     → Progress s input m → OnOk outcome (Appends m.written after m.replay.output.text.items) → IfErr outcome (λ stop. stop ≡ Write) → OnErr outcome (WritesFront m.written after m.replay.output.text.items)
     → q.begun.items ≡ m.replay.begun.items → q.name ≡ m.replay.name → q.lines ≡ m.replay.lines → q.output.text.items ≡ []
-    → TakesFrom s (input ++ []) outcome (moment q after m.state)
+    → TakesFrom s (input ++ []) outcome (moment q after m.topic)
 answers_written s input m q after (Ok done) p ok err front begun name lines text =
-    subst (λ (x : List ℕ). Progress s x (moment q after m.state)) (sym (append-nil input)) (Progress-written s input m q after p ok begun name lines text)
+    subst (λ (x : List ℕ). Progress s x (moment q after m.topic)) (sym (append-nil input)) (Progress-written s input m q after p ok begun name lines text)
 answers_written s input m q after (Err stop) p ok err front begun name lines text =
-    subst (λ (x : List ℕ). Stopped s x (moment q after m.state) stop) (sym (append-nil input))
-    (subst (Stopped s input (moment q after m.state)) (sym err) (Stopped-writing s input m q after front.0 front.1 p name front.2 front.3 text))
+    subst (λ (x : List ℕ). Stopped s x (moment q after m.topic) stop) (sym (append-nil input))
+    (subst (Stopped s input (moment q after m.topic)) (sym err) (Stopped-writing s input m q after front.0 front.1 p name front.2 front.3 text))
 
 -- one call after another
 pub Takes-then : (part more all : List ℕ) (a b c : Moment) (first outcome : Result (Unit {0}) Stop)

@@ -1,22 +1,21 @@
 -- How one line is answered: for the private functions of the replay.
 use Rattle.std.specs.Prelude.{◌≡◌, List, ℕ, ◌⊎◌}
 use Rattle.position_core.specs.declared.topic_name.TopicName.{TopicName}
-use Rattle.delivery_machine.specs.State.{State}
 use Rattle.replay_lines.specs.Grammar.{IsBadLine}
 use Rattle.replay_core.specs.declared.stop.Stop.{Stop}
 use Rattle.replay_core.specs.declared.stop.Stop.TheVariants.{BadLine, Read, Write, Memory}
-use Rattle.replay_core.specs.Replay.{Answer, IsAnswered, IsStepOf}
+use Rattle.replay_core.specs.Replay.{Standing, Answer, IsAnswered, IsStepOf}
 
 -- the line was answered by a step from the one state to the other
-abbrev pub IsAnsweredBy : TopicName → List ℕ → State → Answer → State → Type 0
+abbrev pub IsAnsweredBy : TopicName → List ℕ → Standing → Answer → Standing → Type 0
 IsAnsweredBy this line s answer t = IsAnswered this line answer × IsStepOf s answer t
 
 -- nothing was done, or the line was answered and the answer was lost
-abbrev pub MayBeLost : TopicName → List ℕ → State → State → Type 0
+abbrev pub MayBeLost : TopicName → List ℕ → Standing → Standing → Type 0
 MayBeLost this line s t = (t ≡ s) ⊎ ((answer : Answer) × IsAnsweredBy this line s answer t)
 
 -- a line is not answered where it stands for nothing, which is said by its number, or for want of memory
-abbrev pub StopsAt : TopicName → List ℕ → ℕ → State → Stop → State → Type 0
+abbrev pub StopsAt : TopicName → List ℕ → ℕ → Standing → Stop → Standing → Type 0
 StopsAt this line number s (BadLine n) t = IsBadLine this line × (n ≡ number) × (t ≡ s)
 StopsAt this line number s Read t = ⊥
 StopsAt this line number s Write t = ⊥

@@ -77,6 +77,10 @@ counts_text acknowledged live pending dead =
 abbrev pub refused_text : Fault → List ℕ
 refused_text fault = codes "refused F" ++ decimal (number_of fault)
 
+-- the line of a restart, with the ledger that messages go into then
+abbrev pub restarted_text : ℕ → List ℕ
+restarted_text ledger = codes "restarted " ++ decimal ledger
+
 abbrev pub copy_text : Delivery → List ℕ
 copy_text d = codes " " ++ text_of d.message.position ++ codes ":" ++ decimal d.count ++ codes ":" ++ payload_text d.message.body.payload
 

@@ -5,10 +5,9 @@ use Rattle.std.specs.Io.KnownBytes.{Appends}
 use Rattle.std.specs.declared.result.Result.{Result}
 use Rattle.std.specs.declared.result.Result.TheVariants.{Err}
 use Rattle.position_core.specs.declared.topic_name.TopicName.{TopicName}
-use Rattle.delivery_machine.specs.State.{State}
 use Rattle.replay_lines.specs.Grammar.{IsBadLine}
 use Rattle.replay_core.specs.Lines.{lines_of}
-use Rattle.replay_core.specs.Replay.{Answer, AreAnswered, IsAnswered, IsStepOf, IsRun, IsTooLong, IsLost, IsWritten, HaveEnded, Ends, texts}
+use Rattle.replay_core.specs.Replay.{Standing, Answer, AreAnswered, IsAnswered, IsStepOf, IsRun, IsTooLong, IsLost, IsWritten, HaveEnded, Ends, texts}
 use Rattle.replay_core.specs.declared.stop.Stop.{Stop}
 use Rattle.replay_core.specs.declared.stop.Stop.TheVariants.{BadLine, Read, Write, Memory}
 use Rattle.replay_core.specs.declared.engine.Replay.{Replay}
@@ -30,16 +29,16 @@ AreApart lines = list_all (λ line. not (has_end line)) lines ≡ true
 pub record Start : Type 0 where
   pub name : TopicName
   pub written : Option (List ℕ)
-  pub state : State
+  pub topic : Standing
 
--- a moment of a replay: the replay itself, what its writer has, and the state of its topic
+-- a moment of a replay: the replay itself, what its writer has, and how its topic stands
 pub record Moment : Type 0 where
   pub replay : Replay
   pub written : Option (List ℕ)
-  pub state : State
+  pub topic : Standing
 
-abbrev pub moment : Replay → Option (List ℕ) → State → Moment
-moment replay written state = record { replay = replay; written = written; state = state }
+abbrev pub moment : Replay → Option (List ℕ) → Standing → Moment
+moment replay written topic = record { replay = replay; written = written; topic = topic }
 
 -- what was written of a text, and what is still gathered of it
 abbrev pub with_gathered : List ℕ → Moment → List ℕ
@@ -57,7 +56,7 @@ pub record Progress (s : Start) (input : List ℕ) (m : Moment) : Type 0 where
   pub begun : has_end m.replay.begun.items ≡ false
   pub all : length whole ≡ length answers
   pub answered : AreAnswered s.name whole answers
-  pub run : IsRun s.state answers m.state
+  pub run : IsRun s.topic answers m.topic
   pub count : m.replay.lines ≡ length answers
   pub appended : Appends s.written m.written text
   pub written : with_gathered text m ≡ texts answers
@@ -77,8 +76,8 @@ Because this count text Read = ⊥
 Because this count text Write = Unit {0}
 Because this count text Memory = Unit {0}
 
--- the state is that after the answers, or the answer of the next line was lost for want of memory
-abbrev pub LeavesBefore : TopicName → List ℕ → State → Stop → State → Type 0
+-- the topic stands as after the answers, or the answer of the next line was lost for want of memory
+abbrev pub LeavesBefore : TopicName → List ℕ → Standing → Stop → Standing → Type 0
 LeavesBefore this text last stop state =
     (state ≡ last) ⊎ ((stop ≡ Memory) × (answer : Answer) × BeginsWithLine (λ line. IsAnswered this line answer) text × IsStepOf last answer state)
 
@@ -88,17 +87,17 @@ pub record Stopped (s : Start) (input : List ℕ) (m : Moment) (stop : Stop) : T
   pub whole : List (List ℕ)
   pub tail : List ℕ
   pub answers : List Answer
-  pub last : State
+  pub last : Standing
   pub text : List ℕ
   pub split : input ≡ joined whole ++ tail
   pub apart : AreApart whole
   pub all : length whole ≡ length answers
   pub answered : AreAnswered s.name whole answers
-  pub run : IsRun s.state answers last
+  pub run : IsRun s.topic answers last
   pub because : Because s.name (length answers) tail stop
   pub appended : Appends s.written m.written text
   pub written : IsWritten (texts answers) (Err stop) (with_gathered text m)
-  pub leaves : LeavesBefore s.name tail last stop m.state
+  pub leaves : LeavesBefore s.name tail last stop m.topic
 
 -- after the part of the input the replay goes on, or has stopped
 abbrev pub Takes : List ℕ → Moment → Result (Unit {0}) Stop → Moment → Type 0
@@ -110,12 +109,12 @@ Takes part old outcome new =
 pub record Ended (s : Start) (input : List ℕ) (left : Option (List ℕ)) (m : Moment) (outcome : Result (Unit {0}) Stop) (words : List ℕ) : Type 0 where
   pub name : m.replay.name ≡ s.name
   pub answers : List Answer
-  pub last : State
+  pub last : Standing
   pub text : List ℕ
   pub answered : AreAnswered s.name (lines_of input) answers
   pub ended : HaveEnded input left (length answers)
-  pub run : IsRun s.state answers last
+  pub run : IsRun s.topic answers last
   pub ends : Ends s.name input left answers outcome
   pub appended : Appends s.written m.written text
   pub written : IsWritten (texts answers ++ words) outcome (with_gathered text m)
-  pub leaves : (m.state ≡ last) ⊎ ((outcome ≡ Err Memory) × IsLost s.name input left answers last m.state)
+  pub leaves : (m.topic ≡ last) ⊎ ((outcome ≡ Err Memory) × IsLost s.name input left answers last m.topic)

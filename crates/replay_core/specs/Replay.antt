@@ -1,51 +1,80 @@
 -- What a replay does: it answers the lines that it reads by a run of the delivery machine, and writes the answers.
-use Rattle.std.specs.Prelude.{◌≡◌, ℕ, ◌+◌, ◌<◌, ◌≤◌, List, [], ◌∷◌, ◌++◌, ◌⊎◌, length, drop, codes, Option, Some, None}
+use Rattle.std.specs.Prelude.{◌≡◌, ℕ, ◌+◌, ◌<◌, ◌≤◌, List, [], ◌∷◌, ◌++◌, ◌⊎◌, length, drop, codes, Option}
 use Rattle.std.specs.Io.KnownBytes.{Appends, Consumes, IsAtEnd}
-use Rattle.std.specs.List.{flat_map, filter_map}
+use Rattle.std.specs.List.{flat_map}
 use Rattle.std.specs.Fmt.{decimal}
 use Rattle.std.specs.declared.result.Result.{Result}
 use Rattle.std.specs.declared.result.Result.TheVariants.{Ok, Err}
 use Rattle.position_core.specs.declared.topic_name.TopicName.{TopicName}
-use Rattle.position_core.specs.declared.fault.Fault.TheVariants.{BadId}
+use Rattle.position_core.specs.declared.fault.Fault.TheVariants.{BadId, NoMemory}
 use Rattle.delivery_machine.specs.State.{State}
-use Rattle.delivery_machine.specs.Run.{Answers, Run}
+use Rattle.delivery_machine.specs.Snapshot.{Snapshot, snapshot_of, restarted}
+use Rattle.delivery_machine.specs.Run.{Answers}
 use Rattle.delivery_machine.specs.declared.event.Event.{Event}
+use Rattle.delivery_machine.specs.declared.event.Event.TheVariants.{Stored}
 use Rattle.delivery_machine.specs.declared.reply.Reply.{Reply}
 use Rattle.replay_core.specs.Lines.{lines_of, ends_in}
 use Rattle.replay_lines.specs.Grammar.{IsLine, IsBadLine, longest_line}
-use Rattle.replay_core.specs.Printing.{reply_text, refused_text}
+use Rattle.replay_core.specs.Printing.{reply_text, refused_text, restarted_text}
 use Rattle.replay_lines.specs.declared.reading.Line.TheVariants as lines
 use Rattle.replay_core.specs.declared.stop.Stop.{Stop}
 use Rattle.replay_core.specs.declared.stop.Stop.TheVariants.{BadLine, Read, Write, Memory}
 
--- how a line was answered: as an event by its reply, or as one with a bad id
+-- how a topic stands: its state, and what is stored of it
+pub record Standing : Type 0 where
+  pub state : State
+  pub stored : Snapshot
+
+-- what is stored of a topic that has just been opened is its snapshot
+abbrev pub opening : State → Standing
+opening s = record { state = s; stored = snapshot_of s }
+
+-- what is stored once the event was answered: `Stored` keeps the snapshot of that moment
+abbrev pub stored_by : Event → Standing → Snapshot
+stored_by Stored s = snapshot_of s.state
+stored_by event s = s.stored
+
+-- how a line was answered: as an event by its reply; by the ledger in which a topic goes on from what is stored; as one for
+-- which there was no room; or as one with a bad id
 pub data Answer : Type 0 where
   replied : Event → Reply → Answer
+  gone_on : ℕ → Answer
+  no_room : Answer
   bad_id : Answer
-
--- the event of the answer, which a bad id has not
-abbrev pub event_in : Answer → Option Event
-event_in (replied event reply) = Some event
-event_in bad_id = None
-
--- the reply of the answer
-abbrev pub reply_in : Answer → Option Reply
-reply_in (replied event reply) = Some reply
-reply_in bad_id = None
 
 -- the line of the answer, with its end
 abbrev pub answer_text : Answer → List ℕ
 answer_text (replied event reply) = reply_text event reply ++ 10 ∷ []
+answer_text (gone_on ledger) = restarted_text ledger ++ 10 ∷ []
+answer_text no_room = refused_text NoMemory ++ 10 ∷ []
 answer_text bad_id = refused_text BadId ++ 10 ∷ []
 
--- the line stands for what was answered
+-- the answer to the event; only what is to be stored finds no room
+abbrev pub IsAnswerTo : Event → Answer → Type 0
+IsAnswerTo event (replied other reply) = other ≡ event
+IsAnswerTo event (gone_on ledger) = ⊥
+IsAnswerTo event no_room = event ≡ Stored
+IsAnswerTo event bad_id = ⊥
+
+-- the answer to a restart
+abbrev pub IsRestart : Answer → Type 0
+IsRestart (replied event reply) = ⊥
+IsRestart (gone_on ledger) = Unit {0}
+IsRestart no_room = Unit {0}
+IsRestart bad_id = ⊥
+
+-- the line stands for what was answered; only what is to be stored, or to go on, finds no room
 abbrev pub IsAnswered : TopicName → List ℕ → Answer → Type 0
 IsAnswered this line (replied event reply) = IsLine this line (lines.Event event)
+IsAnswered this line (gone_on ledger) = IsLine this line lines.Restart
+IsAnswered this line no_room = IsLine this line (lines.Event Stored) ⊎ IsLine this line lines.Restart
 IsAnswered this line bad_id = IsLine this line lines.BadId
 
--- the answer is a step from the one state to the other
-abbrev pub IsStepOf : State → Answer → State → Type 0
-IsStepOf s (replied event reply) t = Answers s event reply t
+-- the answer leads from the one to the other: an event by a step of the delivery machine, and a restart to what is stored
+abbrev pub IsStepOf : Standing → Answer → Standing → Type 0
+IsStepOf s (replied event reply) t = Answers s.state event reply t.state × (t.stored ≡ stored_by event s)
+IsStepOf s (gone_on ledger) t = (t.state ≡ restarted s.stored) × (t.stored ≡ s.stored) × (ledger ≡ t.state.ledger)
+IsStepOf s no_room t = t ≡ s
 IsStepOf s bad_id t = t ≡ s
 
 -- each of the first lines was answered
@@ -54,9 +83,10 @@ AreAnswered this lines [] = Unit {0}
 AreAnswered this [] (answer ∷ answers) = ⊥
 AreAnswered this (line ∷ lines) (answer ∷ answers) = IsAnswered this line answer × AreAnswered this lines answers
 
--- the answers are those of a run from the one state to the other
-abbrev pub IsRun : State → List Answer → State → Type 0
-IsRun s answers t = Run s (filter_map event_in answers) (filter_map reply_in answers) t
+-- the answers lead from the one to the other, each in turn: they are those of runs that restarts join
+abbrev pub IsRun : Standing → List Answer → Standing → Type 0
+IsRun s [] t = t ≡ s
+IsRun s (answer ∷ answers) t = (mid : Standing) × IsStepOf s answer mid × IsRun mid answers t
 
 -- the lines of the answers, one after another
 abbrev pub texts : List Answer → List ℕ
@@ -116,21 +146,21 @@ last_words (Err Memory) = []
 abbrev pub IsWritten : List ℕ → Result (Unit {0}) Stop → List ℕ → Type 0
 IsWritten text outcome written = (written ≡ text) ⊎ ((outcome ≡ Err Write) × (rest : List ℕ) × (written ++ rest ≡ text))
 
--- the reply of the next line was lost for want of memory, when the line had led to the state
-abbrev pub IsLost : TopicName → List ℕ → Option (List ℕ) → List Answer → State → State → Type 0
+-- the reply of the next line was lost for want of memory, when the line had led to where the topic stands
+abbrev pub IsLost : TopicName → List ℕ → Option (List ℕ) → List Answer → Standing → Standing → Type 0
 IsLost this read left answers last state =
     (answer : Answer) × IsNext read left answers (λ line. IsAnswered this line answer) × IsStepOf last answer state
 
 -- ---- the replay
 
--- what stands beside a replay: what its reader has left, what its writer has, and the state of its topic
+-- what stands beside a replay: what its reader has left, what its writer has, and how its topic stands
 pub record Sides : Type 0 where
   pub left : Option (List ℕ)
   pub written : Option (List ℕ)
-  pub state : State
+  pub topic : Standing
 
-abbrev pub sides : Option (List ℕ) → Option (List ℕ) → State → Sides
-sides left written state = record { left = left; written = written; state = state }
+abbrev pub sides : Option (List ℕ) → Option (List ℕ) → Standing → Sides
+sides left written topic = record { left = left; written = written; topic = topic }
 
 -- a replay of the topic of the name reads some of its input, answers the first lines by a run, and writes the answers
 pub record IsReplay (this : TopicName) (old : Sides) (outcome : Result (Unit {0}) Stop) (new : Sides) : Type 0 where
@@ -140,8 +170,8 @@ pub record IsReplay (this : TopicName) (old : Sides) (outcome : Result (Unit {0}
   pub answered : AreAnswered this (lines_of read) answers
   -- no line is answered before its end was read
   pub ended : HaveEnded read new.left (length answers)
-  pub last : State
-  pub run : IsRun old.state answers last
+  pub last : Standing
+  pub run : IsRun old.topic answers last
   -- how it ended, but for a fault of the writer
   pub cause : Result (Unit {0}) Stop
   pub same : (outcome ≡ cause) ⊎ (outcome ≡ Err Write)
@@ -150,7 +180,7 @@ pub record IsReplay (this : TopicName) (old : Sides) (outcome : Result (Unit {0}
   pub appended : Appends old.written new.written written
   pub text : IsWritten (texts answers ++ last_words cause) outcome written
   -- no event was applied but those of the answers, and one whose reply was lost
-  pub leaves : (new.state ≡ last) ⊎ ((cause ≡ Err Memory) × IsLost this read new.left answers last new.state)
+  pub leaves : (new.topic ≡ last) ⊎ ((cause ≡ Err Memory) × IsLost this read new.left answers last new.topic)
 
 -- `persistent://public/default/t`
 abbrev pub this_topic : TopicName

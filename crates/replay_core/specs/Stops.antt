@@ -2,8 +2,7 @@
 use Rattle.std.specs.Prelude.{◌≡◌, ℕ, List, Option}
 use Rattle.std.specs.declared.result.Result.{Result}
 use Rattle.std.specs.declared.result.Result.TheVariants.{Ok, Err}
-use Rattle.delivery_machine.specs.State.{State}
-use Rattle.replay_core.specs.Replay.{IsReplay, Sides, sides, this_topic}
+use Rattle.replay_core.specs.Replay.{Standing, IsReplay, Sides, sides, this_topic}
 use Rattle.replay_core.specs.declared.stop.Stop.{Stop}
 use Rattle.replay_core.specs.declared.stop.Stop.TheVariants.{BadLine, Read, Write, Memory}
 
@@ -18,4 +17,4 @@ status_of (Err Memory) = 1
 -- the topic was replayed, and the status says how that ended
 abbrev pub EndsWith : Sides → ℕ → Option (List ℕ) → Option (List ℕ) → Type 0
 EndsWith old status left written =
-    (outcome : Result (Unit {0}) Stop) × (last : State) × IsReplay this_topic old outcome (sides left written last) × (status ≡ status_of outcome)
+    (outcome : Result (Unit {0}) Stop) × (last : Standing) × IsReplay this_topic old outcome (sides left written last) × (status ≡ status_of outcome)

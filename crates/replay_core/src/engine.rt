@@ -1,18 +1,16 @@
 // The replay of a topic: lines in, lines out.
 ghost use Rattle.std.specs.Prelude.{◌≡◌, ◌∷◌, ◌++◌, [], OnOk, Err, string_bytes};
-ghost use Rattle.delivery_machine.specs.Run.{Answers};
-ghost use Rattle.delivery_machine.specs.declared.reply.Reply.{Reply};
 ghost use Rattle.replay_lines.specs.Grammar.{IsBadLine};
-ghost use Rattle.replay_core.specs.Printing.{reply_text};
-ghost use Rattle.replay_core.specs.Replay.{Answer, IsReplay, sides, answer_text, bad_id};
+ghost use Rattle.replay_core.specs.Replay.{Answer, IsAnswerTo, IsReplay, IsRestart, IsStepOf, sides, answer_text, bad_id, gone_on, no_room, replied};
 ghost use Rattle.replay_core.specs.Answering.{IsAnsweredBy, MayBeLost};
 ghost use Rattle.replay_core.specs.Outcomes.{bad_line_in, failed_writing};
 ghost use Rattle.replay_lines.specs.declared.words.Unread.TheVariants.{BadLine, Memory};
 
 use crate::output::Output;
-use crate::printing::{append_refused, append_reply};
+use crate::printing::{append_refused, append_reply, append_restarted};
+use crate::restartable::Restartable;
 use crate::stop::Stop;
-use delivery_machine::{Event, Topic};
+use delivery_machine::{Event, Opened, Reply};
 use position_core::{Fault, TopicName};
 use replay_lines::{LONGEST_LINE, Line, Unread, read_line, split};
 use std::alloc::{AllocError, Global};
@@ -39,18 +37,58 @@ pub struct Replay {
     pub output: Output,
 }
 
-/// Answers the event, and appends the line of the reply with its end.
-fn append_event_answer<T: Topic>(
-    topic: &mut T,
+/// Appends the line of the reply to the event, with its end.
+fn append_reply_line(out: &mut String, event: &Event, reply: &Reply) -> Result<(), AllocError>
+    ensures { OnOk result (string_bytes out.new ≡ string_bytes out.old ++ answer_text (replied event.now reply.now)) }
+{
+    append_reply(out, event, reply)?;
+    out.push_str("\n")
+}
+
+/// Appends the line of a restart, with its end.
+fn append_restarted_line(out: &mut String, ledger: u64) -> Result<(), AllocError>
+    ensures { OnOk result (string_bytes out.new ≡ string_bytes out.old ++ answer_text (gone_on ledger)) }
+{
+    append_restarted(out, ledger)?;
+    out.push_str("\n")
+}
+
+/// Appends the line for what found no room, with its end.
+fn append_no_room(out: &mut String) -> Result<(), AllocError>
+    ensures { OnOk result (string_bytes out.new ≡ string_bytes out.old ++ answer_text no_room) }
+{
+    append_refused(out, Fault::NoMemory)?;
+    out.push_str("\n")
+}
+
+/// Answers the event, and appends the line of the answer with its end.
+fn append_event_answer<T: Opened + Drop>(
+    topic: &mut Restartable<T>,
     event: &Event,
     out: &mut String,
 ) -> Result<(), AllocError>
-    ensures { (reply : Reply) × Answers (T.state topic.old) event.now reply (T.state topic.new)
-        × OnOk result (string_bytes out.new ≡ string_bytes out.old ++ (reply_text event.now reply ++ 10 ∷ [])) }
+    ensures { (answer : Answer) × IsAnswerTo event.now answer × IsStepOf topic.old answer topic.new
+        × OnOk result (string_bytes out.new ≡ string_bytes out.old ++ answer_text answer) }
 {
-    let reply = topic.apply(event);
-    append_reply(out, event, &reply)?;
-    out.push_str("\n")
+    match topic.apply(event) {
+        Ok(reply) => append_reply_line(out, event, &reply),
+        Err(_) => append_no_room(out),
+    }
+}
+
+/// Lets the topic go on from what is stored, and appends the line of that with its end.
+fn append_restart<T: Opened + Drop>(
+    alloc: Global,
+    topic: &mut Restartable<T>,
+    out: &mut String,
+) -> Result<(), AllocError>
+    ensures { (answer : Answer) × IsRestart answer × IsStepOf topic.old answer topic.new
+        × OnOk result (string_bytes out.new ≡ string_bytes out.old ++ answer_text answer) }
+{
+    match topic.restart(alloc) {
+        Ok(ledger) => append_restarted_line(out, ledger),
+        Err(_) => append_no_room(out),
+    }
 }
 
 /// Appends the line for a bad id, with its end.
@@ -62,21 +100,25 @@ fn append_bad_id(out: &mut String) -> Result<(), AllocError>
 }
 
 /// Appends what the line is answered, with its end.
-fn append_answer<T: Topic>(
+fn append_answer<T: Opened + Drop>(
     alloc: Global,
     name: &TopicName,
-    topic: &mut T,
+    topic: &mut Restartable<T>,
     line: &[u8],
     out: &mut String,
 ) -> Result<(), Unread>
-    ensures ok { OnOk result ((answer : Answer) × IsAnsweredBy name.now line.now (T.state topic.old) answer (T.state topic.new) × (string_bytes out.new ≡ string_bytes out.old ++ answer_text answer)) }
+    ensures ok { OnOk result ((answer : Answer) × IsAnsweredBy name.now line.now topic.old answer topic.new × (string_bytes out.new ≡ string_bytes out.old ++ answer_text answer)) }
     ensures bad { result ≡ Err BadLine → IsBadLine name.now line.now }
-    ensures kept { result ≡ Err BadLine → T.state topic.new ≡ T.state topic.old }
-    ensures memory { result ≡ Err Memory → MayBeLost name.now line.now (T.state topic.old) (T.state topic.new) }
+    ensures kept { result ≡ Err BadLine → topic.new ≡ topic.old }
+    ensures memory { result ≡ Err Memory → MayBeLost name.now line.now topic.old topic.new }
 {
     match read_line(alloc, name, line) {
         Ok(Line::Event(event)) => {
             append_event_answer(topic, &event, out)?;
+            Ok(())
+        }
+        Ok(Line::Restart) => {
+            append_restart(alloc, topic, out)?;
             Ok(())
         }
         Ok(Line::BadId) => {
@@ -106,17 +148,20 @@ fn failed_writing(outcome: &Result<(), Stop>) -> bool
 impl Replay {
     ghost use Rattle.std.specs.Prelude.{◌≡◌, ◌+◌, ◌*◌, ◌<◌, ◌≤◌, ◌^◌, List, ℕ, Option, [], ◌∷◌, ◌++◌, length, OnOk, OnErr, IfErr, false};
     ghost use Rattle.std.specs.Io.KnownBytes.{Consumes, IsAtEnd};
-    ghost use Rattle.delivery_machine.specs.State.{State};
-    ghost use Rattle.replay_core.specs.Replay.{Answer, IsReplay, sides, answer_text, bad_line_text, last_words};
+    ghost use Rattle.replay_core.specs.Replay.{Standing, Answer, IsReplay, sides, answer_text, bad_line_text, last_words};
     ghost use Rattle.replay_core.specs.Answering.{IsAnsweredBy, StopsAt};
     ghost use Rattle.replay_core.specs.Progress.{Ended, Progress, Start, Takes, has_end, moment};
 
     /// Answers a whole line, without its end.
-    pub fn answer_line<T: Topic>(&mut self, topic: &mut T, line: &[u8]) -> Result<(), Stop>
+    pub fn answer_line<T: Opened + Drop>(
+        &mut self,
+        topic: &mut Restartable<T>,
+        line: &[u8],
+    ) -> Result<(), Stop>
         requires { self.old.lines + 1 < 2 ^ 64 }
-        ensures ok { OnOk result ((answer : Answer) × IsAnsweredBy self.old.name line.now (T.state topic.old) answer (T.state topic.new) × (self.new.output.text.items ≡ self.old.output.text.items ++ answer_text answer)) }
+        ensures ok { OnOk result ((answer : Answer) × IsAnsweredBy self.old.name line.now topic.old answer topic.new × (self.new.output.text.items ≡ self.old.output.text.items ++ answer_text answer)) }
         ensures err { OnErr result (self.new.output.text.items ≡ self.old.output.text.items) }
-        ensures why { IfErr result (λ stop. StopsAt self.old.name line.now (self.old.lines + 1) (T.state topic.old) stop (T.state topic.new)) }
+        ensures why { IfErr result (λ stop. StopsAt self.old.name line.now (self.old.lines + 1) topic.old stop topic.new) }
         ensures count { OnOk result (self.new.lines ≡ self.old.lines + 1) }
         ensures most { self.new.lines ≤ self.old.lines + 1 }
         ensures begun { self.new.begun.items ≡ self.old.begun.items }
@@ -137,7 +182,7 @@ impl Replay {
     fn add_part(&mut self, part: &[u8]) -> Result<(), Stop>
         requires bound { self.old.lines + 1 < 2 ^ 64 }
         requires open_end { has_end part.now ≡ false }
-        ensures takes { (w : Option (List ℕ)) (t : State) → Takes part.now (moment self.old w t) result (moment self.new w t) }
+        ensures takes { (w : Option (List ℕ)) (t : Standing) → Takes part.now (moment self.old w t) result (moment self.new w t) }
         ensures lines { self.new.lines ≡ self.old.lines }
     {
         if self.begun.len().saturating_add(part.len()) > LONGEST_LINE {
@@ -148,9 +193,9 @@ impl Replay {
     }
 
     /// Answers the line that was begun, which has ended.
-    fn answer_begun<T: Topic>(&mut self, topic: &mut T) -> Result<(), Stop>
+    fn answer_begun<T: Opened + Drop>(&mut self, topic: &mut Restartable<T>) -> Result<(), Stop>
         requires { self.old.lines + 1 < 2 ^ 64 }
-        ensures takes { (w : Option (List ℕ)) → Takes (10 ∷ []) (moment self.old w (T.state topic.old)) result (moment self.new w (T.state topic.new)) }
+        ensures takes { (w : Option (List ℕ)) → Takes (10 ∷ []) (moment self.old w topic.old) result (moment self.new w topic.new) }
         ensures lines { self.new.lines ≤ self.old.lines + 1 }
         ensures begun { self.new.begun.items ≡ [] }
     {
@@ -159,10 +204,14 @@ impl Replay {
     }
 
     /// Answers the line that ends after this part.
-    fn end_line<T: Topic>(&mut self, topic: &mut T, part: &[u8]) -> Result<(), Stop>
+    fn end_line<T: Opened + Drop>(
+        &mut self,
+        topic: &mut Restartable<T>,
+        part: &[u8],
+    ) -> Result<(), Stop>
         requires bound { self.old.lines + 1 < 2 ^ 64 }
         requires open_end { has_end part.now ≡ false }
-        ensures takes { (w : Option (List ℕ)) → Takes (part.now ++ 10 ∷ []) (moment self.old w (T.state topic.old)) result (moment self.new w (T.state topic.new)) }
+        ensures takes { (w : Option (List ℕ)) → Takes (part.now ++ 10 ∷ []) (moment self.old w topic.old) result (moment self.new w topic.new) }
         ensures lines { self.new.lines ≤ self.old.lines + 1 }
     {
         if self.begun.is_empty() {
@@ -174,22 +223,22 @@ impl Replay {
 
     /// Writes the gathered answers.
     fn write_answers<W: Write>(&mut self, writer: &mut W) -> Result<(), Stop>
-        ensures takes { (t : State) → Takes [] (moment self.old (W.contents writer.old) t) result (moment self.new (W.contents writer.new) t) }
+        ensures takes { (t : Standing) → Takes [] (moment self.old (W.contents writer.old) t) result (moment self.new (W.contents writer.new) t) }
         ensures lines { self.new.lines ≡ self.old.lines }
     {
         self.output.write_to(writer)
     }
 
     /// Answers the line that ends after this part, and writes the answers where they are many.
-    fn take_line<T: Topic, W: Write>(
+    fn take_line<T: Opened + Drop, W: Write>(
         &mut self,
-        topic: &mut T,
+        topic: &mut Restartable<T>,
         part: &[u8],
         writer: &mut W,
     ) -> Result<(), Stop>
         requires bound { self.old.lines + 1 < 2 ^ 64 }
         requires open_end { has_end part.now ≡ false }
-        ensures takes { Takes (part.now ++ 10 ∷ []) (moment self.old (W.contents writer.old) (T.state topic.old)) result (moment self.new (W.contents writer.new) (T.state topic.new)) }
+        ensures takes { Takes (part.now ++ 10 ∷ []) (moment self.old (W.contents writer.old) topic.old) result (moment self.new (W.contents writer.new) topic.new) }
         ensures lines { self.new.lines ≤ self.old.lines + 1 }
     {
         self.end_line(topic, part)?;
@@ -200,14 +249,14 @@ impl Replay {
     }
 
     /// Answers the lines that end in the piece.
-    fn take_piece<T: Topic, W: Write>(
+    fn take_piece<T: Opened + Drop, W: Write>(
         &mut self,
-        topic: &mut T,
+        topic: &mut Restartable<T>,
         piece: &[u8],
         writer: &mut W,
     ) -> Result<(), Stop>
         requires { self.old.lines + length piece.now + 1 < 2 ^ 64 }
-        ensures takes { Takes piece.now (moment self.old (W.contents writer.old) (T.state topic.old)) result (moment self.new (W.contents writer.new) (T.state topic.new)) }
+        ensures takes { Takes piece.now (moment self.old (W.contents writer.old) topic.old) result (moment self.new (W.contents writer.new) topic.new) }
         ensures lines { self.new.lines ≤ self.old.lines + length piece.now }
     {
         let mut rest = piece;
@@ -219,10 +268,10 @@ impl Replay {
     }
 
     /// Answers the last line, where the input does not end with the end of a line.
-    fn end_input<T: Topic>(&mut self, topic: &mut T) -> Result<(), Stop>
+    fn end_input<T: Opened + Drop>(&mut self, topic: &mut Restartable<T>) -> Result<(), Stop>
         requires { self.old.lines + 1 < 2 ^ 64 }
-        ensures { (s : Start) (input : List ℕ) (left w : Option (List ℕ)) → IsAtEnd left → Progress s input (moment self.old w (T.state topic.old))
-            → Ended s input left (moment self.new w (T.state topic.new)) result [] }
+        ensures { (s : Start) (input : List ℕ) (left w : Option (List ℕ)) → IsAtEnd left → Progress s input (moment self.old w topic.old)
+            → Ended s input left (moment self.new w topic.new) result [] }
     {
         if self.begun.is_empty() {
             return Ok(());
@@ -231,9 +280,9 @@ impl Replay {
     }
 
     /// Answers the lines of the whole input, but for what is left in the output.
-    fn run<T: Topic, R: Read, W: Write>(
+    fn run<T: Opened + Drop, R: Read, W: Write>(
         &mut self,
-        topic: &mut T,
+        topic: &mut Restartable<T>,
         reader: &mut R,
         writer: &mut W,
         piece: &mut [u8],
@@ -241,8 +290,8 @@ impl Replay {
         requires begins { (self.old.lines ≡ 0) × (self.old.begun.items ≡ []) × (self.old.output.text.items ≡ []) }
         requires room { (0 < length piece.old) × (length piece.old ≤ 65536) }
         ensures { (read : List ℕ) × Consumes (R.remaining reader.old) (R.remaining reader.new) read
-            × Ended (record { name = self.old.name; written = W.contents writer.old; state = T.state topic.old }) read (R.remaining reader.new)
-            (moment self.new (W.contents writer.new) (T.state topic.new)) result [] }
+            × Ended (record { name = self.old.name; written = W.contents writer.old; topic = topic.old }) read (R.remaining reader.new)
+            (moment self.new (W.contents writer.new) topic.new) result [] }
     {
         for turn in 0..MOST_READS {
             self.write_answers(writer)?;
@@ -269,7 +318,7 @@ impl Replay {
 
     /// Gathers which line was bad, if one was.
     fn name_bad_line(&mut self, outcome: Result<(), Stop>) -> Result<(), Stop>
-        ensures { (s : Start) (input : List ℕ) (left w : Option (List ℕ)) (t : State) → Ended s input left (moment self.old w t) outcome []
+        ensures { (s : Start) (input : List ℕ) (left w : Option (List ℕ)) (t : Standing) → Ended s input left (moment self.old w t) outcome []
             → Ended s input left (moment self.new w t) result (last_words result) }
     {
         let Some(number) = bad_line(&outcome) else {
@@ -285,9 +334,9 @@ impl Replay {
         outcome: Result<(), Stop>,
         writer: &mut W,
     ) -> Result<(), Stop>
-        ensures { (s : Start) (input : List ℕ) (before left : Option (List ℕ)) (t : State) → Consumes before left input
+        ensures { (s : Start) (input : List ℕ) (before left : Option (List ℕ)) (t : Standing) → Consumes before left input
             → Ended s input left (moment self.old (W.contents writer.old) t) outcome (last_words outcome)
-            → IsReplay s.name (sides before s.written s.state) result (sides left (W.contents writer.new) t) }
+            → IsReplay s.name (sides before s.written s.topic) result (sides left (W.contents writer.new) t) }
     {
         if failed_writing(&outcome) {
             return outcome;
@@ -298,15 +347,15 @@ impl Replay {
 }
 
 /// Replays the topic of the name: answers each line of the input with a line of the output.
-pub fn replay_over<T: Topic, R: Read, W: Write>(
+pub fn replay_over<T: Opened + Drop, R: Read, W: Write>(
     alloc: Global,
     name: TopicName,
-    topic: &mut T,
+    topic: &mut Restartable<T>,
     reader: &mut R,
     writer: &mut W,
 ) -> Result<(), Stop>
-    ensures { IsReplay name (sides (R.remaining reader.old) (W.contents writer.old) (T.state topic.old)) result
-        (sides (R.remaining reader.new) (W.contents writer.new) (T.state topic.new)) }
+    ensures { IsReplay name (sides (R.remaining reader.old) (W.contents writer.old) topic.old) result
+        (sides (R.remaining reader.new) (W.contents writer.new) topic.new) }
 {
     let mut piece = vec![in alloc; 0u8; PIECE]?;
     let mut replay = Replay {

@@ -7,9 +7,11 @@ mod names;
 mod output;
 mod plain;
 mod printing;
+mod restartable;
 mod stop;
 
 pub use arguments::read_ledger_size;
 pub use engine::replay_over;
-pub use plain::{replay, replay_to_status};
+pub use plain::{replay, replay_fresh, replay_to_status};
+pub use restartable::Restartable;
 pub use stop::{Stop, status};

@@ -1,13 +1,15 @@
 // The replay of the topic that the program replays, kept as a plain topic.
-ghost use Rattle.std.specs.Prelude.{◌≡◌, IsTrue, IfOk};
+ghost use Rattle.std.specs.Prelude.{◌≡◌, IsTrue, IfOk, IfErr};
 ghost use Rattle.position_core.specs.Name.{is_name};
-ghost use Rattle.delivery_machine.specs.State.{State, fresh};
-ghost use Rattle.plain_topic.specs.StateOf.{state_of};
-ghost use Rattle.replay_core.specs.Replay.{IsReplay, sides, this_topic};
+ghost use Rattle.delivery_machine.specs.State.{fresh};
+ghost use Rattle.replay_core.specs.declared.stop.Stop.TheVariants.{Memory};
+ghost use Rattle.replay_core.specs.Replay.{IsReplay, Standing, opening, sides, this_topic};
 ghost use Rattle.replay_core.specs.Stops.{EndsWith};
 
 use crate::engine::replay_over;
+use crate::restartable::Restartable;
 use crate::stop::{Stop, status};
+use delivery_machine::Opened;
 use plain_topic::PlainTopic;
 use position_core::{LedgerSize, Name, TopicName};
 use std::alloc::{AllocError, Global};
@@ -32,29 +34,53 @@ fn this_topic(alloc: Global) -> Result<TopicName, AllocError>
     })
 }
 
-fn fresh_topic(
+/// A topic with nothing in it, of which its snapshot is stored.
+fn fresh_topic<T: Opened + Drop>(
     alloc: Global,
+    name: TopicName,
     ledger_size: LedgerSize,
-) -> Result<(TopicName, PlainTopic), AllocError>
-    ensures { IfOk result (λ made. (made.0 ≡ this_topic) × (state_of made.1 ≡ fresh this_topic ledger_size)) }
+) -> Result<Restartable<T>, Stop>
+    ensures ok { IfOk result (λ topic. topic ≡ opening (fresh name ledger_size)) }
+    ensures err { IfErr result (λ stop. stop ≡ Memory) }
 {
-    let name = this_topic(alloc)?;
-    let topic = PlainTopic::new(alloc, name.clone()?, ledger_size);
-    Ok((name, topic))
+    let Ok(topic) = T::fresh(alloc, name, ledger_size) else {
+        return Err(Stop::Memory);
+    };
+    match Restartable::new(topic) {
+        Ok(topic) => Ok(topic),
+        Err(_) => Err(Stop::Memory),
+    }
 }
 
-/// Replays a fresh topic: answers each line of the input with a line of the output.
+/// Replays a fresh topic, however it is kept: answers each line of the input with a line of the output.
+pub fn replay_fresh<T: Opened + Drop, R: Read, W: Write>(
+    alloc: Global,
+    reader: &mut R,
+    writer: &mut W,
+    ledger_size: LedgerSize,
+) -> Result<(), Stop>
+    ensures { (last : Standing) × IsReplay this_topic (sides (R.remaining reader.old) (W.contents writer.old) (opening (fresh this_topic ledger_size))) result
+        (sides (R.remaining reader.new) (W.contents writer.new) last) }
+{
+    let name = this_topic(alloc)?;
+    let mut topic = match fresh_topic::<T>(alloc, name.clone()?, ledger_size) {
+        Ok(topic) => topic,
+        Err(stop) => return Err(stop),
+    };
+    replay_over(alloc, name, &mut topic, reader, writer)
+}
+
+/// Replays a fresh topic, kept as a plain topic.
 pub fn replay<R: Read, W: Write>(
     alloc: Global,
     reader: &mut R,
     writer: &mut W,
     ledger_size: LedgerSize,
 ) -> Result<(), Stop>
-    ensures { (last : State) × IsReplay this_topic (sides (R.remaining reader.old) (W.contents writer.old) (fresh this_topic ledger_size)) result
+    ensures { (last : Standing) × IsReplay this_topic (sides (R.remaining reader.old) (W.contents writer.old) (opening (fresh this_topic ledger_size))) result
         (sides (R.remaining reader.new) (W.contents writer.new) last) }
 {
-    let (name, mut topic) = fresh_topic(alloc, ledger_size)?;
-    replay_over(alloc, name, &mut topic, reader, writer)
+    replay_fresh::<PlainTopic, R, W>(alloc, reader, writer, ledger_size)
 }
 
 /// Replays a fresh topic, and answers the status for a program to end with.
@@ -64,7 +90,7 @@ pub fn replay_to_status<R: Read, W: Write>(
     writer: &mut W,
     ledger_size: LedgerSize,
 ) -> u8
-    ensures { EndsWith (sides (R.remaining reader.old) (W.contents writer.old) (fresh this_topic ledger_size)) result
+    ensures { EndsWith (sides (R.remaining reader.old) (W.contents writer.old) (opening (fresh this_topic ledger_size))) result
         (R.remaining reader.new) (W.contents writer.new) }
 {
     let outcome = replay(alloc, reader, writer, ledger_size);

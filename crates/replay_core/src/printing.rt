@@ -2,7 +2,7 @@
 ghost use Rattle.std.specs.Prelude.{◌≡◌, ℕ, ◌++◌, ◌∷◌, [], ◌<◌, OnOk, codes, flat_map, string_bytes, length};
 ghost use Rattle.std.specs.Fmt.{decimal, signed_decimal};
 ghost use Rattle.position_core.specs.Id.{text_of};
-ghost use Rattle.replay_core.specs.Printing.{producer_name, copy_text, target_text, kind_text, position_text, subscription_text, counts_text, refused_text, reply_text};
+ghost use Rattle.replay_core.specs.Printing.{producer_name, copy_text, target_text, kind_text, position_text, subscription_text, counts_text, refused_text, reply_text, restarted_text};
 
 use crate::names::{append_name, append_target};
 use delivery_machine::{Delivery, Event, Reply};
@@ -244,6 +244,13 @@ fn append_collected(out: &mut String, copies: &[Delivery]) -> Result<(), AllocEr
 {
     append_counted(out, "copies ", copies.len() as u64)?;
     append_copies(out, copies)
+}
+
+/// Appends the line of a restart, without its end.
+pub fn append_restarted(out: &mut String, ledger: u64) -> Result<(), AllocError>
+    ensures { OnOk result (string_bytes out.new ≡ string_bytes out.old ++ restarted_text ledger) }
+{
+    append_counted(out, "restarted ", ledger)
 }
 
 /// Appends the line of a refusal, without its end.

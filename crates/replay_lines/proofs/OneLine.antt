@@ -50,6 +50,7 @@ found_by_text commands.Dispatch = refl
 found_by_text commands.Collect = refl
 found_by_text commands.DeadNext = refl
 found_by_text commands.DeadDone = refl
+found_by_text commands.Restart = refl
 
 one_command : (c d : Command) → command_text c ≡ command_text d → c ≡ d
 one_command c d same = let both = sym (found_by_text c) ∙ ap command_of same ∙ found_by_text d in cc both
@@ -66,8 +67,11 @@ one_number_at word m n is_m is_n = one_number word m n is_m.0 is_n.0 is_m.1 is_n
 by_one_id : (event_at : Position → Event) (id : List ℕ) (a b : Line) → IsById event_at id a → IsById event_at id b → a ≡ b
 by_one_id event_at id (lines.Event e) (lines.Event f) is_a is_b =
     ap lines.Event (is_a.2 ∙ ap event_at (one_id id is_a.0 is_b.0 is_a.1 is_b.1) ∙ sym is_b.2)
+by_one_id event_at id (lines.Event e) lines.Restart is_a is_b = absurd is_b
+by_one_id event_at id lines.Restart b is_a is_b = absurd is_a
 by_one_id event_at id (lines.Event e) lines.BadId is_a is_b = absurd (is_b is_a.0 is_a.1)
 by_one_id event_at id lines.BadId (lines.Event f) is_a is_b = absurd (is_a is_b.0 is_b.1)
+by_one_id event_at id lines.BadId lines.Restart is_a is_b = absurd is_b
 by_one_id event_at id lines.BadId lines.BadId is_a is_b = refl
 
 -- where the events of the positions are the same
@@ -207,6 +211,7 @@ one_line_of this commands.DeadDone words a b h k =
     let name = at_place IsNameWord one_name h.0 k.0 v h.2 k.2 h.5 k.5 in
     let ordinal = at_place IsNumber one_number_at h.1 k.1 w h.3 k.3 h.6 k.6 in
     cc (h.7, k.7, name, ordinal)
+one_line_of this commands.Restart words a b h k = h.1 ∙ sym k.1
 
 -- ---- the whole line
 

@@ -51,6 +51,7 @@ command_text commands.Dispatch = codes "dispatch"
 command_text commands.Collect = codes "collect"
 command_text commands.DeadNext = codes "deadnext"
 command_text commands.DeadDone = codes "deaddone"
+command_text commands.Restart = codes "restart"
 
 abbrev pub IsKind : List ℕ → Kind → Type 0
 IsKind word Exclusive = word ≡ codes "Exclusive"
@@ -89,6 +90,7 @@ IsDeath this subscription limit target death =
 -- the line stands for the event of the id's position, or the id is that of no position
 abbrev pub IsById : (Position → Event) → List ℕ → Line → Type 0
 IsById event_at id (lines.Event event) = (position : Position) × IsIdOf id position × (event ≡ event_at position)
+IsById event_at id lines.Restart = ⊥
 IsById event_at id lines.BadId = (position : Position) → IsIdOf id position → ⊥
 
 -- the line of a seek: a word that says nothing is an invalid id
@@ -176,6 +178,7 @@ IsLineOf this commands.DeadDone words line =
     (s n : List ℕ) × (name : List ℕ) × (ordinal : ℕ) × (words ≡ s ∷ n ∷ [])
     × IsNameWord s name × IsNumber n ordinal
     × (line ≡ lines.Event (DeadDone name ordinal))
+IsLineOf this commands.Restart words line = (words ≡ []) × (line ≡ lines.Restart)
 
 -- none of the words is empty, and with the command they stand for the line
 abbrev pub Complete : TopicName → Command → List (List ℕ) → Line → Type 0

@@ -29,10 +29,11 @@ pub enum Command {
     Collect,
     DeadNext,
     DeadDone,
+    Restart,
 }
 
 /// Each command, in the order in which they are tried.
-const ALL: [Command; 21] = [
+const ALL: [Command; 22] = [
     Command::Producer,
     Command::DropProducer,
     Command::Publish,
@@ -54,6 +55,7 @@ const ALL: [Command; 21] = [
     Command::Collect,
     Command::DeadNext,
     Command::DeadDone,
+    Command::Restart,
 ];
 
 impl Command {
@@ -84,6 +86,7 @@ impl Command {
             Command::Collect => b"collect",
             Command::DeadNext => b"deadnext",
             Command::DeadDone => b"deaddone",
+            Command::Restart => b"restart",
         }
     }
 }

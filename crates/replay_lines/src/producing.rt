@@ -68,3 +68,10 @@ pub fn read_progress(words: Words<'_>) -> Result<Line, Unread>
     words.end()?;
     Ok(Line::Event(Event::Progress))
 }
+
+pub fn read_restart(words: Words<'_>) -> Result<Line, Unread>
+    ensures { (this : TopicName) → Reads (Complete this Command.Restart words.entry) result }
+{
+    words.end()?;
+    Ok(Line::Restart)
+}

@@ -10,7 +10,7 @@ use crate::delivering::{
 use crate::dying::{read_dead_done, read_dead_next};
 use crate::joining::{read_leave, read_permit, read_subscribe};
 use crate::producing::{
-    read_drop_producer, read_producer, read_progress, read_publish, read_stored,
+    read_drop_producer, read_producer, read_progress, read_publish, read_restart, read_stored,
 };
 use crate::seeking::{read_drop_subscription, read_seek, read_seek_time, read_skip, read_stats};
 use crate::words::{Unread, Words};
@@ -25,6 +25,8 @@ pub const LONGEST_LINE: usize = 1_500_000;
 #[derive(Drop)]
 pub enum Line {
     Event(Event),
+    /// The topic goes on from what is stored of it.
+    Restart,
     /// Its id is none, and no event comes of it.
     BadId,
 }
@@ -60,6 +62,7 @@ fn read_rest(
         Command::Collect => read_collect(words),
         Command::DeadNext => read_dead_next(alloc, words),
         Command::DeadDone => read_dead_done(alloc, words),
+        Command::Restart => read_restart(words),
     }
 }
 

@@ -7,6 +7,7 @@ mod failover;
 mod keyed;
 mod producers;
 mod refusals;
+mod restarts;
 mod rows;
 mod rules;
 mod seeking;

@@ -1,11 +1,11 @@
 // Copies of what a consumer was sent and has not collected.
 use super::scene::{dispatching, new_topic, position_at, publish, subscribing, tell};
-use crate::PlainTopic;
+use crate::lists::Lists;
 use delivery_machine::{Event, Kind, Topic};
 use std::process::Abort;
 
 /// How many copies the consumer has, and whether the first is of the first message.
-fn copies_at<R: Abort>(rt: &R, topic: &PlainTopic, consumer: u64) -> (usize, bool) {
+fn copies_at<R: Abort>(rt: &R, topic: &Lists, consumer: u64) -> (usize, bool) {
     let copies = topic.out_copy(consumer).expect(rt, "no memory");
     let first = match copies.as_slice().first() {
         Some(copy) => copy.message.position() == position_at(0),

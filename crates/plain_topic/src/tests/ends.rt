@@ -3,7 +3,7 @@ use super::scene::{
     connecting, dispatching, fault_of, new_topic, position_at, publish, publishing, refusing,
     subscribing, tell, ticking,
 };
-use crate::PlainTopic;
+use crate::lists::Lists;
 use delivery_machine::{Event, Kind, Reply, Topic};
 use position_core::Position;
 use std::process::Abort;
@@ -28,12 +28,12 @@ fn fate_by(reply: &Reply) -> Fate {
     }
 }
 
-fn fate_at(topic: &mut PlainTopic, tick: Event) -> Fate {
+fn fate_at(topic: &mut Lists, tick: Event) -> Fate {
     fate_by(&topic.apply(&tick))
 }
 
 /// Sends the next message, whose position is known, and refuses it until it is due.
-fn fate_of<R: Abort + AllocGlobal>(rt: &R, topic: &mut PlainTopic, position: Position) -> Fate {
+fn fate_of<R: Abort + AllocGlobal>(rt: &R, topic: &mut Lists, position: Position) -> Fate {
     tell(topic, dispatching(rt));
     tell(topic, refusing(rt, position));
     fate_at(topic, ticking(rt))
@@ -54,7 +54,7 @@ fn the_last_ordinal_is_given_once(rt: HostRuntime) {
     }
 }
 
-fn check_refused<R: Abort>(rt: &R, topic: &mut PlainTopic, events: &[(Event, u8)]) {
+fn check_refused<R: Abort>(rt: &R, topic: &mut Lists, events: &[(Event, u8)]) {
     for (event, number) in events {
         assert_eq!(rt; fault_of(topic, event), *number);
     }

@@ -1,6 +1,7 @@
 // A topic and the events of the tests.
 use crate::PlainTopic;
-use delivery_machine::{Event, Flow, Initial, Kind, Reply, Topic};
+use crate::lists::Lists;
+use delivery_machine::{Event, Flow, Initial, Kind, Opened, Reply, Topic};
 use position_core::{
     Base, Body, Content, LedgerSize, Level, Millis, Moment, Name, Payload, Position, ProducerName,
     Properties, RedeliverLimit, SubscriptionName, TopicName, WindowSize,
@@ -23,10 +24,19 @@ fn topic_name<R: Abort + AllocGlobal>(rt: &R, text: &str) -> TopicName {
     name.expect(rt, "no memory").expect(rt, "no name")
 }
 
-pub(super) fn new_topic<R: Abort + AllocGlobal>(rt: &R) -> PlainTopic {
-    let size = LedgerSize::new(50_000).expect(rt, "no ledger size");
+fn usual_size<R: Abort>(rt: &R) -> LedgerSize {
+    LedgerSize::new(50_000).expect(rt, "no ledger size")
+}
+
+pub(super) fn new_topic<R: Abort + AllocGlobal>(rt: &R) -> Lists {
     let name = topic_name(rt, "persistent://public/default/t");
-    PlainTopic::new(rt.alloc(), name, size)
+    Lists::new(rt.alloc(), name, usual_size(rt))
+}
+
+/// The same as a plain topic.
+pub(super) fn fresh_topic<R: Abort + AllocGlobal>(rt: &R) -> PlainTopic {
+    let name = topic_name(rt, "persistent://public/default/t");
+    PlainTopic::fresh(rt.alloc(), name, usual_size(rt)).expect(rt, "no memory")
 }
 
 pub(super) fn connecting<R: Abort + AllocGlobal>(rt: &R, name: &str) -> Event {
@@ -92,17 +102,17 @@ pub(super) fn ticking<R: Abort + AllocGlobal>(rt: &R) -> Event {
 }
 
 /// Tells the topic of the event, whatever it answers.
-pub(super) fn tell(topic: &mut PlainTopic, event: Event) {
+pub(super) fn tell<T: Topic>(topic: &mut T, event: Event) {
     let _ = topic.apply(&event);
 }
 
 /// The number of the refusal that the event is answered with; 0 where there is none.
-pub(super) fn fault_of(topic: &mut PlainTopic, event: &Event) -> u8 {
+pub(super) fn fault_of(topic: &mut Lists, event: &Event) -> u8 {
     fault_number(&topic.apply(event))
 }
 
 /// A producer publishes so many messages, which are stored.
-pub(super) fn publish<R: Abort + AllocGlobal>(rt: &R, topic: &mut PlainTopic, count: u8) {
+pub(super) fn publish<R: Abort + AllocGlobal, T: Topic>(rt: &R, topic: &mut T, count: u8) {
     tell(topic, connecting(rt, "p"));
     for sequence in 0..count {
         tell(topic, publishing(rt, 1, i64::from(sequence)));

@@ -1,11 +1,11 @@
 // Storing what a snapshot had: so many messages, and none of those that came after it.
 use super::scene::{connecting, new_topic, publishing, tell};
-use crate::PlainTopic;
+use crate::lists::Lists;
 use delivery_machine::{Event, Reply, Topic};
 use std::process::Abort;
 
 /// How many messages are durable once so many are stored.
-fn durable_after<R: Abort>(rt: &R, topic: &mut PlainTopic, length: u64) -> u64 {
+fn durable_after<R: Abort>(rt: &R, topic: &mut Lists, length: u64) -> u64 {
     match &topic.apply(&Event::StoredTo { length, ordinal: 0 }) {
         Reply::Durable(count) => *count,
         _ => panic!(rt; "not stored"),

@@ -6,4 +6,4 @@ use Rattle.replay_core.proofs.engine.Replay.run.Given as goal
 abbrev pub invariant-loop-turn : goal.invariant-loop-turn
 invariant-loop-turn g l = (read : List ℕ) × (l.self.lines ≤ 65536 * l.turn)
     × Consumes (g.R.Read.remaining l.initial.reader) (g.R.Read.remaining l.reader) read
-    × Progress (record { name = l.initial.self.name; written = g.W.Write.contents l.initial.writer; state = g.T.Topic.state l.initial.topic }) read (moment l.self (g.W.Write.contents l.writer) (g.T.Topic.state l.topic))
+    × Progress (record { name = l.initial.self.name; written = g.W.Write.contents l.initial.writer; topic = l.initial.topic }) read (moment l.self (g.W.Write.contents l.writer) l.topic)

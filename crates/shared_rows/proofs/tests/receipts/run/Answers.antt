@@ -2,7 +2,7 @@ use denote.Param.{param}
 use denote.Param.Send.{IsSend, sendable}
 use Rattle.std.proofs.Crossing.{crosses}
 use Rattle.plain_topic.specs.contracts.plain.PlainTopic as Plain
-use Rattle.plain_topic.specs.contracts.applying.PlainTopicTopic.TheImpl as PlainTopic
+use Rattle.plain_topic.specs.contracts.plain.PlainTopicTopic.TheImpl as PlainTopic
 use Rattle.plain_topic.proofs.plain.PlainTopic.TheSendSync.{the_send as plain_send}
 use Rattle.topic_shared.proofs.Crosses.{Shared-sync}
 use Rattle.shared_rows.proofs.tests.receipts.run.Goals as goal

@@ -4,7 +4,7 @@ use Rattle.delivery_machine.specs.Producing.{IsLeastFree}
 use Rattle.plain_lists.specs.Auto.{IsLeastFreeIn}
 use Rattle.plain_topic.specs.StateOf.{state_of}
 use Rattle.plain_topic.proofs.Used.{least_of_used}
-use Rattle.plain_topic.proofs.plain.PlainTopic.free_number.Goals as goal
+use Rattle.plain_topic.proofs.lists.Lists.free_number.Goals as goal
 
 pub returns : goal.returns
 returns c =

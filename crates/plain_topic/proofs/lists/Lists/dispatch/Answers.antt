@@ -10,7 +10,7 @@ use Rattle.plain_lists.specs.Members.{pushed}
 use Rattle.plain_topic.specs.StateOf.{state_of}
 use Rattle.plain_topic.proofs.Chosen.{has_a_place}
 use Rattle.plain_topic.proofs.Handed.{taken_back_there, given_there}
-use Rattle.plain_topic.proofs.plain.PlainTopic.dispatch.Goals as goal
+use Rattle.plain_topic.proofs.lists.Lists.dispatch.Goals as goal
 
 pub unreachable-requires : goal.unreachable-requires
 unreachable-requires c =

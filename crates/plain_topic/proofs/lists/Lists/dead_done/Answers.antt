@@ -8,7 +8,7 @@ use Rattle.delivery_machine.specs.declared.reply.Reply.TheVariants.{Done}
 use Rattle.plain_topic.specs.Letters.{first_moved}
 use Rattle.plain_topic.specs.StateOf.{state_of}
 use Rattle.plain_topic.proofs.Moved.{moves_letter}
-use Rattle.plain_topic.proofs.plain.PlainTopic.dead_done.Goals as goal
+use Rattle.plain_topic.proofs.lists.Lists.dead_done.Goals as goal
 
 pub returns-in-Ok : goal.returns-in-Ok
 returns-in-Ok c =

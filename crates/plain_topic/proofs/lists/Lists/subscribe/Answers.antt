@@ -1,7 +1,7 @@
 use Rattle.std.proofs.Common.{arith, ◌∙◌, sym}
 use Rattle.plain_topic.specs.StateOf.{state_of}
 use Rattle.plain_topic.proofs.Joins.{turned_away, number_left}
-use Rattle.plain_topic.proofs.plain.PlainTopic.subscribe.Goals as goal
+use Rattle.plain_topic.proofs.lists.Lists.subscribe.Goals as goal
 
 pub returns-in-Some : goal.returns-in-Some
 returns-in-Some c =

@@ -5,7 +5,7 @@ use Rattle.delivery_machine.specs.Words.{with_room_in}
 use Rattle.plain_queries.specs.Turn.{IsBestLevel}
 use Rattle.plain_topic.specs.StateOf.{state_of}
 use Rattle.plain_topic.proofs.Chosen.{shared_pair}
-use Rattle.plain_topic.proofs.plain.PlainTopic.choose.Goals as goal
+use Rattle.plain_topic.proofs.lists.Lists.choose.Goals as goal
 
 pub returns-in_ok-member-in-Shared-clause-pair : goal.returns-in_ok-member-in-Shared-clause-pair
 returns-in_ok-member-in-Shared-clause-pair c =

@@ -1,0 +1,67 @@
+-- Snapshots of a topic's lists, and the lists that go on from one.
+use Rattle.std.proofs.Common.{◌≡◌, ℕ, ◌+◌, ◌≤◌, ◌^◌, List, [], ◌∷◌, ◌++◌, Some, length, map, get_or, take, refl, sym, ap, ◌∙◌, subst}
+use Rattle.std.specs.Prelude.{min, slice_get}
+use Rattle.std.specs.List.{All}
+use Rattle.std.proofs.lemmas.List.{take_more}
+use Rattle.std.proofs.lemmas.List.Elements.{All-nil, All-cons, All-head, All-tail}
+use Rattle.std.proofs.lemmas.Option.{slice_get_within, slice_get-get_or}
+use Rattle.position_core.specs.declared.topic_name.TopicName.{TopicName}
+use Rattle.position_core.specs.declared.message.Entry.{Entry}
+use Rattle.delivery_machine.specs.State.{State, Subscription, Producer, Member}
+use Rattle.delivery_machine.specs.Snapshot.{kept_of, snapshot_of, subscription_from, restarted}
+use Rattle.delivery_machine.specs.Places.{KeptTopic, kept_in, snapshot_in}
+use Rattle.delivery_machine.specs.WellFormed.{AreMessagesOf, IsSound, IsSoundSubscription}
+
+-- ---- the log
+
+pub one_more : {A : Type 0} (xs ys zs : List A) (i : ℕ) (x : A) → Some x ≡ slice_get xs i → ys ≡ take i xs → zs ≡ ys ++ x ∷ [] → zs ≡ take (i + 1) xs
+one_more xs ys zs i x at before more =
+    let below = slice_get_within xs i x (sym at) in
+    let there = slice_get-get_or xs i x below in
+    let same : x ≡ get_or xs i x = cc (at, there) in
+    more ∙ ap (λ ys. ys ++ x ∷ []) before ∙ ap (λ y. take i xs ++ y ∷ []) same ∙ sym (take_more xs i x below)
+
+-- ---- snapshots
+
+acknowledged_of : (log : List Entry) (subs : List Subscription) → All (IsSoundSubscription log) (map kept_of subs) → All (λ (sub : Subscription). AreMessagesOf log sub.acknowledged) subs
+acknowledged_of log [] sound = All-nil (λ (sub : Subscription). AreMessagesOf log sub.acknowledged)
+acknowledged_of log (sub ∷ subs) sound =
+    All-cons (λ (sub : Subscription). AreMessagesOf log sub.acknowledged) sub subs
+    (All-head (IsSoundSubscription log) (kept_of sub) (map kept_of subs) sound).acknowledged
+    (acknowledged_of log subs (All-tail (IsSoundSubscription log) (kept_of sub) (map kept_of subs) sound))
+
+-- what is acknowledged are messages of the log
+pub acknowledged_here : (s : State) (subs : List Subscription) (log : List Entry) → IsSound (snapshot_of s) → subs ≡ s.subscriptions → log ≡ s.log → All (λ (sub : Subscription). AreMessagesOf log sub.acknowledged) subs
+acknowledged_here s subs log sound same_subs same_log =
+    subst (λ (ls : List Entry). All (λ (sub : Subscription). AreMessagesOf ls sub.acknowledged) subs) (sym same_log)
+    (subst (λ (ss : List Subscription). All (λ (sub : Subscription). AreMessagesOf s.log sub.acknowledged) ss) (sym same_subs) (acknowledged_of s.log s.subscriptions sound.subscriptions))
+
+-- ---- going on
+
+map-twice : {A B C : Type 0} (f : A → B) (g : B → C) (xs : List A) → map (λ x. g (f x)) xs ≡ map g (map f xs)
+map-twice f g [] = refl
+map-twice f g (x ∷ xs) = ap (λ ys. g (f x) ∷ ys) (map-twice f g xs)
+
+abbrev pub going : TopicName → ℕ → ℕ → ℕ → ℕ → ℕ → ℕ → List Entry → List Producer → List Member → List Subscription → State
+going name size ledger ordinal producer consumer durable log producers members subs = record {
+  name = name;
+  ledger_size = size;
+  ledger = ledger;
+  next_ordinal = ordinal;
+  next_producer = producer;
+  next_consumer = consumer;
+  log = log;
+  durable = durable;
+  producers = producers;
+  members = members;
+  subscriptions = subs;
+}
+
+pub goes_on : (kept : KeptTopic) (name : TopicName) (size ledger ordinal producer consumer durable : ℕ) (log : List Entry) (producers : List Producer) (members : List Member) (subs : List Subscription)
+    → name ≡ kept.name → size ≡ kept.ledger_size → ledger ≡ min (kept.ledger + 1) (2 ^ 62 + 1) → ordinal ≡ kept.next_ordinal → producer ≡ 1 → consumer ≡ 1
+    → log ≡ kept.log → durable ≡ length log → producers ≡ [] → members ≡ [] → subs ≡ map (λ k. subscription_from (kept_in log k)) kept.subscriptions
+    → going name size ledger ordinal producer consumer durable log producers members subs ≡ restarted (snapshot_in kept)
+goes_on kept name size ledger ordinal producer consumer durable log producers members subs name_is size_is ledger_is ordinal_is producer_is consumer_is log_is durable_is producers_is members_is subs_is =
+    let all : subs ≡ map subscription_from (map (kept_in kept.log) kept.subscriptions) = subs_is ∙ ap (λ (ls : List Entry). map (λ k. subscription_from (kept_in ls k)) kept.subscriptions) log_is ∙ map-twice (kept_in kept.log) subscription_from kept.subscriptions in
+    let long : durable ≡ length kept.log = durable_is ∙ ap length log_is in
+    cc (name_is, size_is, ledger_is, ordinal_is, producer_is, consumer_is, log_is, long, producers_is, members_is, all)
