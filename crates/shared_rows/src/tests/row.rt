@@ -1,6 +1,6 @@
 // A journal of eight lines, which is full after five: one is the topic's own, and two are kept for ends.
 use super::asks::{Ask, event_of, name, size};
-use delivery_machine::Reply;
+use delivery_machine::{Reply, Saved};
 use plain_topic::PlainTopic;
 use position_core::Fault;
 use std::process::Abort;
@@ -96,4 +96,34 @@ fn a_seat_is_taken_once(rt: HostRuntime) {
     assert_eq!(rt; cell.enter(), Err(Fault::NoRoom));
     cell.exit(1);
     assert_eq!(rt; cell.enter(), Ok(1));
+}
+
+#[test]
+fn the_last_line_is_for_what_is_stored(rt: HostRuntime) {
+    let mut cell = with_three(&rt);
+    assert!(rt; asked(&rt, &mut cell, Ask::Disconnect { producer: 1 }) == Came::Done);
+    assert!(rt; asked(&rt, &mut cell, Ask::Leave { consumer: 1 }) == Came::Done);
+    assert!(rt; cell.ready().is_ok());
+    let snapshot = cell.view().expect(&rt, "no memory");
+    assert_eq!(rt; snapshot.log().count(), 3);
+    assert!(rt; matches!(cell.stored(), Reply::Durable(3)));
+    assert_eq!(rt; cell.lines(), 8);
+    assert!(rt; cell.is_settled());
+    assert!(rt; !cell.needs_storing());
+    assert_eq!(rt; cell.ready(), Err(Fault::JournalFull));
+}
+
+#[test]
+fn a_promised_line_stays(rt: HostRuntime) {
+    let mut cell = new_cell(&rt, 8);
+    assert!(rt; asked(&rt, &mut cell, Ask::Connect) == Came::Added(1));
+    assert!(rt; asked(&rt, &mut cell, publishing(0)) == Came::Published(1));
+    assert!(rt; cell.ready().is_ok());
+    cell.view_taken();
+    assert!(rt; asked(&rt, &mut cell, publishing(1)) == Came::Published(2));
+    assert!(rt; asked(&rt, &mut cell, publishing(2)) == Came::Published(3));
+    assert!(rt; asked(&rt, &mut cell, publishing(3)) == Came::Full);
+    assert_eq!(rt; cell.confirm(1, 0), 1);
+    assert!(rt; cell.needs_storing());
+    assert_eq!(rt; cell.lines(), 5);
 }
