@@ -1,4 +1,8 @@
 //! The rows of topics: what stands in the database of what is kept of a topic.
 #![tactic(auto)]
 
-pub fn nothing() {}
+mod change;
+mod raw_rows;
+
+pub use change::{AckRow, Change, DeadRow, Difference, SubRow};
+pub use raw_rows::RawRows;
