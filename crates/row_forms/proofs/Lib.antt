@@ -1,0 +1,3 @@
+pub mod Acks
+pub mod Differences
+pub mod Subs

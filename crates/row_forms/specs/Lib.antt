@@ -5,3 +5,5 @@ pub mod Properties
 pub mod Forms
 pub mod Standing
 pub mod Changes
+pub mod Sides
+pub mod Parts
