@@ -1,14 +1,16 @@
 -- Changes table by table: what goes and what comes makes the old subscriptions' rows those of the new ones.
-use Rattle.std.specs.Prelude.{ℕ, List, [], ◌∷◌, ◌++◌, Option, Some, None, map}
+use Rattle.std.specs.Prelude.{◌≡◌, ℕ, List, [], ◌∷◌, ◌++◌, Option, Some, None, map}
+use Rattle.std.specs.List.Sorted.{IsStrictlySortedBy}
 use Rattle.sqlite.specs.Order.{Row}
 use Rattle.position_core.specs.declared.message.Entry.{Entry}
+use Rattle.position_core.specs.Position.{position_cmp}
 use Rattle.delivery_machine.specs.State.{DeadLetter}
 use Rattle.delivery_machine.specs.Places.{KeptPlaces}
 use Rattle.row_forms.specs.declared.change.SubRow.{SubRow}
 use Rattle.row_forms.specs.declared.change.AckRow.{AckRow}
 use Rattle.row_forms.specs.declared.change.DeadRow.{DeadRow}
 use Rattle.row_forms.specs.declared.change.Difference.{Difference}
-use Rattle.row_forms.specs.Forms.{AreAckRows, ack_row, dead_row, dead_rows, sub_rows}
+use Rattle.row_forms.specs.Forms.{AreAckRows, ack_row, dead_row, dead_rows, place_in, sub_rows}
 use Rattle.row_forms.specs.Changes.{IsDifference, ack_cells, dead_cells, sub_cells}
 
 -- the change that was `d` has become `e`: after the rows that it was for come those of the old things, and of the new ones
@@ -51,3 +53,13 @@ DeadsDiffer was log olds news d =
 abbrev pub waiting : Option (ℕ × ℕ) → List (ℕ × ℕ) → List (ℕ × ℕ)
 waiting None rest = []
 waiting (Some run) rest = run ∷ rest
+
+-- positions rise
+abbrev pub IsRising : List Entry → Type 0
+IsRising log = IsStrictlySortedBy position_cmp (map (λ e. e.position) log)
+
+-- two dead letters have the same ordinal and target, and stand at the same place, each in its log
+pub record IsSameLetter (was log : List Entry) (old new : DeadLetter) : Type 0 where
+  pub ordinal : old.ordinal ≡ new.ordinal
+  pub place : place_in was old.position ≡ place_in log new.position
+  pub target : old.target ≡ new.target

@@ -2,10 +2,14 @@
 #![tactic(auto)]
 
 mod ack_difference;
+mod between;
 mod change;
+mod dead_difference;
 mod raw_rows;
 mod side;
 mod sub_difference;
+mod texts;
 
 pub use change::{AckRow, Change, DeadRow, Difference, SubRow};
 pub use raw_rows::RawRows;
+pub use texts::topic_text;

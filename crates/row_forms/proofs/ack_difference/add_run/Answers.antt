@@ -1,7 +1,8 @@
+use Rattle.std.proofs.Common.{◌≡◌}
 use Rattle.row_forms.specs.Changes.{ack_cells}
 use Rattle.row_forms.specs.Forms.{ack_row}
 use Rattle.row_forms.proofs.Differences.{goes, comes, becomes, stays}
-use Rattle.row_forms.proofs.Acks.{run_is}
+use Rattle.row_forms.proofs.Acks.{pairs_seen, run_is, run_same}
 use Rattle.row_forms.proofs.ack_difference.add_run.Goals as goal
 
 pub returns-in_ok-row_of-in-Gone : goal.returns-in_ok-row_of-in-Gone
@@ -21,7 +22,10 @@ returns-in_ok-row_of-in-New c =
     (run_is row.field-0 sub c.in-New.new row.ensures.sub row.ensures.first row.ensures.last))
 
 pub returns-then-eq : goal.returns-then-eq
-returns-then-eq c = ?
+returns-then-eq c =
+    let sub = c.args.sub.now in
+    let same : c.in-Both.old ≡ c.in-Both.new = pairs_seen _ _ _ c.eq.ensures c.if-eq.true in
+    rw c.in-Both.is (stays ack_cells (λ topic. ack_row topic sub) (λ topic. ack_row topic sub) c.args.difference.now c.in-Both.old c.in-Both.new (run_same sub c.in-Both.old c.in-Both.new same))
 
 pub returns-in_ok-row_of-in-Both-2 : goal.returns-in_ok-row_of-in-Both-2
 returns-in_ok-row_of-in-Both-2 c =

@@ -1,22 +1,17 @@
-use Rattle.std.proofs.Common.{◌≡◌, [], ◌++◌, refl, subst}
-use Rattle.std.proofs.lemmas.List.{map-append}
+use Rattle.std.proofs.Common.{ℕ, List, [], ◌++◌, refl}
 use Rattle.row_forms.specs.Sides.{new_of, old_of}
-use Rattle.row_forms.specs.Changes.{ack_cells}
-use Rattle.row_forms.specs.Forms.{ack_row}
-use Rattle.row_forms.specs.Parts.{ExtendsByRuns}
-use Rattle.row_forms.proofs.Differences.{nothing_more}
-use Rattle.row_forms.proofs.Acks.{runs-append}
+use Rattle.row_forms.proofs.Acks.{no_run_more, runs-append}
 use Rattle.row_forms.proofs.Subs.{passed, nothing_left}
 use Rattle.row_forms.proofs.ack_difference.add_runs.Goals as goal
 
 pub sides-init : goal.sides-init
-sides-init c = ([], [], refl, refl, nothing_more ack_cells _ _ c.args.difference.now (λ topic. refl) (λ topic. refl))
+sides-init c = ([], [], refl, refl, no_run_more c.args.sub.now c.args.difference.now)
 
 pub sides-preserved : goal.sides-preserved
 sides-preserved c =
     let h = c.sides.invariant in
-    let olds = old_of (λ run. run) c.in-Some.side in
-    let news = new_of (λ run. run) c.in-Some.side in (
+    let olds : List (ℕ × ℕ) = old_of (λ run. run) c.in-Some.side in
+    let news : List (ℕ × ℕ) = new_of (λ run. run) c.in-Some.side in (
       h.0 ++ olds,
       h.1 ++ news,
       passed _ h.0 _ _ _ h.2 c.in-Some.ensures.lefts,

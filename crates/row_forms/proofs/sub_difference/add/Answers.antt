@@ -1,4 +1,4 @@
-use Rattle.std.proofs.Common.{◌≡◌, true, ap, sym, ◌∙◌}
+use Rattle.std.proofs.Common.{◌≡◌, true, ap}
 use Rattle.position_core.specs.Kind.{same_kind}
 use Rattle.delivery_machine.specs.Places.{KeptPlaces}
 use Rattle.row_forms.specs.Changes.{sub_cells}

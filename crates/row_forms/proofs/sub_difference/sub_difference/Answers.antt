@@ -1,10 +1,10 @@
-use Rattle.std.proofs.Common.{◌≡◌, [], ◌++◌, refl}
-use Rattle.std.proofs.lemmas.List.{map-append}
+use Rattle.std.proofs.Common.{List, [], ◌++◌, refl}
+use Rattle.delivery_machine.specs.Places.{KeptPlaces}
 use Rattle.row_forms.specs.Sides.{new_of, old_of}
 use Rattle.row_forms.specs.Changes.{sub_cells}
-use Rattle.row_forms.specs.Forms.{sub_row, sub_rows}
-use Rattle.row_forms.proofs.Differences.{IsJoined, nothing_more, extends-append, extends_in_all}
-use Rattle.row_forms.proofs.Subs.{passed, nothing_left}
+use Rattle.row_forms.specs.Forms.{sub_rows}
+use Rattle.row_forms.proofs.Differences.{nothing_more, extends-append, extends_in_all}
+use Rattle.row_forms.proofs.Subs.{sub_rows-append, passed, nothing_left}
 use Rattle.row_forms.proofs.sub_difference.sub_difference.Goals as goal
 
 pub sides-init : goal.sides-init
@@ -13,14 +13,13 @@ sides-init c = ([], [], c.of-walk.ensures.olds, c.of-walk.ensures.news, nothing_
 pub sides-preserved : goal.sides-preserved
 sides-preserved c =
     let h = c.sides.invariant in
-    let olds = old_of (λ x. x.now) c.in-Some.side in
-    let news = new_of (λ x. x.now) c.in-Some.side in
-    let joins = λ topic. map-append (sub_row topic) in (
+    let olds : List KeptPlaces = old_of (λ x. x.now) c.in-Some.side in
+    let news : List KeptPlaces = new_of (λ x. x.now) c.in-Some.side in (
       h.0 ++ olds,
       h.1 ++ news,
       passed _ h.0 _ _ _ h.2 c.in-Some.ensures.olds,
       passed _ h.1 _ _ _ h.3 c.in-Some.ensures.news,
-      extends-append sub_cells sub_rows sub_rows joins joins c.none-difference.result c.sides.difference c.add.new.difference h.0 h.1 olds news h.4 c.in_ok-add.ensures,
+      extends-append sub_cells sub_rows sub_rows sub_rows-append sub_rows-append c.none-difference.result c.sides.difference c.add.new.difference h.0 h.1 olds news h.4 c.in_ok-add.ensures,
     )
 
 pub returns : goal.returns
