@@ -6,6 +6,7 @@ use Rattle.std.proofs.lemmas.List.Recursion.{found_at, found_nowhere}
 use Rattle.std.proofs.lemmas.List.Quantifiers.{position-Some}
 use Rattle.std.proofs.lemmas.List.Sums.{fails_before_first}
 use Rattle.std.proofs.lemmas.Bool.Decides.{nat_tests}
+pub use Rattle.log_pieces.proofs.Searching.{fails_everywhere}
 use Rattle.delivery_machine.specs.Words.{changed, removed}
 
 pub find-position : {A : Type 0} (p : A → Bool) (xs : List A) (i : ℕ) (d : A) → position p xs ≡ Some i → find p xs ≡ Some (get_or xs i d)
@@ -30,16 +31,6 @@ pub changed-position : {A : Type 0} (p : A → Bool) (f : A → A) (xs : List A)
 changed-position p f xs i d is =
     let at = position-Some p xs i d is in
     changed_at p f xs i d at.0 at.1 at.2
-
-chosen_none : (b : Bool) (n : ℕ) → cond b (Some n) None ≡ None → b ≡ false
-chosen_none true n e = cc
-chosen_none false n e = refl
-
-pub fails_everywhere : {A : Type 0} (p : A → Bool) (xs : List A) → position p xs ≡ None → (k : ℕ) (d : A) → k < length xs → p (get_or xs k d) ≡ false
-fails_everywhere p xs is k d below =
-    let past : nat_lt (position_or_len p xs) (length xs) ≡ false = chosen_none _ _ is in
-    let before : k < position_or_len p xs = grind (arith, nat_tests) in
-    fails_before_first p xs k d before
 
 pub find-no_position : {A : Type 0} (p : A → Bool) (xs : List A) (d : A) → position p xs ≡ None → find p xs ≡ None
 find-no_position p xs d is = found_nowhere (find p) p Some None refl (λ _ _. refl) xs d (λ k below. fails_everywhere p xs is k d below)

@@ -1,11 +1,10 @@
 -- A topic's log, and what its calls do, in the words of the delivery machine.
 use Rattle.std.specs.Prelude.{◌≡◌, ℕ, ◌+◌, ◌^◌, ◌==◌, nat_le, nat_lt, min, Bool, ◌||◌, List, [], ◌∷◌, ◌++◌, length, Option, Some, None, if◌then◌else◌}
-use Rattle.std.specs.List.{count_by, position}
+use Rattle.std.specs.List.{count_by}
 use Rattle.std.specs.Option.{option_map_or}
 use Rattle.position_core.specs.declared.position.Position.{Position}
 use Rattle.position_core.specs.declared.message.Entry.{Entry}
 use Rattle.delivery_machine.specs.State.{State}
-use Rattle.delivery_machine.specs.Words.{has_position}
 use Rattle.log_pieces.specs.Pieces.{front}
 
 -- messages go into `ledger` until that is full; `undo` is what it was before the last message, where that may be taken back
@@ -48,7 +47,3 @@ popped q = option_map_or (λ ledger. record q { log = front q.log; ledger = ledg
 -- messages go into the next ledger; 2^62 + 1 is the last
 abbrev pub rolled : Log → Log
 rolled q = record q { ledger = min (q.ledger + 1) (2 ^ 62 + 1); undo = None }
-
--- the index of the message at the position
-abbrev pub index_of : Position → List Entry → Option ℕ
-index_of at log = position (has_position at) log

@@ -7,10 +7,10 @@ ghost use Rattle.delivery_machine.specs.State.{State};
 ghost use Rattle.delivery_machine.specs.Words.{next_position};
 ghost use Rattle.delivery_machine.specs.Refusals.{is_full};
 ghost use Rattle.delivery_machine.specs.Producing.{with_message};
-ghost use Rattle.entry_log.specs.Log.{IsLogOf, empty_log, next_in, is_full_log, appended, popped, rolled, index_of};
+ghost use Rattle.entry_log.specs.Log.{IsLogOf, empty_log, next_in, is_full_log, appended, popped, rolled};
+ghost use Rattle.log_pieces.specs.Pieces.{index_of};
 
 use crate::open_ledger::{LAST_LEDGER, OpenLedger};
-use crate::search;
 use log_pieces::Pieces;
 use position_core::{LedgerSize, Message, Position};
 use std::alloc::{AllocError, Global};
@@ -80,7 +80,7 @@ impl EntryLog {
     pub fn index_of(&self, at: Position) -> Option<usize>
         ensures { result ≡ index_of at self.now.log }
     {
-        search::index_of(&self.pieces, at)
+        self.pieces.index_of(at)
     }
 
     /// The position of the next message.

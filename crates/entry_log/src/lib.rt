@@ -3,6 +3,5 @@
 
 mod entry_log;
 mod open_ledger;
-mod search;
 
 pub use entry_log::EntryLog;

@@ -74,8 +74,8 @@ regroup a b c d e = simp append_assoc
 regroup_quoted : (text k a b value z : List ℕ) → text ++ (k ++ (a ++ b)) ++ value ++ z ≡ text ++ (k ++ a ++ (b ++ (value ++ z)))
 regroup_quoted text k a b value z = simp append_assoc
 
-regroup_object : (text k a b inner z comma : List ℕ) → text ++ (k ++ (a ++ b)) ++ inner ++ (z ++ comma) ≡ text ++ (k ++ a ++ (b ++ (inner ++ z)) ++ comma ++ [])
-regroup_object text k a b inner z comma = simp (append_assoc, append-nil)
+regroup_object : (text a inner z : List ℕ) → text ++ a ++ inner ++ z ≡ text ++ (a ++ (inner ++ z))
+regroup_object text a inner z = simp append_assoc
 
 regroup_property : (text comma name a value : List ℕ) → text ++ comma ++ name ++ a ++ value ≡ text ++ (comma ++ (name ++ a ++ value))
 regroup_property text comma name a value = simp append_assoc
@@ -151,11 +151,9 @@ pub last_pushed : (k value text head first second third : List ℕ) → head ≡
 last_pushed k value text head first second third head_is e₁ e₂ e₃ =
     e₃ ∙ ap (λ s. s ++ codes "}") (field_pushed k (quoted value) text head first second (string value) (compact_string value) head_is e₁ e₂) ∙ append_assoc text (field_text (k, string value)) (codes "}")
 
--- an object of fields, pushed with its name
-pub object_comma_pushed : (k text head first second third : List ℕ) (fields : Fields) → head ≡ quoted k ++ codes ":{" → first ≡ text ++ head → second ≡ first ++ fields_text fields → third ≡ second ++ codes "},"
-    → third ≡ text ++ leading ((k, object_with fields) ∷ [])
-object_comma_pushed k text head first second third fields head_is e₁ e₂ e₃ =
-    rw (e₃, e₂, e₁, head_is, object_prints fields) (regroup_object text (quoted k) (codes ":") (codes "{") (fields_text fields) (codes "}") (codes ","))
+-- an object of fields, pushed between its braces
+pub object_pushed : (text first second third : List ℕ) (fields : Fields) → first ≡ text ++ codes "{" → second ≡ first ++ fields_text fields → third ≡ second ++ codes "}" → third ≡ text ++ object_text fields
+object_pushed text first second third fields e₁ e₂ e₃ = rw (e₃, e₂, e₁, object_prints fields) (regroup_object text (codes "{") (fields_text fields) (codes "}"))
 
 -- a property: a comma unless it is the first, its name and its value
 pub property_pushed : (name value text comma first second third fourth : List ℕ) → first ≡ text ++ comma → second ≡ first ++ quoted name → third ≡ second ++ codes ":" → fourth ≡ third ++ quoted value

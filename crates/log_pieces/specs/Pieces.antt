@@ -1,7 +1,9 @@
 -- A list of messages in pieces: segments of 1,024 messages, and the others.
-use Rattle.std.specs.Prelude.{◌≡◌, ◌-◌, ◌≤◌, List, [], ◌∷◌, ◌++◌, length, take, ⊤}
-use Rattle.std.specs.List.{flat_map}
+use Rattle.std.specs.Prelude.{◌≡◌, ℕ, ◌-◌, ◌≤◌, Bool, List, [], ◌∷◌, ◌++◌, length, take, Option, ⊤}
+use Rattle.std.specs.List.{flat_map, position}
+use Rattle.position_core.specs.declared.position.Position.{Position}
 use Rattle.position_core.specs.declared.message.Entry.{Entry}
+use Rattle.position_core.specs.Position.{same_position}
 
 pub record Parts : Type 0 where
   pub sealed : List (List Entry)
@@ -23,3 +25,11 @@ pub record ArePieces (p : Parts) : Type 0 where
 -- without its last message
 abbrev pub front : List Entry → List Entry
 front log = take (length log - 1) log
+
+-- the message has the position
+abbrev pub stands_at : Position → Entry → Bool
+stands_at at e = same_position e.position at
+
+-- the index of the message at the position
+abbrev pub index_of : Position → List Entry → Option ℕ
+index_of at log = position (stands_at at) log

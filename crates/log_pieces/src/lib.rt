@@ -2,6 +2,7 @@
 #![tactic(auto)]
 
 mod pieces;
+mod search;
 mod segment;
 
 pub use pieces::Pieces;

@@ -1,10 +1,13 @@
 // Messages in pieces, most of which several logs may share.
-ghost use Rattle.std.specs.Prelude.{◌≡◌, ◌+◌, ◌*◌, ◌<◌, ◌≤◌, [], ◌∷◌, ◌++◌, length, OnOk, OnErr, slice_get};
+ghost use Rattle.std.specs.Prelude.{◌≡◌, ◌+◌, ◌*◌, ◌<◌, ◌≤◌, [], ◌∷◌, ◌++◌, length, map, OnOk, OnErr, slice_get};
 ghost use Rattle.std.specs.Option.{option_copied};
-ghost use Rattle.log_pieces.specs.Pieces.{front, joined};
+ghost use Rattle.std.specs.List.Sorted.{IsStrictlySortedBy};
+ghost use Rattle.position_core.specs.Position.{position_cmp};
+ghost use Rattle.log_pieces.specs.Pieces.{front, index_of, joined};
 
+use crate::search;
 use crate::segment::{Segment, message_at};
-use position_core::Message;
+use position_core::{Message, Position};
 use std::alloc::{AllocError, Global};
 use std::marker::Model;
 
@@ -61,6 +64,15 @@ impl Pieces {
         } else {
             message_at(&self.loose, index - sealed)
         }
+    }
+
+    /// The index of the message at the position, where positions rise. Takes the logarithm of the number
+    /// of messages.
+    pub fn index_of(&self, at: Position) -> Option<usize>
+        requires { IsStrictlySortedBy position_cmp (map (λ e. e.position) (joined self.now)) }
+        ensures { result ≡ index_of at (joined self.now) }
+    {
+        search::index_of(self, at)
     }
 
     /// Puts the message after those that are sealed with it.

@@ -1,0 +1,5 @@
+pub mod Acks
+pub mod Deads
+pub mod Differences
+pub mod Leading
+pub mod Subs

@@ -15,8 +15,18 @@ required name kind = record { name = name; kind = kind; is_strict = true; not_nu
 
 abbrev pub table_of : List ℕ → ℕ → List Column → List ℕ → Table
 table_of name tree columns key = record {
-  name = name; tree = tree; columns = columns; key = None; primary = key; uniques = key ∷ []; orders = plain ∷ []; checks = []; references = []; computed = [];
-  stamps = record { places = []; terms = []; formats = [] }; is_counted = false;
+  name = name;
+  tree = tree;
+  columns = columns;
+  key = None;
+  primary = key;
+  uniques = key ∷ [];
+  orders = plain ∷ [];
+  checks = [];
+  references = [];
+  computed = [];
+  stamps = record { places = []; terms = []; formats = [] };
+  is_counted = false;
 }
 
 abbrev pub index_of : List ℕ → ℕ → ℕ → List ℕ → Index

@@ -1,5 +1,5 @@
 -- What stands in a database: the rows of topics.
-use Rattle.std.specs.Prelude.{◌≡◌, ◌≢◌, ◌++◌, ℕ, List, [], ◌∷◌, IsPermutation}
+use Rattle.std.specs.Prelude.{◌≢◌, ℕ, List, IsPermutation}
 use Rattle.std.specs.List.{AllByRecursion}
 use Rattle.position_core.specs.TopicName.{topic_text}
 use Rattle.sqlite.specs.Tree.{Trees}

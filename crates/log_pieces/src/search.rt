@@ -2,10 +2,9 @@
 ghost use Rattle.std.specs.Prelude.{◌≡◌, map};
 ghost use Rattle.std.specs.List.Sorted.{IsStrictlySortedBy};
 ghost use Rattle.position_core.specs.Position.{position_cmp};
-ghost use Rattle.entry_log.specs.Log.{index_of};
-ghost use Rattle.log_pieces.specs.Pieces.{joined};
+ghost use Rattle.log_pieces.specs.Pieces.{index_of, joined};
 
-use log_pieces::Pieces;
+use crate::pieces::Pieces;
 use position_core::Position;
 use std::cmp::Ordering;
 

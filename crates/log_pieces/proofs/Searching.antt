@@ -1,12 +1,15 @@
 -- Halving a log whose positions rise.
-use Rattle.std.proofs.Common.{◌≡◌, ℕ, ◌+◌, ◌<◌, ◌≤◌, true, false, List, [], ◌∷◌, map, length, Option, Some, None, refl, ap, sym, ◌∙◌, position, get_or, inl, inr, arith}
-use Rattle.std.specs.List.{slice_get}
+use Rattle.std.proofs.Common.{Bool, cond, ◌≡◌, ℕ, ◌+◌, ◌<◌, ◌≤◌, true, false, List, [], ◌∷◌, map, length, Option, Some, None, refl, ap, sym, ◌∙◌, position, get_or, inl, inr, arith}
+use Rattle.std.specs.Prelude.{nat_lt}
+use Rattle.std.specs.List.{slice_get, position_or_len}
 use Rattle.std.specs.List.Sorted.{IsStrictlySortedBy}
 use Rattle.std.specs.Ordering.{is_eq, ordering_reverse}
 use Rattle.std.specs.declared.cmp.Ordering.{Ordering}
 use Rattle.std.specs.declared.cmp.Ordering.TheVariants.{Less, Equal, Greater}
 use Rattle.std.proofs.lemmas.Bool.{cases_lt, false≢true}
+use Rattle.std.proofs.lemmas.Bool.Decides.{nat_tests}
 use Rattle.std.proofs.lemmas.List.{length-map}
+use Rattle.std.proofs.lemmas.List.Sums.{fails_before_first}
 use Rattle.std.proofs.lemmas.List.Quantifiers.{position-Some}
 use Rattle.std.proofs.lemmas.Map.Keys.{Less-from_sorted}
 use Rattle.std.proofs.lemmas.Option.{slice_get_within, get_or_from_slice_get}
@@ -14,9 +17,21 @@ use Rattle.std.proofs.Math.ListN.{get_or-map}
 use Rattle.position_core.specs.declared.position.Position.{Position}
 use Rattle.position_core.specs.declared.message.Entry.{Entry}
 use Rattle.position_core.specs.Position.{position_cmp, positions_total, exact_positions}
-use Rattle.delivery_machine.specs.Words.{has_position}
-use Rattle.entry_log.specs.Log.{index_of}
-use Rattle.delivery_machine.proofs.Places.{fails_everywhere}
+use Rattle.log_pieces.specs.Pieces.{index_of, stands_at}
+
+-- ---- where nothing passes
+
+chosen_none : (b : Bool) (n : ℕ) → cond b (Some n) None ≡ None → b ≡ false
+chosen_none true n e = cc
+chosen_none false n e = refl
+
+pub fails_everywhere : {A : Type 0} (p : A → Bool) (xs : List A) → position p xs ≡ None → (k : ℕ) (d : A) → k < length xs → p (get_or xs k d) ≡ false
+fails_everywhere p xs is k d below =
+    let past : nat_lt (position_or_len p xs) (length xs) ≡ false = chosen_none _ _ is in
+    let before : k < position_or_len p xs = grind (arith, nat_tests) in
+    fails_before_first p xs k d before
+
+-- ---- halving
 
 abbrev pub IsRising : List Entry → Type 0
 IsRising log = IsStrictlySortedBy position_cmp (map (λ e. e.position) log)
@@ -88,25 +103,25 @@ steps_down log at low high middle m rising between inside here greater = record 
 
 -- ---- what was found
 
-not_earlier : (e : Entry) (at : Position) → position_cmp e.position at ≡ Less → has_position at e ≡ false
+not_earlier : (e : Entry) (at : Position) → position_cmp e.position at ≡ Less → stands_at at e ≡ false
 not_earlier e at less = ap (λ (r : Ordering). is_eq r) less
 
-not_later : (e : Entry) (at : Position) → position_cmp at e.position ≡ Less → has_position at e ≡ false
+not_later : (e : Entry) (at : Position) → position_cmp at e.position ≡ Less → stands_at at e ≡ false
 not_later e at less = ap (λ (r : Ordering). is_eq r) (positions_total.antisymm e.position at ∙ ap (λ (r : Ordering). ordering_reverse r) less)
 
 pub nowhere : (log : List Entry) (at : Position) (low high : ℕ) → IsBetween log at low high → high ≤ low → None ≡ index_of at log
 nowhere log at low high between over = sym (by (index_of at log) refl)
   where
-    fails : (k : ℕ) (d : Entry) → k < length log → has_position at (get_or log k d) ≡ false
+    fails : (k : ℕ) (d : Entry) → k < length log → stands_at at (get_or log k d) ≡ false
     fails k d within = elim (cases_lt k low) [
       | inl before ↦ not_earlier (get_or log k d) at (between.before k d before)
       | inr beyond ↦ not_later (get_or log k d) at (between.after k d (omega arith) within)
     ]
 
-    at_some : (xs : List Entry) (i : ℕ) → position (has_position at) xs ≡ Some i → ((k : ℕ) (d : Entry) → k < length xs → has_position at (get_or xs k d) ≡ false) → ⊥
+    at_some : (xs : List Entry) (i : ℕ) → position (stands_at at) xs ≡ Some i → ((k : ℕ) (d : Entry) → k < length xs → stands_at at (get_or xs k d) ≡ false) → ⊥
     at_some [] i e fails = cc
     at_some (x ∷ xs) i e fails =
-        let is = position-Some (has_position at) (x ∷ xs) i x e in
+        let is = position-Some (stands_at at) (x ∷ xs) i x e in
         false≢true (sym (fails i x is.0) ∙ is.1)
 
     by : (r : Option ℕ) → index_of at log ≡ r → index_of at log ≡ None
@@ -116,16 +131,16 @@ nowhere log at low high between over = sym (by (index_of at log) refl)
 pub found : (log : List Entry) (at : Position) (middle : ℕ) (m : Entry) → IsRising log → slice_get log middle ≡ Some m → position_cmp m.position at ≡ Equal → Some middle ≡ index_of at log
 found log at middle m rising here equal = sym (by (index_of at log) refl)
   where
-    is_it : has_position at (get_or log middle m) ≡ true
-    is_it = ap (λ (e : Entry). has_position at e) (get_or_from_slice_get log middle m m here) ∙ ap (λ (r : Ordering). is_eq r) equal
+    is_it : stands_at at (get_or log middle m) ≡ true
+    is_it = ap (λ (e : Entry). stands_at at e) (get_or_from_slice_get log middle m m here) ∙ ap (λ (r : Ordering). is_eq r) equal
 
     same : (get_or log middle m).position ≡ at
     same = ap (λ (e : Entry). e.position) (get_or_from_slice_get log middle m m here) ∙ exact_positions m.position at equal
 
     by : (r : Option ℕ) → index_of at log ≡ r → index_of at log ≡ Some middle
-    by None e = absurd (false≢true (sym (fails_everywhere (has_position at) log e middle m (slice_get_within log middle m here)) ∙ is_it))
+    by None e = absurd (false≢true (sym (fails_everywhere (stands_at at) log e middle m (slice_get_within log middle m here)) ∙ is_it))
     by (Some i) e =
-        let is = position-Some (has_position at) log i m e in
+        let is = position-Some (stands_at at) log i m e in
         elim (cases_lt i middle) [
           | inl before ↦
               let less = earlier log i middle m rising before (slice_get_within log middle m here) in

@@ -4,8 +4,8 @@ use Rattle.std.specs.declared.cmp.Ordering.TheVariants.{Less, Equal, Greater}
 use Rattle.position_core.specs.declared.position.Position.{Position}
 use Rattle.position_core.specs.Position.{position_cmp}
 use Rattle.log_pieces.specs.Pieces.{joined}
-use Rattle.entry_log.proofs.Searching.{steps_up, steps_down, nowhere, found}
-use Rattle.entry_log.proofs.search.index_of.Goals as goal
+use Rattle.log_pieces.proofs.Searching.{steps_up, steps_down, nowhere, found}
+use Rattle.log_pieces.proofs.search.index_of.Goals as goal
 
 pub loop-low-preserved-in-Less : goal.loop-low-preserved-in-Less
 loop-low-preserved-in-Less c =

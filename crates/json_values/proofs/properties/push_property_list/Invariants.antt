@@ -2,7 +2,7 @@ use Rattle.std.proofs.Common.{◌≡◌, ◌++◌, map, string_bytes}
 use Rattle.std.specs.Map.Iter.{deref_pair}
 use Rattle.json_values.specs.Written.{fields_text, property_fields}
 use Rattle.json_values.proofs.Written.{has_none}
-use Rattle.wire_json.proofs.deliveries.push_property_list.Given as goal
+use Rattle.json_values.proofs.properties.push_property_list.Given as goal
 
 abbrev pub invariant-loop-name : goal.invariant-loop-name
 invariant-loop-name l = record {

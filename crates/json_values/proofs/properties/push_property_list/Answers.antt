@@ -4,7 +4,7 @@ use Rattle.std.specs.Map.Iter.{deref_pair}
 use Rattle.std.proofs.lemmas.Map.Iter.{iter_end}
 use Rattle.json_values.proofs.Written.{next_written, none_after_one}
 use Rattle.json_values.specs.Written.{property_field}
-use Rattle.wire_json.proofs.deliveries.push_property_list.Goals as goal
+use Rattle.json_values.proofs.properties.push_property_list.Goals as goal
 
 pub loop-name-preserved : goal.loop-name-preserved
 loop-name-preserved c =

@@ -1,0 +1,53 @@
+-- How the rows of one snapshot become those of another: which go, which come and which stay.
+use Rattle.std.specs.Prelude.{◌≡◌, ◌≤◌, ℕ, pos, List, [], ◌∷◌, ◌++◌, drop, map, length, if◌then◌else◌, string_bytes, IsPermutation}
+use Rattle.position_core.specs.TopicName.{topic_text}
+use Rattle.sqlite.specs.declared.types.Value.TheVariants.{Int, Text as Words}
+use Rattle.sqlite.specs.Order.{Row}
+use Rattle.delivery_machine.specs.Places.{KeptTopic}
+use Rattle.row_forms.specs.declared.change.SubRow.{SubRow}
+use Rattle.row_forms.specs.declared.change.AckRow.{AckRow}
+use Rattle.row_forms.specs.declared.change.DeadRow.{DeadRow}
+use Rattle.row_forms.specs.declared.change.Change.{Change}
+use Rattle.row_forms.specs.declared.raw_rows.RawRows.{RawRows}
+use Rattle.row_forms.specs.Forms.{TopicRows, entry_rows, kind_number, topic_row}
+
+-- ---- the cells of a row that goes or comes
+
+abbrev pub sub_cells : List ℕ → SubRow → Row
+sub_cells topic sub = Words topic ∷ Words sub.name ∷ Int (pos (kind_number sub.kind)) ∷ []
+
+abbrev pub ack_cells : List ℕ → AckRow → Row
+ack_cells topic ack = Words topic ∷ Words ack.sub ∷ Int (pos ack.first) ∷ Int (pos ack.last) ∷ []
+
+abbrev pub dead_cells : List ℕ → DeadRow → Row
+dead_cells topic dead =
+    Words topic ∷ Words dead.sub ∷ Int (pos dead.ordinal) ∷ Int (pos dead.place) ∷ Words (string_bytes dead.target) ∷ []
+
+-- ---- from the old rows to the new ones
+
+-- some rows stay: the old ones are they and those that go, the new ones they and those that come
+abbrev pub IsDifference : List Row → List Row → List Row → List Row → Type 0
+IsDifference olds news gone more = (stay : List Row) × IsPermutation (gone ++ stay) olds × IsPermutation (more ++ stay) news
+
+-- the change makes the old rows those new ones
+pub record Leads (kept : KeptTopic) (change : Change) (old new : TopicRows) : Type 0 where
+  pub topics : new.topics ≡ (if change.topic then topic_row kept ∷ [] else old.topics)
+  pub from : change.from ≤ length kept.log
+  pub entries : new.entries ≡ old.entries ++ entry_rows (topic_text kept.name) change.from (drop change.from kept.log)
+  pub subs : IsDifference old.subs new.subs (map (sub_cells (topic_text kept.name)) change.subs.gone.items) (map (sub_cells (topic_text kept.name)) change.subs.news.items)
+  pub acks : IsDifference old.acks new.acks (map (ack_cells (topic_text kept.name)) change.acks.gone.items) (map (ack_cells (topic_text kept.name)) change.acks.news.items)
+  pub deads : IsDifference old.deads new.deads (map (dead_cells (topic_text kept.name)) change.deads.gone.items) (map (dead_cells (topic_text kept.name)) change.deads.news.items)
+
+-- ---- rows as they are read
+
+-- the topic's text before each row
+abbrev pub with_topic : List ℕ → RawRows → TopicRows
+with_topic topic raw =
+    let put = λ (r : Row). Words topic ∷ r in
+    record {
+      topics = map put raw.topics.items;
+      entries = map put raw.entries.items;
+      subs = map put raw.subs.items;
+      acks = map put raw.acks.items;
+      deads = map put raw.deads.items;
+    }

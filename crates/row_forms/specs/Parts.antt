@@ -1,0 +1,65 @@
+-- Changes table by table: what goes and what comes makes the old subscriptions' rows those of the new ones.
+use Rattle.std.specs.Prelude.{◌≡◌, ℕ, List, [], ◌∷◌, ◌++◌, Option, Some, None, map}
+use Rattle.std.specs.List.Sorted.{IsStrictlySortedBy}
+use Rattle.sqlite.specs.Order.{Row}
+use Rattle.position_core.specs.declared.message.Entry.{Entry}
+use Rattle.position_core.specs.Position.{position_cmp}
+use Rattle.delivery_machine.specs.State.{DeadLetter}
+use Rattle.delivery_machine.specs.Places.{KeptPlaces}
+use Rattle.row_forms.specs.declared.change.SubRow.{SubRow}
+use Rattle.row_forms.specs.declared.change.AckRow.{AckRow}
+use Rattle.row_forms.specs.declared.change.DeadRow.{DeadRow}
+use Rattle.row_forms.specs.declared.change.Difference.{Difference}
+use Rattle.row_forms.specs.Forms.{AreAckRows, ack_row, dead_row, dead_rows, place_in, sub_rows}
+use Rattle.row_forms.specs.Changes.{IsDifference, ack_cells, dead_cells, sub_cells}
+
+-- the change that was `d` has become `e`: after the rows that it was for come those of the old things, and of the new ones
+abbrev pub Extends : {A B : Type 0} → (List ℕ → A → Row) → (List ℕ → List B → List Row) → (List ℕ → List B → List Row) → List B → List B → Difference A → Difference A → Type 0
+Extends cells was now olds news d e =
+    (topic : List ℕ) (rows others : List Row) → IsDifference rows others (map (cells topic) d.gone.items) (map (cells topic) d.news.items)
+    → IsDifference (rows ++ was topic olds) (others ++ now topic news) (map (cells topic) e.gone.items) (map (cells topic) e.news.items)
+
+-- by subscriptions
+abbrev pub ExtendsBySubs : List KeptPlaces → List KeptPlaces → Difference SubRow → Difference SubRow → Type 0
+ExtendsBySubs = Extends sub_cells sub_rows sub_rows
+
+-- by runs of one subscription
+abbrev pub ExtendsByRuns : List ℕ → List (ℕ × ℕ) → List (ℕ × ℕ) → Difference AckRow → Difference AckRow → Type 0
+ExtendsByRuns sub = Extends ack_cells (λ topic. map (ack_row topic sub)) (λ topic. map (ack_row topic sub))
+
+-- by dead letters of one subscription, of which the old ones are of the log as it was
+abbrev pub ExtendsByLetters : List ℕ → List Entry → List Entry → List DeadLetter → List DeadLetter → Difference DeadRow → Difference DeadRow → Type 0
+ExtendsByLetters sub was log = Extends dead_cells (λ topic. map (dead_row topic sub was)) (λ topic. map (dead_row topic sub log))
+
+-- by the dead letters of subscriptions
+abbrev pub ExtendsByDeads : List Entry → List Entry → List KeptPlaces → List KeptPlaces → Difference DeadRow → Difference DeadRow → Type 0
+ExtendsByDeads was log = Extends dead_cells (λ topic. dead_rows topic was) (λ topic. dead_rows topic log)
+
+-- the runs of subscriptions: whatever rows they had, there are rows of the new subscriptions that these become
+abbrev pub AcksDiffer : List KeptPlaces → List KeptPlaces → Difference AckRow → Type 0
+AcksDiffer olds news d =
+    (topic : List ℕ) (rows : List Row) → AreAckRows topic olds rows
+    → (others : List Row) × AreAckRows topic news others × IsDifference rows others (map (ack_cells topic) d.gone.items) (map (ack_cells topic) d.news.items)
+
+-- the rows of subscriptions, and of their dead letters
+abbrev pub SubsDiffer : List KeptPlaces → List KeptPlaces → Difference SubRow → Type 0
+SubsDiffer olds news d = (topic : List ℕ) → IsDifference (sub_rows topic olds) (sub_rows topic news) (map (sub_cells topic) d.gone.items) (map (sub_cells topic) d.news.items)
+
+abbrev pub DeadsDiffer : List Entry → List Entry → List KeptPlaces → List KeptPlaces → Difference DeadRow → Type 0
+DeadsDiffer was log olds news d =
+    (topic : List ℕ) → IsDifference (dead_rows topic was olds) (dead_rows topic log news) (map (dead_cells topic) d.gone.items) (map (dead_cells topic) d.news.items)
+
+-- what is left to see of ranges of which the first was taken out
+abbrev pub waiting : Option (ℕ × ℕ) → List (ℕ × ℕ) → List (ℕ × ℕ)
+waiting None rest = []
+waiting (Some run) rest = run ∷ rest
+
+-- positions rise
+abbrev pub IsRising : List Entry → Type 0
+IsRising log = IsStrictlySortedBy position_cmp (map (λ e. e.position) log)
+
+-- two dead letters have the same ordinal and target, and stand at the same place, each in its log
+pub record IsSameLetter (was log : List Entry) (old new : DeadLetter) : Type 0 where
+  pub ordinal : old.ordinal ≡ new.ordinal
+  pub place : place_in was old.position ≡ place_in log new.position
+  pub target : old.target ≡ new.target

@@ -1,0 +1,85 @@
+// What has to change in the database for a topic's rows to become those of another snapshot of it.
+ghost use Rattle.std.specs.Prelude.{◌≡◌, [], ◌∷◌, ◌++◌, OnOk};
+
+use position_core::{Kind, Ordinal, SubscriptionName};
+use std::alloc::{AllocError, Global};
+
+/// A subscription's row.
+#[derive(Drop)]
+pub struct SubRow {
+    pub name: SubscriptionName,
+    pub kind: Kind,
+}
+
+/// The row of a run of acknowledged messages.
+#[derive(Drop)]
+pub struct AckRow {
+    pub sub: SubscriptionName,
+    pub first: u64,
+    /// The last place of the run.
+    pub last: u64,
+}
+
+/// A dead letter's row.
+#[derive(Drop)]
+pub struct DeadRow {
+    pub sub: SubscriptionName,
+    pub ordinal: Ordinal,
+    pub place: u64,
+    pub target: String,
+}
+
+/// Which rows of a table go, and which come.
+#[derive(Drop)]
+pub struct Difference<R: Drop> {
+    pub gone: Vec<R>,
+    pub news: Vec<R>,
+}
+
+/// Which rows of a topic go, and which come. Messages only come: those from the place `from` on.
+#[derive(Drop)]
+pub struct Change {
+    /// Whether the topic's own row becomes another.
+    pub topic: bool,
+    pub from: usize,
+    pub subs: Difference<SubRow>,
+    pub acks: Difference<AckRow>,
+    pub deads: Difference<DeadRow>,
+}
+
+impl<R: Drop> Difference<R> {
+    pub(crate) fn none(alloc: Global) -> Self
+        ensures gone { result.gone.items ≡ [] }
+        ensures news { result.news.items ≡ [] }
+    {
+        Difference {
+            gone: Vec::new(alloc),
+            news: Vec::new(alloc),
+        }
+    }
+
+    pub(crate) fn goes(&mut self, row: R) -> Result<(), AllocError>
+        ensures gone { OnOk result (self.new.gone.items ≡ self.old.gone.items ++ row ∷ []) }
+        ensures news { self.new.news ≡ self.old.news }
+    {
+        self.gone.push(row)?;
+        Ok(())
+    }
+
+    pub(crate) fn comes(&mut self, row: R) -> Result<(), AllocError>
+        ensures gone { self.new.gone ≡ self.old.gone }
+        ensures news { OnOk result (self.new.news.items ≡ self.old.news.items ++ row ∷ []) }
+    {
+        self.news.push(row)?;
+        Ok(())
+    }
+
+    /// One row becomes another.
+    pub(crate) fn becomes(&mut self, old: R, new: R) -> Result<(), AllocError>
+        ensures gone { OnOk result (self.new.gone.items ≡ self.old.gone.items ++ old ∷ []) }
+        ensures news { OnOk result (self.new.news.items ≡ self.old.news.items ++ new ∷ []) }
+    {
+        self.goes(old)?;
+        self.comes(new)
+    }
+}
