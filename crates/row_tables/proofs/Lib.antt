@@ -1,0 +1,6 @@
+pub mod Texts
+pub mod TableLemmas
+pub mod StatementLemmas
+pub mod PartLemmas
+pub mod PerTable
+pub mod ReadLemmas

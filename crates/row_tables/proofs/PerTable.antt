@@ -1,0 +1,86 @@
+-- The statements on each of the five tables of topics.
+use Rattle.std.proofs.Common.{◌≡◌, ℕ, ℤ, ◌+◌, pos, List, [], ◌∷◌, ◌++◌, map, codes, Bool, true, Ok, IsTrue, refl, arith}
+use Rattle.std.specs.Prelude.{Option, None, Some}
+use Rattle.sqlite.specs.declared.types.Value.TheVariants.{Null, Int, Text, Blob as Octets}
+use Rattle.sqlite.specs.Order.{Row}
+use Rattle.sqlite.specs.Term.{lit, col}
+use Rattle.sqlite.specs.State.{State, ExecutesInside}
+use Rattle.sqlite_schema.specs.declared.schema.Column.{Column}
+use Rattle.sqlite.specs.Kind.TheVariants.{Integer, Text as TextKind, Blob}
+use Rattle.row_forms.specs.Schema.{required}
+use Rattle.row_forms.specs.Cells.{TOPIC, ENTRY, SUB, ACK, DEAD}
+use Rattle.row_tables.specs.Goes.{Goes, Clears, Adds, Takes}
+use Rattle.row_tables.proofs.Texts.{equals, clear_topic, clear_topic_is, insert_topic, insert_topic_is, clear_entry, clear_entry_is, insert_entry, insert_entry_is, clear_sub, clear_sub_is, insert_sub, insert_sub_is, clear_ack, clear_ack_is, insert_ack, insert_ack_is, clear_dead, clear_dead_is, insert_dead, insert_dead_is, remove_sub, remove_sub_is, remove_ack, remove_ack_is, remove_dead, remove_dead_is}
+use Rattle.row_tables.proofs.TableLemmas.{same_text, same_int}
+use Rattle.row_tables.proofs.StatementLemmas.{cast_int}
+use Rattle.row_tables.proofs.PartLemmas.{clears_rows, takes_row, adds_row}
+
+abbrev topic_columns : List Column
+topic_columns = required (codes "name") TextKind ∷ required (codes "ledger_size") Integer ∷ required (codes "ledger") Integer ∷ required (codes "ordinal") Integer ∷ []
+
+pub clears_topic : (topic : List ℕ) (old new : State) (count : ℕ) → ExecutesInside 0 clear_topic (Text topic ∷ []) old new (Ok count) → Goes (Clears TOPIC topic) old new
+clears_topic = clears_rows 1 (codes "topic") TOPIC topic_columns (1 ∷ []) refl (λ _ _ _. refl) (λ _ all. all.1.0) (λ _ _ all. all.0 (λ e. omega (arith, e))) (λ _. refl) clear_topic clear_topic_is.0 clear_topic_is.1 (λ _ _. refl)
+
+pub adds_topic : (topic : List ℕ) (size ledger ordinal : ℕ) (old new : State) (count : ℕ) → ExecutesInside 0 insert_topic (Text topic ∷ Int (pos size) ∷ Int (pos ledger) ∷ Int (pos ordinal) ∷ []) old new (Ok count)
+    → Goes (Adds TOPIC ((Text topic ∷ Int (pos size) ∷ Int (pos ledger) ∷ Int (pos ordinal) ∷ []) ∷ [])) old new
+adds_topic topic size ledger ordinal = adds_row 1 (codes "topic") TOPIC topic_columns (1 ∷ []) refl (λ _ _ _. refl) (λ _ all. all.1.0) (λ _ _ all. all.0 (λ e. omega (arith, e))) (λ _. refl) insert_topic (lit Null ∷ col 0 0 ∷ col 0 1 ∷ col 0 2 ∷ col 0 3 ∷ []) 5 insert_topic_is.0 insert_topic_is.1
+    (Text topic ∷ Int (pos size) ∷ Int (pos ledger) ∷ Int (pos ordinal) ∷ []) refl (rw (cast_int (pos size), cast_int (pos ledger), cast_int (pos ordinal)) refl) (λ _. refl)
+
+abbrev entry_columns : List Column
+entry_columns = required (codes "topic") TextKind ∷ required (codes "idx") Integer ∷ required (codes "ledger") Integer ∷ required (codes "entry") Integer ∷ required (codes "producer") TextKind ∷ required (codes "sequence") Integer ∷ required (codes "time") Integer ∷ required (codes "has_key") Integer ∷ required (codes "key") TextKind ∷ required (codes "properties") TextKind ∷ required (codes "payload") Blob ∷ []
+
+pub clears_entry : (topic : List ℕ) (old new : State) (count : ℕ) → ExecutesInside 0 clear_entry (Text topic ∷ []) old new (Ok count) → Goes (Clears ENTRY topic) old new
+clears_entry = clears_rows 2 (codes "entry") ENTRY entry_columns (1 ∷ 2 ∷ []) refl (λ _ _ _. refl) (λ _ all. all.1.1.0) (λ _ _ all. all.0 (λ e. omega (arith, e))) (λ _. refl) clear_entry clear_entry_is.0 clear_entry_is.1 (λ _ _. refl)
+
+pub adds_entry : (topic : List ℕ) (place ledger entry : ℕ) (producer : List ℕ) (sequence : ℤ) (time has : ℕ) (key properties payload : List ℕ) (old new : State) (count : ℕ) → ExecutesInside 0 insert_entry (Text topic ∷ Int (pos place) ∷ Int (pos ledger) ∷ Int (pos entry) ∷ Text producer ∷ Int sequence ∷ Int (pos time) ∷ Int (pos has) ∷ Text key ∷ Text properties ∷ Octets payload ∷ []) old new (Ok count)
+    → Goes (Adds ENTRY ((Text topic ∷ Int (pos place) ∷ Int (pos ledger) ∷ Int (pos entry) ∷ Text producer ∷ Int sequence ∷ Int (pos time) ∷ Int (pos has) ∷ Text key ∷ Text properties ∷ Octets payload ∷ []) ∷ [])) old new
+adds_entry topic place ledger entry producer sequence time has key properties payload = adds_row 2 (codes "entry") ENTRY entry_columns (1 ∷ 2 ∷ []) refl (λ _ _ _. refl) (λ _ all. all.1.1.0) (λ _ _ all. all.0 (λ e. omega (arith, e))) (λ _. refl) insert_entry (lit Null ∷ col 0 0 ∷ col 0 1 ∷ col 0 2 ∷ col 0 3 ∷ col 0 4 ∷ col 0 5 ∷ col 0 6 ∷ col 0 7 ∷ col 0 8 ∷ col 0 9 ∷ col 0 10 ∷ []) 12 insert_entry_is.0 insert_entry_is.1
+    (Text topic ∷ Int (pos place) ∷ Int (pos ledger) ∷ Int (pos entry) ∷ Text producer ∷ Int sequence ∷ Int (pos time) ∷ Int (pos has) ∷ Text key ∷ Text properties ∷ Octets payload ∷ []) refl (rw (cast_int (pos place), cast_int (pos ledger), cast_int (pos entry), cast_int sequence, cast_int (pos time), cast_int (pos has)) refl) (λ _. refl)
+
+abbrev sub_columns : List Column
+sub_columns = required (codes "topic") TextKind ∷ required (codes "name") TextKind ∷ required (codes "kind") Integer ∷ []
+
+pub clears_sub : (topic : List ℕ) (old new : State) (count : ℕ) → ExecutesInside 0 clear_sub (Text topic ∷ []) old new (Ok count) → Goes (Clears SUB topic) old new
+clears_sub = clears_rows 3 (codes "sub") SUB sub_columns (1 ∷ 2 ∷ []) refl (λ _ _ _. refl) (λ _ all. all.1.1.1.0) (λ _ _ all. all.0 (λ e. omega (arith, e))) (λ _. refl) clear_sub clear_sub_is.0 clear_sub_is.1 (λ _ _. refl)
+
+pub adds_sub : (topic name : List ℕ) (kind : ℕ) (old new : State) (count : ℕ) → ExecutesInside 0 insert_sub (Text topic ∷ Text name ∷ Int (pos kind) ∷ []) old new (Ok count)
+    → Goes (Adds SUB ((Text topic ∷ Text name ∷ Int (pos kind) ∷ []) ∷ [])) old new
+adds_sub topic name kind = adds_row 3 (codes "sub") SUB sub_columns (1 ∷ 2 ∷ []) refl (λ _ _ _. refl) (λ _ all. all.1.1.1.0) (λ _ _ all. all.0 (λ e. omega (arith, e))) (λ _. refl) insert_sub (lit Null ∷ col 0 0 ∷ col 0 1 ∷ col 0 2 ∷ []) 4 insert_sub_is.0 insert_sub_is.1
+    (Text topic ∷ Text name ∷ Int (pos kind) ∷ []) refl (rw (cast_int (pos kind)) refl) (λ _. refl)
+
+pub takes_sub : (topic name : List ℕ) (kind : ℕ) (old new : State) (count : ℕ) → count ≡ 1 → ExecutesInside 0 remove_sub (Text topic ∷ Text name ∷ Int (pos kind) ∷ []) old new (Ok count)
+    → Goes (Takes SUB ((Text topic ∷ Text name ∷ Int (pos kind) ∷ []) ∷ [])) old new
+takes_sub topic name kind = takes_row 3 (codes "sub") SUB sub_columns (1 ∷ 2 ∷ []) refl (λ _ _ _. refl) (λ _ all. all.1.1.1.0) (λ _ _ all. all.0 (λ e. omega (arith, e))) (λ _. refl) remove_sub (equals 0 ∷ equals 1 ∷ equals 2 ∷ []) remove_sub_is.0 remove_sub_is.1
+    (Text topic ∷ Text name ∷ Int (pos kind) ∷ []) (λ _. refl) (rw (same_text topic, same_text name, same_int (pos kind)) refl)
+
+abbrev ack_columns : List Column
+ack_columns = required (codes "topic") TextKind ∷ required (codes "sub") TextKind ∷ required (codes "first") Integer ∷ required (codes "last") Integer ∷ []
+
+pub clears_ack : (topic : List ℕ) (old new : State) (count : ℕ) → ExecutesInside 0 clear_ack (Text topic ∷ []) old new (Ok count) → Goes (Clears ACK topic) old new
+clears_ack = clears_rows 4 (codes "ack") ACK ack_columns (1 ∷ 2 ∷ 3 ∷ []) refl (λ _ _ _. refl) (λ _ all. all.1.1.1.1.0) (λ _ _ all. all.0 (λ e. omega (arith, e))) (λ _. refl) clear_ack clear_ack_is.0 clear_ack_is.1 (λ _ _. refl)
+
+pub adds_ack : (topic sub : List ℕ) (first last : ℕ) (old new : State) (count : ℕ) → ExecutesInside 0 insert_ack (Text topic ∷ Text sub ∷ Int (pos first) ∷ Int (pos last) ∷ []) old new (Ok count)
+    → Goes (Adds ACK ((Text topic ∷ Text sub ∷ Int (pos first) ∷ Int (pos last) ∷ []) ∷ [])) old new
+adds_ack topic sub first last = adds_row 4 (codes "ack") ACK ack_columns (1 ∷ 2 ∷ 3 ∷ []) refl (λ _ _ _. refl) (λ _ all. all.1.1.1.1.0) (λ _ _ all. all.0 (λ e. omega (arith, e))) (λ _. refl) insert_ack (lit Null ∷ col 0 0 ∷ col 0 1 ∷ col 0 2 ∷ col 0 3 ∷ []) 5 insert_ack_is.0 insert_ack_is.1
+    (Text topic ∷ Text sub ∷ Int (pos first) ∷ Int (pos last) ∷ []) refl (rw (cast_int (pos first), cast_int (pos last)) refl) (λ _. refl)
+
+pub takes_ack : (topic sub : List ℕ) (first last : ℕ) (old new : State) (count : ℕ) → count ≡ 1 → ExecutesInside 0 remove_ack (Text topic ∷ Text sub ∷ Int (pos first) ∷ Int (pos last) ∷ []) old new (Ok count)
+    → Goes (Takes ACK ((Text topic ∷ Text sub ∷ Int (pos first) ∷ Int (pos last) ∷ []) ∷ [])) old new
+takes_ack topic sub first last = takes_row 4 (codes "ack") ACK ack_columns (1 ∷ 2 ∷ 3 ∷ []) refl (λ _ _ _. refl) (λ _ all. all.1.1.1.1.0) (λ _ _ all. all.0 (λ e. omega (arith, e))) (λ _. refl) remove_ack (equals 0 ∷ equals 1 ∷ equals 2 ∷ equals 3 ∷ []) remove_ack_is.0 remove_ack_is.1
+    (Text topic ∷ Text sub ∷ Int (pos first) ∷ Int (pos last) ∷ []) (λ _. refl) (rw (same_text topic, same_text sub, same_int (pos first), same_int (pos last)) refl)
+
+abbrev dead_columns : List Column
+dead_columns = required (codes "topic") TextKind ∷ required (codes "sub") TextKind ∷ required (codes "ordinal") Integer ∷ required (codes "idx") Integer ∷ required (codes "target") TextKind ∷ []
+
+pub clears_dead : (topic : List ℕ) (old new : State) (count : ℕ) → ExecutesInside 0 clear_dead (Text topic ∷ []) old new (Ok count) → Goes (Clears DEAD topic) old new
+clears_dead = clears_rows 5 (codes "dead") DEAD dead_columns (1 ∷ 2 ∷ 3 ∷ []) refl (λ _ _ _. refl) (λ _ all. all.1.1.1.1.1.0) (λ _ _ all. all.0 (λ e. omega (arith, e))) (λ _. refl) clear_dead clear_dead_is.0 clear_dead_is.1 (λ _ _. refl)
+
+pub adds_dead : (topic sub : List ℕ) (ordinal place : ℕ) (target : List ℕ) (old new : State) (count : ℕ) → ExecutesInside 0 insert_dead (Text topic ∷ Text sub ∷ Int (pos ordinal) ∷ Int (pos place) ∷ Text target ∷ []) old new (Ok count)
+    → Goes (Adds DEAD ((Text topic ∷ Text sub ∷ Int (pos ordinal) ∷ Int (pos place) ∷ Text target ∷ []) ∷ [])) old new
+adds_dead topic sub ordinal place target = adds_row 5 (codes "dead") DEAD dead_columns (1 ∷ 2 ∷ 3 ∷ []) refl (λ _ _ _. refl) (λ _ all. all.1.1.1.1.1.0) (λ _ _ all. all.0 (λ e. omega (arith, e))) (λ _. refl) insert_dead (lit Null ∷ col 0 0 ∷ col 0 1 ∷ col 0 2 ∷ col 0 3 ∷ col 0 4 ∷ []) 6 insert_dead_is.0 insert_dead_is.1
+    (Text topic ∷ Text sub ∷ Int (pos ordinal) ∷ Int (pos place) ∷ Text target ∷ []) refl (rw (cast_int (pos ordinal), cast_int (pos place)) refl) (λ _. refl)
+
+pub takes_dead : (topic sub : List ℕ) (ordinal place : ℕ) (target : List ℕ) (old new : State) (count : ℕ) → count ≡ 1 → ExecutesInside 0 remove_dead (Text topic ∷ Text sub ∷ Int (pos ordinal) ∷ Int (pos place) ∷ Text target ∷ []) old new (Ok count)
+    → Goes (Takes DEAD ((Text topic ∷ Text sub ∷ Int (pos ordinal) ∷ Int (pos place) ∷ Text target ∷ []) ∷ [])) old new
+takes_dead topic sub ordinal place target = takes_row 5 (codes "dead") DEAD dead_columns (1 ∷ 2 ∷ 3 ∷ []) refl (λ _ _ _. refl) (λ _ all. all.1.1.1.1.1.0) (λ _ _ all. all.0 (λ e. omega (arith, e))) (λ _. refl) remove_dead (equals 0 ∷ equals 1 ∷ equals 2 ∷ equals 3 ∷ equals 4 ∷ []) remove_dead_is.0 remove_dead_is.1
+    (Text topic ∷ Text sub ∷ Int (pos ordinal) ∷ Int (pos place) ∷ Text target ∷ []) (λ _. refl) (rw (same_text topic, same_text sub, same_int (pos ordinal), same_int (pos place), same_text target) refl)

@@ -1,0 +1,15 @@
+use Rattle.std.proofs.lemmas.Result.{IfOk-weaker}
+use Rattle.sqlite.specs.Held.{state}
+use Rattle.row_tables.proofs.Texts.{select_topic, select_topic_is}
+use Rattle.row_tables.proofs.ReadLemmas.{reads_topic, shown_goes}
+use Rattle.row_tables.proofs.topics.read.Goals as goal
+
+pub returns-clause-done : goal.returns-clause-done
+returns-clause-done g c clean =
+    let ok = rw c.params-to_sql.ensures at (c.query_all.ensures.ok clean) in
+    IfOk-weaker c.query_all.result _ _ (λ rows h. shown_goes select_topic _ (state g.S.Store c.args.tx.now.conn.now) (state g.S.Store c.query_all.new.self.conn.now) rows.items select_topic_is.2 h) ok
+
+pub returns-clause-rows : goal.returns-clause-rows
+returns-clause-rows g c clean =
+    let ok = rw c.params-to_sql.ensures at (c.query_all.ensures.ok clean) in
+    IfOk-weaker c.query_all.result _ _ (λ rows h. reads_topic c.args.topic.now (state g.S.Store c.args.tx.now.conn.now) (state g.S.Store c.query_all.new.self.conn.now) rows.items h) ok

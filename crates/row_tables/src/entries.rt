@@ -1,0 +1,94 @@
+// The table `entry`: one row a message.
+ghost use Rattle.std.specs.Prelude.{◌≡◌, [], ◌∷◌, FitsSigned, OnOk, IfOk, pos};
+ghost use Rattle.std.specs.Int.{w64};
+ghost use Rattle.sqlite.specs.State.{HasCleanDisk, Survives};
+ghost use Rattle.sqlite.specs.Held.{state};
+ghost use Rattle.sqlite.specs.declared.types.Value.TheVariants.{Int, Text as Words};
+ghost use Rattle.row_forms.specs.Cells.{ENTRY};
+ghost use Rattle.row_forms.specs.Forms.{entry_row, key_cells};
+ghost use Rattle.row_forms.specs.Properties.{properties_text};
+ghost use Rattle.row_tables.specs.Ready.{IsReady};
+ghost use Rattle.row_tables.specs.Goes.{Goes, Stays, Clears, Adds, Shows};
+
+use crate::numbers::signed;
+use position_core::{Entry, Key};
+use sqlite::{Alter, Error, Row, Transaction, params};
+
+/// 1 and the key, or 0 and an empty one.
+fn key_parts(key: &Option<Key>) -> (u32, &str)
+    ensures { Int (pos result.0) ∷ Words result.1.now ∷ [] ≡ key_cells key.now }
+{
+    match key {
+        Some(key) => (1, key.as_str()),
+        None => (0, ""),
+    }
+}
+
+fn sequence_of(entry: &Entry) -> i64
+    ensures value { result ≡ entry.now.sequence }
+    ensures fits { FitsSigned w64 entry.now.sequence }
+{
+    entry.sequence
+}
+
+/// Adds the row of the message at this place, whose properties are written so.
+pub fn add<S: Alter>(
+    tx: &mut Transaction<'_, S>,
+    topic: &str,
+    place: u64,
+    entry: &Entry,
+    properties: &str,
+) -> Result<(), Error>
+    requires { properties.now ≡ properties_text entry.now.body.properties }
+    ensures same_reference { tx.new.conn.ghost_name ≡ tx.old.conn.ghost_name }
+    ensures survives { Survives (state S.Store tx.old.conn.now) (state S.Store tx.new.conn.now) (λ _. ⊥) }
+    ensures done { HasCleanDisk (state S.Store tx.new.conn.now) → OnOk result (Goes (Adds ENTRY (entry_row topic.now place entry.now ∷ [])) (state S.Store tx.old.conn.now) (state S.Store tx.new.conn.now)) }
+{
+    let content = entry.body.content();
+    let (has_key, key) = key_parts(&content.key);
+    let place = signed(place)?;
+    let ledger = signed(entry.position.ledger)?;
+    let number = signed(entry.position.entry)?;
+    let sequence = sequence_of(entry);
+    let time = signed(entry.time.millis())?;
+    tx.execute(
+        "INSERT INTO entry (topic, idx, ledger, entry, producer, sequence, time, has_key, key, properties, payload) VALUES (?1, ?2, ?3, ?4, ?5, ?6, ?7, ?8, ?9, ?10, ?11)",
+        params![
+            topic,
+            place,
+            ledger,
+            number,
+            entry.producer.as_str(),
+            sequence,
+            time,
+            has_key,
+            key,
+            properties,
+            content.payload.as_slice()
+        ],
+    )?;
+    Ok(())
+}
+
+/// Deletes all messages of a topic.
+pub fn clear<S: Alter>(tx: &mut Transaction<'_, S>, topic: &str) -> Result<(), Error>
+    ensures same_reference { tx.new.conn.ghost_name ≡ tx.old.conn.ghost_name }
+    ensures survives { Survives (state S.Store tx.old.conn.now) (state S.Store tx.new.conn.now) (λ _. ⊥) }
+    ensures done { HasCleanDisk (state S.Store tx.new.conn.now) → OnOk result (Goes (Clears ENTRY topic.now) (state S.Store tx.old.conn.now) (state S.Store tx.new.conn.now)) }
+{
+    tx.execute("DELETE FROM entry WHERE topic = ?1", params![topic])?;
+    Ok(())
+}
+
+/// The messages of a topic, by their places.
+pub fn read<S: Alter>(tx: &mut Transaction<'_, S>, topic: &str) -> Result<Vec<Row>, Error>
+    ensures same_reference { tx.new.conn.ghost_name ≡ tx.old.conn.ghost_name }
+    ensures survives { Survives (state S.Store tx.old.conn.now) (state S.Store tx.new.conn.now) (λ _. ⊥) }
+    ensures done { HasCleanDisk (state S.Store tx.new.conn.now) → OnOk result (Goes Stays (state S.Store tx.old.conn.now) (state S.Store tx.new.conn.now)) }
+    ensures rows { HasCleanDisk (state S.Store tx.new.conn.now) → IfOk result (λ rows. IsReady (state S.Store tx.old.conn.now).now → Shows ENTRY topic.now rows.items (state S.Store tx.old.conn.now).now.trees) }
+{
+    tx.query_all(
+        "SELECT idx, ledger, entry, producer, sequence, time, has_key, key, properties, payload FROM entry WHERE topic = ?1 ORDER BY idx",
+        params![topic],
+    )
+}
