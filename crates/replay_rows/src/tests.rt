@@ -129,7 +129,7 @@ fn last_line_without_its_end(rt: HostRuntime) {
 fn bad_line(rt: HostRuntime) {
     check(
         &rt,
-        b"stored\nstored\nrestart\nstored\n",
+        b"stored\nstored\nrestored\nstored\n",
         b"durable 0\ndurable 0\nbad line 3\n",
         Err(Stop::BadLine(3)),
     );

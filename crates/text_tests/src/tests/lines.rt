@@ -143,7 +143,7 @@ fn bad_lines(rt: HostRuntime) {
         "leave -",
         "permit 1 0",
         "permit 1 2147483648",
-        "restart",
+        "restart 1",
         "drop",
         "drop -",
         "progress 1",
