@@ -129,6 +129,24 @@ fn is_at(row: &Row, place: u64) -> bool
     row.column_count() == 10 && whole_at(row, 0) == Some(place)
 }
 
+fn entry_of(
+    position: Position,
+    producer: ProducerName,
+    sequence: i64,
+    time: Moment,
+    body: Body,
+) -> Entry
+    ensures { result ≡ record { position = position; producer = producer; sequence = sequence; time = time; body = body } }
+{
+    Entry {
+        position,
+        producer,
+        sequence,
+        time,
+        body,
+    }
+}
+
 /// The message that the row shows at this place.
 fn entry_in(alloc: Global, row: &Row, place: u64) -> Result<Option<Entry>, AllocError>
     ensures { IfOk result (λ found. IfSome found (IsEntryAt place row.now)) }
@@ -151,13 +169,8 @@ fn entry_in(alloc: Global, row: &Row, place: u64) -> Result<Option<Entry>, Alloc
     let Some(content) = content_at(alloc, row)? else {
         return Ok(None);
     };
-    Ok(Some(Entry {
-        position,
-        producer,
-        sequence,
-        time,
-        body: Body::new(alloc, content)?,
-    }))
+    let body = Body::new(alloc, content)?;
+    Ok(Some(entry_of(position, producer, sequence, time, body)))
 }
 
 /// Whether a message at the position may come after the last one.
