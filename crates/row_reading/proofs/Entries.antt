@@ -1,8 +1,9 @@
 -- Messages and their rows.
-use Rattle.std.proofs.Common.{◌≡◌, ℕ, ◌+◌, ◌≤◌, ◌<◌, List, [], ◌∷◌, ◌++◌, map, take, length, pos, Option, Some, None, IfSome, refl, ap, sym, subst, ◌∙◌, arith, get_or}
+use Rattle.std.proofs.Common.{◌≡◌, ℕ, ◌+◌, ◌≤◌, ◌<◌, ◌^◌, List, [], ◌∷◌, ◌++◌, map, take, length, pos, Option, Some, None, IfSome, refl, ap, sym, subst, ◌∙◌, arith, get_or}
 use Rattle.std.specs.List.{AllByRecursion}
+use Rattle.std.specs.List.Sorted.{IsStrictlySortedBy}
 use Rattle.std.proofs.lemmas.List.{map-append, take_more}
-use Rattle.std.proofs.lemmas.List.Elements.{All-push}
+use Rattle.std.proofs.lemmas.List.Elements.{All-nil, All-push}
 use Rattle.std.specs.declared.cmp.Ordering.TheVariants.{Less}
 use Rattle.sqlite.specs.declared.types.Value.TheVariants.{Int, Text as Words, Blob as Octets}
 use Rattle.sqlite.specs.Order.{Row, column}
@@ -53,7 +54,16 @@ above_more last log e above after p less = all_below log e p (above e.position a
 pub log_more : (size ledger : ℕ) (last : Option Position) (log : List Entry) (e : Entry) → IsWellFormedLog size ledger log → IsAbove last log → IsNext size ledger last e.position → IsWellFormedLog size ledger (log ++ e ∷ [])
 log_more size ledger last log e well above next = record {
   positions = sorted_push position_cmp (λ (x : Entry). x.position) log e well.positions (above e.position next.after);
-  ledgers = All-push _ log e well.ledgers (next.within, next.numbered);
-  entries = λ some. All-push _ log e (well.entries some) next.entry;
+  ledgers = All-push (λ (x : Entry). (x.position.ledger ≤ ledger) × (x.position.ledger ≤ 2 ^ 62)) log e well.ledgers (next.within, next.numbered);
+  entries = λ some. All-push (λ (x : Entry). x.position.entry < size) log e (well.entries some) next.entry;
   last_ledger = well.last_ledger;
+}
+
+pub log_none : (size ledger : ℕ) → ledger ≤ 2 ^ 62 + 1 → IsWellFormedLog size ledger []
+unfolding IsStrictlySortedBy
+log_none size ledger within = record {
+  positions = tt;
+  ledgers = All-nil _;
+  entries = λ some. All-nil _;
+  last_ledger = within;
 }

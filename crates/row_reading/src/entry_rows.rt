@@ -1,5 +1,6 @@
 // The rows of messages.
-ghost use Rattle.std.specs.Prelude.{◌≡◌, ◌≤◌, ◌<◌, ◌^◌, ◌+◌, [], ◌++◌, ◌∷◌, pos, ℕ, ℤ, List, length, IfOk, IfSome, option_map, string_bytes, IsTrue, map};
+ghost use Rattle.std.specs.Prelude.{◌≡◌, ◌≤◌, ◌<◌, ◌^◌, ◌+◌, [], ◌++◌, ◌∷◌, pos, ℕ, ℤ, List, length, IfOk, IfSome, option_map, string_bytes, IsTrue, map, FitsSigned};
+ghost use Rattle.std.specs.Int.{w64};
 ghost use Rattle.position_core.specs.Position.{position_cmp};
 ghost use Rattle.sqlite.specs.declared.types.Value.TheVariants.{Int, Text as Words, Blob as Octets};
 ghost use Rattle.sqlite.specs.Order.{column};
@@ -111,7 +112,8 @@ fn position_at(row: &Row) -> Option<Position>
 }
 
 fn sequence_at(row: &Row) -> Option<i64>
-    ensures { IfSome result (λ n. column row.now 4 ≡ Int n) }
+    ensures shown { IfSome result (λ n. column row.now 4 ≡ Int n) }
+    ensures within { IfSome result (λ n. FitsSigned w64 n) }
 {
     let sequence = number_at(row, 4)?;
     if sequence < 0 { None } else { Some(sequence) }
