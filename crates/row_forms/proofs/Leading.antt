@@ -10,7 +10,7 @@ use Rattle.row_forms.specs.Changes.{Leads}
 use Rattle.row_forms.specs.Forms.{AreRowsOf, TopicRows, dead_rows, entry_row, entry_rows, no_rows, sub_rows, topic_row}
 use Rattle.row_forms.specs.Parts.{AcksDiffer, DeadsDiffer, SubsDiffer}
 
-rows_from : (topic : List ℕ) (from : ℕ) (first second : List Entry) → entry_rows topic from (first ++ second) ≡ entry_rows topic from first ++ entry_rows topic (from + length first) second
+pub rows_from : (topic : List ℕ) (from : ℕ) (first second : List Entry) → entry_rows topic from (first ++ second) ≡ entry_rows topic from first ++ entry_rows topic (from + length first) second
 rows_from topic from [] second = ap (λ n. entry_rows topic n second) (omega arith)
 rows_from topic from (e ∷ first) second =
     ap (λ rows. entry_row topic from e ∷ rows) (rows_from topic (from + 1) first second ∙ ap (λ n. entry_rows topic (from + 1) first ++ entry_rows topic n second) (omega arith))

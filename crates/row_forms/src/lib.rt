@@ -8,6 +8,8 @@ mod dead_difference;
 mod raw_rows;
 mod side;
 mod sub_difference;
+#[cfg(test)]
+mod tests;
 mod texts;
 
 pub use change::{AckRow, Change, DeadRow, Difference, SubRow};

@@ -1,0 +1,69 @@
+-- Messages and their rows.
+use Rattle.std.proofs.Common.{◌≡◌, ℕ, ◌+◌, ◌≤◌, ◌<◌, ◌^◌, List, [], ◌∷◌, ◌++◌, map, take, length, pos, Option, Some, None, IfSome, refl, ap, sym, subst, ◌∙◌, arith, get_or}
+use Rattle.std.specs.List.{AllByRecursion}
+use Rattle.std.specs.List.Sorted.{IsStrictlySortedBy}
+use Rattle.std.proofs.lemmas.List.{map-append, take_more}
+use Rattle.std.proofs.lemmas.List.Elements.{All-nil, All-push}
+use Rattle.std.specs.declared.cmp.Ordering.TheVariants.{Less}
+use Rattle.sqlite.specs.declared.types.Value.TheVariants.{Int, Text as Words, Blob as Octets}
+use Rattle.sqlite.specs.Order.{Row, column}
+use Rattle.position_core.specs.declared.position.Position.{Position}
+use Rattle.position_core.specs.declared.message.Entry.{Entry}
+use Rattle.position_core.specs.Position.{position_cmp, positions_total}
+use Rattle.delivery_machine.specs.WellFormed.{IsWellFormedLog}
+use Rattle.delivery_machine.proofs.Rising.{sorted_push}
+use Rattle.row_forms.specs.Forms.{entry_row, entry_rows, key_cells}
+use Rattle.row_forms.specs.Properties.{properties_text}
+use Rattle.row_forms.proofs.Leading.{rows_from}
+use Rattle.row_reading.specs.Reading.{IsEntryAt, IsNext, put}
+use Rattle.row_reading.proofs.Columns.{ten}
+
+pub entry_shown : (row : Row) (place : ℕ) (e : Entry) → length row ≡ 10 → column row 0 ≡ Int (pos place) → column row 1 ≡ Int (pos e.position.ledger) → column row 2 ≡ Int (pos e.position.entry)
+    → column row 3 ≡ Words e.producer → column row 4 ≡ Int e.sequence → column row 5 ≡ Int (pos e.time) → column row 6 ∷ column row 7 ∷ [] ≡ key_cells e.body.key
+    → column row 8 ≡ Words (properties_text e.body.properties) → column row 9 ≡ Octets e.body.payload → IsEntryAt place row e
+entry_shown row place e long at ledger entry producer sequence time key properties payload topic =
+    let last : Row = Words (properties_text e.body.properties) ∷ Octets e.body.payload ∷ [] in
+    let keyed : column row 6 ∷ column row 7 ∷ last ≡ key_cells e.body.key ++ last = ap (λ (ks : Row). ks ++ last) key in
+    ap (λ (r : Row). Words topic ∷ r) (ten row long)
+    ∙ rw (at, ledger, entry, producer, sequence, time, properties, payload)
+    (ap (λ (r : Row). Words topic ∷ Int (pos place) ∷ Int (pos e.position.ledger) ∷ Int (pos e.position.entry) ∷ Words e.producer ∷ Int e.sequence ∷ Int (pos e.time) ∷ r) keyed)
+
+-- ---- one more message
+
+pub rows_more : (topic : List ℕ) (rows : List Row) (i place : ℕ) (row : Row) (log : List Entry) (e : Entry) → i < length rows → row ≡ get_or rows i row → place ≡ i → length log ≡ i
+    → put topic (take i rows) ≡ entry_rows topic 0 log → IsEntryAt place row e → put topic (take (i + 1) rows) ≡ entry_rows topic 0 (log ++ e ∷ [])
+rows_more topic rows i place row log e low is at count so_far shown =
+    let one : Words topic ∷ row ≡ entry_row topic (0 + length log) e = shown topic ∙ ap (λ n. entry_row topic n e) (omega arith) in
+    ap (put topic) (take_more rows i row low ∙ ap (λ r. take i rows ++ r ∷ []) (sym is))
+    ∙ map-append (λ (r : Row). Words topic ∷ r) (take i rows) (row ∷ [])
+    ∙ ap (λ l. l ++ (Words topic ∷ row) ∷ []) so_far
+    ∙ ap (λ r. entry_rows topic 0 log ++ r ∷ []) one
+    ∙ sym (rows_from topic 0 log (e ∷ []))
+
+-- each position that may come next is above all of the log
+abbrev pub IsAbove : Option Position → List Entry → Type 0
+IsAbove last log = (p : Position) → IfSome last (λ l. position_cmp l p ≡ Less) → AllByRecursion (λ e. position_cmp e.position p ≡ Less) log
+
+all_below : (xs : List Entry) (e : Entry) (p : Position) → AllByRecursion (λ x. position_cmp x.position e.position ≡ Less) xs → position_cmp e.position p ≡ Less → AllByRecursion (λ x. position_cmp x.position p ≡ Less) (xs ++ e ∷ [])
+all_below [] e p below less = (less, tt)
+all_below (x ∷ xs) e p below less = (positions_total.trans x.position e.position p below.0 less, all_below xs e p below.1 less)
+
+pub above_more : (last : Option Position) (log : List Entry) (e : Entry) → IsAbove last log → IfSome last (λ l. position_cmp l e.position ≡ Less) → IsAbove (Some e.position) (log ++ e ∷ [])
+above_more last log e above after p less = all_below log e p (above e.position after) less
+
+pub log_more : (size ledger : ℕ) (last : Option Position) (log : List Entry) (e : Entry) → IsWellFormedLog size ledger log → IsAbove last log → IsNext size ledger last e.position → IsWellFormedLog size ledger (log ++ e ∷ [])
+log_more size ledger last log e well above next = record {
+  positions = sorted_push position_cmp (λ (x : Entry). x.position) log e well.positions (above e.position next.after);
+  ledgers = All-push (λ (x : Entry). (x.position.ledger ≤ ledger) × (x.position.ledger ≤ 2 ^ 62)) log e well.ledgers (next.within, next.numbered);
+  entries = λ some. All-push (λ (x : Entry). x.position.entry < size) log e (well.entries some) next.entry;
+  last_ledger = well.last_ledger;
+}
+
+pub log_none : (size ledger : ℕ) → ledger ≤ 2 ^ 62 + 1 → IsWellFormedLog size ledger []
+unfolding IsStrictlySortedBy
+log_none size ledger within = record {
+  positions = tt;
+  ledgers = All-nil _;
+  entries = λ some. All-nil _;
+  last_ledger = within;
+}

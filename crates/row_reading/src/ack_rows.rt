@@ -1,0 +1,64 @@
+// The rows of runs of acknowledged messages.
+ghost use Rattle.std.specs.Prelude.{◌≡◌, ◌+◌, ◌<◌, ◌≤◌, ◌^◌, [], ◌∷◌, pos, IfOk, IfSome};
+ghost use Rattle.sqlite.specs.declared.types.Value.TheVariants.{Int, Text as Words};
+ghost use Rattle.delivery_machine.specs.Places.{AreBelow};
+ghost use Rattle.row_reading.specs.Reading.{BeginsWithRuns};
+
+use crate::cells::{is_text, whole_at};
+use ack_ranges::AckSet;
+use position_core::SubscriptionName;
+use sqlite::Row;
+use std::alloc::{AllocError, Global};
+
+/// A run, from its first place to its last.
+#[derive(Clone, Copy)]
+struct Run {
+    first: u64,
+    last: u64,
+}
+
+/// The run of the subscription that the row shows.
+fn run_in(row: &Row, name: &SubscriptionName, count: u64) -> Option<Run>
+    ensures shown { IfSome result (λ run. row.now ≡ Words name.now ∷ Int (pos run.first) ∷ Int (pos run.last) ∷ []) }
+    ensures within { IfSome result (λ run. run.last < count) }
+{
+    if row.column_count() != 3 || !is_text(row, 0, name.as_str()) {
+        return None;
+    }
+    let first = whole_at(row, 1)?;
+    let last = whole_at(row, 2)?;
+    if last < count {
+        Some(Run { first, last })
+    } else {
+        None
+    }
+}
+
+/// The places in the runs of the subscription, whose rows are the first ones, and the rows that follow.
+/// None where a run is not below `count`, or not apart from the one before it.
+pub(crate) fn runs_in<'a>(
+    alloc: Global,
+    name: &SubscriptionName,
+    rows: &'a [Row],
+    count: u64,
+) -> Result<Option<(AckSet, &'a [Row])>, AllocError>
+    requires { count < 2 ^ 63 }
+    ensures runs { IfOk result (λ found. IfSome found (λ r. BeginsWithRuns name.now r.0 rows.now r.1.now)) }
+    ensures below { IfOk result (λ found. IfSome found (λ r. AreBelow count r.0)) }
+{
+    let mut places = AckSet::new(alloc);
+    let mut rest = rows;
+    'runs: while let Some((row, after)) = rest.split_first() {
+        if !is_text(row, 0, name.as_str()) {
+            return Ok(Some((places, rest)));
+        }
+        let Some(run) = run_in(row, name, count) else {
+            return Ok(None);
+        };
+        if !places.push_range(run.first, run.last + 1)? {
+            return Ok(None);
+        }
+        rest = after;
+    }
+    Ok(Some((places, rest)))
+}

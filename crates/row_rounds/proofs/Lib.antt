@@ -1,0 +1,4 @@
+pub mod GoesLemmas
+pub mod RowLemmas
+pub mod TurnLemmas
+pub mod ManyLemmas

@@ -1,0 +1,2 @@
+-- What the contracts of rounds cite: what a round writes of each topic.
+pub mod Rounds

@@ -1,0 +1,101 @@
+-- What the CREATEs and the row of the version make of a database.
+use Rattle.std.proofs.Common.{◌≡◌, ℕ, pos, List, [], ◌∷◌, ◌++◌, length, codes, Bool, true, false, None, Some, Ok, IsTrue, refl, sym, ap, subst, ◌∙◌, arith}
+use Rattle.std.specs.List.{AllByRecursion}
+use Rattle.sqlite.specs.declared.types.Value.TheVariants.{Null, Int}
+use Rattle.sqlite.specs.Table.{Table}
+use Rattle.sqlite.specs.Schema.{Schema}
+use Rattle.sqlite.specs.Order.{Row}
+use Rattle.sqlite.specs.Term.{Term, lit}
+use Rattle.sqlite.specs.Tree.{Trees, put_row}
+use Rattle.sqlite.specs.Kind.TheVariants.{Integer}
+use Rattle.sqlite.specs.Source.TheVariants.{Values}
+use Rattle.sqlite.specs.Command.TheVariants.{CreateTable, Insert}
+use Rattle.sqlite.specs.Change.{created, next_tree}
+use Rattle.sqlite.specs.Does.{Tally, Does, lacks_sequence}
+use Rattle.sqlite.specs.Effect.{Database}
+use Rattle.sqlite.specs.Listing.{understood}
+use Rattle.sqlite.specs.State.{State, Writes, ExecutesInside, mode_of}
+use Rattle.sqlite_trees.specs.View.{IsShaped}
+use Rattle.sqlite_trees.specs.declared.store.Shape.TheVariants as shape
+use Rattle.sqlite_trees.proofs.ListLemmas.{all-append, all_both}
+use Rattle.sqlite_trees.proofs.TreeLemmas.{IsShaped-put_row}
+use Rattle.sqlite_schema.specs.declared.schema.Column.{Column}
+use Rattle.sqlite_tied.specs.Compute.{everything}
+use Rattle.sqlite.proofs.Callers.{IsPlain, command_of, statement_of, runs_as}
+use Rattle.row_forms.specs.Schema.{schema_6, required}
+use Rattle.row_forms.specs.Cells.{META}
+use Rattle.row_tables.specs.Ready.{IsVersion1}
+use Rattle.row_tables.proofs.Texts.{insert_meta}
+use Rattle.row_tables.proofs.StatementLemmas.{went, same_value, cast_int, cast_null, inserts}
+use Rattle.row_schema.specs.Making.{IsEmpty, Leads, Makes, Fills}
+
+pub makes : (sql : List ℕ) (before after : Schema) → Leads sql before after → (old new : State) (count : ℕ) → ExecutesInside 0 sql [] old new (Ok count) → Makes before after old new
+makes sql before after l old new count h = record {
+  running = λ _. subst IsTrue (sym h.1.mode) refl;
+  does = λ was.
+      let has = was.listed in
+      let w = subst (λ t. Writes old new None CreateTable t [] count) l.text (runs_as sql [] old new before has CreateTable l.command l.plain count h.0) in
+      let all = went w.changed in
+      let first = went all.1 in
+      let made = first.1 in
+      let same : made.table ≡ l.table = same_value (sym made.defined ∙ l.defined) in
+      let schema : first.0.schema ≡ after = made.is ∙ ap (λ s. created s made.table) has ∙ ap (created before) same ∙ l.is in
+      let plain_is : lacks_sequence first.0.schema ≡ false = ap lacks_sequence schema ∙ l.uncounted in
+      let now : new.now ≡ first.0 = ap (λ (p : Tally × Database). p.1) (same_value all.2) ∙ same_value (rw plain_is at first.2) in
+      let fresh : first.0.trees (next_tree before) ≡ [] = subst (λ s. first.0.trees (next_tree s) ≡ []) has made.empty in
+      let others = subst (λ s. AllByRecursion (λ t. first.0.trees t.tree ≡ old.now.trees t.tree) s.tables) has made.others in
+      let kept = all_both (λ (t : Table). first.0.trees t.tree ≡ old.now.trees t.tree) (λ t. old.now.trees t.tree ≡ []) (λ t. first.0.trees t.tree ≡ []) (λ t stays was. stays ∙ was) before.tables others was.rows in
+      let every = all-append (λ (t : Table). first.0.trees t.tree ≡ []) before.tables (record l.table { tree = next_tree before } ∷ []) kept (fresh, tt) in
+      subst (IsEmpty after) (sym now) (record { listed = schema; rows = subst (λ s. AllByRecursion (λ t. first.0.trees t.tree ≡ []) s.tables) l.is every });
+}
+
+pub makes_then : {a b c : Schema} (x y z : State) → Makes a b x y → Makes b c y z → Makes a c x z
+makes_then x y z p q = record { running = λ run. q.running (p.running run); does = λ was. q.does (p.does was) }
+
+-- ---- the row of the version
+
+abbrev one_one : List Term
+one_one = lit (Int (pos 1)) ∷ lit Null ∷ lit (Int (pos 1)) ∷ []
+
+abbrev row : Row
+row = Int (pos 1) ∷ Null ∷ Int (pos 1) ∷ []
+
+insert_meta_is : (command_of (understood schema_6 insert_meta) ≡ Insert 0 (Values one_one 3)) × IsPlain (understood schema_6 insert_meta)
+unfolding understood everything
+insert_meta_is = (refl, (refl, refl))
+
+abbrev meta_columns : List Column
+meta_columns = required (codes "id") Integer ∷ required (codes "version") Integer ∷ []
+
+shaped : (rows : List Row) → rows ≡ [] → IsShaped shape.Table rows
+shaped rows e = subst (IsShaped shape.Table) (sym e) (tt, tt)
+
+pub fills : (old new : State) (count : ℕ) → ExecutesInside 0 insert_meta [] old new (Ok count) → Fills schema_6 old new
+fills old new count h = record {
+  running = λ _. subst IsTrue (sym h.1.mode) refl;
+  does = λ was.
+      let command = Insert 0 (Values one_one 3) in
+      let w = runs_as insert_meta [] old new schema_6 was.listed command insert_meta_is.0 insert_meta_is.1 count h.0 in
+      let text = statement_of insert_meta (understood schema_6 insert_meta) in
+      let does = subst (λ s. Does old.step_limit (mode_of old) [] (record old.now { schema = s }) text None command (Ok (w.tally, new.now))) was.listed w.changed in
+      let d = inserts schema_6 0 (codes "meta") META meta_columns (Some 0) (0 ∷ []) [] [] refl (λ _ _ _. refl) old.step_limit (mode_of old) [] old.now.trees text w.tally new.now one_one 3 row row refl (rw (cast_null, cast_int (pos 1)) refl) does in
+      let meta : new.now.trees META ≡ row ∷ [] = d.0 ∙ ap (put_row row) was.rows.0 in
+      let topics = d.2.1.0 (λ e. omega (arith, e)) ∙ was.rows.1.0 in
+      let entries = d.2.1.1.0 (λ e. omega (arith, e)) ∙ was.rows.1.1.0 in
+      let subs = d.2.1.1.1.0 (λ e. omega (arith, e)) ∙ was.rows.1.1.1.0 in
+      let acks = d.2.1.1.1.1.0 (λ e. omega (arith, e)) ∙ was.rows.1.1.1.1.0 in
+      let deads = d.2.1.1.1.1.1.0 (λ e. omega (arith, e)) ∙ was.rows.1.1.1.1.1.0 in
+      record {
+        ready = record {
+          schema = d.3;
+          keyed = (subst (IsShaped shape.Table) (sym d.0) (IsShaped-put_row _ _ refl (shaped _ was.rows.0)), (shaped _ topics, (shaped _ entries, (shaped _ subs, (shaped _ acks, (shaped _ deads, tt))))));
+          version = subst (λ rows. IsVersion1 (λ t. rows)) (sym meta) refl;
+        };
+        sound = w.sound;
+        topics = topics;
+        entries = entries;
+        subs = subs;
+        acks = acks;
+        deads = deads;
+      };
+}
