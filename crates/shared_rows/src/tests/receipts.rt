@@ -1,7 +1,6 @@
 // Eight threads at one shared topic: after the close each receipt has its line, and no other.
 ghost use Rattle.std.specs.Prelude.{◌≡◌, []};
 ghost use Rattle.delivery_machine.specs.State.{fresh};
-ghost use Rattle.plain_topic.specs.StateOf.{state_of};
 
 use super::asks::{Ask, event_of, name, size};
 use delivery_machine::{Deliveries, Event, Reply};
@@ -185,8 +184,8 @@ fn run<L: Opening + Send + Sync, R: Threads + Wait + Abort + AllocGlobal + Sync>
     seats: SeatCount,
 ) -> Result<(), Fail>
     requires ledger { (blank.name ≡ L.name) × (blank.parts ≡ L.parts) × (blank.parts ≡ seats) }
-    requires opening { state_of base ≡ L.opening }
-    requires nobody { ((state_of base).producers ≡ []) × ((state_of base).members ≡ []) }
+    requires opening { base ≡ L.opening }
+    requires nobody { (base.producers ≡ []) × (base.members ≡ []) }
 {
     let limit = LineLimit::new(100_000).expect(rt, "a limit");
     let topic = SharedTopic::<PlainTopic, L>::open(rt.alloc(), base, blank, limit, seats)?;

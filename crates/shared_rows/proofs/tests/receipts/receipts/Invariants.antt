@@ -1,8 +1,7 @@
-use Rattle.plain_topic.specs.StateOf.{state_of}
 use Rattle.shared_rows.proofs.tests.receipts.receipts.Given as goal
 
 abbrev pub ghosts-run-L-Ledger : goal.ghosts-run-L-Ledger
 ghosts-run-L-Ledger g a = record { name = a.blank.name; parts = a.blank.parts }
 
 abbrev pub ghosts-run-L-Opening : goal.ghosts-run-L-Opening
-ghosts-run-L-Opening g a = record { opening = state_of a.base }
+ghosts-run-L-Opening g a = record { opening = a.base }
