@@ -1,3 +1,4 @@
 pub mod TextLemmas
 pub mod MakingLemmas
 pub mod ReadingLemmas
+pub mod VersionLemmas

@@ -1,5 +1,5 @@
 -- What the comparison of a schema tests of a table.
-use Rattle.std.specs.Prelude.{◌≡◌, List, [], ◌∷◌, ℕ, false, None}
+use Rattle.std.specs.Prelude.{◌≡◌, List, [], ◌∷◌, ℕ, false, None, Some}
 use Rattle.sqlite.specs.Table.{Table}
 use Rattle.sqlite_value.specs.Keys.{plain}
 
@@ -17,3 +17,10 @@ pub record IsKeyed (key : List ℕ) (table : Table) : Type 0 where
   pub primary : table.primary ≡ key
   pub uniques : table.uniques ≡ key ∷ []
   pub orders : table.orders ≡ plain ∷ []
+
+-- the first column is its only key, and it is the rowid
+pub record IsByRowid (table : Table) : Type 0 where
+  pub key_is : table.key ≡ Some 0
+  pub primary : table.primary ≡ 0 ∷ []
+  pub uniques : table.uniques ≡ []
+  pub orders : table.orders ≡ []

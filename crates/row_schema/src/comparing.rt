@@ -1,11 +1,12 @@
 // Whether a schema is version 1's, table by table.
-ghost use Rattle.std.specs.Prelude.{◌≡◌, [], ◌∷◌, false, IsTrue, None};
+ghost use Rattle.std.specs.Prelude.{◌≡◌, [], ◌∷◌, drop, IsTrue};
 ghost use Rattle.sqlite_value.specs.Keys.{plain};
 ghost use Rattle.row_forms.specs.Schema.{required, table_of, index_of, meta_table, topic_table, entry_table, sub_table, ack_table, dead_table, schema_6};
-ghost use Rattle.row_schema.specs.Comparing.{IsBare, IsKeyed};
+ghost use Rattle.row_schema.specs.Comparing.{IsBare, IsByRowid, IsKeyed};
 
+use sqlite_items::Items;
 use sqlite_schema::schema::{Column, Index, Kind, Schema, Table};
-use sqlite_value::keys::Collation;
+use sqlite_value::keys::{Collation, Order};
 use sqlite_value::value::Value;
 
 fn is_required(column: &Column, name: &str, kind: Kind) -> bool
@@ -31,19 +32,37 @@ fn has_no_rules(table: &Table) -> bool
         && !table.is_counted
 }
 
+fn are_places(places: &Items<usize>, key: &[usize]) -> bool
+    ensures { IsTrue result → places.now ≡ key.now }
+{
+    places.as_slice() == key
+}
+
+fn is_only(uniques: &[Items<usize>], key: &[usize]) -> bool
+    ensures { IsTrue result → uniques.now ≡ key.now ∷ [] }
+{
+    match uniques {
+        [unique] => are_places(unique, key),
+        _ => false,
+    }
+}
+
+fn are_plain(orders: &[Order]) -> bool
+    ensures { IsTrue result → orders.now ≡ plain ∷ [] }
+{
+    match orders {
+        [order] => order.digits == 0,
+        _ => false,
+    }
+}
+
 fn has_one_key(table: &Table, key: &[usize]) -> bool
     ensures { IsTrue result → IsKeyed key.now table.now }
 {
-    let [unique] = table.uniques.as_slice() else {
-        return false;
-    };
-    let [order] = table.orders.as_slice() else {
-        return false;
-    };
     table.key.is_none()
         && table.primary.as_slice() == key
-        && unique.as_slice() == key
-        && order.digits == 0
+        && is_only(table.uniques.as_slice(), key)
+        && are_plain(table.orders.as_slice())
 }
 
 fn is_named(table: &Table, name: &str, tree: u32, key: &[usize]) -> bool
@@ -55,56 +74,118 @@ fn is_named(table: &Table, name: &str, tree: u32, key: &[usize]) -> bool
         && has_no_rules(table)
 }
 
+fn has_rowid(table: &Table) -> bool
+    ensures { IsTrue result → IsByRowid table.now }
+{
+    table.key == Some(0)
+        && table.primary.as_slice() == [0].as_slice()
+        && table.uniques.is_empty()
+        && table.orders.is_empty()
+}
+
+fn has_meta_columns(columns: &[Column]) -> bool
+    ensures { IsTrue result → columns.now ≡ (meta_table 0).columns }
+{
+    let [id, version] = columns else {
+        return false;
+    };
+    is_required(id, "id", Kind::Integer) && is_required(version, "version", Kind::Integer)
+}
+
 fn is_meta(table: &Table) -> bool
     ensures { IsTrue result → table.now ≡ meta_table 0 }
 {
-    let [id, version] = table.columns.as_slice() else {
-        return false;
-    };
     table.name.as_slice() == "meta".as_bytes()
         && table.tree == 0
-        && table.key == Some(0)
-        && table.primary.as_slice() == [0]
-        && table.uniques.is_empty()
-        && table.orders.is_empty()
+        && has_rowid(table)
         && has_no_rules(table)
-        && is_required(id, "id", Kind::Integer)
-        && is_required(version, "version", Kind::Integer)
+        && has_meta_columns(table.columns.as_slice())
+}
+
+fn has_ledger_columns(columns: &[Column]) -> bool
+    ensures { IsTrue result → columns.now ≡ drop 2 (topic_table 1).columns }
+{
+    let [ledger, ordinal] = columns else {
+        return false;
+    };
+    is_required(ledger, "ledger", Kind::Integer) && is_required(ordinal, "ordinal", Kind::Integer)
+}
+
+fn has_topic_columns(columns: &[Column]) -> bool
+    ensures { IsTrue result → columns.now ≡ (topic_table 1).columns }
+{
+    let [name, size, rest @ ..] = columns else {
+        return false;
+    };
+    is_required(name, "name", Kind::Text)
+        && is_required(size, "ledger_size", Kind::Integer)
+        && has_ledger_columns(rest)
 }
 
 fn is_topic(table: &Table) -> bool
     ensures { IsTrue result → table.now ≡ topic_table 1 }
 {
-    let [name, size, ledger, ordinal] = table.columns.as_slice() else {
+    is_named(table, "topic", 1, &[1]) && has_topic_columns(table.columns.as_slice())
+}
+
+fn has_last_columns(columns: &[Column]) -> bool
+    ensures { IsTrue result → columns.now ≡ drop 9 (entry_table 3).columns }
+{
+    let [properties, payload] = columns else {
         return false;
     };
-    is_named(table, "topic", 1, &[1])
-        && is_required(name, "name", Kind::Text)
-        && is_required(size, "ledger_size", Kind::Integer)
-        && is_required(ledger, "ledger", Kind::Integer)
-        && is_required(ordinal, "ordinal", Kind::Integer)
+    is_required(properties, "properties", Kind::Text) && is_required(payload, "payload", Kind::Blob)
+}
+
+fn has_body_columns(columns: &[Column]) -> bool
+    ensures { IsTrue result → columns.now ≡ drop 7 (entry_table 3).columns }
+{
+    let [has_key, key, rest @ ..] = columns else {
+        return false;
+    };
+    is_required(has_key, "has_key", Kind::Integer)
+        && is_required(key, "key", Kind::Text)
+        && has_last_columns(rest)
+}
+
+fn has_message_columns(columns: &[Column]) -> bool
+    ensures { IsTrue result → columns.now ≡ drop 4 (entry_table 3).columns }
+{
+    let [producer, sequence, time, rest @ ..] = columns else {
+        return false;
+    };
+    is_required(producer, "producer", Kind::Text)
+        && is_required(sequence, "sequence", Kind::Integer)
+        && is_required(time, "time", Kind::Integer)
+        && has_body_columns(rest)
+}
+
+fn has_place_columns(columns: &[Column]) -> bool
+    ensures { IsTrue result → columns.now ≡ drop 2 (entry_table 3).columns }
+{
+    let [ledger, entry, rest @ ..] = columns else {
+        return false;
+    };
+    is_required(ledger, "ledger", Kind::Integer)
+        && is_required(entry, "entry", Kind::Integer)
+        && has_message_columns(rest)
+}
+
+fn has_entry_columns(columns: &[Column]) -> bool
+    ensures { IsTrue result → columns.now ≡ (entry_table 3).columns }
+{
+    let [topic, place, rest @ ..] = columns else {
+        return false;
+    };
+    is_required(topic, "topic", Kind::Text)
+        && is_required(place, "idx", Kind::Integer)
+        && has_place_columns(rest)
 }
 
 fn is_entry(table: &Table) -> bool
     ensures { IsTrue result → table.now ≡ entry_table 3 }
 {
-    let [topic, place, ledger, entry, producer, sequence, time, has_key, key, properties, payload] =
-        table.columns.as_slice()
-    else {
-        return false;
-    };
-    is_named(table, "entry", 3, &[1, 2])
-        && is_required(topic, "topic", Kind::Text)
-        && is_required(place, "idx", Kind::Integer)
-        && is_required(ledger, "ledger", Kind::Integer)
-        && is_required(entry, "entry", Kind::Integer)
-        && is_required(producer, "producer", Kind::Text)
-        && is_required(sequence, "sequence", Kind::Integer)
-        && is_required(time, "time", Kind::Integer)
-        && is_required(has_key, "has_key", Kind::Integer)
-        && is_required(key, "key", Kind::Text)
-        && is_required(properties, "properties", Kind::Text)
-        && is_required(payload, "payload", Kind::Blob)
+    is_named(table, "entry", 3, &[1, 2]) && has_entry_columns(table.columns.as_slice())
 }
 
 fn is_sub(table: &Table) -> bool
@@ -132,18 +213,31 @@ fn is_ack(table: &Table) -> bool
         && is_required(last, "last", Kind::Integer)
 }
 
+fn has_death_columns(columns: &[Column]) -> bool
+    ensures { IsTrue result → columns.now ≡ drop 3 (dead_table 9).columns }
+{
+    let [place, target] = columns else {
+        return false;
+    };
+    is_required(place, "idx", Kind::Integer) && is_required(target, "target", Kind::Text)
+}
+
+fn has_dead_columns(columns: &[Column]) -> bool
+    ensures { IsTrue result → columns.now ≡ (dead_table 9).columns }
+{
+    let [topic, sub, ordinal, rest @ ..] = columns else {
+        return false;
+    };
+    is_required(topic, "topic", Kind::Text)
+        && is_required(sub, "sub", Kind::Text)
+        && is_required(ordinal, "ordinal", Kind::Integer)
+        && has_death_columns(rest)
+}
+
 fn is_dead(table: &Table) -> bool
     ensures { IsTrue result → table.now ≡ dead_table 9 }
 {
-    let [topic, sub, ordinal, place, target] = table.columns.as_slice() else {
-        return false;
-    };
-    is_named(table, "dead", 9, &[1, 2, 3])
-        && is_required(topic, "topic", Kind::Text)
-        && is_required(sub, "sub", Kind::Text)
-        && is_required(ordinal, "ordinal", Kind::Integer)
-        && is_required(place, "idx", Kind::Integer)
-        && is_required(target, "target", Kind::Text)
+    is_named(table, "dead", 9, &[1, 2, 3]) && has_dead_columns(table.columns.as_slice())
 }
 
 fn is_index(index: &Index, name: &str, tree: u32, table: u32, key: &[usize]) -> bool
@@ -171,22 +265,40 @@ fn has_tables(schema: &Schema) -> bool
         && is_dead(dead)
 }
 
-fn has_indexes(schema: &Schema) -> bool
-    ensures { IsTrue result → schema.now.indexes ≡ schema_6.indexes }
+fn has_last_indexes(indexes: &[Index]) -> bool
+    ensures { IsTrue result → indexes.now ≡ drop 3 schema_6.indexes }
 {
-    let [topic, entry, sub, ack, dead] = schema.indexes.as_slice() else {
+    let [ack, dead] = indexes else {
+        return false;
+    };
+    is_index(ack, "sqlite_autoindex_ack_1", 8, 7, &[1, 2, 3])
+        && is_index(dead, "sqlite_autoindex_dead_1", 10, 9, &[1, 2, 3])
+}
+
+fn has_subscription_indexes(indexes: &[Index]) -> bool
+    ensures { IsTrue result → indexes.now ≡ drop 2 schema_6.indexes }
+{
+    let [sub, rest @ ..] = indexes else {
+        return false;
+    };
+    is_index(sub, "sqlite_autoindex_sub_1", 6, 5, &[1, 2])
+        && has_last_indexes(rest)
+}
+
+fn has_indexes(indexes: &[Index]) -> bool
+    ensures { IsTrue result → indexes.now ≡ schema_6.indexes }
+{
+    let [topic, entry, rest @ ..] = indexes else {
         return false;
     };
     is_index(topic, "sqlite_autoindex_topic_1", 2, 1, &[1])
         && is_index(entry, "sqlite_autoindex_entry_1", 4, 3, &[1, 2])
-        && is_index(sub, "sqlite_autoindex_sub_1", 6, 5, &[1, 2])
-        && is_index(ack, "sqlite_autoindex_ack_1", 8, 7, &[1, 2, 3])
-        && is_index(dead, "sqlite_autoindex_dead_1", 10, 9, &[1, 2, 3])
+        && has_subscription_indexes(rest)
 }
 
 /// Whether the six tables are there, and nothing else.
 pub(crate) fn is_schema_6(schema: &Schema) -> bool
     ensures { IsTrue result → schema.now ≡ schema_6 }
 {
-    schema.views.is_empty() && has_tables(schema) && has_indexes(schema)
+    schema.views.is_empty() && has_tables(schema) && has_indexes(schema.indexes.as_slice())
 }

@@ -4,7 +4,8 @@
 mod comparing;
 mod making;
 mod reopening;
+mod version;
 
 pub use making::create;
 pub use reopening::reopen;
-
+pub use version::{has_no_schema, is_version_1};

@@ -1,0 +1,44 @@
+-- What the query of the versions shows.
+use Rattle.std.proofs.Common.{◌≡◌, codes, List, [], ◌∷◌, map, filter, Bool, true, false, pos, refl, sym, ap, subst, ◌∙◌}
+use Rattle.std.specs.List.Sorted.{IsPermutation}
+use Rattle.std.proofs.lemmas.List.Sorted.{IsPermutation-map, IsPermutation-sym}
+use Rattle.sqlite.specs.declared.types.Value.TheVariants.{Null, Int}
+use Rattle.sqlite.specs.Order.{Row}
+use Rattle.sqlite.specs.Term.{col}
+use Rattle.sqlite.specs.Query.{Query, Output}
+use Rattle.sqlite.specs.Program.{overlay}
+use Rattle.sqlite.specs.Command.TheVariants.{Select}
+use Rattle.sqlite_trees.proofs.ListLemmas.{map-map}
+use Rattle.sqlite_tied.specs.Compute.{everything}
+use Rattle.sqlite.specs.State.{State, Shown}
+use Rattle.sqlite.specs.Listing.{understood, reads_listing}
+use Rattle.sqlite.proofs.Callers.{IsPlain, command_of, reads_as, one_permutation}
+use Rattle.row_forms.specs.Schema.{schema_6}
+use Rattle.row_forms.specs.Cells.{META}
+use Rattle.row_tables.specs.Ready.{IsVersion1, versions}
+use Rattle.row_tables.proofs.Texts.{alone, matching, select_meta}
+use Rattle.row_tables.proofs.StatementLemmas.{finds, shows}
+
+
+abbrev marks : Query
+marks = matching META [] (col 1 0 ∷ col 1 2 ∷ []) []
+
+select_meta_is : (command_of (understood schema_6 select_meta) ≡ Select (alone marks) (codes "id" ∷ codes "version" ∷ [])) × (reads_listing schema_6 select_meta ≡ false) × IsPlain (understood schema_6 select_meta)
+unfolding understood everything
+select_meta_is = (refl, refl, (refl, refl))
+
+all_pass : {A : Type 0} (xs : List A) → filter (λ _. true) xs ≡ xs
+all_pass [] = refl
+all_pass (x ∷ xs) = ap (λ more. x ∷ more) (all_pass xs)
+
+pub marked : (old new : State) (rows : List Row) → Shown select_meta [] old new rows → rows ≡ (Int (pos 1) ∷ Int (pos 1) ∷ []) ∷ [] → old.now.schema ≡ schema_6 → IsVersion1 old.now.trees
+marked old new rows h one has =
+    let read = reads_as select_meta [] old new schema_6 has (Select (alone marks) (codes "id" ∷ codes "version" ∷ [])) select_meta_is.0 select_meta_is.2 select_meta_is.1 rows h in
+    let found = finds META [] (col 1 0 ∷ col 1 2 ∷ []) [] [] (overlay old.now.trees []) rows (λ _. refl) (read.answer Null) in
+    let stored = old.now.trees META in
+    let show = shows (col 1 0 ∷ col 1 2 ∷ []) [] [] in
+    let second = λ (o : Output). o.1 in
+    let here : IsPermutation (map show stored) found.0 = subst (λ xs. IsPermutation (map show xs) found.0) (all_pass stored) found.1 in
+    let left : map second (map show stored) ≡ versions stored = map-map second show stored in
+    let right : map second found.0 ≡ (Int (pos 1) ∷ Int (pos 1) ∷ []) ∷ [] = sym found.2 ∙ one in
+    one_permutation _ _ (IsPermutation-sym _ _ (subst (λ l. IsPermutation l ((Int (pos 1) ∷ Int (pos 1) ∷ []) ∷ [])) left (subst (IsPermutation _) right (IsPermutation-map second _ _ here))))
