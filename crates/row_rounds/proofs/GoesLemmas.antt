@@ -1,9 +1,9 @@
 -- How the parts of a round follow one another.
 use Rattle.std.proofs.Common.{◌≡◌, ◌≢◌, ℕ, ◌+◌, ◌-◌, ◌<◌, ◌≤◌, drop, slice_get, Some, length-drop, true, false, List, [], ◌∷◌, ◌++◌, length, get_or, take, map, arith, length-take, Ok, Err, Result, IsTrue, OnOk, refl, sym, ap, subst, ◌∙◌, append_assoc}
 use Rattle.std.specs.List.Sorted.{IsPermutation}
-use Rattle.std.proofs.lemmas.List.{take_more, take_all, map-append, get_or-drop}
+use Rattle.std.proofs.lemmas.List.{take_more, map-append, get_or-drop}
 use Rattle.std.proofs.lemmas.Option.{get_or_from_slice_get}
-use Rattle.std.proofs.lemmas.List.Sorted.{IsPermutation-refl, IsPermutation-trans, IsPermutation-append_right, IsPermutation-append_left, IsPermutation-append_comm}
+use Rattle.std.proofs.lemmas.List.Sorted.{IsPermutation-trans, IsPermutation-append_right, IsPermutation-append_left, IsPermutation-append_comm}
 use Rattle.sqlite_trees.proofs.ListLemmas.{all_both, all_of}
 use Rattle.sqlite.specs.Order.{Row}
 use Rattle.sqlite.specs.Tree.{Trees}
@@ -27,9 +27,6 @@ goes_then P Q R both a b c p q = record {
   does = λ ready. let one = p.does ready in let two = q.does one.0 in (two.0, both _ _ _ one.1 two.1);
 }
 
-pub goes_same : (P : Trees → Trees → Type 0) (a : State) → P a.now.trees a.now.trees → Goes P a a
-goes_same P a same = record { running = λ h. h; shown = λ h. h; was_shown = λ h. h; committed = λ _. refl; does = λ ready. (ready, same) }
-
 -- a part that follows one that went well
 pub then_ok : {E : Type 0} {A : Type 0} (r : Result A E) (P Q R : Trees → Trees → Type 0) → ((x y z : Trees) → P x y → Q y z → R x z) → (a b c : State) → Goes P a b → OnOk r (Goes Q b c) → OnOk r (Goes R a c)
 then_ok (Ok x) P Q R both a b c p q = goes_then P Q R both a b c p q
@@ -47,9 +44,6 @@ spares_none tree x = all_of (λ t. t.tree ≢ tree → x t.tree ≡ x t.tree) (�
 pub spares_then : (tree : ℕ) (x y z : Trees) → SpareOthers tree x y → SpareOthers tree y z → SpareOthers tree x z
 spares_then tree x y z p q = all_both (λ t. t.tree ≢ tree → y t.tree ≡ x t.tree) (λ t. t.tree ≢ tree → z t.tree ≡ y t.tree) (λ t. t.tree ≢ tree → z t.tree ≡ x t.tree) (λ t f g ne. g ne ∙ f ne) schema_6.tables p q
 
-pub adds_none : (tree : ℕ) (x : Trees) → Adds tree [] x x
-adds_none tree x = record { rows = IsPermutation-refl _; others = spares_none tree x }
-
 pub adds_then : (tree : ℕ) (first later : List Row) (x y z : Trees) → Adds tree first x y → Adds tree later y z → Adds tree (first ++ later) x z
 adds_then tree first later x y z p q = record {
   rows =
@@ -60,9 +54,6 @@ adds_then tree first later x y z p q = record {
       IsPermutation-trans _ _ _ moved (IsPermutation-trans _ _ _ there q.rows);
   others = spares_then tree x y z p.others q.others;
 }
-
-pub takes_none : (tree : ℕ) (x : Trees) → Takes tree [] x x
-takes_none tree x = record { rows = λ stay same. same; others = spares_none tree x }
 
 pub takes_then : (tree : ℕ) (first later : List Row) (x y z : Trees) → Takes tree first x y → Takes tree later y z → Takes tree (first ++ later) x z
 takes_then tree first later x y z p q = record {
@@ -107,10 +98,6 @@ messages_next topic from place log e after low is x y z p q =
     let here : e ≡ get_or (drop from log) i e = sym (get_or-drop from log i e ∙ ap (λ n. get_or log n e) at ∙ get_or_from_slice_get log place e e is) in
     let next : i + 1 ≡ place + 1 - from = omega (arith, after) in
     subst (λ n. Adds ENTRY (entry_rows topic from (take n (drop from log))) x z) next (messages_more topic from i place (drop from log) e (omega (arith, length-drop from log, after, low)) here (sym at) x y z p q)
-
-pub messages_all : (topic : List ℕ) (from place : ℕ) (log : List Entry) → from ≤ place → length log ≤ place → (x z : Trees) → Adds ENTRY (entry_rows topic from (take (place - from) (drop from log))) x z → Adds ENTRY (entry_rows topic from (drop from log)) x z
-messages_all topic from place log after end x z p =
-    subst (λ l. Adds ENTRY (entry_rows topic from l) x z) (take_all (place - from) (drop from log) (omega (arith, length-drop from log, after, end))) p
 
 -- ---- the commit
 

@@ -1,11 +1,11 @@
 -- One topic's round after another's.
-use Rattle.std.proofs.Common.{ℕ, zero, suc, ◌≡◌, ◌≢◌, ◌+◌, ◌<◌, ◌≤◌, ◌∙◌, Bool, true, false, ap, sym, subst, List, ◌∷◌, [], ◌++◌, map, length, take, All, arith}
-use Rattle.std.specs.Prelude.{AllPairs, MatchBool}
+use Rattle.std.proofs.Common.{ℕ, suc, ◌≡◌, ◌≢◌, ◌+◌, ◌<◌, ◌≤◌, ◌∙◌, Bool, true, false, ap, sym, subst, List, ◌∷◌, [], ◌++◌, map, length, take, All, arith}
+use Rattle.std.specs.Prelude.{MatchBool}
 use Rattle.std.specs.List.{AllByRecursion}
 use Rattle.std.proofs.Math.ListN.{get_or}
 use Rattle.std.proofs.lemmas.List.{get_or-take, take_more, length-take}
 use Rattle.std.proofs.lemmas.List.Elements.{All-push, All-from_get_or, All-contains, Contains-push, Contains-get_or, Contains-append_left}
-use Rattle.std.proofs.lemmas.List.Sorted.{IsPermutation-trans, IsPermutation-refl}
+use Rattle.std.proofs.lemmas.List.Sorted.{IsPermutation-trans}
 use Rattle.sqlite.specs.Tree.{Trees}
 use Rattle.position_core.specs.TopicName.{topic_text}
 use Rattle.delivery_machine.specs.Places.{KeptTopic}
@@ -13,9 +13,6 @@ use Rattle.row_forms.specs.Forms.{TopicRows, no_rows}
 use Rattle.row_forms.specs.Standing.{Has, Stands, Same, KeepsOthers}
 use Rattle.row_rounds.specs.declared.saving.Write.{Write}
 use Rattle.row_rounds.specs.Rounds.{Via, Changes, Empties, name_of, AreApart, Fits, WritesOne, StandAll, Rounds}
-
-same_refl : (name : List ℕ) (a : Trees) → Same name a a
-same_refl name a = record { topics = IsPermutation-refl _; entries = IsPermutation-refl _; subs = IsPermutation-refl _; acks = IsPermutation-refl _; deads = IsPermutation-refl _ }
 
 same_then : (name : List ℕ) (a b c : Trees) → Same name a b → Same name b c → Same name a c
 same_then name a b c p q = record {
@@ -79,12 +76,6 @@ split_names P (w ∷ front) last all = let more = split_names P front last all.1
 of_names : (P : List ℕ → Type 0) (ws : List Write) (d : Write) → ((k : ℕ) → k < length ws → P (name_of (get_or ws k d))) → AllByRecursion P (map name_of ws)
 of_names P [] d h = tt
 of_names P (w ∷ ws) d h = (h 0 (omega arith), of_names P ws d (λ k low. h (suc k) (omega (arith, low))))
-
-pub rounds_none : (writes : List Write) (db : Trees) → Rounds (take 0 writes) db db
-rounds_none writes db = λ _. record {
-  rows = λ k d h. absurd (omega (arith, length-take 0 writes));
-  others = λ name _. same_refl name db;
-}
 
 pub rounds_more : (writes : List Write) (i : ℕ) (w : Write) → AreApart writes → i < length writes → w ≡ get_or writes i w → (x y z : Trees) → Rounds (take i writes) x y → WritesOne w y z → Rounds (take (i + 1) writes) x z
 rounds_more writes i w distinct low is x y z p q first =

@@ -1,5 +1,5 @@
 -- What becomes of the rows of one topic and of the others where rows go and come.
-use Rattle.std.proofs.Common.{◌≡◌, ◌≢◌, inl, inr, ℕ, ◌+◌, Bool, true, false, not, List, [], ◌∷◌, ◌++◌, map, filter, length, refl, sym, ap, subst, ◌∙◌, append-nil, append_assoc, arith}
+use Rattle.std.proofs.Common.{◌≡◌, ◌≢◌, inl, inr, ℕ, ◌+◌, Bool, true, false, not, List, [], ◌∷◌, ◌++◌, map, filter, refl, sym, ap, subst, ◌∙◌, append-nil, append_assoc}
 use Rattle.std.specs.Prelude.{◌&&◌}
 use Rattle.std.specs.List.{AllByRecursion}
 use Rattle.std.specs.List.Sorted.{IsPermutation}
@@ -11,7 +11,7 @@ use Rattle.sqlite.specs.Order.{Row, column}
 use Rattle.sqlite.specs.declared.types.Value.TheVariants.{Text}
 use Rattle.position_core.specs.declared.message.Entry.{Entry}
 use Rattle.row_forms.specs.Cells.{is_of, of_topic, but_topic}
-use Rattle.row_forms.specs.Forms.{entry_row, entry_rows}
+use Rattle.row_forms.specs.Forms.{entry_rows}
 use Rattle.row_forms.specs.Changes.{IsDifference}
 use Rattle.row_tables.proofs.TableLemmas.{text_is, text_same, filter_twice}
 

@@ -1,5 +1,5 @@
 -- What becomes of a topic where its tables are written in turn.
-use Rattle.std.proofs.Common.{◌≡◌, ◌≢◌, ℕ, Bool, true, false, List, [], ◌∷◌, ◌++◌, map, drop, if◌then◌else◌, refl, sym, subst, ◌∙◌, arith}
+use Rattle.std.proofs.Common.{◌≡◌, ℕ, Bool, true, false, List, [], ◌∷◌, map, drop, if◌then◌else◌, refl, sym, subst, ◌∙◌, arith}
 use Rattle.std.specs.List.Sorted.{IsPermutation}
 use Rattle.sqlite.specs.Order.{Row}
 use Rattle.sqlite.specs.Tree.{Trees}
@@ -9,7 +9,7 @@ use Rattle.row_forms.specs.declared.change.Change.{Change}
 use Rattle.row_forms.specs.Cells.{TOPIC, ENTRY, SUB, ACK, DEAD, bodies, of_topic}
 use Rattle.row_forms.specs.Forms.{TopicRows, no_rows, topic_row, entry_rows}
 use Rattle.row_forms.specs.Standing.{Has, HasIn, KeepsOthers}
-use Rattle.row_forms.specs.Changes.{Leads, IsDifference, sub_cells, ack_cells, dead_cells}
+use Rattle.row_forms.specs.Changes.{IsDifference, sub_cells, ack_cells, dead_cells}
 use Rattle.row_tables.specs.Goes.{SpareOthers, Clears, Adds, Takes}
 use Rattle.row_tables.proofs.TableLemmas.{text_same}
 use Rattle.row_rounds.specs.Rounds.{Via, MayWriteTopic, Changes, Empties}
