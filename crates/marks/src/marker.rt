@@ -74,13 +74,15 @@ impl<E: Blank, J: Naming> Marker<E, J> {
         let mut offer: Offer<E, u64, Law, Nothing> = seen.plain::<Nothing, X, Add<M>>(about);
         let mut pen = seen.no_pen();
         let number = self.count;
-        let found = self.head.compare_exchange::<Add<M>, Nothing>(
-            number,
-            number + 1,
-            &mut seen,
-            &mut offer,
-            &mut pen,
-        );
+        let found = self
+            .head
+            .compare_exchange::<Add<M>, Nothing>(
+                number,
+                number + 1,
+                &mut seen,
+                &mut offer,
+                &mut pen,
+            );
         if found != number {
             return None;
         }

@@ -26,7 +26,11 @@ fn remove_subs<S: Alter>(
     Ok(())
 }
 
-fn add_subs<S: Alter>(tx: &mut Transaction<'_, S>, topic: &str, rows: &[SubRow]) -> Result<(), Error>
+fn add_subs<S: Alter>(
+    tx: &mut Transaction<'_, S>,
+    topic: &str,
+    rows: &[SubRow],
+) -> Result<(), Error>
     ensures same_reference { tx.new.conn.ghost_name ≡ tx.old.conn.ghost_name }
     ensures survives { Survives (state S.Store tx.old.conn.now) (state S.Store tx.new.conn.now) (λ _. ⊥) }
     ensures done { HasCleanDisk (state S.Store tx.new.conn.now) → OnOk result (Goes (Adds SUB (map (sub_cells topic.now) rows.now)) (state S.Store tx.old.conn.now) (state S.Store tx.new.conn.now)) }
@@ -65,7 +69,11 @@ fn remove_acks<S: Alter>(
     Ok(())
 }
 
-fn add_acks<S: Alter>(tx: &mut Transaction<'_, S>, topic: &str, rows: &[AckRow]) -> Result<(), Error>
+fn add_acks<S: Alter>(
+    tx: &mut Transaction<'_, S>,
+    topic: &str,
+    rows: &[AckRow],
+) -> Result<(), Error>
     ensures same_reference { tx.new.conn.ghost_name ≡ tx.old.conn.ghost_name }
     ensures survives { Survives (state S.Store tx.old.conn.now) (state S.Store tx.new.conn.now) (λ _. ⊥) }
     ensures done { HasCleanDisk (state S.Store tx.new.conn.now) → OnOk result (Goes (Adds ACK (map (ack_cells topic.now) rows.now)) (state S.Store tx.old.conn.now) (state S.Store tx.new.conn.now)) }
@@ -104,7 +112,11 @@ fn remove_deads<S: Alter>(
     Ok(())
 }
 
-fn add_deads<S: Alter>(tx: &mut Transaction<'_, S>, topic: &str, rows: &[DeadRow]) -> Result<(), Error>
+fn add_deads<S: Alter>(
+    tx: &mut Transaction<'_, S>,
+    topic: &str,
+    rows: &[DeadRow],
+) -> Result<(), Error>
     ensures same_reference { tx.new.conn.ghost_name ≡ tx.old.conn.ghost_name }
     ensures survives { Survives (state S.Store tx.old.conn.now) (state S.Store tx.new.conn.now) (λ _. ⊥) }
     ensures done { HasCleanDisk (state S.Store tx.new.conn.now) → OnOk result (Goes (Adds DEAD (map (dead_cells topic.now) rows.now)) (state S.Store tx.old.conn.now) (state S.Store tx.new.conn.now)) }

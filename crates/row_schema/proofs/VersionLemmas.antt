@@ -19,7 +19,6 @@ use Rattle.row_tables.specs.Ready.{IsVersion1, versions}
 use Rattle.row_tables.proofs.Texts.{alone, matching, select_meta}
 use Rattle.row_tables.proofs.StatementLemmas.{finds, shows}
 
-
 abbrev marks : Query
 marks = matching META [] (col 1 0 ∷ col 1 2 ∷ []) []
 

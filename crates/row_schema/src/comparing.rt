@@ -281,8 +281,7 @@ fn has_subscription_indexes(indexes: &[Index]) -> bool
     let [sub, rest @ ..] = indexes else {
         return false;
     };
-    is_index(sub, "sqlite_autoindex_sub_1", 6, 5, &[1, 2])
-        && has_last_indexes(rest)
+    is_index(sub, "sqlite_autoindex_sub_1", 6, 5, &[1, 2]) && has_last_indexes(rest)
 }
 
 fn has_indexes(indexes: &[Index]) -> bool
