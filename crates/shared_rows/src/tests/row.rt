@@ -112,18 +112,3 @@ fn the_last_line_is_for_what_is_stored(rt: HostRuntime) {
     assert!(rt; !cell.needs_storing());
     assert_eq!(rt; cell.ready(), Err(Fault::JournalFull));
 }
-
-#[test]
-fn a_promised_line_stays(rt: HostRuntime) {
-    let mut cell = new_cell(&rt, 8);
-    assert!(rt; asked(&rt, &mut cell, Ask::Connect) == Came::Added(1));
-    assert!(rt; asked(&rt, &mut cell, publishing(0)) == Came::Published(1));
-    assert!(rt; cell.ready().is_ok());
-    cell.view_taken();
-    assert!(rt; asked(&rt, &mut cell, publishing(1)) == Came::Published(2));
-    assert!(rt; asked(&rt, &mut cell, publishing(2)) == Came::Published(3));
-    assert!(rt; asked(&rt, &mut cell, publishing(3)) == Came::Full);
-    assert_eq!(rt; cell.confirm(1, 0), 1);
-    assert!(rt; cell.needs_storing());
-    assert_eq!(rt; cell.lines(), 5);
-}
