@@ -1,6 +1,6 @@
 // The rows of one topic are read.
-ghost use Rattle.std.specs.Prelude.{◌≡◌, false, IfOk, OnOk};
-ghost use Rattle.sqlite.specs.State.{HasCleanDisk, Survives};
+ghost use Rattle.std.specs.Prelude.{◌≡◌, false, IfOk, IsTrue};
+ghost use Rattle.sqlite.specs.State.{HasCleanDisk, KeepsCommit, Survives};
 ghost use Rattle.sqlite.specs.Held.{state};
 ghost use Rattle.row_tables.specs.Ready.{IsReady};
 ghost use Rattle.row_tables.specs.Goes.{Goes, Stays};
@@ -13,6 +13,7 @@ use sqlite::{Alter, Connection, Error, Transaction};
 fn read_tables<S: Alter>(tx: &mut Transaction<'_, S>, topic: &str) -> Result<RawRows, Error>
     ensures same_reference { tx.new.conn.ghost_name ≡ tx.old.conn.ghost_name }
     ensures survives { Survives (state S.Store tx.old.conn.now) (state S.Store tx.new.conn.now) (λ _. ⊥) }
+    ensures kept { HasCleanDisk (state S.Store tx.new.conn.now) → IsTrue (state S.Store tx.old.conn.now).in_transaction → KeepsCommit (state S.Store tx.old.conn.now) (state S.Store tx.new.conn.now) }
     ensures rows { HasCleanDisk (state S.Store tx.new.conn.now) → IfOk result (λ raw. IsReady (state S.Store tx.old.conn.now).now → IsReadFrom topic.now (state S.Store tx.old.conn.now).now.trees raw) }
 {
     let topics = topics::read(tx, topic)?;
@@ -36,7 +37,10 @@ pub fn read<S: Alter>(conn: &mut Connection<S>, topic: &str) -> Result<RawRows, 
     ensures autocommit { conn.new.in_transaction ≡ false }
     ensures loaded { HasCleanDisk (state S.Store conn.new) → IfOk result (λ raw. IsReady (state S.Store conn.old).now → IsReadFrom topic.now (state S.Store conn.old).now.trees raw) }
     ensures crash { Survives (state S.Store conn.old) (state S.Store conn.new) (λ _. ⊥) }
+    ensures kept { HasCleanDisk (state S.Store conn.new) → IsTrue (state S.Store conn.new).is_open → (state S.Store conn.new).now ≡ (state S.Store conn.old).now }
+    ensures was_open { HasCleanDisk (state S.Store conn.new) → IsTrue (state S.Store conn.new).is_open → IsTrue (state S.Store conn.old).is_open }
 {
+    prove!(conn.is_autocommit());
     let mut tx = conn.transaction();
     let raw = read_tables(&mut tx, topic)?;
     tx.rollback();

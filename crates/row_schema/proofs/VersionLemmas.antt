@@ -1,5 +1,5 @@
 -- What the query of the versions shows.
-use Rattle.std.proofs.Common.{◌≡◌, codes, List, [], ◌∷◌, map, filter, Bool, true, false, pos, refl, sym, ap, subst, ◌∙◌}
+use Rattle.std.proofs.Common.{◌≡◌, codes, List, [], ◌∷◌, map, filter, true, false, pos, refl, sym, ap, subst, ◌∙◌}
 use Rattle.std.specs.List.Sorted.{IsPermutation}
 use Rattle.std.proofs.lemmas.List.Sorted.{IsPermutation-map, IsPermutation-sym}
 use Rattle.sqlite.specs.declared.types.Value.TheVariants.{Null, Int}

@@ -1,9 +1,9 @@
 -- What a part of the making of the tables does.
-use Rattle.std.specs.Prelude.{◌≡◌, List, [], ℕ, true, false, Ok, IsTrue}
+use Rattle.std.specs.Prelude.{◌≡◌, List, [], ℕ, false, Ok, IsTrue}
 use Rattle.std.specs.List.{AllByRecursion}
 use Rattle.sqlite.specs.Schema.{Schema}
 use Rattle.sqlite.specs.Table.{Table}
-use Rattle.sqlite.specs.Effect.{Database, IsDatabase}
+use Rattle.sqlite.specs.Effect.{Database}
 use Rattle.sqlite.specs.Command.TheVariants.{CreateTable}
 use Rattle.sqlite.specs.Compile.{table_defined_by}
 use Rattle.sqlite.specs.Change.{created}
@@ -11,7 +11,6 @@ use Rattle.sqlite.specs.Does.{lacks_sequence}
 use Rattle.sqlite.specs.Listing.{understood}
 use Rattle.sqlite.specs.State.{State}
 use Rattle.sqlite.proofs.Callers.{IsPlain, command_of, statement_of}
-use Rattle.row_forms.specs.Schema.{schema_0}
 use Rattle.row_tables.specs.Ready.{IsBlank}
 
 -- the schema is this, and no table has a row

@@ -4,3 +4,4 @@ pub mod StatementLemmas
 pub mod PartLemmas
 pub mod PerTable
 pub mod ReadLemmas
+pub mod CommitLemmas

@@ -1,15 +1,13 @@
 -- What the statements of a round do, inside its transaction.
-use Rattle.std.proofs.Common.{◌≡◌, ◌≢◌, inl, inr, ℕ, ◌/◌, Bool, true, false, not, pos, ℤ, List, [], ◌∷◌, ◌++◌, length, map, filter, slice_get, Option, None, Some, Ok, Err, Result, IsTrue, refl, sym, ap, subst, ◌∙◌, arith, ◌<◌, ◌^◌, to_z, of_z, w64}
-use Rattle.std.specs.Prelude.{◌&&◌, unwrap_or}
-use Rattle.std.specs.List.{AllByRecursion, range_with_len}
+use Rattle.std.proofs.Common.{◌≡◌, ◌≢◌, inl, inr, ℕ, ◌/◌, Bool, true, false, not, pos, ℤ, List, [], ◌∷◌, ◌++◌, length, filter, slice_get, None, Some, Ok, Err, Result, IsTrue, refl, sym, ap, subst, ◌∙◌, arith, ◌<◌, ◌^◌, to_z, of_z, w64}
+use Rattle.std.specs.Prelude.{unwrap_or}
 use Rattle.std.specs.List.Sorted.{IsPermutation}
-use Rattle.std.proofs.lemmas.List.Sorted.{IsPermutation-map, IsPermutation-trans, length_permutation}
+use Rattle.std.proofs.lemmas.List.Sorted.{IsPermutation-map, length_permutation}
 use Rattle.std.proofs.lemmas.Bool.{cases_eq, cases_Bool}
 use Rattle.std.proofs.lemmas.Int.{to_z_pos}
 use Rattle.sqlite.specs.declared.error.Error.{Error}
-use Rattle.sqlite.specs.declared.types.Value.{Value}
 use Rattle.sqlite.specs.declared.types.Value.TheVariants.{Null, Int, Text}
-use Rattle.sqlite.specs.Order.{Row, column}
+use Rattle.sqlite.specs.Order.{Row}
 use Rattle.sqlite.specs.Tree.{Trees}
 use Rattle.sqlite.specs.Term.{Term, col}
 use Rattle.sqlite.specs.Program.{overlay}
@@ -20,7 +18,7 @@ use Rattle.sqlite.specs.Command.TheVariants.{Insert, Delete}
 use Rattle.sqlite_trees.specs.View.{IsShaped}
 use Rattle.sqlite_trees.specs.declared.store.Shape.TheVariants.{Table}
 use Rattle.sqlite_trees.proofs.TreeLemmas.{IsShaped-filter, IsShaped-put_row}
-use Rattle.sqlite_trees.proofs.ListLemmas.{all_both, filter_none, IsPermutation-filter}
+use Rattle.sqlite_trees.proofs.ListLemmas.{all_both, IsPermutation-filter}
 use Rattle.sqlite_rules.specs.Action.{works}
 use Rattle.sqlite_schema.specs.declared.schema.Column.{Column}
 use Rattle.sqlite.specs.declared.run.Mode.{Mode}
@@ -37,7 +35,7 @@ use Rattle.row_tables.specs.Ready.{AreKeyed, IsVersion1}
 use Rattle.row_tables.specs.Goes.{Goes, SpareOthers, Clears, Adds, Takes}
 use Rattle.row_tables.proofs.Texts.{alone, matching, equals}
 use Rattle.row_tables.proofs.TableLemmas.{put_adds, without_is}
-use Rattle.row_tables.proofs.StatementLemmas.{cast_null, plain_table, deletes, inserts, leaves, agrees, IsTest, but_first}
+use Rattle.row_tables.proofs.StatementLemmas.{cast_null, deletes, inserts, leaves, agrees, IsTest, but_first}
 
 -- each table has an order of rowids, where only this one was written
 still_keyed : (tree : ℕ) (old new : Trees) → IsShaped Table (new tree) → AreKeyed old → SpareOthers tree old new → AreKeyed new

@@ -1,8 +1,6 @@
 -- The statements on each of the five tables of topics.
-use Rattle.std.proofs.Common.{◌≡◌, ℕ, ℤ, ◌+◌, pos, List, [], ◌∷◌, ◌++◌, map, codes, Bool, true, Ok, IsTrue, refl, arith}
-use Rattle.std.specs.Prelude.{Option, None, Some}
+use Rattle.std.proofs.Common.{◌≡◌, ℕ, ℤ, pos, List, [], ◌∷◌, codes, Ok, refl, arith}
 use Rattle.sqlite.specs.declared.types.Value.TheVariants.{Null, Int, Text, Blob as Octets}
-use Rattle.sqlite.specs.Order.{Row}
 use Rattle.sqlite.specs.Term.{lit, col}
 use Rattle.sqlite.specs.State.{State, ExecutesInside}
 use Rattle.sqlite_schema.specs.declared.schema.Column.{Column}

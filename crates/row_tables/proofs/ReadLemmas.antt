@@ -71,7 +71,7 @@ unchanged_as sql params old new rows plain has h =
     let bare = subst IsPlain (sym known) plain in
     (rw bare.0 at h.2).3
 
-was_open : (old new : State) (sql : List ℕ) (c : Compiled) (params : Row) (rows : List Row) (o : Option Returning) → ShowsRows old new sql c params rows o
+pub was_open : (old new : State) (sql : List ℕ) (c : Compiled) (params : Row) (rows : List Row) (o : Option Returning) → ShowsRows old new sql c params rows o
     → IsTrue old.is_open × IsTrue new.is_open × (IsTrue old.in_transaction → IsTrue new.in_transaction × (new.committed ≡ old.committed))
 was_open old new sql c params rows None h = (h.3.0.was_open, h.3.0.is_open, λ run. (subst IsTrue (sym h.3.0.mode) run, h.3.0.committed_is))
 was_open old new sql c params rows (Some what) h = let w = h.1.shown in (w.was_open, w.is_open, λ run. (subst IsTrue (sym w.mode) run, w.committed_is ∙ rw run refl))

@@ -2,14 +2,14 @@
 use Rattle.std.proofs.Common.{◌≡◌, ◌≢◌, ◌⊎◌, inl, inr, ℕ, ◌+◌, ◌/◌, ℤ, List, [], ◌∷◌, ◌++◌, length, map, filter, flat_map, cond, slice_get, Bool, true, false, not, Option, Some, None, Ok, Err, Result, refl, sym, ap, subst, ◌∙◌}
 use Rattle.std.specs.Prelude.{◌&&◌}
 use Rattle.std.specs.List.{AllByRecursion, list_all}
-use Rattle.std.specs.List.Sorted.{IsPermutation, IsSorted}
+use Rattle.std.specs.List.Sorted.{IsPermutation}
 use Rattle.std.proofs.lemmas.Bool.{cases_Bool}
 use Rattle.std.proofs.lemmas.List.Sorted.{IsPermutation-map, length_permutation}
 use Rattle.std.proofs.lemmas.List.{length-map}
 use Rattle.sqlite.specs.Edit.{id_in}
 use Rattle.sqlite.specs.declared.types.Value.{Value}
 use Rattle.sqlite.specs.declared.types.Value.TheVariants.{Null, Int, Text}
-use Rattle.sqlite.specs.Order.{Row, column, value_cmp}
+use Rattle.sqlite.specs.Order.{Row, column}
 use Rattle.sqlite.specs.Tree.{Trees, rowid, put_row}
 use Rattle.sqlite.specs.Term.{Term, col, holds, eval_all}
 use Rattle.sqlite.specs.Ops.{unary, binary, is_true}
@@ -18,9 +18,9 @@ use Rattle.sqlite_sql.specs.declared.ops.BinaryOp.TheVariants.{Compare}
 use Rattle.sqlite_sql.specs.declared.ops.CompareOp.TheVariants.{Eq}
 use Rattle.sqlite.specs.Collation.TheVariants.{Binary}
 use Rattle.sqlite_trees.proofs.ListLemmas.{filter_same, filter-map, all_of, map-map}
-use Rattle.sqlite.specs.Cast.{cast, cast_all}
+use Rattle.sqlite.specs.Cast.{cast}
 use Rattle.sqlite.specs.Kind.TheVariants.{Integer}
-use Rattle.sqlite.specs.Query.{Query, Output, output, output_cmp, IsAnswerAs, IsSureAnswer}
+use Rattle.sqlite.specs.Query.{Query, Output, output, IsAnswerAs, IsSureAnswer}
 use Rattle.sqlite.specs.Program.{overlay}
 use Rattle.sqlite.specs.Schema.{Schema}
 use Rattle.sqlite.specs.Table.{Table}
@@ -29,7 +29,7 @@ use Rattle.sqlite_value.specs.declared.keys.Order.{Order}
 use Rattle.sqlite.specs.Source.TheVariants.{Values}
 use Rattle.sqlite.specs.Command.{Command}
 use Rattle.sqlite.specs.Command.TheVariants.{Insert, Delete}
-use Rattle.sqlite.specs.Edit.{taken_by, are_fresh, put_all, edit_of, row_at, is_taken, next_rowid, without_all}
+use Rattle.sqlite.specs.Edit.{taken_by, are_fresh, put_all, edit_of, row_at, is_taken, without_all}
 use Rattle.sqlite.specs.Rowids.TheVariants.{Given, Chosen}
 use Rattle.sqlite_rules.specs.Action.{works}
 use Rattle.sqlite_rules.specs.Calls.{ids_of}

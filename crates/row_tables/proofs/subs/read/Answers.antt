@@ -1,6 +1,7 @@
 use Rattle.std.proofs.lemmas.Result.{IfOk-weaker}
 use Rattle.sqlite.specs.Held.{state}
 use Rattle.row_tables.proofs.Texts.{select_sub, select_sub_is}
+use Rattle.row_tables.proofs.CommitLemmas.{keeps_commit}
 use Rattle.row_tables.proofs.ReadLemmas.{reads_sub, shown_goes}
 use Rattle.row_tables.proofs.subs.read.Goals as goal
 
@@ -13,3 +14,7 @@ pub returns-clause-rows : goal.returns-clause-rows
 returns-clause-rows g c clean =
     let ok = rw c.params-to_sql.ensures at (c.query_all.ensures.ok clean) in
     IfOk-weaker c.query_all.result _ _ (λ rows h. reads_sub c.args.topic.now (state g.S.Store c.args.tx.now.conn.now) (state g.S.Store c.query_all.new.self.conn.now) rows.items h) ok
+
+pub returns-clause-kept : goal.returns-clause-kept
+returns-clause-kept g c clean =
+    keeps_commit (λ rows. rows.items) (state g.S.Store c.args.tx.now.conn.now) (state g.S.Store c.query_all.new.self.conn.now) _ _ c.query_all.result (c.query_all.ensures.ok clean) (c.query_all.ensures.err clean)
