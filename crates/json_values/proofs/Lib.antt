@@ -6,3 +6,4 @@ pub mod Parsed
 pub mod Pairs
 pub mod PlainTimes
 pub mod Written
+pub mod Lengths

@@ -1,5 +1,5 @@
 -- Objects as they are written: field by field, and read back.
-use Rattle.std.proofs.Common.{◌≡◌, ℕ, ◌≤◌, List, [], ◌∷◌, ◌++◌, Bool, true, false, Some, flat_map, fold, refl, sym, ap, ◌∙◌, append_assoc, append-nil, arith}
+use Rattle.std.proofs.Common.{◌≡◌, ℕ, ◌+◌, ◌≤◌, length, length-append, List, [], ◌∷◌, ◌++◌, Bool, true, false, Some, flat_map, fold, refl, sym, ap, ◌∙◌, append_assoc, append-nil, arith}
 use Rattle.std.specs.Prelude.{codes, if◌then◌else◌}
 use Rattle.std.proofs.lemmas.Grind.{flat_map-append}
 use Rattle.json.specs.Token.{Token}
@@ -8,7 +8,7 @@ use Rattle.json.specs.Print.{ends, escape, print_from, quoted}
 use Rattle.json.specs.Tree.{MembersHaveNumbers, items_tokens, json_tokens, members_depth, members_tokens}
 use Rattle.json.proofs.Printed.Tokens.{print_from-append}
 use Rattle.json.proofs.Printed.Trees.{document-print}
-use Rattle.json_values.specs.Written.{compact, field_text, fields_text, leading, members_of, object_text, object_with}
+use Rattle.json_values.specs.Written.{compact, field_text, fields_text, leading, members_of, object_text, object_with, property_field}
 
 abbrev pub Fields : Type 0
 Fields = List (List ℕ × Json)
@@ -188,7 +188,7 @@ abbrev pub has_none : Fields → Bool
 has_none [] = true
 has_none (field ∷ others) = false
 
-one_more : (fields : Fields) (field : List ℕ × Json) (is_first : Bool) → is_first ≡ has_none fields
+pub one_more : (fields : Fields) (field : List ℕ × Json) (is_first : Bool) → is_first ≡ has_none fields
     → fields_text (fields ++ field ∷ []) ≡ fields_text fields ++ ((if is_first then [] else codes ",") ++ field_text field)
 one_more [] field is_first is = rw (is, append-nil) refl
 one_more (first ∷ others) field is_first is =
@@ -209,3 +209,17 @@ none_after_one (first ∷ others) field = refl
 
 pub reads_back : (fields : Fields) → MembersHaveNumbers (members_of fields) → members_depth (members_of fields) ≤ 127 → document (object_text fields) ≡ Some (object_with fields)
 reads_back fields numbers shallow = document-print (object_with fields) numbers (omega arith)
+
+-- how long a property is, with what stands before it
+pub property_length : (before name value : List ℕ) → length (before ++ field_text (property_field (name, value))) ≡ length before + length (quoted name) + 1 + length (quoted value)
+property_length before name value = omega (
+  arith,
+  length-append before (field_text (property_field (name, value))),
+  length-append (quoted name ++ codes ":") (compact (string value)),
+  length-append (quoted name) (codes ":"),
+  ap length (compact_string value),
+)
+
+-- how long an object is whose fields are written
+pub object_length : (fields : Fields) → length (object_text fields) ≡ 1 + length (fields_text fields) + 1
+object_length fields = omega (arith, ap length (object_prints fields), length-append (fields_text fields) (codes "}"))

@@ -1,6 +1,6 @@
 // Properties, written as a compact object and read back.
-ghost use Rattle.std.specs.Prelude.{◌≡◌, [], ◌++◌, ◌≤◌, codes, if◌then◌else◌, length, IfOk, IfSome, IsTrue, OnOk, string_bytes};
-ghost use Rattle.position_core.specs.Properties.{pairs_of};
+ghost use Rattle.std.specs.Prelude.{◌≡◌, [], ◌++◌, ◌+◌, ◌<◌, ◌≤◌, codes, if◌then◌else◌, length, IfOk, IfSome, IsTrue, OnErr, OnOk, string_bytes, string_capacity, string_len};
+ghost use Rattle.position_core.specs.Properties.{fits, pairs_of};
 ghost use Rattle.json_values.specs.Written.{field_text, fields_text, object_text, property_field, property_fields};
 
 use crate::fields::pairs_in;
@@ -11,18 +11,25 @@ use std::alloc::{AllocError, Global};
 use std::collections::BTreeMap;
 
 fn push_comma(out: &mut String, is_first: bool) -> Result<(), AllocError>
-    ensures { OnOk result (string_bytes out.new ≡ string_bytes out.old ++ (if is_first then [] else codes ",")) }
+    ensures bytes { OnOk result (string_bytes out.new ≡ string_bytes out.old ++ (if is_first then [] else codes ",")) }
+    ensures len { OnOk result (string_len out.new ≡ string_len out.old + length (if is_first then [] else codes ",")) }
+    ensures capacity { string_capacity out.old ≤ string_capacity out.new }
+    ensures full { OnErr result (string_capacity out.old < string_len out.old + length (if is_first then [] else codes ",")) }
 {
     if is_first { Ok(()) } else { out.push_str(",") }
 }
 
+#[tactic(auto, using(crate::proofs::Written::property_length))]
 fn push_property(
     out: &mut String,
     is_first: bool,
     name: &str,
     value: &str,
 ) -> Result<(), AllocError>
-    ensures { OnOk result (string_bytes out.new ≡ string_bytes out.old ++ ((if is_first then [] else codes ",") ++ field_text (property_field (name.now, value.now)))) }
+    ensures bytes { OnOk result (string_bytes out.new ≡ string_bytes out.old ++ ((if is_first then [] else codes ",") ++ field_text (property_field (name.now, value.now)))) }
+    ensures len { OnOk result (string_len out.new ≡ string_len out.old + length ((if is_first then [] else codes ",") ++ field_text (property_field (name.now, value.now)))) }
+    ensures capacity { string_capacity out.old ≤ string_capacity out.new }
+    ensures full { OnErr result (string_capacity out.old < string_len out.old + length ((if is_first then [] else codes ",") ++ field_text (property_field (name.now, value.now)))) }
 {
     push_comma(out, is_first)?;
     push_quoted(out, name)?;
@@ -32,7 +39,10 @@ fn push_property(
 }
 
 fn push_property_list(out: &mut String, values: &BTreeMap<String, String>) -> Result<(), AllocError>
-    ensures { OnOk result (string_bytes out.new ≡ string_bytes out.old ++ fields_text (property_fields (pairs_of values.now))) }
+    ensures bytes { OnOk result (string_bytes out.new ≡ string_bytes out.old ++ fields_text (property_fields (pairs_of values.now))) }
+    ensures len { OnOk result (string_len out.new ≡ string_len out.old + length (fields_text (property_fields (pairs_of values.now)))) }
+    ensures capacity { string_capacity out.old ≤ string_capacity out.new }
+    ensures full { OnErr result (string_capacity out.old < string_len out.old + length (fields_text (property_fields (pairs_of values.now)))) }
 {
     let mut is_first = true;
     for (name, value) in values.iter() {
@@ -42,9 +52,13 @@ fn push_property_list(out: &mut String, values: &BTreeMap<String, String>) -> Re
     Ok(())
 }
 
-/// Appends the properties as an object.
+#[tactic(auto, using(crate::proofs::Written::object_length))]
+/// Appends the properties as an object. It fails only where the text had no room for them.
 pub fn append_properties(out: &mut String, properties: &Properties) -> Result<(), AllocError>
-    ensures { OnOk result (string_bytes out.new ≡ string_bytes out.old ++ object_text (property_fields properties.now)) }
+    ensures bytes { OnOk result (string_bytes out.new ≡ string_bytes out.old ++ object_text (property_fields properties.now)) }
+    ensures len { OnOk result (string_len out.new ≡ string_len out.old + length (object_text (property_fields properties.now))) }
+    ensures capacity { string_capacity out.old ≤ string_capacity out.new }
+    ensures full { OnErr result (string_capacity out.old < string_len out.old + length (object_text (property_fields properties.now))) }
 {
     out.push_str("{")?;
     push_property_list(out, properties.as_map())?;
@@ -52,12 +66,22 @@ pub fn append_properties(out: &mut String, properties: &Properties) -> Result<()
     Ok(())
 }
 
+fn room_for_property(name: &str, value: &str) -> usize
+    ensures enough { IsTrue (fits (name.now, value.now)) → length (field_text (property_field (name.now, value.now))) + 1 ≤ result }
+    ensures small { IsTrue (fits (name.now, value.now)) → result ≤ 7680 }
+{
+    let name_room = room_for(name);
+    let value_room = room_for(value);
+    name_room.saturating_add(value_room).saturating_add(2)
+}
+
 /// How many bytes of room the properties take as an object at most.
-pub fn room_for_properties(properties: &Properties) -> usize {
+pub fn room_for_properties(properties: &Properties) -> usize
+    ensures { length (object_text (property_fields properties.now)) ≤ result }
+{
     let mut room = 2usize;
     for (name, value) in properties.as_map().iter() {
-        let one = room_for(name.as_str()).saturating_add(room_for(value.as_str()));
-        room = room.saturating_add(one).saturating_add(2);
+        room = room.saturating_add(room_for_property(name.as_str(), value.as_str()));
     }
     room
 }

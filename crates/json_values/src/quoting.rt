@@ -1,5 +1,5 @@
 // JSON strings, written straight into a text.
-ghost use Rattle.std.specs.Prelude.{◌≡◌, ◌++◌, ◌<◌, ◌≤◌, [], ◌∷◌, ◌/◌, ◌%◌, ◌+◌, ◌*◌, ◌^◌, IsTrue, OnOk, IfSome, IfNone, count_by, drop, length, position, slice_index, take, string_bytes};
+ghost use Rattle.std.specs.Prelude.{◌≡◌, ◌++◌, ◌<◌, ◌≤◌, [], ◌∷◌, ◌/◌, ◌%◌, ◌+◌, ◌*◌, ◌^◌, IsTrue, OnErr, OnOk, IfSome, IfNone, count_by, drop, length, position, slice_index, take, string_bytes, string_capacity, string_len};
 ghost use Rattle.std.specs.Char.{digit_char};
 ghost use Rattle.json.specs.Print.{escape, escape_byte, quoted};
 ghost use Rattle.json_values.specs.Escapes.{needs_escape};
@@ -42,7 +42,10 @@ fn hex_digit(digit: u8) -> char
 
 fn push_control(out: &mut String, byte: u8) -> Result<(), AllocError>
     requires { byte < 32 }
-    ensures { OnOk result (string_bytes out.new ≡ string_bytes out.old ++ 92 ∷ 117 ∷ 48 ∷ 48 ∷ digit_char (byte / 16) ∷ digit_char (byte % 16) ∷ []) }
+    ensures bytes { OnOk result (string_bytes out.new ≡ string_bytes out.old ++ 92 ∷ 117 ∷ 48 ∷ 48 ∷ digit_char (byte / 16) ∷ digit_char (byte % 16) ∷ []) }
+    ensures len { OnOk result (string_len out.new ≡ string_len out.old + 6) }
+    ensures capacity { string_capacity out.old ≤ string_capacity out.new }
+    ensures full { OnErr result (string_capacity out.old < string_len out.old + 6) }
 {
     out.push_str("\\u00")?;
     out.push(hex_digit(byte / 16))?;
@@ -53,7 +56,10 @@ fn push_control(out: &mut String, byte: u8) -> Result<(), AllocError>
 #[tactic(auto, unfolding(json::specs::Print::escape_byte))]
 fn push_escape(out: &mut String, byte: u8) -> Result<(), AllocError>
     requires { IsTrue (needs_escape byte) }
-    ensures { OnOk result (string_bytes out.new ≡ string_bytes out.old ++ escape_byte byte) }
+    ensures bytes { OnOk result (string_bytes out.new ≡ string_bytes out.old ++ escape_byte byte) }
+    ensures len { OnOk result (string_len out.new ≡ string_len out.old + length (escape_byte byte)) }
+    ensures capacity { string_capacity out.old ≤ string_capacity out.new }
+    ensures full { OnErr result (string_capacity out.old < string_len out.old + length (escape_byte byte)) }
 {
     match byte {
         b'"' => out.push_str("\\\""),
@@ -93,7 +99,10 @@ fn split_special(text: &str) -> Option<(&str, u8, &str)>
 }
 
 fn push_escaped(out: &mut String, text: &str) -> Result<(), AllocError>
-    ensures { OnOk result (string_bytes out.new ≡ string_bytes out.old ++ escape text.now) }
+    ensures bytes { OnOk result (string_bytes out.new ≡ string_bytes out.old ++ escape text.now) }
+    ensures len { OnOk result (string_len out.new ≡ string_len out.old + length (escape text.now)) }
+    ensures capacity { string_capacity out.old ≤ string_capacity out.new }
+    ensures full { OnErr result (string_capacity out.old < string_len out.old + length (escape text.now)) }
 {
     let mut rest = text;
     while let Some((run, byte, after)) = split_special(rest) {
@@ -106,7 +115,10 @@ fn push_escaped(out: &mut String, text: &str) -> Result<(), AllocError>
 
 /// Appends the text as a JSON string.
 pub fn push_quoted(out: &mut String, text: &str) -> Result<(), AllocError>
-    ensures { OnOk result (string_bytes out.new ≡ string_bytes out.old ++ quoted text.now) }
+    ensures bytes { OnOk result (string_bytes out.new ≡ string_bytes out.old ++ quoted text.now) }
+    ensures len { OnOk result (string_len out.new ≡ string_len out.old + length (quoted text.now)) }
+    ensures capacity { string_capacity out.old ≤ string_capacity out.new }
+    ensures full { OnErr result (string_capacity out.old < string_len out.old + length (quoted text.now)) }
 {
     out.push_str("\"")?;
     push_escaped(out, text)?;

@@ -8,4 +8,4 @@ pub returns : goal.returns
 unfolding escape_byte
 returns c =
     rw c.in-Some.is
-    (quoted_comma_pushed (codes "context") _ _ _ _ _ _ refl c.in_ok-push_str.ensures.bytes c.in_ok-push_quoted.ensures c.in_ok-push_str-2.ensures.bytes)
+    (quoted_comma_pushed (codes "context") _ _ _ _ _ _ refl c.in_ok-push_str.ensures.bytes c.in_ok-push_quoted.ensures.bytes c.in_ok-push_str-2.ensures.bytes)

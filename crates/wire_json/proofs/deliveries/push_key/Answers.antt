@@ -7,6 +7,6 @@ use Rattle.wire_json.proofs.deliveries.push_key.Goals as goal
 pub returns : goal.returns
 unfolding escape_byte
 returns c =
-    let key = rw c.as_str.ensures.value at c.in_ok-push_quoted.ensures in
+    let key = rw c.as_str.ensures.value at c.in_ok-push_quoted.ensures.bytes in
     rw c.in-Some.is
     (quoted_comma_pushed (codes "key") _ _ _ _ _ _ refl c.in_ok-push_str.ensures.bytes key c.in_ok-push_str-2.ensures.bytes)

@@ -10,5 +10,5 @@ pub returns : goal.returns
 unfolding escape_byte
 returns c =
     comma_pushed _ _ _ (properties_field c.args.properties.now)
-    (field_pushed (codes "properties") _ _ _ _ _ (object_with (property_fields c.args.properties.now)) refl refl c.in_ok-push_str.ensures.bytes c.in_ok-append_properties.ensures)
+    (field_pushed (codes "properties") _ _ _ _ _ (object_with (property_fields c.args.properties.now)) refl refl c.in_ok-push_str.ensures.bytes c.in_ok-append_properties.ensures.bytes)
     c.in_ok-push_str-2.ensures.bytes

@@ -7,5 +7,5 @@ use Rattle.wire_json.proofs.statistics.push_kind.Goals as goal
 pub returns : goal.returns
 unfolding escape_byte
 returns c =
-    let kind = rw c.kind_text.ensures at c.in_ok-push_quoted.ensures in
+    let kind = rw c.kind_text.ensures at c.in_ok-push_quoted.ensures.bytes in
     quoted_comma_pushed (codes "kind") _ _ _ _ _ _ refl c.in_ok-push_str.ensures.bytes kind c.in_ok-push_str-2.ensures.bytes

@@ -7,4 +7,4 @@ use Rattle.wire_json.proofs.statistics.push_result.Goals as goal
 pub returns : goal.returns
 unfolding escape_byte
 returns c =
-    last_pushed (codes "result") _ _ _ _ _ _ refl c.in_ok-push_str.ensures.bytes c.in_ok-push_quoted.ensures c.in_ok-push_str-2.ensures.bytes
+    last_pushed (codes "result") _ _ _ _ _ _ refl c.in_ok-push_str.ensures.bytes c.in_ok-push_quoted.ensures.bytes c.in_ok-push_str-2.ensures.bytes
