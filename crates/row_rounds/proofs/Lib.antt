@@ -2,3 +2,4 @@ pub mod GoesLemmas
 pub mod RowLemmas
 pub mod TurnLemmas
 pub mod ManyLemmas
+pub mod RoomLemmas

@@ -1,6 +1,8 @@
 -- What a round writes: the rows of topics, in one transaction.
-use Rattle.std.specs.Prelude.{◌≡◌, ◌≢◌, ℕ, Bool, true, false, List, [], ◌∷◌, map, All, AllPairs, string_bytes, MatchBool}
+use Rattle.std.specs.Prelude.{◌≡◌, ◌≢◌, ◌≤◌, length, ℕ, Bool, true, false, List, [], ◌∷◌, map, All, AllPairs, string_bytes, MatchBool}
 use Rattle.position_core.specs.TopicName.{topic_text}
+use Rattle.position_core.specs.declared.message.Entry.{Entry}
+use Rattle.row_forms.specs.Properties.{properties_text}
 use Rattle.sqlite.specs.Order.{Row}
 use Rattle.sqlite.specs.Tree.{Trees}
 use Rattle.delivery_machine.specs.Places.{KeptTopic}
@@ -41,6 +43,14 @@ name_of w = topic_text w.snapshot.name
 -- no topic comes twice
 abbrev pub AreApart : List Write → Type 0
 AreApart writes = AllPairs (λ (a b : Write). name_of a ≢ name_of b) writes
+
+-- the message's properties, written out, take no more than this
+abbrev pub HasRoomFor : ℕ → Entry → Type 0
+HasRoomFor room e = length (properties_text e.body.properties) ≤ room
+
+-- those of each of the messages do, one at a time
+abbrev pub HasRoom : ℕ → List Entry → Type 0
+HasRoom room log = All (HasRoomFor room) log
 
 -- the change leads to the snapshot's rows, from those that stand there, or from none where the topic is written whole
 pub record Fits (db : Trees) (w : Write) : Type 0 where

@@ -5,7 +5,9 @@ mod clearing;
 mod differences;
 mod messages;
 mod reading;
+mod room;
 mod saving;
 
 pub use reading::read;
+pub use room::room_for;
 pub use saving::{Write, save};

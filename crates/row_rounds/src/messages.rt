@@ -1,5 +1,5 @@
 // The row of a topic, and those of its messages.
-ghost use Rattle.std.specs.Prelude.{◌≡◌, [], ◌∷◌, ◌≤◌, drop, length, OnOk, IfOk, string_bytes};
+ghost use Rattle.std.specs.Prelude.{◌≡◌, [], ◌∷◌, ◌<◌, ◌≤◌, drop, length, OnErr, OnOk, string_bytes, string_capacity};
 ghost use Rattle.log_pieces.specs.Pieces.{joined};
 ghost use Rattle.position_core.specs.TopicName.{topic_text};
 ghost use Rattle.sqlite.specs.State.{HasCleanDisk, Survives};
@@ -37,8 +37,11 @@ fn write_topic<S: Alter>(
     topics::add(tx, topic, kept)
 }
 
+/// It fails only where there is too little room.
 fn render(scratch: &mut String, properties: &Properties) -> Result<(), Error>
-    ensures { OnOk result (string_bytes scratch.new ≡ properties_text properties.now) }
+    ensures bytes { OnOk result (string_bytes scratch.new ≡ properties_text properties.now) }
+    ensures capacity { string_capacity scratch.old ≤ string_capacity scratch.new }
+    ensures full { OnErr result (string_capacity scratch.old < length (properties_text properties.now)) }
 {
     scratch.clear();
     let Ok(()) = append_properties(scratch, properties) else {

@@ -92,7 +92,7 @@ fn write_all<S: Alter>(
 }
 
 /// Writes what changed of each of these topics, all or nothing. The properties of a message are written out
-/// in `scratch`; where it has no room for them and cannot grow, nothing is written.
+/// in `scratch`, for which `room_for` takes room before; where it has none and cannot grow, nothing is written.
 pub fn save<S: Alter>(
     conn: &mut Connection<S>,
     writes: &[Write],
