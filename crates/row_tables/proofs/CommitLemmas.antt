@@ -1,5 +1,5 @@
 -- What queries in a transaction leave of the last commit.
-use Rattle.std.proofs.Common.{◌≡◌, ℕ, true, List, inl, inr, ◌⊎◌, Option, Some, None, Result, Ok, Err, IfOk, IfErr, IsTrue, sym, ◌∙◌}
+use Rattle.std.proofs.Common.{◌≡◌, ℕ, true, List, inl, inr, ◌⊎◌, Option, Some, None, Result, Ok, Err, IfOk, IfErr, OnOk, IsTrue, sym, ◌∙◌}
 use Rattle.sqlite.specs.Order.{Row}
 use Rattle.sqlite.specs.declared.error.Error.{Error}
 use Rattle.sqlite.specs.Held.{Held, state}
@@ -38,6 +38,12 @@ unfolding Shown
 keeps_shown old new sql params rows running h =
     let was = was_open old new sql h.0 _ rows h.0.returning h.2 in
     record { was_open = λ _. was.0; committed = λ _. (was.2 running).1 }
+
+-- what was read was open
+pub shown_open : {A : Type 0} (items : A → List Row) (old new : State) (sql : List ℕ) (params : Row) (r : Result A Error) → IfOk r (λ a. Shown sql params old new (items a)) → OnOk r (IsTrue old.is_open)
+unfolding Shown
+shown_open items old new sql params (Ok a) h = (was_open old new sql h.0 _ (items a) h.0.returning h.2).0
+shown_open items old new sql params (Err e) h = tt
 
 -- whatever a query answers in a transaction, nothing is committed
 pub keeps_commit : {A : Type 0} (items : A → List Row) (old new : State) (sql : List ℕ) (params : Row) (r : Result A Error) → IfOk r (λ a. Shown sql params old new (items a))

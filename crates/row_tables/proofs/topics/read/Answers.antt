@@ -1,7 +1,7 @@
 use Rattle.std.proofs.lemmas.Result.{IfOk-weaker}
 use Rattle.sqlite.specs.Held.{state}
 use Rattle.row_tables.proofs.Texts.{select_topic, select_topic_is}
-use Rattle.row_tables.proofs.CommitLemmas.{keeps_commit}
+use Rattle.row_tables.proofs.CommitLemmas.{keeps_commit, shown_open}
 use Rattle.row_tables.proofs.ReadLemmas.{reads_topic, shown_goes}
 use Rattle.row_tables.proofs.topics.read.Goals as goal
 
@@ -18,3 +18,6 @@ returns-clause-rows g c clean =
 pub returns-clause-kept : goal.returns-clause-kept
 returns-clause-kept g c clean =
     keeps_commit (λ rows. rows.items) (state g.S.Store c.args.tx.now.conn.now) (state g.S.Store c.query_all.new.self.conn.now) _ _ c.query_all.result (c.query_all.ensures.ok clean) (c.query_all.ensures.err clean)
+
+pub returns-clause-shown : goal.returns-clause-shown
+returns-clause-shown g c clean = shown_open (λ rows. rows.items) (state g.S.Store c.args.tx.now.conn.now) (state g.S.Store c.query_all.new.self.conn.now) _ _ c.query_all.result (c.query_all.ensures.ok clean)
