@@ -1,5 +1,5 @@
 // A stored cell as what a keeper makes a round of, under one hold of its lock.
-ghost use Rattle.std.specs.Prelude.{◌≡◌, IfSome, Some};
+ghost use Rattle.std.specs.Prelude.{◌≡◌, IfSome, Some, length};
 ghost use mathlib.Core.List.{IsPrefix};
 ghost use Rattle.delivery_machine.specs.Snapshot.{snapshot_of};
 ghost use Rattle.delivery_machine.specs.Places.{snapshot_in};
@@ -55,12 +55,12 @@ impl<T: Opened + Drop, J: Naming> StoredCell<T, J> {
         base_of(&self.stored)
     }
 
-    /// The snapshot that the topic has now stands in rows that were committed.
-    pub fn keep(&mut self, snapshot: &Snapshot, kept: Kept<J>)
-        requires now { snapshot_in snapshot.now ≡ snapshot_of self.old.cell.state }
-        requires kept { kept.kept ≡ snapshot.now }
+    /// What the topic has now stands in rows that were committed: a snapshot with so many messages.
+    pub fn keep(&mut self, kept: Kept<J>, count: u64)
+        requires now { snapshot_in kept.kept ≡ snapshot_of self.old.cell.state }
+        requires count { count ≡ length kept.kept.log }
         ensures { self.new ≡ record self.old { stored = Some kept } }
     {
-        self.stored = Some(Stored::new(kept, snapshot.log().count() as u64));
+        self.stored = Some(Stored::new(kept, count));
     }
 }
