@@ -1,5 +1,4 @@
-use Rattle.std.proofs.Common.{◌≡◌, ◌+◌, ◌<◌, ◌≤◌, ◌∷◌, ◌++◌, [], List, ap, sym, subst, ◌∙◌, refl, rules, true, false, ℕ, IfSome, IsTrue, arith}
-use Rattle.std.specs.Prelude.{IfSome, IsTrue}
+use Rattle.std.proofs.Common.{◌≡◌, ◌+◌, ◌<◌, ◌≤◌, ◌∷◌, ◌++◌, [], List, ap, sym, subst, ◌∙◌, refl, rules, true, false, ℕ, arith}
 use Rattle.std.specs.List.{All}
 use Rattle.std.specs.FinSet as set
 use Rattle.std.proofs.lemmas.List.Elements.{All-nil, All-push}
@@ -11,7 +10,7 @@ use Rattle.delivery_machine.specs.State.{DeadLetter}
 use Rattle.delivery_machine.specs.WellFormed.{AreDeadLettersOf, has_message}
 use Rattle.delivery_machine.proofs.Letters.{none_dead}
 use Rattle.row_forms.specs.Forms.{dead_row, place_in}
-use Rattle.row_reading.specs.Reading.{BeginsWithLetters, IsLetterOf, OrdinalsCame}
+use Rattle.row_reading.specs.Reading.{IsLetterOf, OrdinalsCame}
 use Rattle.row_reading.proofs.Letters.{HavePlaces, came_more, came_none, dead_more, least_more, letters_more, places_more}
 use Rattle.row_reading.proofs.dead_rows.letters_in.Goals as goal
 

@@ -1,4 +1,4 @@
-use Rattle.std.proofs.Common.{◌≡◌, ◌+◌, ◌++◌, ◌∷◌, [], List, ℕ, map, take, refl, ap, sym, subst, ◌∙◌, append-nil, rules}
+use Rattle.std.proofs.Common.{◌≡◌, ◌+◌, ◌++◌, ◌∷◌, [], List, ℕ, map, take, refl, ap, sym, subst, ◌∙◌, append-nil}
 use Rattle.std.specs.List.{All, flat_map}
 use Rattle.std.specs.FinSet as set
 use Rattle.std.proofs.lemmas.Grind.{flat_map-append}
@@ -11,7 +11,7 @@ use Rattle.log_pieces.specs.Pieces.{joined}
 use Rattle.delivery_machine.specs.State.{DeadLetter}
 use Rattle.delivery_machine.specs.Places.{KeptPlaces}
 use Rattle.delivery_machine.specs.WellFormed.{NamesRise}
-use Rattle.row_forms.specs.Forms.{dead_rows, sub_row, sub_rows}
+use Rattle.row_forms.specs.Forms.{sub_row, sub_rows}
 use Rattle.row_reading.specs.Reading.{BeginsWithAcks, BeginsWithDeads, IsSubOf, OrdinalsCame, put}
 use Rattle.row_reading.proofs.Letters.{came_none, came_then}
 use Rattle.row_reading.proofs.Subs.{acks_then, all_acks, deads_then, no_acks_yet, no_names, no_rows, sound_subs, subs_more}
