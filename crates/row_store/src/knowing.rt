@@ -89,5 +89,7 @@ pub fn know<J: Naming>(
     requires mark { mark.kept ≡ snapshot }
     ensures { (db : Trees) → All (λ (kept : KeptTopic). Stands kept db) known.old.items → Stands snapshot db → All (λ (kept : KeptTopic). Stands kept db) known.new.items }
 {
-    let _ = known.push(Known::new(topic, snapshot, mark));
+    let Ok(()) = known.push(Known::new(topic, snapshot, mark)) else {
+        return;
+    };
 }

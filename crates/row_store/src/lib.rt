@@ -6,12 +6,12 @@ mod keeper;
 mod known;
 mod knowing;
 mod loading;
-// mod opening;
+mod opening;
 mod planning;
 mod rounds;
 mod written;
 
 pub use keeper::Keeper;
 pub use loading::Loaded;
-// pub use opening::Refused;
+pub use opening::Refused;
 pub use written::Written;

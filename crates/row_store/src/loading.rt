@@ -1,5 +1,5 @@
 // A topic's snapshot, as its rows have it.
-ghost use Rattle.std.specs.Prelude.{◌≡◌, ◌⊎◌, true, IfOk, IfErr, IfSome, MatchOption, Err, IsTrue};
+ghost use Rattle.std.specs.Prelude.{◌≡◌, ◌⊎◌, true, IfOk, IfErr, IfSome, MatchOption, Err, IsTrue, string_bytes};
 ghost use Rattle.position_core.specs.TopicName.{topic_text};
 ghost use Rattle.position_core.specs.declared.fault.Fault.TheVariants.{NoMemory, StoreFailed};
 ghost use Rattle.sqlite.specs.State.{HasCleanDisk, Survives};
@@ -50,7 +50,7 @@ impl<S: Alter, J: Naming> Keeper<S, J> {
         if raw.is_empty() {
             return Ok(None);
         }
-        match snapshot_in(self.alloc, name, raw) {
+        match snapshot_in(self.alloc, name, &raw) {
             Ok(Some(snapshot)) => match self.know_loaded(topic, snapshot) {
                 Ok(loaded) => Ok(Some(loaded)),
                 Err(fault) => Err(fault),
@@ -61,7 +61,14 @@ impl<S: Alter, J: Naming> Keeper<S, J> {
     }
 
     /// What was read is known from now on.
-    fn know_loaded(&mut self, topic: String, snapshot: Snapshot) -> Result<Loaded<J>, Fault> {
+    fn know_loaded(&mut self, topic: String, snapshot: Snapshot) -> Result<Loaded<J>, Fault>
+        requires topic { string_bytes topic ≡ topic_text snapshot.name }
+        requires stands { HasCleanDisk (state S.Store self.old.conn) → Stands snapshot (state S.Store self.old.conn).now.trees }
+        ensures same { self.new ≡ self.old }
+        ensures snapshot { IfOk result (λ loaded. loaded.snapshot ≡ snapshot) }
+        ensures kept { IfOk result (λ loaded. loaded.kept ≡ stored_in (state S.Store self.old.conn) snapshot) }
+        ensures faults { IfErr result (λ fault. (fault ≡ NoMemory) ⊎ (fault ≡ StoreFailed)) }
+    {
         let Ok(copy) = snapshot.clone() else {
             return Err(Fault::NoMemory);
         };
