@@ -50,7 +50,7 @@ split_rows topic (sub ∷ first) second rows are =
       are.4 ∙ ap (λ l. map (ack_row topic sub.name) are.0 ++ l) later.4 ∙ sym (append_assoc (map (ack_row topic sub.name) are.0) later.0 later.1),
     )
 
-join_rows : (topic : List ℕ) (first second : List KeptPlaces) (begin end : List Row) → AreAckRows topic first begin → AreAckRows topic second end → AreAckRows topic (first ++ second) (begin ++ end)
+pub join_rows : (topic : List ℕ) (first second : List KeptPlaces) (begin end : List Row) → AreAckRows topic first begin → AreAckRows topic second end → AreAckRows topic (first ++ second) (begin ++ end)
 join_rows topic [] second begin end are others = rw are others
 join_rows topic (sub ∷ first) second begin end are others = (
   are.0,
@@ -76,7 +76,7 @@ acks_more olds news olds2 news2 d e first step topic rows are =
 
 -- ---- a subscription alone
 
-one_sub : (topic : List ℕ) (sub : KeptPlaces) (runs : List (ℕ × ℕ)) → AreRangesOf sub.acknowledged runs → AreAckRows topic (sub ∷ []) (map (ack_row topic sub.name) runs)
+pub one_sub : (topic : List ℕ) (sub : KeptPlaces) (runs : List (ℕ × ℕ)) → AreRangesOf sub.acknowledged runs → AreAckRows topic (sub ∷ []) (map (ack_row topic sub.name) runs)
 one_sub topic sub runs are = (runs, [], are, refl, sym (append-nil (map (ack_row topic sub.name) runs)))
 
 rows_of_one : (topic : List ℕ) (sub : KeptPlaces) (runs : List (ℕ × ℕ)) (rows : List Row) → AreRangesOf sub.acknowledged runs → AreAckRows topic (sub ∷ []) rows → rows ≡ map (ack_row topic sub.name) runs

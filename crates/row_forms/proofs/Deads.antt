@@ -74,7 +74,7 @@ module _ (sub : List ℕ) (was log : List Entry) where
       → ExtendsByLetters sub was log (olds ++ olds2) (news ++ news2) d f
   letters-append = extends-append dead_cells (λ topic. map (dead_row topic sub was)) (λ topic. map (dead_row topic sub log)) (λ topic. map-append (dead_row topic sub was)) (λ topic. map-append (dead_row topic sub log))
 
-rows-append : (log : List Entry) → IsJoined (λ topic. dead_rows topic log)
+pub rows-append : (log : List Entry) → IsJoined (λ topic. dead_rows topic log)
 rows-append log topic first second = flat_map-append (λ (sub : KeptPlaces). map (dead_row topic sub.name log) sub.dead) first second
 
 module _ (was log : List Entry) where

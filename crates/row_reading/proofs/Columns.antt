@@ -1,5 +1,5 @@
 -- Rows of so many columns.
-use Rattle.std.proofs.Common.{◌≡◌, List, [], ◌∷◌, length, refl, arith}
+use Rattle.std.proofs.Common.{◌≡◌, [], ◌∷◌, length, refl, arith}
 use Rattle.sqlite.specs.Order.{Row, column}
 
 pub ten : (r : Row) → length r ≡ 10 → r ≡ column r 0 ∷ column r 1 ∷ column r 2 ∷ column r 3 ∷ column r 4 ∷ column r 5 ∷ column r 6 ∷ column r 7 ∷ column r 8 ∷ column r 9 ∷ []

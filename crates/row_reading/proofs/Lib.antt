@@ -1,3 +1,6 @@
 pub mod Columns
 pub mod Entries
+pub mod Letters
+pub mod Restarts
 pub mod Runs
+pub mod Subs

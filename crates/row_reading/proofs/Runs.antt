@@ -1,11 +1,11 @@
 -- Runs and their rows.
-use Rattle.std.proofs.Common.{◌≡◌, ℕ, ◌+◌, ◌-◌, ◌<◌, ◌≤◌, false, inl, inr, List, [], ◌∷◌, ◌++◌, map, pos, true, refl, ap, sym, subst, ◌∙◌, append_assoc, arith}
+use Rattle.std.proofs.Common.{◌≡◌, ℕ, ◌+◌, ◌<◌, ◌≤◌, false, inl, inr, List, [], ◌∷◌, ◌++◌, map, pos, true, refl, ap, sym, subst, ◌∙◌, append_assoc, arith}
 use Rattle.std.specs.FinSet as set
 use Rattle.std.specs.Ordering.{nat_cmp}
 use Rattle.std.proofs.lemmas.List.{map-append}
 use Rattle.sqlite.specs.declared.types.Value.TheVariants.{Int, Text as Words}
 use Rattle.sqlite.specs.Order.{Row}
-use Rattle.ack_ranges.specs.Ranges.{AreRangesOf, MayFollow, from_to, spread}
+use Rattle.ack_ranges.specs.Ranges.{AreRangesOf, MayFollow, from_to}
 use Rattle.std.specs.Cmp.{nat_cmp_total}
 use Rattle.ack_ranges.proofs.Covers.{contains_from_to, either}
 use Rattle.ack_ranges.proofs.Members.{within}

@@ -3,6 +3,11 @@
 
 mod ack_rows;
 mod cells;
+mod dead_rows;
 mod entry_rows;
+mod kept_subs;
+mod snapshot;
 mod sub_rows;
 mod topic_row;
+
+pub use snapshot::snapshot_in;

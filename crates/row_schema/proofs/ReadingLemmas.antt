@@ -22,8 +22,15 @@ keyed_in v db same sound has listed ordered =
     all_weaker (λ t. v.shape t.tree ≡ Table) (λ t. IsShaped Table (db.trees t.tree))
     (λ t shape. subst (λ (d : Trees). IsShaped Table (d t.tree)) (sym same) (subst (λ s. IsShaped s (v.trees t.tree)) shape (ordered t.tree))) schema_6.tables tables
 
+open_if : (v : View) → v.is_broken ≡ false → (v.is_open ≡ false → IsTrue v.is_broken) → IsTrue v.is_open
+open_if v sound shut = elim (cases_Bool v.is_open) [ inl e ↦ subst IsTrue (sym e) refl | inr e ↦ absurd (let broken : IsTrue v.is_broken = shut e in cc) ]
+
 pub fresh_from : (old v : View) → IsRolledBack old v → IsClean v → v.is_broken ≡ false → (v.is_open ≡ false → IsTrue v.is_broken) → IsTrue v.is_numbered → IsFresh v
 fresh_from old v u clean sound shut numbered =
-    let open_is : IsTrue v.is_open = elim (cases_Bool v.is_open) [ inl e ↦ subst IsTrue (sym e) refl | inr e ↦ absurd (let broken : IsTrue v.is_broken = shut e in cc) ] in
+    let open_is = open_if v sound shut in
     let k = u.kept clean in
     record { sound = sound; numbered = numbered; clean = (u.undone open_is).0 ∙ sym (k.committed open_is); unmarked = k.marks open_is }
+
+-- what was committed is what stands after all else was undone
+pub committed_from : (old v : View) → IsRolledBack old v → v.is_broken ≡ false → (v.is_open ≡ false → IsTrue v.is_broken) → v.trees ≡ old.committed
+committed_from old v u sound shut = (u.undone (open_if v sound shut)).0

@@ -1,28 +1,33 @@
 // Reading a database again, so that its rows are known to be in order.
-ghost use Rattle.std.specs.Prelude.{◌≡◌, false, IfOk};
+ghost use Rattle.std.specs.Prelude.{◌≡◌, false, IfOk, IfErr};
 ghost use Rattle.sqlite.specs.State.{HasCleanDisk};
 ghost use Rattle.sqlite.specs.Held.{state};
+ghost use Rattle.sqlite.specs.Tree.{Trees};
+ghost use Rattle.sqlite_trees.specs.View.{IsClean, doubt};
 ghost use Rattle.row_forms.specs.Schema.{schema_6};
 ghost use Rattle.row_tables.specs.Ready.{AreKeyed};
 
 use sqlite::{Alter, Connection, Error};
 use std::alloc::Global;
 
-/// Reads the database again: then no rowid of the six tables comes twice.
-/// It fails with no error where an earlier failure has closed the store.
+/// Reads the database again: then no rowid of the six tables comes twice. What was not committed is undone.
+/// It fails with no error where an earlier failure has closed the store, and gives the store back.
 pub fn reopen<S: Alter + Drop>(
     alloc: Global,
     conn: Connection<S>,
-) -> Result<Connection<S>, Option<Error>>
+) -> Result<Connection<S>, (Option<Error>, S)>
     ensures keyed { IfOk result (λ c. HasCleanDisk (state S.Store c) → (state S.Store c).now.schema ≡ schema_6 → AreKeyed (state S.Store c).now.trees) }
     ensures autocommit { IfOk result (λ c. c.in_transaction ≡ false) }
+    ensures same { IfOk result (λ c. HasCleanDisk (state S.Store c) → (state S.Store c).now.trees ≡ (state S.Store conn).committed.trees) }
+    ensures crash { IfOk result (λ c. HasCleanDisk (state S.Store c) → (db : Trees) → (state S.Store c).may_leave db → db ≡ (state S.Store c).now.trees) }
+    ensures given_back { IfErr result (λ e. (db : Trees) → S.Store.recovers e.1 db → (state S.Store conn).may_leave db) }
 {
     let store = conn.into_store();
     if store.is_broken() {
-        return Err(None);
+        return Err((None, store));
     }
     match Connection::over(alloc, store) {
         Ok(again) => Ok(again),
-        Err((error, _)) => Err(Some(error)),
+        Err((error, store)) => Err((Some(error), store)),
     }
 }

@@ -1,19 +1,22 @@
 // A stored cell as what a keeper makes a round of, under one hold of its lock.
-ghost use Rattle.std.specs.Prelude.{◌≡◌, IfSome, Some};
+ghost use Rattle.std.specs.Prelude.{◌≡◌, ◌⊎◌, ◌↔◌, IfSome, IfErr, OnOk, OnErr, Err, None, Some, length, not, true, false};
+ghost use Rattle.position_core.specs.declared.fault.Fault.TheVariants.{NoMemory, JournalFull};
 ghost use mathlib.Core.List.{IsPrefix};
 ghost use Rattle.delivery_machine.specs.Snapshot.{snapshot_of};
 ghost use Rattle.delivery_machine.specs.Places.{snapshot_in};
+ghost use Rattle.delivery_machine.specs.declared.event.Event.TheVariants.{Stored};
+ghost use Rattle.topic_shared.specs.Kept.{HasNoLine, StoresLine, with_promise};
 ghost use Rattle.stored_cell.specs.Held.{has_stored};
 
 use crate::cell::StoredCell;
 use crate::confirming::base_of;
-use crate::viewed::Stored;
+use crate::viewed::Stored as StoredAs;
 use delivery_machine::{Fault, Opened, Reply, Saved, Snapshot};
 use kept_rows::{Kept, Note};
 use marks::{Mark, Naming};
 
 /// What was stored last has just so many messages.
-fn holds<J: Naming>(stored: &Option<Stored<J>>, count: u64) -> bool
+fn holds<J: Naming>(stored: &Option<StoredAs<J>>, count: u64) -> bool
     ensures { result ≡ has_stored stored.now count }
 {
     match stored {
@@ -40,10 +43,7 @@ impl<T: Opened + Drop, J: Naming> Saved for StoredCell<T, J> {
     }
 
     fn stored(&mut self) -> Reply {
-        let durable = self.cell.store_all();
-        self.by_word = !holds(&self.stored, durable);
-        self.outstanding = None;
-        Reply::Durable(durable)
+        Reply::Durable(self.store_all())
     }
 }
 
@@ -55,12 +55,49 @@ impl<T: Opened + Drop, J: Naming> StoredCell<T, J> {
         base_of(&self.stored)
     }
 
-    /// The snapshot that the topic has now stands in rows that were committed.
-    pub fn keep(&mut self, snapshot: &Snapshot, kept: Kept<J>)
-        requires now { snapshot_in snapshot.now ≡ snapshot_of self.old.cell.state }
-        requires kept { kept.kept ≡ snapshot.now }
+    /// What the topic has now stands in rows that were committed: a snapshot with so many messages.
+    fn keep(&mut self, kept: Kept<J>, count: u64)
+        requires now { snapshot_in kept.kept ≡ snapshot_of self.old.cell.state }
+        requires count { count ≡ length kept.kept.log }
         ensures { self.new ≡ record self.old { stored = Some kept } }
     {
-        self.stored = Some(Stored::new(kept, snapshot.log().count() as u64));
+        self.stored = Some(StoredAs::new(kept, count));
+    }
+
+    /// Keeps a line for what a round is about to make durable, as `Cell::promise` does.
+    pub fn promise(&mut self) -> Result<(), Fault>
+        ensures ok { OnOk result ((self.new ≡ record self.old { cell = with_promise self.old.cell }) × (self.new.cell.promised ≡ true)) }
+        ensures err { OnErr result (self.new ≡ self.old) }
+        ensures faults { IfErr result (λ fault. (fault ≡ NoMemory) ⊎ (fault ≡ JournalFull)) }
+        ensures full { (result ≡ Err JournalFull) ↔ HasNoLine self.old.cell }
+    {
+        self.cell.promise()
+    }
+
+    /// The cell's own line of a store of all that the topic has.
+    fn store_all(&mut self) -> u64
+        requires { self.old.cell.promised ≡ true }
+        ensures line { StoresLine (record self.old.cell { viewed = self.old.cell.state; unsaved = false }) Stored result self.new.cell }
+        ensures stored { (self.new.stored ≡ self.old.stored) × (self.new.outstanding ≡ None) }
+        ensures word { self.new.by_word ≡ not (has_stored self.old.stored result) }
+    {
+        let durable = self.cell.store_all();
+        self.by_word = !holds(&self.stored, durable);
+        self.outstanding = None;
+        durable
+    }
+
+    /// Makes durable all that the topic has, since it stands in rows that were committed: a snapshot with so
+    /// many messages. How much is durable then.
+    pub fn confirm_all(&mut self, kept: Kept<J>, count: u64) -> u64
+        requires promised { self.old.cell.promised ≡ true }
+        requires now { snapshot_in kept.kept ≡ snapshot_of self.old.cell.state }
+        requires count { count ≡ length kept.kept.log }
+        ensures line { StoresLine (record self.old.cell { viewed = self.old.cell.state; unsaved = false }) Stored result self.new.cell }
+        ensures stored { (self.new.stored ≡ Some kept) × (self.new.outstanding ≡ None) }
+        ensures word { self.new.by_word ≡ false }
+    {
+        self.keep(kept, count);
+        self.store_all()
     }
 }

@@ -1,4 +1,4 @@
-use Rattle.std.proofs.Common.{◌≡◌, ◌+◌, ◌∷◌, List, true, rules}
+use Rattle.std.proofs.Common.{◌≡◌, ◌+◌, ◌∷◌, true, rules}
 use Rattle.std.specs.FinSet as set
 use Rattle.ack_ranges.specs.Ranges.{MayFollow, from_to}
 use Rattle.row_reading.proofs.Runs.{below_more, no_runs_yet, nothing_below, runs_more}

@@ -3,8 +3,7 @@ use Rattle.position_core.specs.declared.message.Entry.{Entry}
 use Rattle.log_pieces.specs.Pieces.{joined}
 use Rattle.delivery_machine.specs.WellFormed.{IsWellFormedLog}
 use Rattle.row_forms.specs.Forms.{entry_rows}
-use Rattle.row_reading.specs.Reading.{IsEntryAt, put}
-use Rattle.row_reading.proofs.Entries.{IsAbove, above_more, log_more, log_none, rows_more}
+use Rattle.row_reading.proofs.Entries.{above_more, log_more, log_none, rows_more}
 use Rattle.row_reading.proofs.entry_rows.log_in.Goals as goal
 
 pub rows-init : goal.rows-init

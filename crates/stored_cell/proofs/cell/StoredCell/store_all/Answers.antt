@@ -3,7 +3,7 @@ use Rattle.std.specs.Prelude.{not}
 use Rattle.kept_rows.specs.Noted.{Noted, IsStored}
 use Rattle.stored_cell.specs.Held.{IsSound, has_stored}
 use Rattle.stored_cell.proofs.Sound.{sound_stored}
-use Rattle.stored_cell.proofs.saving.StoredCellSaved.stored.Goals as goal
+use Rattle.stored_cell.proofs.cell.StoredCell.store_all.Goals as goal
 
 pub invariant_of-self : goal.invariant_of-self
 invariant_of-self g c =

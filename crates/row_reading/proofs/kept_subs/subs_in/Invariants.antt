@@ -1,0 +1,18 @@
+use Rattle.std.proofs.Common.{◌≡◌, ℕ, List, map, take}
+use Rattle.std.specs.List.{All, flat_map}
+use Rattle.std.specs.FinSet as set
+use Rattle.log_pieces.specs.Pieces.{joined}
+use Rattle.delivery_machine.specs.WellFormed.{NamesRise}
+use Rattle.row_forms.specs.Forms.{sub_rows}
+use Rattle.row_reading.specs.Reading.{BeginsWithAcks, BeginsWithDeads, IsSubOf, OrdinalsCame, put}
+use Rattle.row_reading.proofs.kept_subs.subs_in.Given as goal
+
+abbrev pub invariant-subs : goal.invariant-subs
+invariant-subs l = record {
+  rows : (topic : List ℕ) → put topic (take l.row-index l.rows) ≡ sub_rows topic l.subs.items;
+  acks : BeginsWithAcks l.subs.items l.others.acks.now l.left.acks.now;
+  deads : BeginsWithDeads (joined l.deaths.log.now) l.subs.items l.others.deads.now l.left.deads.now;
+  names : NamesRise (map (λ sub. sub.name) l.subs.items);
+  each : All (IsSubOf l.deaths.topic.now (joined l.deaths.log.now) l.deaths.next_ordinal) l.subs.items;
+  ordinals : OrdinalsCame (flat_map (λ sub. sub.dead) l.subs.items) set.empty l.ordinals;
+}

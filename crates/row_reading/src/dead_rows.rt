@@ -1,0 +1,170 @@
+// The rows of dead letters.
+ghost use Rattle.std.specs.Prelude.{◌≡◌, ◌+◌, ◌<◌, ◌≤◌, ◌∷◌, ◌^◌, ℕ, List, false, length, pos, IfOk, IfSome, IsTrue};
+ghost use Rattle.std.specs.List.{All};
+ghost use Rattle.std.specs.FinSet as set;
+ghost use Rattle.sqlite.specs.declared.types.Value.TheVariants.{Int, Text as Words};
+ghost use Rattle.sqlite.specs.Order.{column};
+ghost use Rattle.position_core.specs.TopicName.{same_topic, topic_text};
+ghost use Rattle.log_pieces.specs.Pieces.{joined};
+ghost use Rattle.delivery_machine.specs.WellFormed.{AreDeadLettersOf, has_message};
+ghost use Rattle.row_forms.specs.Forms.{dead_row, place_in};
+ghost use Rattle.row_forms.specs.Parts.{IsRising};
+ghost use Rattle.row_reading.specs.Reading.{BeginsWithLetters, IsLetterOf, OrdinalsCame};
+
+use crate::cells::{is_text, text_at, whole_at};
+use ack_ranges::AckSet;
+use delivery_machine::DeadLetter;
+use log_pieces::Pieces;
+use position_core::{Ordinal, Position, SubscriptionName, TopicName};
+use sqlite::Row;
+use std::alloc::{AllocError, Global};
+
+/// What dead letters are read for: the topic, its log and its next ordinal.
+#[derive(Clone, Copy)]
+pub(crate) struct Deaths<'a> {
+    pub(crate) topic: &'a TopicName,
+    pub(crate) log: &'a Pieces,
+    pub(crate) next_ordinal: Ordinal,
+}
+
+/// A dead letter, and the place of its message in the log.
+#[derive(Drop)]
+struct Placed {
+    letter: DeadLetter,
+    place: u64,
+}
+
+/// Another topic's name.
+fn target_at(
+    alloc: Global,
+    row: &Row,
+    at: usize,
+    own: &TopicName,
+) -> Result<Option<TopicName>, AllocError>
+    ensures shown { IfOk result (λ found. IfSome found (λ name. column row.now at ≡ Words (topic_text name))) }
+    ensures elsewhere { IfOk result (λ found. IfSome found (λ name. same_topic name own.now ≡ false)) }
+{
+    let Some(text) = text_at(row, at) else {
+        return Ok(None);
+    };
+    match TopicName::from_text(alloc, text)? {
+        Some(name) => if name.is(own) {
+            Ok(None)
+        } else {
+            Ok(Some(name))
+        },
+        None => Ok(None),
+    }
+}
+
+/// The position of the message at the place.
+fn position_of(log: &Pieces, place: u64) -> Option<Position>
+    requires { IsRising (joined log.now) }
+    ensures place { IfSome result (λ p. place ≡ place_in (joined log.now) p) }
+    ensures message { IfSome result (λ p. IsTrue (has_message (joined log.now) p)) }
+    ensures within { IfSome result (λ _. place < length (joined log.now)) }
+{
+    let message = log.get(usize::try_from(place).ok()?)?;
+    Some(message.position())
+}
+
+/// An ordinal below the next one.
+fn ordinal_at(row: &Row, at: usize, next: Ordinal) -> Option<Ordinal>
+    ensures shown { IfSome result (λ n. column row.now at ≡ Int (pos n)) }
+    ensures given { IfSome result (λ n. n < next) }
+{
+    let ordinal = whole_at(row, at)?;
+    if ordinal < next { Some(ordinal) } else { None }
+}
+
+/// The dead letter of the subscription that the row shows.
+fn letter_in(
+    alloc: Global,
+    row: &Row,
+    name: &SubscriptionName,
+    deaths: Deaths<'_>,
+) -> Result<Option<Placed>, AllocError>
+    requires { IsRising (joined deaths.log.now) }
+    ensures shown { IfOk result (λ found. IfSome found (λ f. (topic : List ℕ) → Words topic ∷ row.now ≡ dead_row topic name.now (joined deaths.entry.log.now) f.letter)) }
+    ensures place { IfOk result (λ found. IfSome found (λ f. f.place ≡ place_in (joined deaths.entry.log.now) f.letter.position)) }
+    ensures within { IfOk result (λ found. IfSome found (λ f. f.place < length (joined deaths.entry.log.now))) }
+    ensures message { IfOk result (λ found. IfSome found (λ f. IsTrue (has_message (joined deaths.entry.log.now) f.letter.position))) }
+    ensures letter { IfOk result (λ found. IfSome found (λ f. IsLetterOf deaths.entry.topic.now deaths.entry.next_ordinal f.letter)) }
+{
+    if row.column_count() != 4 || !is_text(row, 0, name.as_str()) {
+        return Ok(None);
+    }
+    let Some(ordinal) = ordinal_at(row, 1, deaths.next_ordinal) else {
+        return Ok(None);
+    };
+    let Some(place) = whole_at(row, 2) else {
+        return Ok(None);
+    };
+    let Some(position) = position_of(deaths.log, place) else {
+        return Ok(None);
+    };
+    let Some(target) = target_at(alloc, row, 3, deaths.topic)? else {
+        return Ok(None);
+    };
+    let letter = DeadLetter {
+        position,
+        target,
+        ordinal,
+    };
+    Ok(Some(Placed { letter, place }))
+}
+
+/// Adds the number, and says whether it was not there.
+fn is_new(numbers: &mut AckSet, number: u64) -> Result<bool, AllocError>
+    requires { number + 1 < 2 ^ 64 }
+    ensures new { IfOk result (λ b. IsTrue b → set.contains numbers.old number ≡ false) }
+    ensures added { IfOk result (λ b. IsTrue b → numbers.new ≡ set.insert numbers.old number) }
+{
+    if numbers.contains(number) {
+        return Ok(false);
+    }
+    match numbers.add(number) {
+        Ok(()) => Ok(true),
+        Err(e) => Err(e),
+    }
+}
+
+/// Those of the subscription, whose rows are the first ones, and the rows that follow. `ordinals` has those
+/// of the topic's letters so far, and takes these in. None where a message is dead twice, or an ordinal
+/// does not rise or stands in the topic already.
+pub(crate) fn letters_in<'a>(
+    alloc: Global,
+    name: &SubscriptionName,
+    rows: &'a [Row],
+    deaths: Deaths<'_>,
+    ordinals: &mut AckSet,
+) -> Result<Option<(Vec<DeadLetter>, &'a [Row])>, AllocError>
+    requires rising { IsRising (joined deaths.log.now) }
+    requires short { length (joined deaths.log.now) ≤ 1048576 }
+    requires last { deaths.next_ordinal ≤ 2 ^ 62 }
+    ensures rows { IfOk result (λ found. IfSome found (λ r. BeginsWithLetters name.now (joined deaths.entry.log.now) r.0.items rows.now r.1.now)) }
+    ensures dead { IfOk result (λ found. IfSome found (λ r. AreDeadLettersOf (joined deaths.entry.log.now) r.0.items)) }
+    ensures letters { IfOk result (λ found. IfSome found (λ r. All (IsLetterOf deaths.entry.topic.now deaths.entry.next_ordinal) r.0.items)) }
+    ensures ordinals { IfOk result (λ found. IfSome found (λ r. OrdinalsCame r.0.items ordinals.old ordinals.new)) }
+{
+    let mut letters = Vec::new(alloc);
+    let mut places = AckSet::new(alloc);
+    let mut least = 0;
+    let mut rest = rows;
+    'letters: while let Some((row, after)) = rest.split_first() {
+        if !is_text(row, 0, name.as_str()) {
+            return Ok(Some((letters, rest)));
+        }
+        let Some(Placed { letter, place }) = letter_in(alloc, row, name, deaths)? else {
+            return Ok(None);
+        };
+        let ordinal = letter.ordinal;
+        if ordinal < least || !is_new(&mut places, place)? || !is_new(ordinals, ordinal)? {
+            return Ok(None);
+        }
+        letters.push(letter)?;
+        least = ordinal + 1;
+        rest = after;
+    }
+    Ok(Some((letters, rest)))
+}

@@ -1,0 +1,108 @@
+// What is kept of subscriptions, from their rows, those of their runs and those of their dead letters.
+ghost use Rattle.std.specs.Prelude.{◌≡◌, ◌≤◌, ◌∷◌, ◌++◌, ◌^◌, [], ℕ, List, length, map, IfOk, IfSome, IsTrue};
+ghost use Rattle.sqlite.specs.declared.types.Value.TheVariants.{Text as Words};
+ghost use Rattle.log_pieces.specs.Pieces.{joined};
+ghost use Rattle.delivery_machine.specs.WellFormed.{NamesRise};
+ghost use Rattle.row_forms.specs.Forms.{AreAckRows, dead_rows, sub_row, sub_rows};
+ghost use Rattle.row_forms.specs.Parts.{IsRising};
+ghost use Rattle.row_reading.specs.Reading.{AreSubsOf, BeginsWithAcks, BeginsWithDeads, IsSubOf, OrdinalsCame, put};
+
+use crate::ack_rows::runs_in;
+use crate::dead_rows::{Deaths, letters_in};
+use crate::sub_rows::sub_in;
+use ack_ranges::AckSet;
+use delivery_machine::KeptSubscription;
+use position_core::SubscriptionName;
+use sqlite::Row;
+use std::alloc::{AllocError, Global};
+use std::cmp::Ordering;
+
+/// The rows of runs and of dead letters that are left to read.
+#[derive(Clone, Copy)]
+pub(crate) struct Left<'a> {
+    pub(crate) acks: &'a [Row],
+    pub(crate) deads: &'a [Row],
+}
+
+/// The subscription that the row shows, with its runs and dead letters, whose rows are the first ones, and
+/// the rows that follow.
+fn kept_in<'a>(
+    alloc: Global,
+    row: &Row,
+    left: Left<'a>,
+    deaths: Deaths<'_>,
+    ordinals: &mut AckSet,
+) -> Result<Option<(KeptSubscription, Left<'a>)>, AllocError>
+    requires rising { IsRising (joined deaths.log.now) }
+    requires short { length (joined deaths.log.now) ≤ 1048576 }
+    requires last { deaths.next_ordinal ≤ 2 ^ 62 }
+    ensures row { IfOk result (λ found. IfSome found (λ r. (topic : List ℕ) → Words topic ∷ row.now ≡ sub_row topic r.0)) }
+    ensures acks { IfOk result (λ found. IfSome found (λ r. BeginsWithAcks (r.0 ∷ []) left.entry.acks.now r.1.acks.now)) }
+    ensures deads { IfOk result (λ found. IfSome found (λ r. BeginsWithDeads (joined deaths.entry.log.now) (r.0 ∷ []) left.entry.deads.now r.1.deads.now)) }
+    ensures sound { IfOk result (λ found. IfSome found (λ r. IsSubOf deaths.entry.topic.now (joined deaths.entry.log.now) deaths.entry.next_ordinal r.0)) }
+    ensures ordinals { IfOk result (λ found. IfSome found (λ r. OrdinalsCame r.0.dead ordinals.old ordinals.new)) }
+{
+    let Some(sub) = sub_in(alloc, row)? else {
+        return Ok(None);
+    };
+    let count = deaths.log.count() as u64;
+    let Some((acknowledged, acks)) = runs_in(alloc, &sub.name, left.acks, count)? else {
+        return Ok(None);
+    };
+    let Some((dead, deads)) = letters_in(alloc, &sub.name, left.deads, deaths, ordinals)? else {
+        return Ok(None);
+    };
+    let kept = KeptSubscription {
+        name: sub.name,
+        kind: sub.kind,
+        acknowledged,
+        dead,
+    };
+    Ok(Some((kept, Left { acks, deads })))
+}
+
+/// Whether the name is above those of the subscriptions.
+fn is_above(subs: &[KeptSubscription], name: &SubscriptionName) -> bool
+    requires { NamesRise (map (λ sub. sub.name) subs.now) }
+    ensures { IsTrue result → NamesRise (map (λ sub. sub.name) subs.now ++ name.now ∷ []) }
+{
+    match subs.last() {
+        Some(last) => last.name.order(name) == Ordering::Less,
+        None => true,
+    }
+}
+
+/// The subscriptions that the rows show, if nothing is left of the rows of runs and dead letters.
+pub(crate) fn subs_in(
+    alloc: Global,
+    rows: &[Row],
+    others: Left<'_>,
+    deaths: Deaths<'_>,
+) -> Result<Option<Vec<KeptSubscription>>, AllocError>
+    requires rising { IsRising (joined deaths.log.now) }
+    requires short { length (joined deaths.log.now) ≤ 1048576 }
+    requires last { deaths.next_ordinal ≤ 2 ^ 62 }
+    ensures rows { IfOk result (λ found. IfSome found (λ subs. (topic : List ℕ) → put topic rows.now ≡ sub_rows topic subs.items)) }
+    ensures acks { IfOk result (λ found. IfSome found (λ subs. (topic : List ℕ) → AreAckRows topic subs.items (put topic others.entry.acks.now))) }
+    ensures deads { IfOk result (λ found. IfSome found (λ subs. (topic : List ℕ) → put topic others.entry.deads.now ≡ dead_rows topic (joined deaths.entry.log.now) subs.items)) }
+    ensures sound { IfOk result (λ found. IfSome found (λ subs. AreSubsOf deaths.entry.topic.now (joined deaths.entry.log.now) deaths.entry.next_ordinal subs.items)) }
+{
+    let mut subs = Vec::new(alloc);
+    let mut ordinals = AckSet::new(alloc);
+    let mut left = others;
+    'subs: for row in rows {
+        let Some((sub, after)) = kept_in(alloc, row, left, deaths, &mut ordinals)? else {
+            return Ok(None);
+        };
+        if !is_above(&subs, &sub.name) {
+            return Ok(None);
+        }
+        subs.push(sub)?;
+        left = after;
+    }
+    if left.acks.is_empty() && left.deads.is_empty() {
+        Ok(Some(subs))
+    } else {
+        Ok(None)
+    }
+}

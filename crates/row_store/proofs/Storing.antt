@@ -1,0 +1,72 @@
+-- What a store leads to, for any connection.
+use Rattle.std.proofs.Common.{◌≡◌, ◌≤◌, ℕ, zero, suc, ◌<◌, Bool, true, false, List, [], ◌∷◌, map, length, slice_index_or, refl, ap, sym, subst, ◌∙◌, arith}
+use Rattle.std.specs.Prelude.{All, IsTrue}
+use Rattle.sqlite_trees.specs.declared.store.Store.{Ghosts}
+use Rattle.sqlite_trees.specs.View.{doubt}
+use Rattle.sqlite.specs.Tree.{Trees}
+use Rattle.sqlite.specs.State.{State, HasCleanDisk, Survives}
+use Rattle.sqlite.specs.Held.{Held, state}
+use Rattle.sqlite.proofs.StateLemmas.{survives_weaker}
+use Rattle.delivery_machine.specs.Places.{KeptTopic}
+use Rattle.row_forms.specs.Forms.{TopicRows}
+use Rattle.row_forms.specs.Standing.{Stands}
+use Rattle.row_tables.specs.Goes.{Saves}
+use Rattle.row_tables.specs.Ready.{IsReady}
+use Rattle.row_rounds.specs.declared.saving.Write.{Write}
+use Rattle.row_rounds.specs.Rounds.{Fits, Rounds, StandAll}
+use Rattle.kept_rows.specs.Noted.{Noted, StandsAmong, all_rows}
+use Rattle.row_store.specs.Keeping.{IsKept, StoresAll, stored_in}
+use Rattle.row_store.proofs.Standing.{stores_all}
+
+pub all_of_map : {X Y : Type 0} (P : X → Type 0) (f : Y → X) (ys : List Y) → All P (map f ys) → All (λ y. P (f y)) ys
+all_of_map P f [] all n d lt = absurd (omega (arith, lt))
+all_of_map P f (y ∷ ys) all zero d lt = all 0 (f d) (omega arith)
+all_of_map P f (y ∷ ys) all (suc n) d lt = all_of_map P f ys (λ m e within. all (suc m) e (omega (arith, within))) n d (omega (arith, lt))
+
+module _ {S : Type 0} (g : Ghosts S) (old new : Held S) (failed : Bool) (known : List KeptTopic) (writes : List Write)
+  (kept : IsKept g (record { conn = old; failed = failed }) known) (working : failed ≡ false)
+  (fits : (db : Trees) → All (λ (k : KeptTopic). Stands k db) known → All (Fits db) writes)
+  (less : doubt (state g old).is_clean ≤ doubt (state g new).is_clean) where
+
+  -- a committed store
+  pub went : Saves (Rounds writes) (state g old) (state g new) → HasCleanDisk (state g new) → IsReady (state g new).now × StandAll writes (state g old).now.trees (state g new).now.trees
+  went saves clean =
+      let early : HasCleanDisk (state g old) = omega (arith, less, clean) in
+      let after = saves.does (kept.ready working early saves.was_shown) in
+      (after.0, after.1 (fits _ (kept.known working early saves.was_shown)))
+
+  -- and what a crash leaves of one
+  pub leaves : (kepts : List KeptTopic) → map (λ (w : Write). w.snapshot) writes ≡ kepts
+      → Survives (state g old) (state g new) (λ db. IsReady (state g old).now → Rounds writes (state g old).now.trees db)
+      → Survives (state g old) (state g new) (λ db. IsTrue (state g old).is_open → StoresAll kepts (state g old).now.trees db)
+  leaves kepts same left = survives_weaker (state g old) (state g new) _ _ (λ clean db round shown.
+      let early : HasCleanDisk (state g old) = omega (arith, less, clean) in
+      stores_all writes kepts (state g old).now.trees db same (round (kept.ready working early shown) (fits _ (kept.known working early shown)))) left
+
+-- what stands in a database stands among its rows
+pub among : (kept : KeptTopic) (db : Trees) → Stands kept db → StandsAmong kept (all_rows db)
+among kept db stands = (
+  stands.0,
+  stands.1,
+  record { topics = stands.2.topics; entries = stands.2.entries; subs = stands.2.subs; acks = stands.2.acks; deads = stands.2.deads },
+)
+
+all_among : (kepts : List KeptTopic) (db : Trees) → All (λ (k : KeptTopic). Stands k db) kepts → All (λ (k : KeptTopic). StandsAmong k (all_rows db)) kepts
+all_among kepts db stand n d lt = among (slice_index_or kepts n d) db (stand n d lt)
+
+-- what is marked stands among the rows
+pub marked_among : (marks : List Noted) (kepts : List KeptTopic) (db : Trees) → map (λ (n : Noted). n.kept) marks ≡ kepts → All (λ (k : KeptTopic). Stands k db) kepts → All (λ (n : Noted). StandsAmong n.kept (all_rows db)) marks
+marked_among marks kepts db same stand =
+    all_of_map (λ (k : KeptTopic). StandsAmong k (all_rows db)) (λ (n : Noted). n.kept) marks (subst (All (λ (k : KeptTopic). StandsAmong k (all_rows db))) (sym same) (all_among kepts db stand))
+
+each_stored : (marks : List Noted) (s : State) → map (λ (n : Noted). record { kept = n.kept; rows = all_rows s.committed.trees; clean = s.is_clean }) marks ≡ map (stored_in s) (map (λ (n : Noted). n.kept) marks)
+each_stored [] s = refl
+each_stored (n ∷ marks) s = ap (λ l. stored_in s n.kept ∷ l) (each_stored marks s)
+
+-- the proofs that are made are those of what was to be stored
+pub all_stored : (marks : List Noted) (kepts : List KeptTopic) (rows : TopicRows) (clean : Bool) (s : State) → rows ≡ all_rows s.committed.trees → clean ≡ s.is_clean → map (λ (n : Noted). n.kept) marks ≡ kepts
+    → map (λ (n : Noted). record { kept = n.kept; rows = rows; clean = clean }) marks ≡ map (stored_in s) kepts
+all_stored marks kepts rows clean s rows_are clean_is same =
+    ap (λ (r : TopicRows). map (λ (n : Noted). record { kept = n.kept; rows = r; clean = clean }) marks) rows_are
+    ∙ (ap (λ (b : Bool). map (λ (n : Noted). record { kept = n.kept; rows = all_rows s.committed.trees; clean = b }) marks) clean_is
+    ∙ (each_stored marks s ∙ ap (map (stored_in s)) same))

@@ -1,0 +1,96 @@
+// The keeper, and a store of several snapshots in one transaction.
+ghost use Rattle.std.specs.Prelude.{◌≡◌, ◌⊎◌, map, true, false, IfOk, IfErr, OnOk, OnErr, Err, IsTrue};
+ghost use Rattle.position_core.specs.declared.fault.Fault.TheVariants.{NoMemory, StoreFailed};
+ghost use Rattle.sqlite.specs.State.{HasCleanDisk, Survives};
+ghost use Rattle.sqlite.specs.Held.{state};
+ghost use Rattle.row_store.specs.Keeping.{StoresAll, stored_in};
+
+use crate::known::Known;
+use crate::knowing::{forget, keep_all, marks_of, remember};
+use crate::planning::{are_apart, plan_all};
+use delivery_machine::Fault;
+use kept_rows::{Kept, Notes, Part};
+use marks::Naming;
+use row_rounds::save;
+use sqlite::{Alter, Connection};
+use std::alloc::Global;
+use std::marker::Model;
+
+/// Keeps topics as rows of a database. After a store that failed it answers F16 until the database is
+/// adopted again. Contracts see its connection, and whether it failed.
+#[derive(Drop)]
+pub struct Keeper<S: Alter, J: Naming> {
+    pub(crate) alloc: Global,
+    pub(crate) conn: Connection<S>,
+    pub(crate) failed: bool,
+    pub(crate) known: Vec<Known<J>>,
+    pub(crate) notes: Notes<J>,
+    pub(crate) scratch: String,
+}
+
+impl<S: Alter, J: Naming> Model for Keeper<S, J> {
+    ghost use Rattle.sqlite.specs.Held.{held_code};
+    ghost use Rattle.std.specs.Coded.{codes};
+    ghost use Rattle.row_store.specs.Keeping.{Keeping, IsKept};
+
+    ghost Value = { Keeping S };
+
+    ghost coded = { Prim.hlevel (codes, held_code S.code) };
+
+    ghost view = { λ k. record { conn = k.conn; failed = k.failed } };
+
+    ghost invariant = { λ k. IsKept S.Store (record { conn = k.conn; failed = k.failed }) k.known.items };
+}
+
+impl<S: Alter, J: Naming> Keeper<S, J> {
+    /// Makes the rows of each of these topics those of its snapshot, in one transaction, and leaves all others.
+    /// Refused (F1) for want of memory, with nothing changed; (F16) where the store failed, now or before, and
+    /// where a topic comes twice.
+    pub fn store(&mut self, parts: Vec<Part<J>>) -> Result<Vec<Kept<J>>, Fault>
+        ensures rows { HasCleanDisk (state S.Store self.new.conn) → OnOk result (StoresAll parts.items (state S.Store self.old.conn).now.trees (state S.Store self.new.conn).now.trees) }
+        ensures durable { HasCleanDisk (state S.Store self.new.conn) → OnOk result ((db : _) → (state S.Store self.new.conn).may_leave db → db ≡ (state S.Store self.new.conn).now.trees) }
+        ensures kept { IfOk result (λ kept. kept.items ≡ map (stored_in (state S.Store self.new.conn)) parts.items) }
+        ensures crash { Survives (state S.Store self.old.conn) (state S.Store self.new.conn) (λ db. IsTrue (state S.Store self.old.conn).is_open → StoresAll parts.items (state S.Store self.old.conn).now.trees db) }
+        ensures ok { OnOk result (self.new.failed ≡ false) }
+        ensures failed { self.old.failed ≡ true → (result ≡ Err StoreFailed) × (self.new ≡ self.old) }
+        ensures memory { result ≡ Err NoMemory → self.new ≡ self.old }
+        ensures faults { IfErr result (λ fault. (fault ≡ NoMemory) ⊎ (fault ≡ StoreFailed)) }
+    {
+        if self.failed {
+            return Err(Fault::StoreFailed);
+        }
+        let Ok(mut kept) = Vec::with_capacity(self.alloc, parts.len()) else {
+            return Err(Fault::NoMemory);
+        };
+        let Ok(mut marks) = Vec::with_capacity(self.alloc, parts.len()) else {
+            return Err(Fault::NoMemory);
+        };
+        marks_of(&parts, &mut marks);
+        let writes = match plan_all(self.alloc, &self.known, parts) {
+            Ok(writes) => writes,
+            Err(fault) => return Err(fault),
+        };
+        if !are_apart(&writes) {
+            return Err(Fault::StoreFailed);
+        }
+        self.failed = true;
+        let Ok(()) = save(&mut self.conn, &writes, &mut self.scratch) else {
+            return Err(Fault::StoreFailed);
+        };
+        let Some(rows) = self.notes.commit(&self.conn) else {
+            return Err(Fault::StoreFailed);
+        };
+        keep_all(&rows, &marks, &mut kept);
+        forget(&mut self.known, &writes);
+        remember(&mut self.known, writes, marks);
+        self.failed = false;
+        Ok(kept)
+    }
+
+    /// Whether a store failed: then all is refused (F16) until the database is adopted again.
+    pub fn has_failed(&self) -> bool
+        ensures { result ≡ self.now.failed }
+    {
+        self.failed
+    }
+}

@@ -1,0 +1,65 @@
+// A topic whose rows are known.
+ghost use Rattle.std.specs.Prelude.{◌≡◌, string_bytes};
+ghost use Rattle.position_core.specs.TopicName.{topic_text};
+
+use delivery_machine::Snapshot;
+use kept_rows::Note;
+use marks::{Mark, Naming};
+use std::marker::Model;
+
+/// A topic whose rows are known: what stands there of it, under its mark. Contracts see what stands.
+#[derive(Drop)]
+pub struct Known<J: Naming> {
+    topic: String,
+    snapshot: Snapshot,
+    mark: Mark<Note, J>,
+}
+
+impl<J: Naming> Model for Known<J> {
+    ghost use Rattle.std.specs.Prelude.{◌≡◌, string_bytes};
+    ghost use Rattle.std.specs.Coded.{codes};
+    ghost use Rattle.position_core.specs.TopicName.{topic_text};
+    ghost use Rattle.delivery_machine.specs.Codes.{coded_places};
+    ghost use Rattle.delivery_machine.specs.Places.{KeptTopic};
+
+    ghost Value = { KeptTopic };
+
+    ghost coded = { Prim.hlevel (codes, coded_places) };
+
+    ghost view = { λ k. k.snapshot };
+
+    ghost invariant = { λ k. (string_bytes k.topic ≡ topic_text k.snapshot.name) × (k.mark.kept ≡ k.snapshot) };
+}
+
+impl<J: Naming> Known<J> {
+    pub fn new(topic: String, snapshot: Snapshot, mark: Mark<Note, J>) -> Self
+        requires topic { string_bytes topic ≡ topic_text snapshot.name }
+        requires mark { mark.kept ≡ snapshot }
+        ensures { result ≡ snapshot }
+    {
+        Known {
+            topic,
+            snapshot,
+            mark,
+        }
+    }
+
+    /// The topic's text.
+    pub fn topic(&self) -> &str
+        ensures { result.now ≡ topic_text self.now.name }
+    {
+        self.topic.as_str()
+    }
+
+    pub fn snapshot(&self) -> &Snapshot
+        ensures { result.now ≡ self.now }
+    {
+        &self.snapshot
+    }
+
+    pub fn mark(&self) -> &Mark<Note, J>
+        ensures { result.now.kept ≡ self.now }
+    {
+        &self.mark
+    }
+}

@@ -1,0 +1,88 @@
+// A topic's snapshot, as its rows have it.
+ghost use Rattle.std.specs.Prelude.{◌≡◌, ◌⊎◌, true, IfOk, IfErr, IfSome, MatchOption, Err, IsTrue, string_bytes};
+ghost use Rattle.position_core.specs.TopicName.{topic_text};
+ghost use Rattle.position_core.specs.declared.fault.Fault.TheVariants.{NoMemory, StoreFailed};
+ghost use Rattle.sqlite.specs.State.{HasCleanDisk, Survives};
+ghost use Rattle.sqlite.specs.Held.{state};
+ghost use Rattle.row_forms.specs.Standing.{Stands, HasNone};
+ghost use Rattle.row_store.specs.Keeping.{stored_in};
+
+use crate::keeper::Keeper;
+use crate::knowing::{forget_topic, know};
+use delivery_machine::{Fault, Snapshot};
+use kept_rows::Kept;
+use marks::Naming;
+use position_core::TopicName;
+use row_forms::topic_text;
+use row_reading::snapshot_in;
+use row_rounds::read;
+use sqlite::Alter;
+
+/// A snapshot, with the proof that it stands in rows that were committed.
+#[derive(Drop)]
+pub struct Loaded<J: Naming> {
+    pub snapshot: Snapshot,
+    pub kept: Kept<J>,
+}
+
+impl<S: Alter, J: Naming> Keeper<S, J> {
+    /// The snapshot whose rows stand there; none where the topic has no rows. The next store of the topic
+    /// writes what changed from then on. Refused (F16) where the rows are no snapshot's, or the store answers
+    /// an error; (F1) for want of memory. Nothing changes in any case.
+    pub fn load(&mut self, name: &TopicName) -> Result<Option<Loaded<J>>, Fault>
+        ensures rows { HasCleanDisk (state S.Store self.new.conn) → IfOk result (λ found. MatchOption found (HasNone (topic_text name.now) (state S.Store self.old.conn).now.trees) (λ loaded. (loaded.snapshot.name ≡ name.now) × Stands loaded.snapshot (state S.Store self.old.conn).now.trees)) }
+        ensures kept { IfOk result (λ found. IfSome found (λ loaded. loaded.kept ≡ stored_in (state S.Store self.new.conn) loaded.snapshot)) }
+        ensures same { HasCleanDisk (state S.Store self.new.conn) → IsTrue (state S.Store self.new.conn).is_open → (state S.Store self.new.conn).now ≡ (state S.Store self.old.conn).now }
+        ensures crash { Survives (state S.Store self.old.conn) (state S.Store self.new.conn) (λ _. ⊥) }
+        ensures failed { self.new.failed ≡ self.old.failed }
+        ensures refused { self.old.failed ≡ true → (result ≡ Err StoreFailed) × (self.new ≡ self.old) }
+        ensures faults { IfErr result (λ fault. (fault ≡ NoMemory) ⊎ (fault ≡ StoreFailed)) }
+    {
+        if self.failed {
+            return Err(Fault::StoreFailed);
+        }
+        let Ok(topic) = topic_text(self.alloc, name) else {
+            return Err(Fault::NoMemory);
+        };
+        let Ok(raw) = read(&mut self.conn, topic.as_str()) else {
+            return Err(Fault::StoreFailed);
+        };
+        if raw.is_empty() {
+            return Ok(None);
+        }
+        match snapshot_in(self.alloc, name, &raw) {
+            Ok(Some(snapshot)) => match self.know_loaded(topic, snapshot) {
+                Ok(loaded) => Ok(Some(loaded)),
+                Err(fault) => Err(fault),
+            },
+            Ok(None) => Err(Fault::StoreFailed),
+            Err(_) => Err(Fault::NoMemory),
+        }
+    }
+
+    /// What was read is known from now on.
+    fn know_loaded(&mut self, topic: String, snapshot: Snapshot) -> Result<Loaded<J>, Fault>
+        requires topic { string_bytes topic ≡ topic_text snapshot.name }
+        requires stands { HasCleanDisk (state S.Store self.old.conn) → Stands snapshot (state S.Store self.old.conn).now.trees }
+        ensures same { self.new ≡ self.old }
+        ensures snapshot { IfOk result (λ loaded. loaded.snapshot ≡ snapshot) }
+        ensures kept { IfOk result (λ loaded. loaded.kept ≡ stored_in (state S.Store self.old.conn) snapshot) }
+        ensures faults { IfErr result (λ fault. (fault ≡ NoMemory) ⊎ (fault ≡ StoreFailed)) }
+    {
+        let Ok(copy) = snapshot.clone() else {
+            return Err(Fault::NoMemory);
+        };
+        let Some(mark) = self.notes.view(&snapshot) else {
+            return Err(Fault::StoreFailed);
+        };
+        let Some(rows) = self.notes.commit(&self.conn) else {
+            return Err(Fault::StoreFailed);
+        };
+        forget_topic(&mut self.known, topic.as_str());
+        know(&mut self.known, topic, copy, mark.again());
+        Ok(Loaded {
+            snapshot,
+            kept: Kept::new(mark, rows),
+        })
+    }
+}

@@ -1,0 +1,157 @@
+// How a keeper comes by its database: it makes the tables, or takes those that are there.
+ghost use Rattle.std.specs.Prelude.{◌≡◌, ◌≢◌, ◌⊎◌, false, IfOk, IfErr, IsTrue};
+ghost use Rattle.position_core.specs.declared.fault.Fault.TheVariants.{StoreFailed};
+ghost use Rattle.sqlite.specs.Tree.{Trees};
+ghost use Rattle.sqlite.specs.State.{HasCleanDisk};
+ghost use Rattle.sqlite.specs.Held.{state};
+ghost use Rattle.sqlite_trees.specs.View.{IsClean};
+ghost use Rattle.row_forms.specs.Schema.{schema_0};
+ghost use Rattle.row_tables.specs.Ready.{IsReady, IsBlank};
+ghost use Rattle.row_store.specs.Keeping.{MayLeave};
+
+use crate::keeper::Keeper;
+use delivery_machine::Fault;
+use kept_rows::Notes;
+use marks::Naming;
+use row_schema::{create, has_no_schema, is_version_1, reopen};
+use sqlite::{Alter, Connection};
+use std::alloc::Global;
+
+/// What is left where a database is not taken: why, the store, and the history.
+#[derive(Drop)]
+pub struct Refused<S: Alter + Drop, J: Naming> {
+    pub fault: Fault,
+    pub store: S,
+    pub notes: Notes<J>,
+}
+
+/// Whether tables can be made: there are none, and no transaction is under way.
+fn is_empty<S: Alter>(conn: &Connection<S>) -> bool
+    ensures autocommit { IsTrue result → conn.now.in_transaction ≡ false }
+    ensures none { IsTrue result → (state S.Store conn.now).now.schema ≡ schema_0 }
+    ensures some { conn.now.in_transaction ≡ false → (state S.Store conn.now).now.schema ≡ schema_0 → IsTrue result }
+{
+    conn.is_autocommit() && has_no_schema(conn)
+}
+
+fn given_back<S: Alter + Drop, J: Naming>(conn: Connection<S>, notes: Notes<J>) -> Refused<S, J>
+    ensures fault { result.fault ≡ StoreFailed }
+    ensures clean { IsClean (S.Store.view result.store) → HasCleanDisk (state S.Store conn) }
+    ensures left { (db : Trees) → S.Store.recovers result.store db → (state S.Store conn).may_leave db }
+{
+    Refused {
+        fault: Fault::StoreFailed,
+        store: conn.into_store(),
+        notes,
+    }
+}
+
+/// Over a database whose tables are those of version 1.
+fn keeper_over<S: Alter, J: Naming>(
+    alloc: Global,
+    conn: Connection<S>,
+    notes: Notes<J>,
+) -> Keeper<S, J>
+    requires autocommit { conn.in_transaction ≡ false }
+    requires ready { HasCleanDisk (state S.Store conn) → IsTrue (state S.Store conn).is_open → IsReady (state S.Store conn).now }
+    ensures { result ≡ record { conn = conn; failed = false } }
+{
+    Keeper {
+        alloc,
+        conn,
+        failed: false,
+        known: Vec::new(alloc),
+        notes,
+        scratch: String::new(alloc),
+    }
+}
+
+impl<S: Alter + Drop, J: Naming> Keeper<S, J> {
+    /// Makes the tables in a database that has none, all or none. Refused (F16) where it has some, where a
+    /// transaction is under way, or where the store answers an error.
+    pub fn create(
+        alloc: Global,
+        mut conn: Connection<S>,
+        notes: Notes<J>,
+    ) -> Result<Self, Refused<S, J>>
+        ensures created { IfOk result (λ k. (k.failed ≡ false) × (HasCleanDisk (state S.Store k.conn) → IsBlank (state S.Store k.conn).now)) }
+        ensures was_empty { IfOk result (λ _. (state S.Store conn).now.schema ≡ schema_0) }
+        ensures crash { IfOk result (λ k. HasCleanDisk (state S.Store k.conn) → (db : Trees) → (state S.Store k.conn).may_leave db → MayLeave (state S.Store conn) db) }
+        ensures given_back { IfErr result (λ e. IsClean (S.Store.view e.store) → (db : Trees) → S.Store.recovers e.store db → MayLeave (state S.Store conn) db) }
+        ensures fault { IfErr result (λ e. e.fault ≡ StoreFailed) }
+    {
+        if !is_empty(&conn) {
+            return Err(given_back(conn, notes));
+        }
+        match create(&mut conn) {
+            Ok(()) => Ok(keeper_over(alloc, conn, notes)),
+            Err(_) => Err(given_back(conn, notes)),
+        }
+    }
+
+    /// Takes a database of version 1 as it is; what was not committed is undone. Refused (F16) where it has
+    /// other tables or another version, or where the store answers an error.
+    pub fn adopt(
+        alloc: Global,
+        conn: Connection<S>,
+        notes: Notes<J>,
+    ) -> Result<Self, Refused<S, J>>
+        ensures adopted { IfOk result (λ k. (k.failed ≡ false) × (HasCleanDisk (state S.Store k.conn) → IsTrue (state S.Store k.conn).is_open → IsReady (state S.Store k.conn).now)) }
+        ensures rows { IfOk result (λ k. HasCleanDisk (state S.Store k.conn) → IsTrue (state S.Store k.conn).is_open → (state S.Store k.conn).now.trees ≡ (state S.Store conn).committed.trees) }
+        ensures crash { IfOk result (λ k. HasCleanDisk (state S.Store k.conn) → (db : Trees) → (state S.Store k.conn).may_leave db → db ≡ (state S.Store conn).committed.trees) }
+        ensures given_back { IfErr result (λ e. IsClean (S.Store.view e.store) → (db : Trees) → S.Store.recovers e.store db → (state S.Store conn).may_leave db ⊎ (db ≡ (state S.Store conn).committed.trees)) }
+        ensures fault { IfErr result (λ e. e.fault ≡ StoreFailed) }
+    {
+        let mut conn = match reopen(alloc, conn) {
+            Ok(conn) => conn,
+            Err((_, store)) => {
+                return Err(Refused {
+                    fault: Fault::StoreFailed,
+                    store,
+                    notes,
+                });
+            }
+        };
+        match is_version_1(&mut conn) {
+            Ok(true) => Ok(keeper_over(alloc, conn, notes)),
+            _ => Err(given_back(conn, notes)),
+        }
+    }
+
+    /// Makes the tables in a database that has none, and takes any other as it is.
+    pub fn start(
+        alloc: Global,
+        conn: Connection<S>,
+        notes: Notes<J>,
+    ) -> Result<Self, Refused<S, J>>
+        ensures started { IfOk result (λ k. (k.failed ≡ false) × (HasCleanDisk (state S.Store k.conn) → IsTrue (state S.Store k.conn).is_open → IsReady (state S.Store k.conn).now)) }
+        ensures made { conn.in_transaction ≡ false → (state S.Store conn).now.schema ≡ schema_0 → IfOk result (λ k. HasCleanDisk (state S.Store k.conn) → IsBlank (state S.Store k.conn).now) }
+        ensures taken { (state S.Store conn).now.schema ≢ schema_0 → IfOk result (λ k. HasCleanDisk (state S.Store k.conn) → IsTrue (state S.Store k.conn).is_open → (state S.Store k.conn).now.trees ≡ (state S.Store conn).committed.trees) }
+        ensures crash { IfOk result (λ k. HasCleanDisk (state S.Store k.conn) → (db : Trees) → (state S.Store k.conn).may_leave db → MayLeave (state S.Store conn) db) }
+        ensures given_back { IfErr result (λ e. IsClean (S.Store.view e.store) → (db : Trees) → S.Store.recovers e.store db → MayLeave (state S.Store conn) db) }
+        ensures fault { IfErr result (λ e. e.fault ≡ StoreFailed) }
+    {
+        if is_empty(&conn) {
+            Self::create(alloc, conn, notes)
+        } else {
+            Self::adopt(alloc, conn, notes)
+        }
+    }
+}
+
+impl<S: Alter, J: Naming> Keeper<S, J> {
+    /// The database and the history, as they are: so a database is adopted again.
+    pub fn into_parts(self) -> (Connection<S>, Notes<J>)
+        ensures { result.0 ≡ self.conn }
+    {
+        let Keeper {
+            alloc: _,
+            conn,
+            failed: _,
+            known: _,
+            notes,
+            scratch: _,
+        } = self;
+        (conn, notes)
+    }
+}

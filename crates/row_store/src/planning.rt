@@ -1,0 +1,149 @@
+// What has to be written for snapshots to stand, before anything is.
+ghost use Rattle.std.specs.Prelude.{◌≡◌, All, map, IfOk, IfErr, IfSome, IsTrue, string_bytes};
+ghost use Rattle.std.specs.List.{list_any};
+ghost use Rattle.std.specs.Str.{bytes_eq};
+ghost use Rattle.sqlite.specs.Tree.{Trees};
+ghost use Rattle.position_core.specs.TopicName.{topic_text};
+ghost use Rattle.position_core.specs.declared.fault.Fault.TheVariants.{NoMemory};
+ghost use Rattle.delivery_machine.specs.Places.{KeptTopic};
+ghost use Rattle.kept_rows.specs.Noted.{GoesOn};
+ghost use Rattle.row_forms.specs.Standing.{Stands};
+ghost use Rattle.row_rounds.specs.declared.saving.Write.{Write};
+ghost use Rattle.row_rounds.specs.Rounds.{AreApart, Fits, IsNamed, name_of};
+
+use crate::known::Known;
+use delivery_machine::{Fault, Snapshot};
+use kept_rows::Part;
+use marks::Naming;
+use row_forms::{Change, topic_text};
+use row_rounds::Write;
+use std::alloc::Global;
+
+/// What is known to stand, and the part goes on from.
+fn base_of<'a, J: Naming>(known: &'a [Known<J>], part: &Part<J>) -> Option<&'a Known<J>>
+    ensures goes_on { IfSome result (λ base. GoesOn base.now part.now) }
+    ensures known { IfSome result (λ base. (db : Trees) → All (λ kept. Stands kept db) known.now → Stands base.now db) }
+{
+    for base in known {
+        if part.goes_on_from(base.mark()) {
+            return Some(base);
+        }
+    }
+    None
+}
+
+fn text_of(alloc: Global, snapshot: &Snapshot) -> Result<String, Fault>
+    ensures ok { IfOk result (λ text. string_bytes text ≡ topic_text snapshot.now.name) }
+    ensures err { IfErr result (λ fault. fault ≡ NoMemory) }
+{
+    match topic_text(alloc, snapshot.name()) {
+        Ok(text) => Ok(text),
+        Err(_) => Err(Fault::NoMemory),
+    }
+}
+
+/// The snapshot's rows in place of whatever rows the topic has.
+fn plan_whole(alloc: Global, snapshot: Snapshot) -> Result<Write, Fault>
+    ensures snapshot { IfOk result (λ write. write.snapshot ≡ snapshot) }
+    ensures named { IfOk result IsNamed }
+    ensures fits { IfOk result (λ write. (db : Trees) → Fits db write) }
+    ensures err { IfErr result (λ fault. fault ≡ NoMemory) }
+{
+    let topic = match text_of(alloc, &snapshot) {
+        Ok(topic) => topic,
+        Err(fault) => return Err(fault),
+    };
+    match Change::whole(alloc, &snapshot) {
+        Ok(change) => Ok(Write {
+            snapshot,
+            topic,
+            change,
+            whole: true,
+        }),
+        Err(_) => Err(Fault::NoMemory),
+    }
+}
+
+/// What differs from the snapshot that stands.
+fn plan_over(alloc: Global, snapshot: Snapshot, base: &Snapshot) -> Result<Write, Fault>
+    requires { GoesOn base.now snapshot }
+    ensures snapshot { IfOk result (λ write. write.snapshot ≡ snapshot) }
+    ensures named { IfOk result IsNamed }
+    ensures fits { IfOk result (λ write. (db : Trees) → Stands base.now db → Fits db write) }
+    ensures err { IfErr result (λ fault. fault ≡ NoMemory) }
+{
+    let topic = match text_of(alloc, &snapshot) {
+        Ok(topic) => topic,
+        Err(fault) => return Err(fault),
+    };
+    match Change::between(alloc, base, &snapshot) {
+        Ok(change) => Ok(Write {
+            snapshot,
+            topic,
+            change,
+            whole: false,
+        }),
+        Err(_) => Err(Fault::NoMemory),
+    }
+}
+
+fn plan<J: Naming>(alloc: Global, known: &[Known<J>], part: Part<J>) -> Result<Write, Fault>
+    ensures snapshot { IfOk result (λ write. write.snapshot ≡ part) }
+    ensures named { IfOk result IsNamed }
+    ensures fits { IfOk result (λ write. (db : Trees) → All (λ kept. Stands kept db) known.now → Fits db write) }
+    ensures err { IfErr result (λ fault. fault ≡ NoMemory) }
+{
+    let Some(base) = base_of(known, &part) else {
+        let (snapshot, _) = part.into_parts();
+        return plan_whole(alloc, snapshot);
+    };
+    let (snapshot, _) = part.into_parts();
+    plan_over(alloc, snapshot, base.snapshot())
+}
+
+/// A write of each part.
+pub fn plan_all<J: Naming>(
+    alloc: Global,
+    known: &[Known<J>],
+    parts: Vec<Part<J>>,
+) -> Result<Vec<Write>, Fault>
+    ensures snapshots { IfOk result (λ writes. map (λ (w : Write). w.snapshot) writes.items ≡ parts.items) }
+    ensures named { IfOk result (λ writes. All IsNamed writes.items) }
+    ensures fits { IfOk result (λ writes. (db : Trees) → All (λ kept. Stands kept db) known.now → All (Fits db) writes.items) }
+    ensures err { IfErr result (λ fault. fault ≡ NoMemory) }
+{
+    let Ok(mut writes) = Vec::with_capacity(alloc, parts.len()) else {
+        return Err(Fault::NoMemory);
+    };
+    for part in parts {
+        match plan(alloc, known, part) {
+            Ok(write) => {
+                let Ok(()) = writes.push(write) else {
+                    return Err(Fault::NoMemory);
+                };
+            }
+            Err(fault) => return Err(fault),
+        }
+    }
+    Ok(writes)
+}
+
+/// Whether one of these is of the topic.
+pub fn is_among(writes: &[Write], topic: &str) -> bool
+    ensures { result ≡ list_any (λ w. bytes_eq (string_bytes w.topic) topic.now) writes.now }
+{
+    writes.iter().any(|write| write.topic.as_str() == topic)
+}
+
+/// Whether no topic comes twice.
+pub fn are_apart(writes: &[Write]) -> bool
+    requires { All IsNamed writes.now }
+    ensures { IsTrue result → AreApart writes.now }
+{
+    for place in 0..writes.len() {
+        if is_among(&writes[..place], writes[place].topic.as_str()) {
+            return false;
+        }
+    }
+    true
+}

@@ -1,0 +1,108 @@
+// A round: a topic is viewed, stored and confirmed under one hold of its lock.
+ghost use Rattle.std.specs.Prelude.{ℕ, ◌≡◌, ◌⊎◌, ◌↔◌, Some, true, false, length, IfOk, IfErr, OnOk, OnErr, Err, IsTrue, [], ◌∷◌};
+ghost use Rattle.position_core.specs.declared.fault.Fault.TheVariants.{NoMemory, JournalFull, StoreFailed};
+ghost use Rattle.delivery_machine.specs.Snapshot.{snapshot_of};
+ghost use Rattle.delivery_machine.specs.Places.{snapshot_in};
+ghost use Rattle.delivery_machine.specs.declared.event.Event.TheVariants.{Stored};
+ghost use Rattle.topic_shared.specs.Kept.{HasNoLine, StoresLine, with_promise};
+ghost use Rattle.sqlite.specs.State.{HasCleanDisk, Survives};
+ghost use Rattle.sqlite.specs.Held.{state};
+ghost use Rattle.kept_rows.specs.Noted.{Noted};
+ghost use Rattle.stored_cell.specs.Held.{SameButPromise};
+ghost use Rattle.row_store.specs.Keeping.{StoresAll, StoresState, stored_in};
+
+use crate::keeper::Keeper;
+use delivery_machine::{Fault, Opened, Saved, Snapshot};
+use kept_rows::{Kept, Part};
+use marks::Naming;
+use sqlite::Alter;
+use stored_cell::StoredCell;
+
+impl<S: Alter, J: Naming> Keeper<S, J> {
+    /// The topic as it is, to be stored later with its lock free: `StoredCell::ready_view`, with a mark of
+    /// this keeper's history.
+    pub fn view<T: Opened + Drop>(&mut self, cell: &mut StoredCell<T, J>) -> Result<Part<J>, Fault>
+        ensures keeper { self.new ≡ self.old }
+        ensures part { IfOk result (λ part. snapshot_in part ≡ snapshot_of cell.old.cell.state) }
+        ensures ok { IfOk result (λ part. cell.new ≡ record cell.old { cell = record (with_promise cell.old.cell) { viewed = cell.old.cell.state; unsaved = false }; outstanding = Some part }) }
+        ensures err { OnErr result (SameButPromise cell.old cell.new) }
+        ensures full { (result ≡ Err JournalFull) ↔ HasNoLine cell.old.cell }
+        ensures faults { IfErr result (λ fault. (fault ≡ NoMemory) ⊎ (fault ≡ JournalFull) ⊎ (fault ≡ StoreFailed)) }
+    {
+        cell.ready_view(&mut self.notes)
+    }
+
+    /// The snapshot that the topic has now, under its mark.
+    fn part_of<T: Opened + Drop>(&mut self, cell: &StoredCell<T, J>) -> Result<Part<J>, Fault>
+        ensures keeper { self.new ≡ self.old }
+        ensures part { IfOk result (λ part. snapshot_in part ≡ snapshot_of cell.now.cell.state) }
+        ensures faults { IfErr result (λ fault. (fault ≡ NoMemory) ⊎ (fault ≡ StoreFailed)) }
+    {
+        let snapshot = match cell.view() {
+            Ok(snapshot) => snapshot,
+            Err(fault) => return Err(fault),
+        };
+        let Some(mark) = self.notes.view(&snapshot) else {
+            return Err(Fault::StoreFailed);
+        };
+        Ok(Part::new(snapshot, mark, cell.base()))
+    }
+
+    /// A store of one topic.
+    fn store_one(&mut self, part: Part<J>) -> Result<Kept<J>, Fault>
+        ensures rows { HasCleanDisk (state S.Store self.new.conn) → OnOk result (StoresAll (part ∷ []) (state S.Store self.old.conn).now.trees (state S.Store self.new.conn).now.trees) }
+        ensures durable { HasCleanDisk (state S.Store self.new.conn) → OnOk result ((db : _) → (state S.Store self.new.conn).may_leave db → db ≡ (state S.Store self.new.conn).now.trees) }
+        ensures kept { IfOk result (λ kept. kept ≡ stored_in (state S.Store self.new.conn) part) }
+        ensures crash { Survives (state S.Store self.old.conn) (state S.Store self.new.conn) (λ db. IsTrue (state S.Store self.old.conn).is_open → StoresAll (part ∷ []) (state S.Store self.old.conn).now.trees db) }
+        ensures ok { OnOk result (self.new.failed ≡ false) }
+        ensures memory { result ≡ Err NoMemory → self.new ≡ self.old }
+        ensures faults { IfErr result (λ fault. (fault ≡ NoMemory) ⊎ (fault ≡ StoreFailed)) }
+    {
+        let Ok(mut parts) = Vec::with_capacity(self.alloc, 1) else {
+            return Err(Fault::NoMemory);
+        };
+        parts.push_reserved(part);
+        let mut kept = match self.store(parts) {
+            Ok(kept) => kept,
+            Err(fault) => return Err(fault),
+        };
+        let Some(kept) = kept.pop() else {
+            unreachable!();
+        };
+        Ok(kept)
+    }
+
+    /// Makes the topic's rows those of the topic as it is, in one transaction, leaves all others, and makes
+    /// all of it durable. How much is durable then. Refused (F15) where no line is left for it, (F1) for want
+    /// of memory, with nothing changed; (F16) where the store failed, now or before. Whatever is refused, the
+    /// topic stays.
+    pub fn round<T: Opened + Drop>(&mut self, cell: &mut StoredCell<T, J>) -> Result<u64, Fault>
+        ensures rows { HasCleanDisk (state S.Store self.new.conn) → OnOk result (StoresState cell.old.cell.state (state S.Store self.old.conn).now.trees (state S.Store self.new.conn).now.trees) }
+        ensures durable { HasCleanDisk (state S.Store self.new.conn) → OnOk result ((db : _) → (state S.Store self.new.conn).may_leave db → db ≡ (state S.Store self.new.conn).now.trees) }
+        ensures crash { Survives (state S.Store self.old.conn) (state S.Store self.new.conn) (λ db. IsTrue (state S.Store self.old.conn).is_open → StoresState cell.old.cell.state (state S.Store self.old.conn).now.trees db) }
+        ensures line { IfOk result (λ count. StoresLine (record (with_promise cell.old.cell) { viewed = cell.old.cell.state; unsaved = false }) Stored count cell.new.cell) }
+        ensures proof { OnOk result ((n : Noted) × (cell.new.stored ≡ Some n) × (snapshot_in n.kept ≡ snapshot_of cell.old.cell.state) × (n ≡ stored_in (state S.Store self.new.conn) n.kept) × (cell.new.by_word ≡ false)) }
+        ensures cell { OnErr result (SameButPromise cell.old cell.new) }
+        ensures ok { OnOk result (self.new.failed ≡ false) }
+        ensures failed { self.old.failed ≡ true → (result ≡ Err StoreFailed) × (self.new ≡ self.old) × (cell.new ≡ cell.old) }
+        ensures keeper { (result ≡ Err NoMemory) ⊎ (result ≡ Err JournalFull) → self.new ≡ self.old }
+        ensures faults { IfErr result (λ fault. (fault ≡ NoMemory) ⊎ (fault ≡ JournalFull) ⊎ (fault ≡ StoreFailed)) }
+    {
+        if self.failed {
+            return Err(Fault::StoreFailed);
+        }
+        match cell.promise() {
+            Ok(()) => {}
+            Err(fault) => return Err(fault),
+        }
+        let part = match self.part_of(cell) {
+            Ok(part) => part,
+            Err(fault) => return Err(fault),
+        };
+        let count = part.snapshot().log().count() as u64;
+        match self.store_one(part) {
+            Ok(kept) => Ok(cell.confirm_all(kept, count)),
+            Err(fault) => Err(fault),
+        }
+    }
+}
