@@ -1,4 +1,6 @@
 // Topics that go on from what was loaded, and are stored by what changed since.
+ghost use Rattle.std.specs.Prelude.{◌≡◌};
+
 use super::world::{
     FOUR, Lone, Rows, Scene, T, asked, fresh, one_cell, play, round, snapshot_of, stands,
     topic_name, with_keeper,
@@ -10,17 +12,22 @@ use row_store::Loaded;
 use std::process::Abort;
 use stored_cell::StoredCell;
 
-fn loaded<J: Naming, R: Abort + AllocGlobal>(rt: &R, keeper: &mut Rows<J>) -> Loaded<J> {
-    let found = keeper.load(&topic_name(rt, T));
-    found.ok().expect(rt, "not loaded").expect(rt, "no rows")
+fn loaded<J: Naming, R: Abort + AllocGlobal>(rt: &R, keeper: &mut Rows<J>) -> Loaded<J>
+    ensures { result.kept.kept ≡ result.snapshot }
+{
+    match keeper.load(&topic_name(rt, T)) {
+        Ok(found) => found.expect(rt, "no rows"),
+        Err(_) => panic!(rt; "not loaded"),
+    }
 }
 
 /// The topic goes on from its rows.
 fn restarted<J: Naming, R: Abort + AllocGlobal>(rt: &R, keeper: &mut Rows<J>) -> Lone<J> {
     let Loaded { snapshot, kept } = loaded(rt, keeper);
-    let topic = PlainTopic::restart(rt.alloc(), &snapshot);
-    let cell = one_cell(rt, topic.ok().expect(rt, "no memory"));
-    StoredCell::restarted(cell, &snapshot, kept)
+    match PlainTopic::restart(rt.alloc(), &snapshot) {
+        Ok(topic) => StoredCell::restarted(one_cell(rt, topic), &snapshot, kept),
+        Err(_) => panic!(rt; "no memory"),
+    }
 }
 
 const BEFORE: &str = "subscribe s Shared 0 push:10 0 100 1 - Earliest

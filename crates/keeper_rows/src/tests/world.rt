@@ -1,5 +1,5 @@
 // A keeper over a database in memory, and topics that are played by lines.
-ghost use Rattle.std.specs.Prelude.{◌≡◌};
+ghost use Rattle.std.specs.Prelude.{◌≡◌, []};
 
 use super::same::same;
 use delivery_machine::{Event, Reply, Saved, Snapshot};
@@ -59,6 +59,7 @@ pub(super) fn with_keeper<X: Scene, R: Abort + AllocGlobal>(rt: &R, scene: &X) {
 
 /// A cell with one seat.
 pub(super) fn one_cell<R: Abort + AllocGlobal>(rt: &R, topic: PlainTopic) -> Cell<PlainTopic>
+    requires { (topic.producers ≡ []) × (topic.members ≡ []) }
     ensures { result.state ≡ topic }
 {
     let limit = LineLimit::new(10_000).expect(rt, "no limit");
