@@ -11,7 +11,7 @@ use Rattle.delivery_machine.specs.Places.{KeptTopic, snapshot_in}
 use Rattle.row_forms.specs.Standing.{Stands, KeepsOthers}
 use Rattle.row_forms.specs.Schema.{schema_6}
 use Rattle.row_tables.specs.Ready.{IsReady, IsBlank}
-use Rattle.kept_rows.specs.Noted.{Noted, all_rows}
+use Rattle.kept_rows.specs.Noted.{Noted, all_rows, is_shown}
 
 -- a keeper, as contracts see it: its connection, and whether it failed
 pub record Keeping (S : Type 0) : Type 0 where
@@ -31,7 +31,7 @@ pub record StoresAll (kepts : List KeptTopic) (old new : Trees) : Type 0 where
 
 -- what is kept of a topic, with the rows that a database committed
 abbrev pub stored_in : State → KeptTopic → Noted
-stored_in s kept = record { kept = kept; rows = all_rows s.committed.trees; clean = s.is_clean }
+stored_in s kept = record { kept = kept; rows = all_rows s.committed.trees; clean = is_shown s }
 
 -- the rows of the topic are those of its state, and those of all others are as they were
 abbrev pub StoresState : MachineState → Trees → Trees → Type 0
