@@ -8,3 +8,4 @@ mod restarts;
 mod rounds;
 mod same;
 mod world;
+mod writing;

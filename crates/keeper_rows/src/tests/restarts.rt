@@ -75,8 +75,9 @@ impl Scene for GoesOn {
         play(rt, &mut cell, AFTER);
         round(rt, &mut keeper, &mut cell);
         assert!(rt; stands(rt, &mut keeper, &snapshot_of(rt, &cell)));
-        let cell = restarted(rt, &mut keeper);
+        let mut cell = restarted(rt, &mut keeper);
         assert!(rt; !cell.is_by_word());
+        round(rt, &mut keeper, &mut cell);
         assert!(rt; stands(rt, &mut keeper, &snapshot_of(rt, &cell)));
     }
 }
