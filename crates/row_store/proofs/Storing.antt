@@ -1,6 +1,10 @@
 -- What a store leads to, for any connection.
 use Rattle.std.proofs.Common.{◌≡◌, ◌≤◌, ℕ, zero, suc, ◌<◌, Bool, true, false, List, [], ◌∷◌, map, length, slice_index_or, refl, ap, sym, subst, ◌∙◌, arith}
 use Rattle.std.specs.Prelude.{All, IsTrue, ◌&&◌}
+use Rattle.position_core.specs.TopicName.{topic_text}
+use Rattle.position_core.specs.declared.topic_name.TopicName.{TopicName}
+use Rattle.sqlite.specs.declared.types.Value.TheVariants.{Text as Words}
+use Rattle.sqlite.specs.Order.{Row}
 use Rattle.sqlite_trees.specs.declared.store.Store.{Ghosts}
 use Rattle.sqlite_trees.specs.View.{doubt}
 use Rattle.sqlite.specs.Tree.{Trees}
@@ -9,8 +13,11 @@ use Rattle.sqlite.specs.State.{State, HasCleanDisk, Survives}
 use Rattle.sqlite.specs.Held.{Held, state}
 use Rattle.sqlite.proofs.StateLemmas.{survives_weaker}
 use Rattle.delivery_machine.specs.Places.{KeptTopic}
-use Rattle.row_forms.specs.Forms.{TopicRows}
-use Rattle.row_forms.specs.Standing.{Stands}
+use Rattle.row_forms.specs.Cells.{TOPIC, ENTRY, SUB, ACK, DEAD}
+use Rattle.row_forms.specs.Changes.{with_topic}
+use Rattle.row_forms.specs.Forms.{TopicRows, AreRowsOf, no_rows}
+use Rattle.row_forms.specs.Standing.{Has, HasIn, HasNone, Stands}
+use Rattle.row_forms.specs.declared.raw_rows.RawRows.{RawRows}
 use Rattle.row_tables.specs.Goes.{Saves}
 use Rattle.row_tables.specs.Ready.{IsReady}
 use Rattle.row_rounds.specs.declared.saving.Write.{Write}
@@ -96,3 +103,25 @@ kept_through g old new failed known kept autocommit less same was = record {
       let early : HasCleanDisk (state g old) = omega (arith, less, clean) in
       subst (λ (db : Database). All (λ (k : KeptTopic). Stands k db.trees) known) (sym (same clean shown)) (kept.known working early (was clean shown));
 }
+
+-- the rows that were read of the topic are those of the snapshot that they show
+pub read_stands : (kept : KeptTopic) (name : TopicName) (text : List ℕ) (raw : RawRows) (db : Trees) → text ≡ topic_text name → kept.name ≡ name → AreRowsOf kept (with_topic (topic_text name) raw) → Has text (with_topic text raw) db → Stands kept db
+read_stands kept name text raw db is same are read = (
+  with_topic (topic_text name) raw,
+  are,
+  subst (λ (n : TopicName). Has (topic_text n) (with_topic (topic_text name) raw) db) (sym same) (subst (λ t. Has t (with_topic t raw) db) is read),
+)
+
+-- where none was read there is none
+pub none_read : (name : TopicName) (text : List ℕ) (raw : RawRows) (db : Trees) → text ≡ topic_text name
+    → (raw.topics.items ≡ []) × (raw.entries.items ≡ []) × (raw.subs.items ≡ []) × (raw.acks.items ≡ []) × (raw.deads.items ≡ []) → Has text (with_topic text raw) db → HasNone (topic_text name) db
+none_read name text raw db is none read =
+    let put : List Row → List Row = map (λ (r : Row). Words text ∷ r) in
+    let here : Has text no_rows db = record {
+      topics = subst (λ l. HasIn TOPIC text (put l) db) none.0 read.topics;
+      entries = subst (λ l. HasIn ENTRY text (put l) db) none.1 read.entries;
+      subs = subst (λ l. HasIn SUB text (put l) db) none.2 read.subs;
+      acks = subst (λ l. HasIn ACK text (put l) db) none.3 read.acks;
+      deads = subst (λ l. HasIn DEAD text (put l) db) none.4 read.deads;
+    } in
+    subst (λ t. Has t no_rows db) is here

@@ -1,5 +1,6 @@
 -- What a keeper holds true, and what a store of several snapshots does.
 use Rattle.std.specs.Prelude.{◌≡◌, ◌⊎◌, ℕ, Bool, false, List, [], ◌∷◌, All, map, IsTrue}
+use Rattle.std.specs.Str.{bytes_eq}
 use Rattle.position_core.specs.TopicName.{topic_text}
 use Rattle.sqlite_trees.specs.declared.store.Store.{Ghosts}
 use Rattle.sqlite.specs.Tree.{Trees}
@@ -40,3 +41,7 @@ StoresState s old new = (kept : KeptTopic) × (snapshot_in kept ≡ snapshot_of 
 -- what a start may leave: what there was before, what was committed, or the tables with no rows
 abbrev pub MayLeave : State → Trees → Type 0
 MayLeave old db = old.may_leave db ⊎ ((db ≡ old.committed.trees) ⊎ IsBlank (record { schema = schema_6; trees = db }))
+
+-- it is of the topic
+unfoldable pub is_of_topic : List ℕ → KeptTopic → Bool
+is_of_topic topic kept = bytes_eq (topic_text kept.name) topic

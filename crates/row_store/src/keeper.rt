@@ -46,8 +46,8 @@ impl<S: Alter, J: Naming> Model for Keeper<S, J> {
 
 impl<S: Alter, J: Naming> Keeper<S, J> {
     /// Makes the rows of each of these topics those of its snapshot, in one transaction, and leaves all others.
-    /// Refused (F1) for want of memory, with nothing changed; (F16) where the store failed, now or before, and
-    /// where a topic comes twice.
+    /// Refused (F1) for want of memory, with nothing changed; (F16) where the store failed, now or before; and
+    /// (F16), with nothing changed, where a topic comes twice.
     pub fn store(&mut self, parts: Vec<Part<J>>) -> Result<Vec<Kept<J>>, Fault>
         ensures rows { HasCleanDisk (state S.Store self.new.conn) → OnOk result (StoresAll parts.items (state S.Store self.old.conn).now.trees (state S.Store self.new.conn).now.trees) }
         ensures durable { HasCleanDisk (state S.Store self.new.conn) → OnOk result ((db : _) → (state S.Store self.new.conn).may_leave db → db ≡ (state S.Store self.new.conn).now.trees) }
@@ -56,6 +56,7 @@ impl<S: Alter, J: Naming> Keeper<S, J> {
         ensures ok { OnOk result (self.new.failed ≡ false) }
         ensures failed { self.old.failed ≡ true → (result ≡ Err StoreFailed) × (self.new ≡ self.old) }
         ensures memory { result ≡ Err NoMemory → self.new ≡ self.old }
+        ensures stuck { result ≡ Err StoreFailed → (self.new.failed ≡ true) ⊎ (self.new ≡ self.old) }
         ensures faults { IfErr result (λ fault. (fault ≡ NoMemory) ⊎ (fault ≡ StoreFailed)) }
     {
         if self.failed {

@@ -1,8 +1,8 @@
 // How much a store writes.
 use row_rounds::Write;
 
-/// How many rows a store inserted, updated and deleted. A row that becomes another under the same key is an
-/// updated one. Of a topic whose rows are cleared and written anew, only the new ones are counted.
+/// How many rows a store inserted, updated and deleted. Of the rows of a table, one that goes while another
+/// comes is an updated one. Of a topic whose rows are cleared and written anew, only the new ones are counted.
 #[derive(Clone, Copy, Debug, PartialEq, Eq)]
 pub struct Written {
     pub inserted: u64,
