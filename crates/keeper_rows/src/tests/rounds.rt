@@ -1,0 +1,150 @@
+// Rounds one after the other, each by what changed since the one before.
+use super::world::{
+    FOUR, Rows, Scene, T, U, fresh, has_none, play, round, snapshot_of, stands, with_keeper,
+};
+use marks::Naming;
+use std::process::Abort;
+
+/// Both topics are stored, and then one of them once more.
+#[derive(Drop)]
+struct TwoTopics;
+
+impl Scene for TwoTopics {
+    fn play<J: Naming, R: Abort + AllocGlobal>(&self, rt: &R, mut keeper: Rows<J>) {
+        let mut one = fresh(rt, T);
+        let mut other = fresh(rt, U);
+        play(rt, &mut one, FOUR);
+        round(rt, &mut keeper, &mut one);
+        assert!(rt; has_none(rt, &mut keeper, U));
+        play(rt, &mut other, FOUR);
+        round(rt, &mut keeper, &mut other);
+        let kept = snapshot_of(rt, &other);
+        play(
+            rt,
+            &mut one,
+            "publish 1 4 - aGk= 1004\nsubscribe s Shared 0 push:10 0 100 1 - Earliest\n",
+        );
+        play(rt, &mut other, "publish 1 4 - aGk= 1004\n");
+        round(rt, &mut keeper, &mut one);
+        assert!(rt; stands(rt, &mut keeper, &kept));
+        assert!(rt; stands(rt, &mut keeper, &snapshot_of(rt, &one)));
+        round(rt, &mut keeper, &mut other);
+        assert!(rt; stands(rt, &mut keeper, &snapshot_of(rt, &other)));
+        assert!(rt; stands(rt, &mut keeper, &snapshot_of(rt, &one)));
+    }
+}
+
+#[test]
+fn two_topics(rt: HostRuntime) {
+    with_keeper(&rt, &TwoTopics);
+}
+
+/// A topic is played part by part, with a round after each, and then loaded.
+#[derive(Drop)]
+struct Parts {
+    parts: &'static [&'static str],
+}
+
+impl Scene for Parts {
+    fn play<J: Naming, R: Abort + AllocGlobal>(&self, rt: &R, mut keeper: Rows<J>) {
+        let mut cell = fresh(rt, T);
+        for part in self.parts {
+            play(rt, &mut cell, part);
+            round(rt, &mut keeper, &mut cell);
+        }
+        assert!(rt; stands(rt, &mut keeper, &snapshot_of(rt, &cell)));
+    }
+}
+
+/// So it is loaded after each of its parts.
+fn check_parts<R: Abort + AllocGlobal>(rt: &R, parts: &'static [&'static str]) {
+    for count in 1..=parts.len() {
+        let (parts, _) = parts.split_at(count);
+        with_keeper(rt, &Parts { parts });
+    }
+}
+
+const SUBSCRIBED: &str = "subscribe s Exclusive 0 push:10 0 60000 0 - Earliest
+dispatch s 1000
+dispatch s 1000
+dispatch s 1000
+ack 1 CAAQAA==
+ack 1 CAAQAg==
+";
+
+const DIED: &str = "subscribe d Shared 0 push:10 0 100 1 - Earliest
+dispatch d 1000
+nack 2 CAAQAA== 1000
+tick d 1100
+dispatch d 1100
+nack 2 CAAQAA== 1100
+tick d 1200
+";
+
+#[test]
+fn acknowledgements(rt: HostRuntime) {
+    check_parts(
+        &rt,
+        &[
+            FOUR,
+            SUBSCRIBED,
+            "ack 1 CAAQAQ==\n",
+            "dispatch s 1000\nackupto 1 CAAQAw==\n",
+            "publish 1 4 - - 1004\n",
+        ],
+    );
+}
+
+#[test]
+fn seeks(rt: HostRuntime) {
+    check_parts(
+        &rt,
+        &[
+            FOUR,
+            SUBSCRIBED,
+            "seek s earliest\n",
+            "seek s latest\n",
+            "seek s CAAQAg==\n",
+            "seektime s 1001\n",
+            "skip s 2\n",
+        ],
+    );
+}
+
+#[test]
+fn subscriptions_come_and_go(rt: HostRuntime) {
+    check_parts(
+        &rt,
+        &[
+            FOUR,
+            SUBSCRIBED,
+            "leave 1\nsubscribe a Failover 0 push:10 0 60000 0 - Latest\n",
+            "dropsub s\n",
+            "subscribe s Key_Shared 0 push:10 0 60000 0 - Earliest\ndispatch s 1000\nack 3 CAAQAA==\n",
+            "leave 3\ndropsub s\nsubscribe s Shared 0 push:10 0 60000 0 - Latest\n",
+            "leave 2\ndropsub a\n",
+        ],
+    );
+}
+
+#[test]
+fn deaths(rt: HostRuntime) {
+    check_parts(
+        &rt,
+        &[
+            FOUR,
+            SUBSCRIBED,
+            DIED,
+            "dispatch d 1200\nnack 2 CAAQAQ== 1200\ntick d 1300\ndispatch d 1300\nnack 2 CAAQAQ== 1300\ntick d 1400\n",
+            "deaddone d 0\n",
+            "deaddone d 1\ndispatch d 1500\nnack 2 CAAQAg== 1500\n",
+            "seek d earliest\n",
+            "leave 2\ndropsub d\n",
+        ],
+    );
+}
+
+#[test]
+fn nothing_new(rt: HostRuntime) {
+    check_parts(&rt, &["", FOUR, "", "", SUBSCRIBED, "", DIED, ""]);
+}

@@ -1,0 +1,58 @@
+// How many rows a round writes.
+use super::world::{FOUR, Rows, Scene, T, fresh, play, round, with_keeper};
+use marks::Naming;
+use row_store::Written;
+use std::process::Abort;
+
+/// Rows that were inserted, updated and deleted, and topics that were cleared.
+type Counts = (u64, u64, u64, u64);
+
+/// What is asked between two rounds, and what the second writes.
+const STEPS: [(&str, Counts); 9] = [
+    (FOUR, (5, 0, 0, 1)),
+    ("", (0, 0, 0, 0)),
+    ("publish 1 4 - aGk= 1004\n", (1, 0, 0, 0)),
+    (
+        "subscribe s Shared 0 push:10 0 100 1 - Earliest\n",
+        (1, 0, 0, 0),
+    ),
+    ("dispatch s 1000\nack 1 CAAQAA==\n", (1, 0, 0, 0)),
+    (
+        "publish 1 5 - - 1005\ndispatch s 1000\nack 1 CAAQAQ==\n",
+        (1, 1, 0, 0),
+    ),
+    (
+        "dispatch s 1000\nnack 1 CAAQAg== 1000\ntick s 1100\ndispatch s 1100\nnack 1 CAAQAg== 1100\ntick s 1200\n",
+        (1, 1, 0, 0),
+    ),
+    ("deaddone s 0\n", (0, 1, 1, 0)),
+    ("leave 1\ndropsub s\n", (0, 0, 2, 0)),
+];
+
+fn counts(written: Written) -> Counts {
+    (
+        written.inserted,
+        written.updated,
+        written.deleted,
+        written.cleared,
+    )
+}
+
+#[derive(Drop)]
+struct Counted;
+
+impl Scene for Counted {
+    fn play<J: Naming, R: Abort + AllocGlobal>(&self, rt: &R, mut keeper: Rows<J>) {
+        let mut cell = fresh(rt, T);
+        for (part, wanted) in STEPS {
+            play(rt, &mut cell, part);
+            round(rt, &mut keeper, &mut cell);
+            assert_eq!(rt; counts(keeper.written()), wanted);
+        }
+    }
+}
+
+#[test]
+fn rows_of_rounds(rt: HostRuntime) {
+    with_keeper(&rt, &Counted);
+}
