@@ -1,8 +1,9 @@
 -- What a history of stores names: what is kept of a topic, or the rows that a commit left.
-use Rattle.std.specs.Prelude.{◌≡◌, ℕ, Bool, true, List, [], IsPermutation}
+use Rattle.std.specs.Prelude.{◌≡◌, ◌&&◌, ℕ, Bool, true, List, [], IsPermutation}
 use mathlib.Core.List.{IsPrefix}
 use Rattle.position_core.specs.TopicName.{topic_text}
 use Rattle.sqlite.specs.Tree.{Trees}
+use Rattle.sqlite.specs.State.{State}
 use Rattle.delivery_machine.specs.Places.{KeptTopic}
 use Rattle.row_forms.specs.Cells.{TOPIC, ENTRY, SUB, ACK, DEAD, bodies, of_topic}
 use Rattle.row_forms.specs.Forms.{TopicRows, AreRowsOf, no_rows}
@@ -29,7 +30,11 @@ pub record HasAmong (topic : List ℕ) (rows all : TopicRows) : Type 0 where
 abbrev pub StandsAmong : KeptTopic → TopicRows → Type 0
 StandsAmong kept all = (rows : TopicRows) × AreRowsOf kept rows × HasAmong (topic_text kept.name) rows all
 
--- `clean` is whether up to the commit the disk returned what was written to it
+-- whether the database is open, and the disk returned what was written to it
+abbrev pub is_shown : State → Bool
+is_shown s = s.is_clean && s.is_open
+
+-- `clean` is whether after the commit the database was open, and up to it the disk returned what was written to it
 pub record Noted : Type 0 where
   pub kept : KeptTopic
   pub rows : TopicRows

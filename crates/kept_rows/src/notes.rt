@@ -1,7 +1,7 @@
 // The history of what was viewed and of what was committed.
 ghost use Rattle.std.specs.Prelude.{◌≡◌, IfSome};
 ghost use Rattle.sqlite.specs.Held.{state};
-ghost use Rattle.kept_rows.specs.Noted.{all_rows};
+ghost use Rattle.kept_rows.specs.Noted.{all_rows, is_shown};
 
 use delivery_machine::Snapshot;
 use marks::{Asks, Blank, Mark, Marker, Naming, Unnamed};
@@ -52,9 +52,9 @@ struct Committed;
 
 impl<S: Alter> Asks<Connection<S>, Note> for Committed {
     ghost use Rattle.sqlite.specs.Held.{state};
-    ghost use Rattle.kept_rows.specs.Noted.{nothing_kept, all_rows};
+    ghost use Rattle.kept_rows.specs.Noted.{nothing_kept, all_rows, is_shown};
 
-    ghost ask = { λ conn. record { kept = nothing_kept; rows = all_rows (state S.Store conn).committed.trees; clean = (state S.Store conn).is_clean } };
+    ghost ask = { λ conn. record { kept = nothing_kept; rows = all_rows (state S.Store conn).committed.trees; clean = is_shown (state S.Store conn) } };
 }
 
 /// Draws the marks of the history of `J`: of snapshots, and of what a database has committed. Nothing
@@ -83,7 +83,7 @@ impl<J: Naming> Notes<J> {
     /// A mark for the rows that the database has committed. There is none where 2^62 were drawn.
     pub fn commit<S: Alter>(&mut self, conn: &Connection<S>) -> Option<Mark<Note, J>>
         ensures rows { IfSome result (λ mark. mark.rows ≡ all_rows (state S.Store conn.now).committed.trees) }
-        ensures clean { IfSome result (λ mark. mark.clean ≡ (state S.Store conn.now).is_clean) }
+        ensures clean { IfSome result (λ mark. mark.clean ≡ is_shown (state S.Store conn.now)) }
     {
         self.marker.mark::<Connection<S>, Committed>(conn)
     }

@@ -1,12 +1,11 @@
 -- Dead letters and their rows.
-use Rattle.std.proofs.Common.{◌≡◌, ℕ, ◌+◌, ◌<◌, ◌≤◌, Bool, true, false, cond, List, [], ◌∷◌, ◌++◌, map, Some, refl, ap, sym, ◌∙◌, append_assoc, arith}
+use Rattle.std.proofs.Common.{◌≡◌, ℕ, ◌+◌, ◌<◌, ◌≤◌, Bool, true, false, cond, List, [], ◌∷◌, ◌++◌, map, Some, refl, ap, sym, ◌∙◌, arith}
 use Rattle.std.specs.Prelude.{◌==◌, ◌||◌}
 use Rattle.std.specs.List.{All, AllByRecursion, count_by, list_any, slice_get, IsDistinct}
 use Rattle.std.specs.FinSet as set
 use Rattle.std.specs.Ordering.{nat_cmp}
 use Rattle.std.specs.Cmp.{nat_cmp_total, tied_itself, unsigned_tied}
 use Rattle.std.proofs.lemmas.Bool.Decides.{nat_tests}
-use Rattle.std.proofs.lemmas.List.{map-append}
 use Rattle.std.proofs.lemmas.List.Elements.{All-push, All-weaker, recursion_from_All}
 use Rattle.std.proofs.lemmas.List.Sums.{sum_by-append, sum_by-cons, sum_by_push}
 use Rattle.std.proofs.lemmas.Option.{get_or_from_slice_get, slice_get_within}
@@ -25,7 +24,8 @@ use Rattle.delivery_machine.proofs.Tended.{position_is}
 use Rattle.row_forms.specs.Forms.{dead_row, place_in}
 use Rattle.row_forms.specs.Parts.{IsRising}
 use Rattle.row_forms.proofs.Deads.{found_place}
-use Rattle.row_reading.specs.Reading.{BeginsWithLetters, OrdinalsCame, put, times_in}
+use Rattle.row_reading.specs.Reading.{BeginsWithLetters, OrdinalsCame, times_in}
+use Rattle.row_reading.proofs.Beginnings.{one_more}
 
 -- ---- the message at a place
 
@@ -41,11 +41,7 @@ message_there log place m at =
 
 pub letters_more : (sub : List ℕ) (log : List Entry) (ds : List DeadLetter) (d : DeadLetter) (rows rest after : List Row) (row : Row) → BeginsWithLetters sub log ds rows rest → rest ≡ row ∷ after
     → ((topic : List ℕ) → Words topic ∷ row ≡ dead_row topic sub log d) → BeginsWithLetters sub log (ds ++ d ∷ []) rows after
-letters_more sub log ds d rows rest after row h next shown topic =
-    h topic
-    ∙ ap (λ l. map (dead_row topic sub log) ds ++ put topic l) next
-    ∙ ap (λ (r : Row). map (dead_row topic sub log) ds ++ r ∷ put topic after) (shown topic)
-    ∙ sym (ap (λ l. l ++ put topic after) (map-append (dead_row topic sub log) ds (d ∷ [])) ∙ append_assoc (map (dead_row topic sub log) ds) (dead_row topic sub log d ∷ []) (put topic after))
+letters_more sub log ds d rows rest after row h next shown topic = one_more (dead_row topic sub log) ds d topic rows rest after row (h topic) next (shown topic)
 
 -- the place of each letter's message is in the set
 abbrev pub HavePlaces : List Entry → set.FinSet nat_cmp → List DeadLetter → Type 0

@@ -1,8 +1,7 @@
 -- Runs and their rows.
-use Rattle.std.proofs.Common.{◌≡◌, ℕ, ◌+◌, ◌<◌, ◌≤◌, false, inl, inr, List, [], ◌∷◌, ◌++◌, map, pos, true, refl, ap, sym, subst, ◌∙◌, append_assoc, arith}
+use Rattle.std.proofs.Common.{◌≡◌, ℕ, ◌+◌, ◌<◌, ◌≤◌, false, inl, inr, List, [], ◌∷◌, ◌++◌, pos, true, refl, ap, sym, subst, ◌∙◌, arith}
 use Rattle.std.specs.FinSet as set
 use Rattle.std.specs.Ordering.{nat_cmp}
-use Rattle.std.proofs.lemmas.List.{map-append}
 use Rattle.sqlite.specs.declared.types.Value.TheVariants.{Int, Text as Words}
 use Rattle.sqlite.specs.Order.{Row}
 use Rattle.ack_ranges.specs.Ranges.{AreRangesOf, MayFollow, from_to}
@@ -11,7 +10,8 @@ use Rattle.ack_ranges.proofs.Covers.{contains_from_to, either}
 use Rattle.ack_ranges.proofs.Members.{within}
 use Rattle.ack_ranges.proofs.Reading.{pushed_one, rises_on}
 use Rattle.row_forms.specs.Forms.{ack_row}
-use Rattle.row_reading.specs.Reading.{BeginsWithRuns, put}
+use Rattle.row_reading.specs.Reading.{BeginsWithRuns}
+use Rattle.row_reading.proofs.Beginnings.{one_more}
 
 ranges_more : (places : set.FinSet nat_cmp) (runs : List (ℕ × ℕ)) (start end : ℕ) → AreRangesOf places runs → MayFollow places start end → AreRangesOf (set.union places (from_to start end)) (runs ++ (start, end) ∷ [])
 ranges_more places runs start end are may = record {
@@ -27,10 +27,7 @@ runs_more sub places more rows rest after row first last h next shown may is = (
   λ topic.
       let one : Words topic ∷ row ≡ ack_row topic sub (first, last + 1) =
       ap (λ (r : Row). Words topic ∷ r) shown ∙ ap (λ n. Words topic ∷ Words sub ∷ Int (pos first) ∷ Int (pos n) ∷ []) (omega arith) in
-      h.2 topic
-      ∙ ap (λ l. map (ack_row topic sub) h.0 ++ put topic l) next
-      ∙ ap (λ (r : Row). map (ack_row topic sub) h.0 ++ r ∷ put topic after) one
-      ∙ sym (ap (λ l. l ++ put topic after) (map-append (ack_row topic sub) h.0 ((first, last + 1) ∷ [])) ∙ append_assoc (map (ack_row topic sub) h.0) (ack_row topic sub (first, last + 1) ∷ []) (put topic after)),
+      one_more (ack_row topic sub) h.0 (first, last + 1) topic rows rest after row (h.2 topic) next one,
 )
 
 pub below_more : (places more : set.FinSet nat_cmp) (count first last : ℕ) → ((place : ℕ) → set.contains places place ≡ true → place < count) → last < count → more ≡ set.union places (from_to first (last + 1))

@@ -1,20 +1,28 @@
 -- What a store leads to, for any connection.
 use Rattle.std.proofs.Common.{◌≡◌, ◌≤◌, ℕ, zero, suc, ◌<◌, Bool, true, false, List, [], ◌∷◌, map, length, slice_index_or, refl, ap, sym, subst, ◌∙◌, arith}
-use Rattle.std.specs.Prelude.{All, IsTrue}
+use Rattle.std.specs.Prelude.{All, IsTrue, ◌&&◌}
+use Rattle.position_core.specs.TopicName.{topic_text}
+use Rattle.position_core.specs.declared.topic_name.TopicName.{TopicName}
+use Rattle.sqlite.specs.declared.types.Value.TheVariants.{Text as Words}
+use Rattle.sqlite.specs.Order.{Row}
 use Rattle.sqlite_trees.specs.declared.store.Store.{Ghosts}
 use Rattle.sqlite_trees.specs.View.{doubt}
 use Rattle.sqlite.specs.Tree.{Trees}
+use Rattle.sqlite.specs.Effect.{Database}
 use Rattle.sqlite.specs.State.{State, HasCleanDisk, Survives}
 use Rattle.sqlite.specs.Held.{Held, state}
 use Rattle.sqlite.proofs.StateLemmas.{survives_weaker}
 use Rattle.delivery_machine.specs.Places.{KeptTopic}
-use Rattle.row_forms.specs.Forms.{TopicRows}
-use Rattle.row_forms.specs.Standing.{Stands}
+use Rattle.row_forms.specs.Cells.{TOPIC, ENTRY, SUB, ACK, DEAD}
+use Rattle.row_forms.specs.Changes.{with_topic}
+use Rattle.row_forms.specs.Forms.{TopicRows, AreRowsOf, no_rows}
+use Rattle.row_forms.specs.Standing.{Has, HasIn, HasNone, Stands}
+use Rattle.row_forms.specs.declared.raw_rows.RawRows.{RawRows}
 use Rattle.row_tables.specs.Goes.{Saves}
 use Rattle.row_tables.specs.Ready.{IsReady}
 use Rattle.row_rounds.specs.declared.saving.Write.{Write}
 use Rattle.row_rounds.specs.Rounds.{Fits, Rounds, StandAll}
-use Rattle.kept_rows.specs.Noted.{Noted, StandsAmong, all_rows}
+use Rattle.kept_rows.specs.Noted.{Noted, StandsAmong, all_rows, is_shown}
 use Rattle.row_store.specs.Keeping.{IsKept, StoresAll, stored_in}
 use Rattle.row_store.proofs.Standing.{stores_all}
 
@@ -59,14 +67,61 @@ pub marked_among : (marks : List Noted) (kepts : List KeptTopic) (db : Trees) �
 marked_among marks kepts db same stand =
     all_of_map (λ (k : KeptTopic). StandsAmong k (all_rows db)) (λ (n : Noted). n.kept) marks (subst (All (λ (k : KeptTopic). StandsAmong k (all_rows db))) (sym same) (all_among kepts db stand))
 
-each_stored : (marks : List Noted) (s : State) → map (λ (n : Noted). record { kept = n.kept; rows = all_rows s.committed.trees; clean = s.is_clean }) marks ≡ map (stored_in s) (map (λ (n : Noted). n.kept) marks)
+each_stored : (marks : List Noted) (s : State) → map (λ (n : Noted). record { kept = n.kept; rows = all_rows s.committed.trees; clean = is_shown s }) marks ≡ map (stored_in s) (map (λ (n : Noted). n.kept) marks)
 each_stored [] s = refl
 each_stored (n ∷ marks) s = ap (λ l. stored_in s n.kept ∷ l) (each_stored marks s)
 
 -- the proofs that are made are those of what was to be stored
-pub all_stored : (marks : List Noted) (kepts : List KeptTopic) (rows : TopicRows) (clean : Bool) (s : State) → rows ≡ all_rows s.committed.trees → clean ≡ s.is_clean → map (λ (n : Noted). n.kept) marks ≡ kepts
+pub all_stored : (marks : List Noted) (kepts : List KeptTopic) (rows : TopicRows) (clean : Bool) (s : State) → rows ≡ all_rows s.committed.trees → clean ≡ is_shown s → map (λ (n : Noted). n.kept) marks ≡ kepts
     → map (λ (n : Noted). record { kept = n.kept; rows = rows; clean = clean }) marks ≡ map (stored_in s) kepts
 all_stored marks kepts rows clean s rows_are clean_is same =
     ap (λ (r : TopicRows). map (λ (n : Noted). record { kept = n.kept; rows = r; clean = clean }) marks) rows_are
     ∙ (ap (λ (b : Bool). map (λ (n : Noted). record { kept = n.kept; rows = all_rows s.committed.trees; clean = b }) marks) clean_is
     ∙ (each_stored marks s ∙ ap (map (stored_in s)) same))
+
+both_true : (a b : Bool) → (a && b) ≡ true → (a ≡ true) × (b ≡ true)
+both_true true b h = (refl, h)
+both_true false b h = absurd cc
+
+-- a database that is shown has a clean disk, and is open
+pub shown_is : (s : State) → is_shown s ≡ true → HasCleanDisk s × IsTrue s.is_open
+unfolding doubt
+shown_is s h = let b = both_true s.is_clean s.is_open h in (ap doubt b.0, subst IsTrue (sym b.1) refl)
+
+-- a keeper whose database was only read
+pub kept_through : {S : Type 0} (g : Ghosts S) (old new : Held S) (failed : Bool) (known : List KeptTopic) → IsKept g (record { conn = old; failed = failed }) known → new.in_transaction ≡ false
+    → doubt (state g old).is_clean ≤ doubt (state g new).is_clean
+    → (HasCleanDisk (state g new) → IsTrue (state g new).is_open → (state g new).now ≡ (state g old).now)
+    → (HasCleanDisk (state g new) → IsTrue (state g new).is_open → IsTrue (state g old).is_open)
+    → IsKept g (record { conn = new; failed = failed }) known
+kept_through g old new failed known kept autocommit less same was = record {
+  autocommit = autocommit;
+  ready = λ working clean shown.
+      let early : HasCleanDisk (state g old) = omega (arith, less, clean) in
+      subst IsReady (sym (same clean shown)) (kept.ready working early (was clean shown));
+  known = λ working clean shown.
+      let early : HasCleanDisk (state g old) = omega (arith, less, clean) in
+      subst (λ (db : Database). All (λ (k : KeptTopic). Stands k db.trees) known) (sym (same clean shown)) (kept.known working early (was clean shown));
+}
+
+-- the rows that were read of the topic are those of the snapshot that they show
+pub read_stands : (kept : KeptTopic) (name : TopicName) (text : List ℕ) (raw : RawRows) (db : Trees) → text ≡ topic_text name → kept.name ≡ name → AreRowsOf kept (with_topic (topic_text name) raw) → Has text (with_topic text raw) db → Stands kept db
+read_stands kept name text raw db is same are read = (
+  with_topic (topic_text name) raw,
+  are,
+  subst (λ (n : TopicName). Has (topic_text n) (with_topic (topic_text name) raw) db) (sym same) (subst (λ t. Has t (with_topic t raw) db) is read),
+)
+
+-- where none was read there is none
+pub none_read : (name : TopicName) (text : List ℕ) (raw : RawRows) (db : Trees) → text ≡ topic_text name
+    → (raw.topics.items ≡ []) × (raw.entries.items ≡ []) × (raw.subs.items ≡ []) × (raw.acks.items ≡ []) × (raw.deads.items ≡ []) → Has text (with_topic text raw) db → HasNone (topic_text name) db
+none_read name text raw db is none read =
+    let put : List Row → List Row = map (λ (r : Row). Words text ∷ r) in
+    let here : Has text no_rows db = record {
+      topics = subst (λ l. HasIn TOPIC text (put l) db) none.0 read.topics;
+      entries = subst (λ l. HasIn ENTRY text (put l) db) none.1 read.entries;
+      subs = subst (λ l. HasIn SUB text (put l) db) none.2 read.subs;
+      acks = subst (λ l. HasIn ACK text (put l) db) none.3 read.acks;
+      deads = subst (λ l. HasIn DEAD text (put l) db) none.4 read.deads;
+    } in
+    subst (λ t. Has t no_rows db) is here

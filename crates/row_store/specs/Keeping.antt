@@ -1,5 +1,6 @@
 -- What a keeper holds true, and what a store of several snapshots does.
 use Rattle.std.specs.Prelude.{◌≡◌, ◌⊎◌, ℕ, Bool, false, List, [], ◌∷◌, All, map, IsTrue}
+use Rattle.std.specs.Str.{bytes_eq}
 use Rattle.position_core.specs.TopicName.{topic_text}
 use Rattle.sqlite_trees.specs.declared.store.Store.{Ghosts}
 use Rattle.sqlite.specs.Tree.{Trees}
@@ -11,7 +12,7 @@ use Rattle.delivery_machine.specs.Places.{KeptTopic, snapshot_in}
 use Rattle.row_forms.specs.Standing.{Stands, KeepsOthers}
 use Rattle.row_forms.specs.Schema.{schema_6}
 use Rattle.row_tables.specs.Ready.{IsReady, IsBlank}
-use Rattle.kept_rows.specs.Noted.{Noted, all_rows}
+use Rattle.kept_rows.specs.Noted.{Noted, all_rows, is_shown}
 
 -- a keeper, as contracts see it: its connection, and whether it failed
 pub record Keeping (S : Type 0) : Type 0 where
@@ -31,7 +32,7 @@ pub record StoresAll (kepts : List KeptTopic) (old new : Trees) : Type 0 where
 
 -- what is kept of a topic, with the rows that a database committed
 abbrev pub stored_in : State → KeptTopic → Noted
-stored_in s kept = record { kept = kept; rows = all_rows s.committed.trees; clean = s.is_clean }
+stored_in s kept = record { kept = kept; rows = all_rows s.committed.trees; clean = is_shown s }
 
 -- the rows of the topic are those of its state, and those of all others are as they were
 abbrev pub StoresState : MachineState → Trees → Trees → Type 0
@@ -40,3 +41,7 @@ StoresState s old new = (kept : KeptTopic) × (snapshot_in kept ≡ snapshot_of 
 -- what a start may leave: what there was before, what was committed, or the tables with no rows
 abbrev pub MayLeave : State → Trees → Type 0
 MayLeave old db = old.may_leave db ⊎ ((db ≡ old.committed.trees) ⊎ IsBlank (record { schema = schema_6; trees = db }))
+
+-- it is of the topic
+unfoldable pub is_of_topic : List ℕ → KeptTopic → Bool
+is_of_topic topic kept = bytes_eq (topic_text kept.name) topic

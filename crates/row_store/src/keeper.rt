@@ -8,10 +8,11 @@ ghost use Rattle.row_store.specs.Keeping.{StoresAll, stored_in};
 use crate::known::Known;
 use crate::knowing::{forget, keep_all, marks_of, remember};
 use crate::planning::{are_apart, plan_all};
+use crate::written::Written;
 use delivery_machine::Fault;
 use kept_rows::{Kept, Notes, Part};
 use marks::Naming;
-use row_rounds::save;
+use row_rounds::{room_for, save};
 use sqlite::{Alter, Connection};
 use std::alloc::Global;
 use std::marker::Model;
@@ -26,6 +27,7 @@ pub struct Keeper<S: Alter, J: Naming> {
     pub(crate) known: Vec<Known<J>>,
     pub(crate) notes: Notes<J>,
     pub(crate) scratch: String,
+    pub(crate) written: Written,
 }
 
 impl<S: Alter, J: Naming> Model for Keeper<S, J> {
@@ -44,8 +46,8 @@ impl<S: Alter, J: Naming> Model for Keeper<S, J> {
 
 impl<S: Alter, J: Naming> Keeper<S, J> {
     /// Makes the rows of each of these topics those of its snapshot, in one transaction, and leaves all others.
-    /// Refused (F1) for want of memory, with nothing changed; (F16) where the store failed, now or before, and
-    /// where a topic comes twice.
+    /// Refused (F1) for want of memory, with nothing changed; (F16) where the store failed, now or before; and
+    /// (F16), with nothing changed, where a topic comes twice.
     pub fn store(&mut self, parts: Vec<Part<J>>) -> Result<Vec<Kept<J>>, Fault>
         ensures rows { HasCleanDisk (state S.Store self.new.conn) → OnOk result (StoresAll parts.items (state S.Store self.old.conn).now.trees (state S.Store self.new.conn).now.trees) }
         ensures durable { HasCleanDisk (state S.Store self.new.conn) → OnOk result ((db : _) → (state S.Store self.new.conn).may_leave db → db ≡ (state S.Store self.new.conn).now.trees) }
@@ -54,6 +56,7 @@ impl<S: Alter, J: Naming> Keeper<S, J> {
         ensures ok { OnOk result (self.new.failed ≡ false) }
         ensures failed { self.old.failed ≡ true → (result ≡ Err StoreFailed) × (self.new ≡ self.old) }
         ensures memory { result ≡ Err NoMemory → self.new ≡ self.old }
+        ensures stuck { result ≡ Err StoreFailed → (self.new.failed ≡ true) ⊎ (self.new ≡ self.old) }
         ensures faults { IfErr result (λ fault. (fault ≡ NoMemory) ⊎ (fault ≡ StoreFailed)) }
     {
         if self.failed {
@@ -73,6 +76,10 @@ impl<S: Alter, J: Naming> Keeper<S, J> {
         if !are_apart(&writes) {
             return Err(Fault::StoreFailed);
         }
+        let Ok(()) = room_for(&writes, &mut self.scratch) else {
+            return Err(Fault::NoMemory);
+        };
+        let written = Written::by(&writes);
         self.failed = true;
         let Ok(()) = save(&mut self.conn, &writes, &mut self.scratch) else {
             return Err(Fault::StoreFailed);
@@ -83,8 +90,14 @@ impl<S: Alter, J: Naming> Keeper<S, J> {
         keep_all(&rows, &marks, &mut kept);
         forget(&mut self.known, &writes);
         remember(&mut self.known, writes, marks);
+        self.written = written;
         self.failed = false;
         Ok(kept)
+    }
+
+    /// What the last store that went well wrote; nothing before the first one.
+    pub fn written(&self) -> Written {
+        self.written
     }
 
     /// Whether a store failed: then all is refused (F16) until the database is adopted again.

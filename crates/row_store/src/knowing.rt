@@ -9,6 +9,7 @@ ghost use Rattle.row_forms.specs.Standing.{Stands};
 ghost use Rattle.kept_rows.specs.Noted.{Noted, StandsAmong};
 ghost use Rattle.row_rounds.specs.declared.saving.Write.{Write};
 ghost use Rattle.row_rounds.specs.Rounds.{IsNamed};
+ghost use Rattle.row_store.specs.Keeping.{is_of_topic};
 
 use crate::known::Known;
 use crate::planning::is_among;
@@ -71,11 +72,18 @@ pub fn keep_all<J: Naming>(
     }
 }
 
+#[tactic(auto, unfolding(crate::specs::Keeping::is_of_topic))]
+fn is_of<J: Naming>(one: &Known<J>, topic: &str) -> bool
+    ensures { result ≡ is_of_topic topic.now one.now }
+{
+    one.topic() == topic
+}
+
 /// What was known of the topic is known no more.
 pub fn forget_topic<J: Naming>(known: &mut Vec<Known<J>>, topic: &str)
-    ensures { (db : Trees) → All (λ (kept : KeptTopic). Stands kept db) known.old.items → All (λ (kept : KeptTopic). Stands kept db) known.new.items }
+    ensures { known.new.items ≡ filter (λ kept. not (is_of_topic topic.now kept)) known.old.items }
 {
-    known.retain(|one| one.topic() != topic);
+    known.retain(|one| !is_of(one, topic));
 }
 
 /// The snapshot is known to stand, under its mark, if there is memory for it.
@@ -89,7 +97,8 @@ pub fn know<J: Naming>(
     requires mark { mark.kept ≡ snapshot }
     ensures { (db : Trees) → All (λ (kept : KeptTopic). Stands kept db) known.old.items → Stands snapshot db → All (λ (kept : KeptTopic). Stands kept db) known.new.items }
 {
-    let Ok(()) = known.push(Known::new(topic, snapshot, mark)) else {
+    let Ok(()) = known.reserve(1) else {
         return;
     };
+    known.push_reserved(Known::new(topic, snapshot, mark));
 }

@@ -63,12 +63,13 @@ impl<S: Alter, J: Naming> Keeper<S, J> {
     /// What was read is known from now on.
     fn know_loaded(&mut self, topic: String, snapshot: Snapshot) -> Result<Loaded<J>, Fault>
         requires topic { string_bytes topic ≡ topic_text snapshot.name }
-        requires stands { HasCleanDisk (state S.Store self.old.conn) → Stands snapshot (state S.Store self.old.conn).now.trees }
+        requires stands { HasCleanDisk (state S.Store self.old.conn) → IsTrue (state S.Store self.old.conn).is_open → Stands snapshot (state S.Store self.old.conn).now.trees }
         ensures same { self.new ≡ self.old }
         ensures snapshot { IfOk result (λ loaded. loaded.snapshot ≡ snapshot) }
         ensures kept { IfOk result (λ loaded. loaded.kept ≡ stored_in (state S.Store self.old.conn) snapshot) }
         ensures faults { IfErr result (λ fault. (fault ≡ NoMemory) ⊎ (fault ≡ StoreFailed)) }
     {
+        prove!(self.conn.is_autocommit());
         let Ok(copy) = snapshot.clone() else {
             return Err(Fault::NoMemory);
         };

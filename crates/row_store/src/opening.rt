@@ -10,6 +10,7 @@ ghost use Rattle.row_tables.specs.Ready.{IsReady, IsBlank};
 ghost use Rattle.row_store.specs.Keeping.{MayLeave};
 
 use crate::keeper::Keeper;
+use crate::written::Written;
 use delivery_machine::Fault;
 use kept_rows::Notes;
 use marks::Naming;
@@ -63,6 +64,7 @@ fn keeper_over<S: Alter, J: Naming>(
         known: Vec::new(alloc),
         notes,
         scratch: String::new(alloc),
+        written: Written::none(),
     }
 }
 
@@ -151,6 +153,7 @@ impl<S: Alter, J: Naming> Keeper<S, J> {
             known: _,
             notes,
             scratch: _,
+            written: _,
         } = self;
         (conn, notes)
     }

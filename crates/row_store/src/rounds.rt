@@ -12,7 +12,7 @@ ghost use Rattle.stored_cell.specs.Held.{SameButPromise};
 ghost use Rattle.row_store.specs.Keeping.{StoresAll, StoresState, stored_in};
 
 use crate::keeper::Keeper;
-use delivery_machine::{Fault, Opened, Saved, Snapshot};
+use delivery_machine::{Fault, Opened, Saved};
 use kept_rows::{Kept, Part};
 use marks::Naming;
 use sqlite::Alter;
@@ -56,6 +56,7 @@ impl<S: Alter, J: Naming> Keeper<S, J> {
         ensures crash { Survives (state S.Store self.old.conn) (state S.Store self.new.conn) (λ db. IsTrue (state S.Store self.old.conn).is_open → StoresAll (part ∷ []) (state S.Store self.old.conn).now.trees db) }
         ensures ok { OnOk result (self.new.failed ≡ false) }
         ensures memory { result ≡ Err NoMemory → self.new ≡ self.old }
+        ensures stuck { result ≡ Err StoreFailed → (self.new.failed ≡ true) ⊎ (self.new ≡ self.old) }
         ensures faults { IfErr result (λ fault. (fault ≡ NoMemory) ⊎ (fault ≡ StoreFailed)) }
     {
         let Ok(mut parts) = Vec::with_capacity(self.alloc, 1) else {
@@ -85,6 +86,7 @@ impl<S: Alter, J: Naming> Keeper<S, J> {
         ensures cell { OnErr result (SameButPromise cell.old cell.new) }
         ensures ok { OnOk result (self.new.failed ≡ false) }
         ensures failed { self.old.failed ≡ true → (result ≡ Err StoreFailed) × (self.new ≡ self.old) × (cell.new ≡ cell.old) }
+        ensures stuck { result ≡ Err StoreFailed → (self.new.failed ≡ true) ⊎ (self.new ≡ self.old) }
         ensures keeper { (result ≡ Err NoMemory) ⊎ (result ≡ Err JournalFull) → self.new ≡ self.old }
         ensures faults { IfErr result (λ fault. (fault ≡ NoMemory) ⊎ (fault ≡ JournalFull) ⊎ (fault ≡ StoreFailed)) }
     {

@@ -1,0 +1,74 @@
+use Rattle.std.proofs.Common.{arith, rules, ◌≡◌, ◌≤◌, IfSome, Some, IsTrue, refl, subst, sym, ap, ◌∙◌}
+use Rattle.position_core.specs.TopicName.{topic_text}
+use Rattle.sqlite.specs.Effect.{Database}
+use Rattle.sqlite.specs.State.{HasCleanDisk}
+use Rattle.sqlite.specs.Held.{state}
+use Rattle.delivery_machine.specs.Places.{KeptTopic}
+use Rattle.row_forms.specs.Changes.{with_topic}
+use Rattle.row_forms.specs.Forms.{AreRowsOf}
+use Rattle.row_forms.specs.Standing.{Stands}
+use Rattle.row_store.proofs.Storing.{kept_through, none_read, read_stands}
+use Rattle.row_store.proofs.keeper.Keeper.load.Goals as goal
+
+pub invariant_of-self : goal.invariant_of-self
+invariant_of-self g c =
+    let k = c.self.inside in
+    kept_through g.S.Store k.conn c.read.new.conn k.failed k.known.items c.self.invariant c.read.ensures.autocommit c.read.ensures.crash.clean c.read.ensures.kept c.read.ensures.was_open
+
+pub invariant_of-self-then-is_empty : goal.invariant_of-self-then-is_empty
+invariant_of-self-then-is_empty g c =
+    let k = c.self.inside in
+    kept_through g.S.Store k.conn c.read.new.conn k.failed k.known.items c.self.invariant c.read.ensures.autocommit c.read.ensures.crash.clean c.read.ensures.kept c.read.ensures.was_open
+
+pub invariant_of-self-in-Ok-Some : goal.invariant_of-self-in-Ok-Some
+invariant_of-self-in-Ok-Some g c =
+    let k = c.self.inside in
+    kept_through g.S.Store k.conn c.read.new.conn k.failed k.known.items c.self.invariant c.read.ensures.autocommit c.read.ensures.crash.clean c.read.ensures.kept c.read.ensures.was_open
+
+pub invariant_of-self-in-Ok-None : goal.invariant_of-self-in-Ok-None
+invariant_of-self-in-Ok-None g c =
+    let k = c.self.inside in
+    kept_through g.S.Store k.conn c.read.new.conn k.failed k.known.items c.self.invariant c.read.ensures.autocommit c.read.ensures.crash.clean c.read.ensures.kept c.read.ensures.was_open
+
+pub invariant_of-self-in-Err : goal.invariant_of-self-in-Err
+invariant_of-self-in-Err g c =
+    let k = c.self.inside in
+    kept_through g.S.Store k.conn c.read.new.conn k.failed k.known.items c.self.invariant c.read.ensures.autocommit c.read.ensures.crash.clean c.read.ensures.kept c.read.ensures.was_open
+
+pub returns-then-is_empty-clause-rows : goal.returns-then-is_empty-clause-rows
+returns-then-is_empty-clause-rows g c = λ clean.
+    let k = c.self.inside in
+    let old = state g.S.Store k.conn in
+    let early : HasCleanDisk old = omega (arith, c.read.ensures.crash.clean, clean) in
+    let ready = c.self.invariant.ready c.if-self.false early (c.in-Ok-read.ensures.shown clean) in
+    let text = c.as_str.ensures.value ∙ c.in-Ok.ensures in
+    let none = c.is_empty.ensures.none (subst IsTrue (sym c.if-is_empty.true) refl) in
+    rw (← c.self.view_is) (none_read c.args.name.now c.as_str.result.now c.in-Ok-read.raw old.now.trees text none (c.in-Ok-read.ensures.loaded clean ready))
+
+pub know_loaded-requires-clause-stands : goal.know_loaded-requires-clause-stands
+know_loaded-requires-clause-stands g c = λ clean shown.
+    let k = c.self.inside in
+    let old = state g.S.Store k.conn in
+    let early : HasCleanDisk old = omega (arith, c.read.ensures.crash.clean, clean) in
+    let ready = c.self.invariant.ready c.if-self.false early (c.in-Ok-read.ensures.shown clean) in
+    let text = c.as_str.ensures.value ∙ c.in-Ok.ensures in
+    let found : c.in-Ok-Some.field-0 ≡ Some c.in-Ok-Some.snapshot = search rules in
+    let named = subst (λ o. IfSome o (λ kept. kept.name ≡ c.args.name.now)) found c.in-Ok-Some.ensures.name in
+    let are = subst (λ o. IfSome o (λ kept. AreRowsOf kept (with_topic (topic_text c.args.name.now) c.in-Ok-read.raw))) found c.in-Ok-Some.ensures.rows in
+    let there = read_stands c.in-Ok-Some.snapshot c.args.name.now c.as_str.result.now c.in-Ok-read.raw old.now.trees text named are (c.in-Ok-read.ensures.loaded clean ready) in
+    subst (λ (db : Database). Stands c.in-Ok-Some.snapshot db.trees) (sym (c.read.ensures.kept clean shown)) there
+
+pub returns-in-Ok-know_loaded-clause-rows : goal.returns-in-Ok-know_loaded-clause-rows
+returns-in-Ok-know_loaded-clause-rows g c = λ clean.
+    let k = c.self.inside in
+    let old = state g.S.Store k.conn in
+    let late = subst (λ v. HasCleanDisk (state g.S.Store v.conn)) c.know_loaded.ensures.same clean in
+    let early : HasCleanDisk old = omega (arith, c.read.ensures.crash.clean, late) in
+    let ready = c.self.invariant.ready c.if-self.false early (c.in-Ok-read.ensures.shown late) in
+    let text = c.as_str.ensures.value ∙ c.in-Ok.ensures in
+    let found : c.in-Ok-Some.field-0 ≡ Some c.in-Ok-Some.snapshot = search rules in
+    let named = subst (λ o. IfSome o (λ kept. kept.name ≡ c.args.name.now)) found c.in-Ok-Some.ensures.name in
+    let are = subst (λ o. IfSome o (λ kept. AreRowsOf kept (with_topic (topic_text c.args.name.now) c.in-Ok-read.raw))) found c.in-Ok-Some.ensures.rows in
+    let there = read_stands c.in-Ok-Some.snapshot c.args.name.now c.as_str.result.now c.in-Ok-read.raw old.now.trees text named are (c.in-Ok-read.ensures.loaded late ready) in
+    let same = c.in-Ok-know_loaded.ensures.snapshot in
+    rw (← c.self.view_is) (ap (λ (s : KeptTopic). s.name) same ∙ named, subst (λ s. Stands s old.now.trees) (sym same) there)
