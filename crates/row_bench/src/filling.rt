@@ -8,7 +8,8 @@ pub(crate) const TOPIC: &str = "persistent://public/default/big";
 
 const LEDGER_SIZE: u64 = 50_000;
 
-const ADD: &str = "INSERT INTO entry (topic, idx, ledger, entry, producer, sequence, time, has_key, key, properties, payload) VALUES (?1, ?2, ?3, ?4, 'p', ?2, 1000, 0, '', '{}', ?5)";
+const ADD: &str =
+    "INSERT INTO entry (topic, idx, ledger, entry, producer, sequence, time, has_key, key, properties, payload) VALUES (?1, ?2, ?3, ?4, 'p', ?2, 1000, 0, '', '{}', ?5)";
 
 fn add<S: Alter>(tx: &mut Transaction<'_, S>, place: u64, payload: &[u8]) -> io::Result<()> {
     let ledger = place / LEDGER_SIZE;
@@ -17,7 +18,11 @@ fn add<S: Alter>(tx: &mut Transaction<'_, S>, place: u64, payload: &[u8]) -> io:
         ADD,
         params![TOPIC, place as i64, ledger as i64, entry as i64, payload],
     );
-    if done == Ok(1) { Ok(()) } else { Err(failure()) }
+    if done == Ok(1) {
+        Ok(())
+    } else {
+        Err(failure())
+    }
 }
 
 fn add_all<S: Alter>(rt: &HostRuntime, tx: &mut Transaction<'_, S>, size: u64) -> io::Result<()> {

@@ -32,10 +32,9 @@ all_of_map P f (y ∷ ys) all zero d lt = all 0 (f d) (omega arith)
 all_of_map P f (y ∷ ys) all (suc n) d lt = all_of_map P f ys (λ m e within. all (suc m) e (omega (arith, within))) n d (omega (arith, lt))
 
 module _ {S : Type 0} (g : Ghosts S) (old new : Held S) (failed : Bool) (known : List KeptTopic) (writes : List Write)
-  (kept : IsKept g (record { conn = old; failed = failed }) known) (working : failed ≡ false)
-  (fits : (db : Trees) → All (λ (k : KeptTopic). Stands k db) known → All (Fits db) writes)
-  (less : doubt (state g old).is_clean ≤ doubt (state g new).is_clean) where
-
+    (kept : IsKept g (record { conn = old; failed = failed }) known) (working : failed ≡ false)
+    (fits : (db : Trees) → All (λ (k : KeptTopic). Stands k db) known → All (Fits db) writes)
+    (less : doubt (state g old).is_clean ≤ doubt (state g new).is_clean) where
   -- a committed store
   pub went : Saves (Rounds writes) (state g old) (state g new) → HasCleanDisk (state g new) → IsReady (state g new).now × StandAll writes (state g old).now.trees (state g new).now.trees
   went saves clean =

@@ -5,8 +5,8 @@ ghost use Rattle.sqlite.specs.State.{HasCleanDisk, Survives};
 ghost use Rattle.sqlite.specs.Held.{state};
 ghost use Rattle.row_store.specs.Keeping.{StoresAll, stored_in};
 
-use crate::known::Known;
 use crate::knowing::{forget, keep_all, marks_of, remember};
+use crate::known::Known;
 use crate::planning::{are_apart, plan_all};
 use crate::written::Written;
 use delivery_machine::Fault;

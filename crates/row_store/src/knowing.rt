@@ -57,11 +57,7 @@ pub fn marks_of<J: Naming>(parts: &[Part<J>], marks: &mut Vec<Mark<Note, J>>)
 }
 
 /// The proofs that what was marked stands in the rows of the mark.
-pub fn keep_all<J: Naming>(
-    rows: &Mark<Note, J>,
-    marks: &[Mark<Note, J>],
-    kept: &mut Vec<Kept<J>>,
-)
+pub fn keep_all<J: Naming>(rows: &Mark<Note, J>, marks: &[Mark<Note, J>], kept: &mut Vec<Kept<J>>)
     requires stand { rows.now.clean ≡ true → All (λ (n : Noted). StandsAmong n.kept rows.now.rows) marks.now }
     requires empty { kept.old.items ≡ [] }
     requires room { length marks.now ≤ vec_capacity kept.old }

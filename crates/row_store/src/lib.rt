@@ -3,8 +3,8 @@
 #![tactic(auto)]
 
 mod keeper;
-mod known;
 mod knowing;
+mod known;
 mod loading;
 mod opening;
 mod planning;

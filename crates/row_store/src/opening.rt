@@ -93,11 +93,7 @@ impl<S: Alter + Drop, J: Naming> Keeper<S, J> {
 
     /// Takes a database of version 1 as it is; what was not committed is undone. Refused (F16) where it has
     /// other tables or another version, or where the store answers an error.
-    pub fn adopt(
-        alloc: Global,
-        conn: Connection<S>,
-        notes: Notes<J>,
-    ) -> Result<Self, Refused<S, J>>
+    pub fn adopt(alloc: Global, conn: Connection<S>, notes: Notes<J>) -> Result<Self, Refused<S, J>>
         ensures adopted { IfOk result (λ k. (k.failed ≡ false) × (HasCleanDisk (state S.Store k.conn) → IsTrue (state S.Store k.conn).is_open → IsReady (state S.Store k.conn).now)) }
         ensures rows { IfOk result (λ k. HasCleanDisk (state S.Store k.conn) → IsTrue (state S.Store k.conn).is_open → (state S.Store k.conn).now.trees ≡ (state S.Store conn).committed.trees) }
         ensures crash { IfOk result (λ k. HasCleanDisk (state S.Store k.conn) → (db : Trees) → (state S.Store k.conn).may_leave db → db ≡ (state S.Store conn).committed.trees) }
@@ -121,11 +117,7 @@ impl<S: Alter + Drop, J: Naming> Keeper<S, J> {
     }
 
     /// Makes the tables in a database that has none, and takes any other as it is.
-    pub fn start(
-        alloc: Global,
-        conn: Connection<S>,
-        notes: Notes<J>,
-    ) -> Result<Self, Refused<S, J>>
+    pub fn start(alloc: Global, conn: Connection<S>, notes: Notes<J>) -> Result<Self, Refused<S, J>>
         ensures started { IfOk result (λ k. (k.failed ≡ false) × (HasCleanDisk (state S.Store k.conn) → IsTrue (state S.Store k.conn).is_open → IsReady (state S.Store k.conn).now)) }
         ensures made { conn.in_transaction ≡ false → (state S.Store conn).now.schema ≡ schema_0 → IfOk result (λ k. HasCleanDisk (state S.Store k.conn) → IsBlank (state S.Store k.conn).now) }
         ensures taken { (state S.Store conn).now.schema ≢ schema_0 → IfOk result (λ k. HasCleanDisk (state S.Store k.conn) → IsTrue (state S.Store k.conn).is_open → (state S.Store k.conn).now.trees ≡ (state S.Store conn).committed.trees) }
