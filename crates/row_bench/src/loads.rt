@@ -31,6 +31,7 @@ pub(crate) fn load<S: Alter, J: Naming>(
     let start = measure.start()?;
     let loaded = loaded(measure.rt.alloc(), keeper)?;
     measure.end("load", start)?;
+    measure.memory("KiB of memory then")?;
     if loaded.snapshot.log().count() as u64 == measure.size {
         Ok(())
     } else {

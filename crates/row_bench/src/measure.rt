@@ -1,6 +1,6 @@
 // What is printed of a measurement.
-use std::io;
 use std::time::{Duration, Instant};
+use std::{fs, io};
 
 /// What is timed, and over how many messages.
 #[derive(Drop)]
@@ -41,5 +41,23 @@ impl Measure<'_> {
     /// A number that is told beside a time.
     pub(crate) fn fact(&self, name: &str, value: u64) -> io::Result<()> {
         println!(self.rt; "{name:<32}{value:>12}")
+    }
+
+    /// How much memory the program has, where times are printed.
+    pub(crate) fn memory(&self, name: &str) -> io::Result<()> {
+        if self.is_timed {
+            let pages = resident_in(fs::read_to_string(self.rt, "/proc/self/statm")?.as_str());
+            self.fact(name, pages.saturating_mul(4))
+        } else {
+            Ok(())
+        }
+    }
+}
+
+/// The second number of the text: how many pages of 4 KiB are in memory.
+fn resident_in(text: &str) -> u64 {
+    match text.split(' ').nth(1) {
+        Some(word) => word.parse::<u64>().unwrap_or(0),
+        None => 0,
     }
 }
