@@ -24,7 +24,7 @@ for size in 1000 100000 1000000; do
     want integrity "$(ask $size 'PRAGMA integrity_check')" ok
     want journal "$(ask $size 'PRAGMA journal_mode')" wal
     want version "$(ask $size 'SELECT id, version FROM meta')" "1|1"
-    want topics "$(ask $size 'SELECT count(*) FROM topic')" 65
+    want topics "$(ask $size 'SELECT count(*) FROM topic')" 66
     topic="topic = 'persistent://public/default/big'"
     want messages "$(ask $size "SELECT count(*), min(idx), max(idx) FROM entry WHERE $topic")" "$((size + 20))|0|$((size + 19))"
     want bodies "$(ask $size "SELECT DISTINCT typeof(payload), length(payload), properties FROM entry WHERE $topic AND idx < $size")" "blob|100|{}"

@@ -6,18 +6,15 @@ use std::io;
 /// The topic that is filled.
 pub(crate) const TOPIC: &str = "persistent://public/default/big";
 
-const LEDGER_SIZE: u64 = 50_000;
+const LEDGER_SIZE: u32 = 50_000;
 
 const ADD: &str =
     "INSERT INTO entry (topic, idx, ledger, entry, producer, sequence, time, has_key, key, properties, payload) VALUES (?1, ?2, ?3, ?4, 'p', ?2, 1000, 0, '', '{}', ?5)";
 
-fn add<S: Alter>(tx: &mut Transaction<'_, S>, place: u64, payload: &[u8]) -> io::Result<()> {
+fn add<S: Alter>(tx: &mut Transaction<'_, S>, place: u32, payload: &[u8]) -> io::Result<()> {
     let ledger = place / LEDGER_SIZE;
     let entry = place % LEDGER_SIZE;
-    let done = tx.execute(
-        ADD,
-        params![TOPIC, place as i64, ledger as i64, entry as i64, payload],
-    );
+    let done = tx.execute(ADD, params![TOPIC, place, ledger, entry, payload]);
     if done == Ok(1) {
         Ok(())
     } else {
@@ -25,7 +22,7 @@ fn add<S: Alter>(tx: &mut Transaction<'_, S>, place: u64, payload: &[u8]) -> io:
     }
 }
 
-fn add_all<S: Alter>(rt: &HostRuntime, tx: &mut Transaction<'_, S>, size: u64) -> io::Result<()> {
+fn add_all<S: Alter>(rt: &HostRuntime, tx: &mut Transaction<'_, S>, size: u32) -> io::Result<()> {
     let payload = vec![in rt.alloc(); 7u8; 100]?;
     for place in 0..size {
         add(tx, place, &payload)?;
@@ -33,11 +30,11 @@ fn add_all<S: Alter>(rt: &HostRuntime, tx: &mut Transaction<'_, S>, size: u64) -
     Ok(())
 }
 
-fn add_head<S: Alter>(tx: &mut Transaction<'_, S>, size: u64) -> io::Result<()> {
+fn add_head<S: Alter>(tx: &mut Transaction<'_, S>, size: u32) -> io::Result<()> {
     let last = size.saturating_sub(1) / LEDGER_SIZE;
     let topic = tx.execute(
         "INSERT INTO topic (name, ledger_size, ledger, ordinal) VALUES (?1, 50000, ?2, 0)",
-        params![TOPIC, last as i64],
+        params![TOPIC, last],
     );
     let sub = tx.execute(
         "INSERT INTO sub (topic, name, kind) VALUES (?1, 's', 0)",
@@ -56,6 +53,9 @@ pub(crate) fn fill<S: Alter>(
     conn: &mut Connection<S>,
     size: u64,
 ) -> io::Result<()> {
+    let Ok(size) = u32::try_from(size) else {
+        return Err(failure());
+    };
     if !conn.is_autocommit() {
         return Err(failure());
     }
