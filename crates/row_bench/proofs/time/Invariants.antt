@@ -2,4 +2,4 @@ use Rattle.row_bench.proofs.time.Given as goal
 
 -- the history that was just opened
 abbrev pub ghosts-play : goal.ghosts-play
-ghosts-play g a = record { book = a.history }
+ghosts-play a = record { book = a.history }
