@@ -1,0 +1,2 @@
+-- Lemmas on what a topic opens with.
+pub mod Restarting

@@ -1,0 +1,2 @@
+-- What the contracts of the directory cite.
+pub mod Opening

@@ -1,0 +1,80 @@
+// A seat at a topic, and the calls of whoever sits there.
+ghost use Rattle.std.specs.Prelude.{None};
+
+use crate::directory::Directory;
+use crate::gate::Gate;
+use crate::topic::Shared;
+use delivery_machine::{Event, Fault, Opened, Reply, TopicName};
+use marks::Naming;
+use session_bells::{Asked, Bell};
+use session_links::Caller;
+use sqlite::Alter;
+use std::sync::{Arc, Wait};
+
+/// A seat at an open topic, until it is detached.
+#[derive(Drop)]
+pub struct Attached<T: Opened + Drop, J: Naming, B: Bell + Drop> {
+    pub(crate) topic: Arc<Shared<T, J, B>>,
+    pub(crate) seat: u64,
+}
+
+impl<T: Opened + Drop, J: Naming, B: Bell + Drop> Attached<T, J, B> {
+    pub fn topic(&self) -> &TopicName {
+        &self.topic.name
+    }
+
+    /// From 1 on.
+    pub fn seat(&self) -> u64 {
+        self.seat
+    }
+}
+
+/// The calls of the one at a seat: each is one hold of the topic's lock, and of no other.
+#[derive(Drop)]
+pub struct Seated<'a, T: Opened + Drop, S: Alter, J: Naming, B: Bell + Drop, R: Wait, G: Gate> {
+    pub(crate) rt: &'a R,
+    pub(crate) directory: &'a Directory<T, S, J, B>,
+    pub(crate) attached: &'a Attached<T, J, B>,
+    pub(crate) gate: &'a G,
+}
+
+impl<'a, T: Opened + Drop, S: Alter, J: Naming, B: Bell + Drop, R: Wait, G: Gate> Seated<
+    'a,
+    T,
+    S,
+    J,
+    B,
+    R,
+    G,
+> {
+    fn ask(&mut self, event: Event) -> Result<Reply, Fault> {
+        if self.directory.is_closed() {
+            return Err(Fault::StoreFailed);
+        }
+        let asked = match Asked::of(&event) {
+            Ok(asked) => asked,
+            Err(fault) => return Err(fault),
+        };
+        let topic = &self.attached.topic;
+        let mut inside = topic.inside.lock(self.rt);
+        self.gate.within(&topic.name);
+        let answer = inside.answer(self.rt, self.attached.seat, &asked, event);
+        let tells = inside.wants_storing();
+        drop(inside);
+        if tells {
+            self.directory.tell(self.rt, topic);
+        }
+        answer
+    }
+}
+
+impl<'a, T: Opened + Drop, S: Alter, J: Naming, B: Bell + Drop, R: Wait, G: Gate> Caller
+    for Seated<'a, T, S, J, B, R, G> {
+    ghost use Rattle.std.specs.Prelude.{None};
+
+    ghost calls = { λ c. None };
+
+    fn call(&mut self, event: Event) -> Result<Reply, Fault> {
+        self.ask(event)
+    }
+}

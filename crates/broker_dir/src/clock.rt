@@ -1,0 +1,20 @@
+// The time of day, in milliseconds.
+use delivery_machine::Moment;
+use std::rt::Clock;
+use std::time::{SystemTime, UNIX_EPOCH};
+
+/// The moment that it is; none where the clock tells none.
+fn read<R: Clock>(rt: &R) -> Option<Moment> {
+    let time = SystemTime::now(rt).ok()?;
+    let since = time.duration_since(UNIX_EPOCH).ok()?;
+    let millis = u64::try_from(since.as_millis()).ok()?;
+    Moment::new(millis)
+}
+
+/// The moment that it is. Where the clock tells none, the last one that it told.
+pub fn moment<R: Clock>(rt: &R, last: Moment) -> Moment {
+    match read(rt) {
+        Some(moment) => moment,
+        None => last,
+    }
+}

@@ -1,0 +1,225 @@
+// The courier at work: it moves dead letters, one at a time, with one topic's lock at a time.
+use crate::directory::Directory;
+use crate::topic::Shared;
+use dead_courier::{Hand, Route, Side, after, next_move};
+use delivery_machine::{Event, Fault, Moment, Opened, Reply, SubscriptionName, TopicName};
+use marks::Naming;
+use session_bells::Bell;
+use sqlite::Alter;
+use std::mem;
+use std::sync::{Arc, Wait};
+
+/// A courier under way.
+#[derive(Drop)]
+pub(crate) struct Courier<T: Opened + Drop, J: Naming, B: Bell + Drop> {
+    route: Route,
+    pub(crate) hand: Hand,
+    source: Arc<Shared<T, J, B>>,
+    /// The topic that the letter in its hand goes to, once it is open.
+    target: Option<Arc<Shared<T, J, B>>>,
+}
+
+/// What a step came to.
+#[derive(Clone, Copy, Debug, PartialEq, Eq)]
+pub(crate) enum Stepped {
+    GoesOn,
+    /// The copy is to be stored first.
+    Waits,
+    /// No letter is left that may be moved.
+    Ends,
+    /// A topic refused, so the letter stays where it is.
+    Fails,
+}
+
+/// What a courier is at.
+#[derive(Clone, Copy, Debug, PartialEq, Eq)]
+enum Aim {
+    Looking,
+    Moving,
+    Waiting,
+    Ending,
+}
+
+fn aim_of(hand: &Hand) -> Aim {
+    match hand {
+        Hand::Empty => Aim::Looking,
+        Hand::Waits {
+            letter: _,
+            length: _,
+        } => Aim::Waiting,
+        Hand::Moved { letter: _ } => Aim::Ending,
+        _ => Aim::Moving,
+    }
+}
+
+/// What a step came to, by what the courier was at before and is at now. `is_done` where it was answered that all is
+/// done.
+fn outcome_of(before: Aim, now: Aim, is_done: bool) -> Stepped {
+    match (before, now) {
+        (Aim::Waiting, Aim::Waiting) => Stepped::Waits,
+        (Aim::Looking, Aim::Looking) if is_done => Stepped::Ends,
+        (Aim::Ending, Aim::Looking) if is_done => Stepped::GoesOn,
+        (_, Aim::Looking) => Stepped::Fails,
+        _ => Stepped::GoesOn,
+    }
+}
+
+impl<T: Opened + Drop, S: Alter, J: Naming, B: Bell + Drop> Directory<T, S, J, B> {
+    /// A courier for the letters that died in the subscription.
+    pub(crate) fn courier_for(
+        &self,
+        source: &Arc<Shared<T, J, B>>,
+        subscription: &SubscriptionName,
+    ) -> Option<Courier<T, J, B>> {
+        let route = Route::new(self.alloc, &source.name, subscription).ok()??;
+        Some(Courier {
+            route,
+            hand: Hand::Empty,
+            source: Arc::try_clone(source).ok()?,
+            target: None,
+        })
+    }
+
+    /// One event of one who sits at the topic for it alone. `awaits` where the courier is to be sent again once more of
+    /// the topic is stored.
+    fn visit<R: Wait>(
+        &self,
+        rt: &R,
+        topic: &Arc<Shared<T, J, B>>,
+        event: Event,
+        awaits: bool,
+    ) -> Result<Reply, Fault> {
+        let mut inside = topic.inside.lock(rt);
+        inside.is_awaited = inside.is_awaited || awaits;
+        let answer = inside.visit(rt, event);
+        let tells = inside.wants_storing();
+        drop(inside);
+        if tells {
+            self.tell(rt, topic);
+        }
+        answer
+    }
+
+    /// The topic that the letter goes to is open.
+    fn find_target<R: Wait>(&self, rt: &R, courier: &mut Courier<T, J, B>) -> Result<(), Fault> {
+        if courier.target.is_some() {
+            return Ok(());
+        }
+        let target = match courier.hand.target() {
+            Some(name) => self.open_topic(rt, name),
+            None => return Ok(()),
+        };
+        match target {
+            Ok(target) => {
+                courier.target = Some(target);
+                Ok(())
+            }
+            Err(fault) => Err(fault),
+        }
+    }
+
+    fn ask<R: Wait>(
+        &self,
+        rt: &R,
+        courier: &Courier<T, J, B>,
+        side: Side,
+        event: Event,
+        awaits: bool,
+    ) -> Reply {
+        let answer = match side {
+            Side::Source => self.visit(rt, &courier.source, event, false),
+            Side::Target => match &courier.target {
+                Some(target) => self.visit(rt, target, event, awaits),
+                None => Err(Fault::NoSession),
+            },
+        };
+        match answer {
+            Ok(reply) => reply,
+            Err(fault) => Reply::Refused(fault),
+        }
+    }
+
+    /// One step of a move: one event at one of the two topics.
+    pub(crate) fn step<R: Wait>(
+        &self,
+        rt: &R,
+        courier: &mut Courier<T, J, B>,
+        now: Moment,
+    ) -> Stepped {
+        if self.find_target(rt, courier).is_err() {
+            return Stepped::Fails;
+        }
+        let Ok(next) = next_move(&courier.route, &courier.hand, now) else {
+            return Stepped::Fails;
+        };
+        let before = aim_of(&courier.hand);
+        let reply = self.ask(rt, courier, next.side, next.event, before == Aim::Waiting);
+        let is_done = matches!(&reply, Reply::Done | Reply::NoDead);
+        let hand = mem::replace(&mut courier.hand, Hand::Empty);
+        courier.hand = after(hand, reply);
+        let now_aim = aim_of(&courier.hand);
+        if now_aim == Aim::Looking {
+            courier.target = None;
+        }
+        outcome_of(before, now_aim, is_done)
+    }
+
+    /// The courier goes as far as it can. Given back where it waits for a copy to be stored.
+    pub(crate) fn go<R: Wait>(
+        &self,
+        rt: &R,
+        courier: Courier<T, J, B>,
+        now: Moment,
+    ) -> Option<Courier<T, J, B>> {
+        let mut courier = courier;
+        for _ in rt.forever() {
+            match self.step(rt, &mut courier, now) {
+                Stepped::GoesOn => {}
+                Stepped::Waits => return Some(courier),
+                Stepped::Ends => return None,
+                Stepped::Fails => {
+                    let mut inside = courier.source.inside.lock(rt);
+                    inside.open_grave(&courier.route.subscription);
+                    return None;
+                }
+            }
+        }
+        None
+    }
+
+    /// Couriers are sent to the subscriptions of the topic in which letters lie, and all that are under way go on.
+    pub(crate) fn run_errand<R: Wait>(
+        &self,
+        rt: &R,
+        topic: &Arc<Shared<T, J, B>>,
+        couriers: &mut Vec<Courier<T, J, B>>,
+        now: Moment,
+    ) {
+        self.send_couriers(rt, topic, couriers);
+        let under_way = mem::replace(couriers, Vec::new(self.alloc));
+        for courier in under_way {
+            if let Some(courier) = self.go(rt, courier, now) {
+                let _ = couriers.push(courier);
+            }
+        }
+    }
+
+    fn send_couriers<R: Wait>(
+        &self,
+        rt: &R,
+        topic: &Arc<Shared<T, J, B>>,
+        couriers: &mut Vec<Courier<T, J, B>>,
+    ) {
+        let mut inside = topic.inside.lock(rt);
+        inside.is_sent = false;
+        inside.is_awaited = false;
+        for _ in 0..inside.graves.len() {
+            let Ok(Some(subscription)) = inside.take_grave() else {
+                return;
+            };
+            if let Some(courier) = self.courier_for(topic, &subscription) {
+                let _ = couriers.push(courier);
+            }
+        }
+    }
+}

@@ -1,0 +1,281 @@
+// The directory: topics by name, and who sits at them.
+use crate::attached::{Attached, Seated};
+use crate::board::Board;
+use crate::gate::Gate;
+use crate::inside::Inside;
+use crate::opening::{Terms, open_cell};
+use crate::table::{MOST_OPEN, Table};
+use crate::topic::Shared;
+use delivery_machine::{Fault, Opened, TopicName};
+use marks::Naming;
+use row_forms::topic_text;
+use row_store::Keeper;
+use session_bells::{Bell, Rest};
+use sqlite::Alter;
+use std::alloc::Global;
+use std::sync::atomic::{AtomicBool, Ordering};
+use std::sync::{Arc, Mutex, Wait};
+
+/// The topics of a broker: the open ones by name, and the keeper of all. Its locks are taken in this order: directory,
+/// keeper, topic.
+#[derive(Drop)]
+pub struct Directory<T: Opened + Drop, S: Alter, J: Naming, B: Bell + Drop> {
+    pub(crate) alloc: Global,
+    terms: Terms,
+    table: Mutex<Table<Arc<Shared<T, J, B>>>>,
+    pub(crate) keeper: Mutex<Keeper<S, J>>,
+    pub(crate) board: Board<Arc<Shared<T, J, B>>>,
+    pub(crate) is_closed: AtomicBool,
+}
+
+impl<T: Opened + Drop, S: Alter, J: Naming, B: Bell + Drop> Directory<T, S, J, B> {
+    /// Over the database of the keeper; no topic is open.
+    pub fn open(alloc: Global, keeper: Keeper<S, J>, terms: Terms) -> Self {
+        Directory {
+            alloc,
+            terms,
+            table: Mutex::new(Table::new(alloc)),
+            keeper: Mutex::new(keeper),
+            board: Board::new(alloc),
+            is_closed: AtomicBool::new(false),
+        }
+    }
+
+    /// The keeper, once nobody else uses the directory.
+    pub fn into_keeper(self) -> Keeper<S, J> {
+        let Directory {
+            alloc: _,
+            terms: _,
+            table: _,
+            keeper,
+            board: _,
+            is_closed: _,
+        } = self;
+        keeper.into_inner()
+    }
+
+    /// Whether the store failed, so that all is refused (F16).
+    pub fn is_closed(&self) -> bool {
+        self.is_closed.load(Ordering::SeqCst)
+    }
+
+    /// Takes a seat at the topic, which is opened where it is not open, and leaves the bell there. Refused in this order:
+    /// (F7) where it is not open and 256 are; (F16) where the store fails, or has rows of it that are none; (F11) where it
+    /// has no rows and is not to be made; (F21) where no seat is free; and (F1) for want of memory. A refusal leaves the
+    /// open topics as they were.
+    pub fn attach<R: Wait>(
+        &self,
+        rt: &R,
+        name: &TopicName,
+        create: bool,
+        bell: Arc<B>,
+    ) -> Result<Attached<T, J, B>, Fault> {
+        if self.is_closed() {
+            return Err(Fault::StoreFailed);
+        }
+        let Ok(text) = topic_text(self.alloc, name) else {
+            return Err(Fault::NoMemory);
+        };
+        let mut guard = self.table.lock(rt);
+        let table = &mut *guard;
+        match table.find(text.as_str()) {
+            Some(topic) => {
+                let topic = clone_of(topic);
+                drop(guard);
+                match topic {
+                    Ok(topic) => sit(rt, topic, bell),
+                    Err(fault) => Err(fault),
+                }
+            }
+            None => match self.open_in(rt, table, text, name, create, Some(bell)) {
+                Ok((topic, seat)) => Ok(Attached { topic, seat }),
+                Err(fault) => Err(fault),
+            },
+        }
+    }
+
+    /// Opens the topic, with one who sits there where a bell is given, and lists it. All that may be refused comes before
+    /// it is listed. The topic, and the seat.
+    fn open_in<R: Wait>(
+        &self,
+        rt: &R,
+        table: &mut Table<Arc<Shared<T, J, B>>>,
+        text: String,
+        name: &TopicName,
+        create: bool,
+        bell: Option<Arc<B>>,
+    ) -> Result<(Arc<Shared<T, J, B>>, u64), Fault> {
+        if table.count() >= MOST_OPEN {
+            return Err(Fault::TooMany);
+        }
+        let mut inside = match self.load(rt, name, create) {
+            Ok(inside) => inside,
+            Err(fault) => return Err(fault),
+        };
+        let sends = inside.wants_courier();
+        let seat = match seat_for(&mut inside, bell) {
+            Ok(seat) => seat,
+            Err(fault) => return Err(fault),
+        };
+        let topic = match self.share(rt, inside, name, table.count()) {
+            Ok(topic) => topic,
+            Err(fault) => return Err(fault),
+        };
+        let (listed, errand) = match (clone_of(&topic), clone_of(&topic)) {
+            (Ok(listed), Ok(errand)) => (listed, errand),
+            _ => return Err(Fault::NoMemory),
+        };
+        if !table.add(text, listed) {
+            return Err(Fault::NoMemory);
+        }
+        if sends {
+            self.board.send(rt, errand);
+        }
+        Ok((topic, seat))
+    }
+
+    /// The open topic of the name, which is made where it is not known.
+    pub(crate) fn open_topic<R: Wait>(
+        &self,
+        rt: &R,
+        name: &TopicName,
+    ) -> Result<Arc<Shared<T, J, B>>, Fault> {
+        let Ok(text) = topic_text(self.alloc, name) else {
+            return Err(Fault::NoMemory);
+        };
+        let mut table = self.table.lock(rt);
+        if let Some(topic) = table.find(text.as_str()) {
+            return clone_of(topic);
+        }
+        match self.open_in(rt, &mut *table, text, name, true, None) {
+            Ok((topic, _)) => Ok(topic),
+            Err(fault) => Err(fault),
+        }
+    }
+
+    /// What the rows have of the topic, with the keeper's lock held.
+    fn load<R: Wait>(
+        &self,
+        rt: &R,
+        name: &TopicName,
+        create: bool,
+    ) -> Result<Inside<T, J, B>, Fault> {
+        let mut keeper = self.keeper.lock(rt);
+        let cell = match open_cell(self.alloc, &mut *keeper, name, create, self.terms) {
+            Ok(cell) => cell,
+            Err(fault) => return Err(fault),
+        };
+        drop(keeper);
+        Inside::opened(self.alloc, cell)
+    }
+
+    /// The topic under a lock of its own, with room for it on the board.
+    fn share<R: Wait>(
+        &self,
+        rt: &R,
+        inside: Inside<T, J, B>,
+        name: &TopicName,
+        open: usize,
+    ) -> Result<Arc<Shared<T, J, B>>, Fault> {
+        if !self.board.make_room(rt, open.saturating_add(1)) {
+            return Err(Fault::NoMemory);
+        }
+        let Ok(name) = name.clone() else {
+            return Err(Fault::NoMemory);
+        };
+        let shared = Shared {
+            name,
+            inside: Mutex::new(inside),
+        };
+        match Arc::new(self.alloc, shared) {
+            Ok(topic) => Ok(topic),
+            Err(_) => Err(Fault::NoMemory),
+        }
+    }
+
+    /// Lends the one at the seat its calls.
+    pub fn caller<'a, R: Wait, G: Gate>(
+        &'a self,
+        rt: &'a R,
+        attached: &'a Attached<T, J, B>,
+        gate: &'a G,
+    ) -> Seated<'a, T, S, J, B, R, G> {
+        Seated {
+            rt,
+            directory: self,
+            attached,
+            gate,
+        }
+    }
+
+    /// The one at the seat has nothing to do until what it waits for has come, when its bell rings. False where it has
+    /// come already.
+    pub fn rest<R: Wait>(&self, rt: &R, attached: &Attached<T, J, B>, rest: Rest) -> bool {
+        if self.is_closed() {
+            return false;
+        }
+        let mut inside = attached.topic.inside.lock(rt);
+        inside.bells.rest(rt, attached.seat, rest)
+    }
+
+    /// Frees the seat.
+    pub fn detach<R: Wait>(&self, rt: &R, attached: Attached<T, J, B>) {
+        let mut inside = attached.topic.inside.lock(rt);
+        inside.exit(rt, attached.seat);
+    }
+
+    /// Puts the topic on the board.
+    pub(crate) fn tell<R: Wait>(&self, rt: &R, topic: &Arc<Shared<T, J, B>>) {
+        match Arc::try_clone(topic) {
+            Ok(topic) => self.board.tell(rt, topic),
+            Err(_) => {
+                let mut inside = topic.inside.lock(rt);
+                inside.is_queued = false;
+                inside.is_behind = true;
+            }
+        }
+    }
+
+    /// All sessions of all open topics are rung.
+    pub(crate) fn ring_all<R: Wait>(&self, rt: &R) {
+        let table = self.table.lock(rt);
+        for place in 0..table.count() {
+            if let Some(topic) = table.at(place) {
+                let inside = topic.inside.lock(rt);
+                inside.bells.ring_all(rt);
+            }
+        }
+    }
+}
+
+fn clone_of<X>(topic: &Arc<X>) -> Result<Arc<X>, Fault> {
+    match Arc::try_clone(topic) {
+        Ok(topic) => Ok(topic),
+        Err(_) => Err(Fault::NoMemory),
+    }
+}
+
+/// The seat of the one with the bell; 0 where nobody sits down.
+fn seat_for<T: Opened + Drop, J: Naming, B: Bell + Drop>(
+    inside: &mut Inside<T, J, B>,
+    bell: Option<Arc<B>>,
+) -> Result<u64, Fault> {
+    match bell {
+        Some(bell) => inside.enter(bell),
+        None => Ok(0),
+    }
+}
+
+fn sit<T: Opened + Drop, J: Naming, B: Bell + Drop, R: Wait>(
+    rt: &R,
+    topic: Arc<Shared<T, J, B>>,
+    bell: Arc<B>,
+) -> Result<Attached<T, J, B>, Fault> {
+    let mut inside = topic.inside.lock(rt);
+    let entered = inside.enter(bell);
+    drop(inside);
+    match entered {
+        Ok(seat) => Ok(Attached { topic, seat }),
+        Err(fault) => Err(fault),
+    }
+}

@@ -1,0 +1,21 @@
+//! The directory of a broker: its topics by name, who sits at them, and how they come to be stored.
+#![tactic(auto)]
+
+mod attached;
+mod board;
+mod clock;
+mod courier;
+mod directory;
+mod gate;
+mod inside;
+mod opening;
+mod storing;
+mod table;
+mod topic;
+
+pub use attached::{Attached, Seated};
+pub use clock::moment;
+pub use directory::Directory;
+pub use gate::{Gate, Open};
+pub use opening::{Terms, open_cell};
+pub use storing::Errands;

@@ -1,0 +1,238 @@
+// Storing: topics are viewed, each under its lock, stored together with all locks free, and confirmed, each under its lock.
+use crate::board::Task;
+use crate::clock::moment;
+use crate::courier::Courier;
+use crate::directory::Directory;
+use crate::topic::Shared;
+use delivery_machine::{Fault, Moment, Opened};
+use kept_rows::{Kept, Part};
+use marks::Naming;
+use row_store::Keeper;
+use session_bells::Bell;
+use sqlite::Alter;
+use std::alloc::Global;
+use std::rt::Clock;
+use std::sync::atomic::Ordering;
+use std::sync::{Arc, Wait};
+
+/// A topic that was viewed: its place among those that are stored, and how many messages it had.
+#[derive(Clone, Copy, Debug, PartialEq, Eq)]
+struct Seen {
+    place: usize,
+    length: u64,
+}
+
+/// What is stored together.
+#[derive(Drop)]
+struct Batch<J: Naming> {
+    parts: Vec<Part<J>>,
+    seen: Vec<Seen>,
+}
+
+/// What the thread that stores has between its tasks: the couriers that are under way.
+#[derive(Drop)]
+pub struct Errands<T: Opened + Drop, J: Naming, B: Bell + Drop> {
+    couriers: Vec<Courier<T, J, B>>,
+    now: Moment,
+    /// Its last task was a store, so that it has the right to store still.
+    has_stored: bool,
+}
+
+impl<T: Opened + Drop, J: Naming, B: Bell + Drop> Errands<T, J, B> {
+    /// None are under way.
+    pub fn new(alloc: Global) -> Option<Self> {
+        Some(Errands {
+            couriers: Vec::new(alloc),
+            now: Moment::new(0)?,
+            has_stored: false,
+        })
+    }
+}
+
+impl<T: Opened + Drop, S: Alter, J: Naming, B: Bell + Drop> Directory<T, S, J, B> {
+    /// A worker, which has made so many changes, stores what waits where that is little and nobody else does. Whether it
+    /// is to ask again, since more waits.
+    pub fn help<R: Wait>(&self, rt: &R, made: u64) -> bool {
+        let Some(topics) = self.board.lead(rt, made) else {
+            return false;
+        };
+        self.store(rt, topics.as_slice());
+        self.board.end(rt)
+    }
+
+    /// Stores what waits, and sends the courier of dead letters, until the store fails or all is finished. It is a
+    /// thread's work.
+    pub fn keep<R: Wait + Clock>(&self, rt: &R) {
+        let Some(mut errands) = Errands::new(self.alloc) else {
+            return;
+        };
+        for _ in rt.forever() {
+            let task = self.board.next(rt, errands.has_stored);
+            if !self.do_task(rt, task, &mut errands) {
+                return;
+            }
+        }
+    }
+
+    /// One task of that thread, where there is one now. False where there is none.
+    pub fn keep_once<R: Wait + Clock>(&self, rt: &R, errands: &mut Errands<T, J, B>) -> bool {
+        let task = self.board.try_next(rt, errands.has_stored);
+        errands.has_stored = false;
+        match task {
+            Some(task) => self.do_task(rt, task, errands),
+            None => false,
+        }
+    }
+
+    /// False where it was the last one.
+    fn do_task<R: Wait + Clock>(
+        &self,
+        rt: &R,
+        task: Task<Arc<Shared<T, J, B>>>,
+        errands: &mut Errands<T, J, B>,
+    ) -> bool {
+        match task {
+            Task::Store(topics) => {
+                self.store(rt, topics.as_slice());
+                errands.has_stored = true;
+                true
+            }
+            Task::Errand(topic) => {
+                errands.has_stored = false;
+                errands.now = moment(rt, errands.now);
+                self.run_errand(rt, &topic, &mut errands.couriers, errands.now);
+                true
+            }
+            Task::End => false,
+        }
+    }
+
+    /// The thread that stores is to end once all that waits is stored.
+    pub fn finish<R: Wait>(&self, rt: &R) {
+        self.board.finish(rt);
+    }
+
+    /// Nothing is stored any more, and all is refused (F16). All sessions are rung, so that they learn of it.
+    pub fn close<R: Wait>(&self, rt: &R) {
+        self.is_closed.store(true, Ordering::SeqCst);
+        self.board.close(rt);
+        self.ring_all(rt);
+    }
+
+    fn store<R: Wait>(&self, rt: &R, topics: &[Arc<Shared<T, J, B>>]) {
+        match self.store_together(rt, topics) {
+            Ok(()) => {}
+            Err(Fault::NoMemory) => self.store_each(rt, topics),
+            Err(_) => self.close(rt),
+        }
+    }
+
+    /// Where there is no memory for all, there may be for one.
+    fn store_each<R: Wait>(&self, rt: &R, topics: &[Arc<Shared<T, J, B>>]) {
+        for place in 0..topics.len() {
+            let one = &topics[place..place + 1];
+            match self.store_together(rt, one) {
+                Ok(()) => {}
+                Err(Fault::NoMemory) => put_off(rt, one),
+                Err(_) => {
+                    self.close(rt);
+                    return;
+                }
+            }
+        }
+    }
+
+    fn store_together<R: Wait>(
+        &self,
+        rt: &R,
+        topics: &[Arc<Shared<T, J, B>>],
+    ) -> Result<(), Fault> {
+        let (Ok(parts), Ok(seen)) = (
+            Vec::with_capacity(self.alloc, topics.len()),
+            Vec::with_capacity(self.alloc, topics.len()),
+        ) else {
+            return Err(Fault::NoMemory);
+        };
+        let mut batch = Batch { parts, seen };
+        let mut keeper = self.keeper.lock(rt);
+        match view_all(rt, &mut *keeper, topics, &mut batch) {
+            Ok(()) => {}
+            Err(fault) => return Err(fault),
+        }
+        let Batch { parts, seen } = batch;
+        let kept = match keeper.store(parts) {
+            Ok(kept) => kept,
+            Err(fault) => return Err(fault),
+        };
+        self.confirm_all(rt, topics, seen.as_slice(), kept);
+        Ok(())
+    }
+
+    fn confirm_all<R: Wait>(
+        &self,
+        rt: &R,
+        topics: &[Arc<Shared<T, J, B>>],
+        seen: &[Seen],
+        kept: Vec<Kept<J>>,
+    ) {
+        let mut at = 0;
+        for kept in kept {
+            if let Some(seen) = seen.get(at)
+                && let Some(topic) = topics.get(seen.place)
+            {
+                self.confirm(rt, topic, seen.length, kept);
+            }
+            at = at.saturating_add(1);
+        }
+    }
+
+    /// The topic's lock is held for the confirmation alone; what it leads to on the board comes after it.
+    fn confirm<R: Wait>(&self, rt: &R, topic: &Arc<Shared<T, J, B>>, length: u64, kept: Kept<J>) {
+        let mut inside = topic.inside.lock(rt);
+        inside.confirmed(rt, length, kept);
+        let tells = inside.wants_storing();
+        let sends = inside.wants_courier();
+        drop(inside);
+        if tells {
+            self.tell(rt, topic);
+        }
+        if sends && let Ok(topic) = Arc::try_clone(topic) {
+            self.board.send(rt, topic);
+        }
+    }
+}
+
+/// The topics as they are, each with its lock held for no longer than that takes.
+fn view_all<T: Opened + Drop, S: Alter, J: Naming, B: Bell + Drop, R: Wait>(
+    rt: &R,
+    keeper: &mut Keeper<S, J>,
+    topics: &[Arc<Shared<T, J, B>>],
+    batch: &mut Batch<J>,
+) -> Result<(), Fault> {
+    for place in 0..topics.len() {
+        let mut inside = topics[place].inside.lock(rt);
+        let viewed = keeper.view(&mut inside.cell);
+        drop(inside);
+        let part = match viewed {
+            Ok(part) => part,
+            Err(fault) => return Err(fault),
+        };
+        let length = part.snapshot().log().count() as u64;
+        if batch.parts.push(part).is_err() || batch.seen.push(Seen { place, length }).is_err() {
+            return Err(Fault::NoMemory);
+        }
+    }
+    Ok(())
+}
+
+/// They are stored later: with the next of their calls.
+fn put_off<T: Opened + Drop, J: Naming, B: Bell + Drop, R: Wait>(
+    rt: &R,
+    topics: &[Arc<Shared<T, J, B>>],
+) {
+    for topic in topics {
+        let mut inside = topic.inside.lock(rt);
+        inside.is_queued = false;
+        inside.is_behind = true;
+    }
+}

@@ -1,0 +1,13 @@
+// An open topic, which threads share.
+use crate::inside::Inside;
+use delivery_machine::{Opened, TopicName};
+use marks::Naming;
+use session_bells::Bell;
+use std::sync::Mutex;
+
+/// An open topic. Its lock comes behind those of the directory and of the keeper.
+#[derive(Drop)]
+pub(crate) struct Shared<T: Opened + Drop, J: Naming, B: Bell + Drop> {
+    pub(crate) name: TopicName,
+    pub(crate) inside: Mutex<Inside<T, J, B>>,
+}

@@ -1,0 +1,2 @@
+-- What the contracts of the courier cite.
+pub mod Moving

@@ -1,0 +1,56 @@
+// Whose letters a courier moves.
+ghost use Rattle.std.specs.Prelude.{◌≡◌, IfOk, IfSome, string_bytes};
+ghost use Rattle.dead_courier.specs.Moving.{courier_name};
+
+use delivery_machine::{ProducerName, SubscriptionName, TopicName};
+use std::alloc::{AllocError, Global};
+use std::sync::ArcStr;
+
+/// Whose letters a courier moves: those of a subscription of the topic. Its name as a producer is theirs alone, so that a
+/// copy is made once.
+#[derive(Drop)]
+pub struct Route {
+    pub source: TopicName,
+    pub subscription: SubscriptionName,
+    pub name: ProducerName,
+}
+
+fn courier_name(
+    alloc: Global,
+    source: &TopicName,
+    subscription: &SubscriptionName,
+) -> Result<String, AllocError>
+    ensures { IfOk result (λ text. string_bytes text ≡ courier_name source.now subscription.now) }
+{
+    let mut text = String::new(alloc);
+    text.push_str("dlq/")?;
+    text.push_str(source.tenant.as_str())?;
+    text.push_str("/")?;
+    text.push_str(source.namespace.as_str())?;
+    text.push_str("/")?;
+    text.push_str(source.topic.as_str())?;
+    text.push_str("/")?;
+    text.push_str(subscription.as_str())?;
+    Ok(text)
+}
+
+impl Route {
+    /// None where the courier's name would be too long for a producer's, which it is for no names of topics.
+    pub fn new(
+        alloc: Global,
+        source: &TopicName,
+        subscription: &SubscriptionName,
+    ) -> Result<Option<Route>, AllocError>
+        ensures { IfOk result (λ found. IfSome found (λ route. (route.source ≡ source.now) × (route.subscription ≡ subscription.now) × (route.name ≡ courier_name source.now subscription.now))) }
+    {
+        let text = courier_name(alloc, source, subscription)?;
+        let Some(name) = ProducerName::new(ArcStr::from_str(alloc, text.as_str())?) else {
+            return Ok(None);
+        };
+        Ok(Some(Route {
+            source: source.clone()?,
+            subscription: subscription.clone()?,
+            name,
+        }))
+    }
+}

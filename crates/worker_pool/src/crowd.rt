@@ -1,0 +1,254 @@
+// The connections of a worker, and which of them are served next.
+use crate::client::Client;
+use crate::place::Place;
+use crate::post::{Doorbell, Post};
+use crate::serving::{After, Turned};
+use crate::timers::{Timer, Timers};
+use broker_dir::Gate;
+use delivery_machine::{Moment, Opened};
+use marks::Naming;
+use mio::net::TcpStream;
+use mio::{Interest, Poll, Token};
+use slab::Slab;
+use socket_conn::Shaking;
+use sqlite::Alter;
+use std::alloc::Global;
+use std::mem;
+use std::sync::{Arc, Wait};
+
+/// How long a handshake may last, in milliseconds.
+const SHAKING: u64 = 5_000;
+
+/// The connections of a worker.
+#[derive(Drop)]
+pub(crate) struct Crowd<T: Opened + Drop, J: Naming> {
+    alloc: Global,
+    clients: Slab<Client<T, J>>,
+    /// Those that are served next, each once.
+    due: Vec<usize>,
+    timers: Timers,
+    /// How many texts were taken since this was asked last.
+    made: u64,
+}
+
+impl<T: Opened + Drop, J: Naming> Crowd<T, J> {
+    pub(crate) fn new(alloc: Global) -> Self {
+        Crowd {
+            alloc,
+            clients: Slab::new(alloc),
+            due: Vec::new(alloc),
+            timers: Timers::new(alloc),
+            made: 0,
+        }
+    }
+
+    pub(crate) fn is_empty(&self) -> bool {
+        self.clients.is_empty()
+    }
+
+    pub(crate) fn count(&self) -> usize {
+        self.clients.len()
+    }
+
+    pub(crate) fn has_due(&self) -> bool {
+        !self.due.is_empty()
+    }
+
+    pub(crate) fn take_made(&mut self) -> u64 {
+        let made = self.made;
+        self.made = 0;
+        made
+    }
+
+    /// The connection at the token is served next. There is room: it is there once.
+    pub(crate) fn make_due(&mut self, token: usize) {
+        let mut adds = false;
+        if let Some(client) = self.clients.get_mut(token) {
+            adds = !client.is_due;
+            client.is_due = true;
+        }
+        if adds {
+            let _ = self.due.push(token);
+        }
+    }
+
+    /// The socket is ready.
+    pub(crate) fn note(&mut self, token: usize, is_readable: bool) {
+        if is_readable && let Some(client) = self.clients.get_mut(token) {
+            client.note_readable();
+        }
+        self.make_due(token);
+    }
+
+    /// Room for one more connection, here and at the post. False for want of memory.
+    fn make_room<R: Wait>(&mut self, rt: &R, post: &Post) -> bool {
+        let count = self.clients.len().saturating_add(1);
+        let more = count.saturating_sub(self.due.len());
+        self.due.reserve(more).is_ok()
+            && self.clients.reserve(1).is_ok()
+            && post.make_room(rt, count)
+    }
+
+    /// Takes a connection in, and begins its handshake. False where it could not be.
+    pub(crate) fn admit<R: Wait>(
+        &mut self,
+        rt: &R,
+        poll: &Poll,
+        post: &Arc<Post>,
+        number: u64,
+        stream: TcpStream,
+        now: Moment,
+    ) -> bool {
+        if !self.make_room(rt, post) {
+            return false;
+        }
+        let token = self.clients.vacant_key();
+        let mut stream = stream;
+        let interest = Interest::READABLE | Interest::WRITABLE;
+        if poll
+            .registry()
+            .register(&mut stream, Token(token), interest)
+            .is_err()
+        {
+            return false;
+        }
+        let (Ok(shaking), Ok(post)) = (Shaking::start(self.alloc, stream), Arc::try_clone(post))
+        else {
+            return false;
+        };
+        let Ok(bell) = Arc::new(self.alloc, Doorbell::new(post, token)) else {
+            return false;
+        };
+        let timer = Timer {
+            millis: now.millis().saturating_add(SHAKING),
+            token,
+            number,
+        };
+        self.timers.add(timer)
+            && self
+                .clients
+                .insert(Client::new(number, bell, shaking))
+                .is_ok()
+    }
+
+    /// Serves those that are due, once each.
+    pub(crate) fn serve<S: Alter, G: Gate + Drop, R: Wait>(
+        &mut self,
+        rt: &R,
+        place: &Place<T, S, J, G>,
+        post: &Post,
+        now: Moment,
+        served: &mut Vec<usize>,
+    ) {
+        served.clear();
+        mem::swap(&mut self.due, served);
+        if self.due.reserve(self.clients.len()).is_err() {
+            mem::swap(&mut self.due, served);
+            return;
+        }
+        for token in served.iter() {
+            self.serve_one(rt, place, post, now, *token);
+        }
+    }
+
+    fn serve_one<S: Alter, G: Gate + Drop, R: Wait>(
+        &mut self,
+        rt: &R,
+        place: &Place<T, S, J, G>,
+        post: &Post,
+        now: Moment,
+        token: usize,
+    ) {
+        let Some(client) = self.clients.get_mut(token) else {
+            return;
+        };
+        client.is_due = false;
+        let turned = client.serve(rt, self.alloc, place, now);
+        self.made = self.made.saturating_add(turned.made);
+        self.go_on(post, token, turned);
+    }
+
+    fn go_on(&mut self, post: &Post, token: usize, turned: Turned) {
+        match turned.after {
+            After::Rest => {}
+            After::Again => self.make_due(token),
+            After::Gone => {
+                let _ = self.clients.try_remove(token);
+                post.leave();
+                return;
+            }
+        }
+        if let Some(due) = turned.due {
+            self.set_timer(token, due);
+        }
+    }
+
+    /// The connection is looked at again at the moment.
+    fn set_timer(&mut self, token: usize, millis: u64) {
+        let mut number = None;
+        if let Some(client) = self.clients.get_mut(token)
+            && client.timer != Some(millis)
+        {
+            client.timer = Some(millis);
+            number = Some(client.number);
+        }
+        if let Some(number) = number {
+            let _ = self.timers.add(Timer {
+                millis,
+                token,
+                number,
+            });
+        }
+    }
+
+    /// How many milliseconds it is until a moment comes that a connection waits for.
+    pub(crate) fn wait(&self, now: Moment) -> Option<u64> {
+        self.timers.wait(now.millis())
+    }
+
+    /// Those are due whose moment has come; a handshake that has lasted too long is given up.
+    pub(crate) fn expire(&mut self, post: &Post, now: Moment) {
+        for _ in 0..self.clients.len().saturating_add(64) {
+            let Some(timer) = self.timers.next(now.millis()) else {
+                return;
+            };
+            self.expire_one(post, timer);
+        }
+    }
+
+    fn expire_one(&mut self, post: &Post, timer: Timer) {
+        let mut is_late = false;
+        if let Some(client) = self.clients.get_mut(timer.token) {
+            if client.number != timer.number {
+                return;
+            }
+            if client.timer == Some(timer.millis) {
+                client.timer = None;
+            }
+            is_late = client.is_shaking();
+        }
+        if is_late {
+            let _ = self.clients.try_remove(timer.token);
+            post.leave();
+        } else {
+            self.make_due(timer.token);
+        }
+    }
+
+    /// All connections are given up.
+    pub(crate) fn give_up<S: Alter, G: Gate + Drop, R: Wait>(
+        &mut self,
+        rt: &R,
+        place: &Place<T, S, J, G>,
+        post: &Post,
+        now: Moment,
+    ) {
+        for token in 0..self.clients.capacity() {
+            if let Some(client) = self.clients.get_mut(token) {
+                let _ = client.serve(rt, self.alloc, place, now);
+                let _ = self.clients.try_remove(token);
+                post.leave();
+            }
+        }
+    }
+}

@@ -1,0 +1,105 @@
+// From a handshake to a session: the target is read, a seat is taken, and the session begins.
+use crate::client::Guest;
+use crate::place::Place;
+use crate::post::Doorbell;
+use broker_dir::{Attached, Gate};
+use delivery_machine::{Fault, Opened, TopicName};
+use endpoint_core::{Endpoint, route};
+use marks::Naming;
+use mio::net::TcpStream;
+use session_core::open;
+use session_links::Conn;
+use session_texts::reason;
+use socket_conn::SocketConn;
+use sqlite::Alter;
+use std::alloc::Global;
+use std::sync::{Arc, Wait};
+
+/// Which topic an endpoint is at, whether it makes one, and the code that a refused seat closes with.
+#[derive(Drop)]
+struct Wish {
+    topic: TopicName,
+    creates: bool,
+    code: u16,
+}
+
+fn wish_of(endpoint: &Endpoint) -> Option<Wish> {
+    let (topic, creates, code) = match endpoint {
+        Endpoint::Producer(producer) => (&producer.topic, true, 4001),
+        Endpoint::Consumer(consumer) => (&consumer.topic, true, 4002),
+        Endpoint::Admin(admin) => (&admin.topic, false, 4008),
+    };
+    Some(Wish {
+        topic: topic.clone().ok()?,
+        creates,
+        code,
+    })
+}
+
+/// Closes a connection that gets no session.
+pub(crate) fn turn_away(conn: &mut SocketConn<TcpStream>, code: u16, fault: Fault) {
+    if conn.is_open() {
+        conn.close(code, reason(fault));
+    }
+    let _ = conn.flush();
+}
+
+/// The session of the endpoint at the seat. None where the topic refuses it; the connection is closed then.
+fn begin<T: Opened + Drop, S: Alter, J: Naming, G: Gate + Drop, R: Wait>(
+    rt: &R,
+    alloc: Global,
+    place: &Place<T, S, J, G>,
+    endpoint: Endpoint,
+    mut conn: SocketConn<TcpStream>,
+    attached: Attached<T, J, Doorbell>,
+) -> Option<Guest<T, J>> {
+    let session = {
+        let mut caller = place.directory.caller(rt, &attached, &place.gate);
+        if conn.is_open() {
+            open(alloc, endpoint, &mut conn, &mut caller)
+        } else {
+            None
+        }
+    };
+    match session {
+        Some(session) => Some(Guest {
+            conn,
+            session,
+            attached,
+        }),
+        None => {
+            let _ = conn.flush();
+            place.directory.detach(rt, attached);
+            None
+        }
+    }
+}
+
+/// What comes after the handshake with the target. None where the connection was turned away.
+pub(crate) fn enter<T: Opened + Drop, S: Alter, J: Naming, G: Gate + Drop, R: Wait>(
+    rt: &R,
+    alloc: Global,
+    place: &Place<T, S, J, G>,
+    mut conn: SocketConn<TcpStream>,
+    target: &str,
+    bell: &Arc<Doorbell>,
+) -> Option<Guest<T, J>> {
+    let endpoint = match route(alloc, target) {
+        Ok(endpoint) => endpoint,
+        Err(fault) => {
+            turn_away(&mut conn, fault.close_code(), fault.fault());
+            return None;
+        }
+    };
+    let (Some(wish), Ok(bell)) = (wish_of(&endpoint), Arc::try_clone(bell)) else {
+        turn_away(&mut conn, 4008, Fault::NoMemory);
+        return None;
+    };
+    match place.directory.attach(rt, &wish.topic, wish.creates, bell) {
+        Ok(attached) => begin(rt, alloc, place, endpoint, conn, attached),
+        Err(fault) => {
+            turn_away(&mut conn, wish.code, fault);
+            None
+        }
+    }
+}

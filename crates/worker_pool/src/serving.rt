@@ -1,0 +1,196 @@
+// A turn of one connection.
+use crate::client::{Client, Guest, Stage};
+use crate::entering::{enter, turn_away};
+use crate::place::Place;
+use broker_dir::Gate;
+use delivery_machine::{Fault, Moment, Opened};
+use marks::Naming;
+use session_bells::Rest;
+use session_core::{Session, TextCount, serve};
+use socket_conn::Shaken;
+use sqlite::Alter;
+use std::alloc::Global;
+use std::mem;
+use std::sync::Wait;
+
+/// What is to become of a connection after its turn.
+#[derive(Clone, Copy, Debug, PartialEq, Eq)]
+pub(crate) enum After {
+    /// It has nothing to do until its bell rings, its socket is ready, or a moment has come.
+    Rest,
+    /// It is served again in the next round.
+    Again,
+    /// It is at its end.
+    Gone,
+}
+
+/// What a turn came to.
+#[derive(Clone, Copy, Debug, PartialEq, Eq)]
+pub(crate) struct Turned {
+    pub(crate) after: After,
+    /// How many texts it took, each of which may have changed its topic.
+    pub(crate) made: u64,
+    /// When the connection is to be looked at again.
+    pub(crate) due: Option<u64>,
+}
+
+impl Turned {
+    fn gone() -> Turned {
+        Turned {
+            after: After::Gone,
+            made: 1,
+            due: None,
+        }
+    }
+
+    fn waits() -> Turned {
+        Turned {
+            after: After::Rest,
+            made: 0,
+            due: None,
+        }
+    }
+}
+
+/// How many texts of one connection are taken before the next one's turn.
+fn most_texts() -> TextCount {
+    match TextCount::new(64) {
+        Some(most) => most,
+        None => unreachable!(),
+    }
+}
+
+impl<T: Opened + Drop, J: Naming> Guest<T, J> {
+    /// Whether it is to be served again at once: texts are there, or it has something to send and room for it; else it
+    /// has left its bell.
+    fn goes_on<S: Alter, G: Gate + Drop, R: Wait>(
+        &mut self,
+        rt: &R,
+        place: &Place<T, S, J, G>,
+        received: u32,
+    ) -> bool {
+        let waits = self.session.waits();
+        if self.conn.is_readable() && received > 0 {
+            return true;
+        }
+        if waits.room && !self.conn.is_blocked() {
+            return true;
+        }
+        let rest = Rest {
+            durable: waits.durable,
+            messages: waits.messages,
+        };
+        !place.directory.rest(rt, &self.attached, rest)
+    }
+}
+
+/// One turn of an open connection. Gives it back where it has not ended.
+fn turn<T: Opened + Drop, S: Alter, J: Naming, G: Gate + Drop, R: Wait>(
+    rt: &R,
+    place: &Place<T, S, J, G>,
+    guest: Guest<T, J>,
+    now: Moment,
+) -> (Turned, Option<Guest<T, J>>) {
+    let Guest {
+        mut conn,
+        session,
+        attached,
+    } = guest;
+    let _ = conn.flush();
+    let left = {
+        let mut caller = place.directory.caller(rt, &attached, &place.gate);
+        if conn.is_open() {
+            serve(session, &mut conn, &mut caller, now, most_texts())
+        } else {
+            None
+        }
+    };
+    let _ = conn.flush();
+    let received = conn.take_received();
+    let Some(session) = left else {
+        place.directory.detach(rt, attached);
+        return (Turned::gone(), None);
+    };
+    if place.directory.is_closed() {
+        turn_away(&mut conn, 4008, Fault::StoreFailed);
+        place.directory.detach(rt, attached);
+        return (Turned::gone(), None);
+    }
+    let mut guest = Guest {
+        conn,
+        session,
+        attached,
+    };
+    let after = if guest.goes_on(rt, place, received) {
+        After::Again
+    } else {
+        After::Rest
+    };
+    let turned = Turned {
+        after,
+        made: u64::from(received),
+        due: guest.session.waits().due,
+    };
+    (turned, Some(guest))
+}
+
+impl<T: Opened + Drop, J: Naming> Client<T, J> {
+    /// A turn of the connection.
+    pub(crate) fn serve<S: Alter, G: Gate + Drop, R: Wait>(
+        &mut self,
+        rt: &R,
+        alloc: Global,
+        place: &Place<T, S, J, G>,
+        now: Moment,
+    ) -> Turned {
+        self.bell.hear();
+        match mem::replace(&mut self.stage, Stage::Gone) {
+            Stage::Shaking(shaking) => match shaking.advance() {
+                Shaken::Waits(shaking) => {
+                    self.stage = Stage::Shaking(shaking);
+                    Turned::waits()
+                }
+                Shaken::Open(conn, target) => {
+                    match enter(rt, alloc, place, conn, target.as_str(), &self.bell) {
+                        Some(guest) => self.turn(rt, place, guest, now),
+                        None => Turned::gone(),
+                    }
+                }
+                Shaken::Failed => Turned::gone(),
+            },
+            Stage::Open(guest) => self.turn(rt, place, guest, now),
+            Stage::Gone => Turned::gone(),
+        }
+    }
+
+    fn turn<S: Alter, G: Gate + Drop, R: Wait>(
+        &mut self,
+        rt: &R,
+        place: &Place<T, S, J, G>,
+        guest: Guest<T, J>,
+        now: Moment,
+    ) -> Turned {
+        let (turned, guest) = turn(rt, place, guest, now);
+        if let Some(guest) = guest {
+            self.stage = Stage::Open(guest);
+        }
+        turned
+    }
+
+    /// The connection is given up, and its session ends.
+    pub(crate) fn give_up<S: Alter, G: Gate + Drop, R: Wait>(
+        &mut self,
+        rt: &R,
+        place: &Place<T, S, J, G>,
+        now: Moment,
+    ) {
+        match mem::replace(&mut self.stage, Stage::Gone) {
+            Stage::Shaking(_) => {}
+            Stage::Open(mut guest) => {
+                guest.conn.hang_up();
+                let _ = self.turn(rt, place, guest, now);
+            }
+            Stage::Gone => {}
+        }
+    }
+}

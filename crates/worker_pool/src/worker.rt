@@ -1,0 +1,193 @@
+// The loop of a worker.
+use crate::crowd::Crowd;
+use crate::place::Place;
+use crate::post::Post;
+use broker_dir::{Gate, moment};
+use delivery_machine::{Moment, Opened};
+use handover::Taker;
+use marks::Naming;
+use mio::net::TcpStream;
+use mio::{Events, Poll, Token};
+use sqlite::Alter;
+use std::alloc::Global;
+use std::io;
+use std::rt::Clock;
+use std::sync::atomic::{AtomicBool, Ordering};
+use std::sync::{Arc, Wait};
+use std::time::Duration;
+
+/// The token of what wakes a worker.
+pub(crate) const WAKER: Token = Token(usize::MAX);
+
+/// How many events one poll takes.
+const EVENTS: usize = 512;
+
+/// What the accepting thread tells all workers.
+#[derive(Drop)]
+pub(crate) struct Door {
+    is_shut: AtomicBool,
+}
+
+impl Door {
+    pub(crate) fn new() -> Door {
+        Door {
+            is_shut: AtomicBool::new(false),
+        }
+    }
+
+    /// Nothing more comes.
+    pub(crate) fn shut(&self) {
+        self.is_shut.store(true, Ordering::SeqCst);
+    }
+
+    fn is_shut(&self) -> bool {
+        self.is_shut.load(Ordering::SeqCst)
+    }
+}
+
+/// A worker: one poll, and many connections.
+#[derive(Drop)]
+pub(crate) struct Worker<T: Opened + Drop, J: Naming> {
+    poll: Poll,
+    post: Arc<Post>,
+    taker: Taker<TcpStream>,
+    crowd: Crowd<T, J>,
+    events: Events,
+    /// Room for tokens that were rung, and for those that are served.
+    rung: Vec<usize>,
+    served: Vec<usize>,
+    now: Moment,
+    /// Topics wait to be stored that it may store itself.
+    asks_again: bool,
+}
+
+impl<T: Opened + Drop, J: Naming> Worker<T, J> {
+    pub(crate) fn new(
+        alloc: Global,
+        poll: Poll,
+        post: Arc<Post>,
+        taker: Taker<TcpStream>,
+    ) -> Option<Self> {
+        let events = Events::with_capacity(alloc, EVENTS).ok()?;
+        let now = Moment::new(0)?;
+        Some(Worker {
+            poll,
+            post,
+            taker,
+            crowd: Crowd::new(alloc),
+            events,
+            rung: Vec::new(alloc),
+            served: Vec::new(alloc),
+            now,
+            asks_again: false,
+        })
+    }
+
+    /// Takes in what came from other threads: bells that were rung, and connections.
+    fn welcome<R: Wait>(&mut self, rt: &R) {
+        self.rung.clear();
+        let newcomers = self.post.take(rt, &mut self.rung);
+        for at in 0..self.rung.len() {
+            if let Some(token) = self.rung.get(at) {
+                self.crowd.make_due(*token);
+            }
+        }
+        for _ in 0..newcomers {
+            self.admit(rt);
+        }
+    }
+
+    /// Takes the connection that is next.
+    fn admit<R: Wait>(&mut self, rt: &R) {
+        let Some(taken) = self.taker.try_take(rt) else {
+            self.post.leave();
+            return;
+        };
+        let has_room = self
+            .rung
+            .reserve(self.crowd.count().saturating_add(1))
+            .is_ok();
+        let is_in = has_room
+            && self.crowd.admit(
+                rt,
+                &self.poll,
+                &self.post,
+                taken.number,
+                taken.connection,
+                self.now,
+            );
+        if !is_in {
+            self.post.leave();
+        }
+    }
+
+    fn serve<S: Alter, G: Gate + Drop, R: Wait>(&mut self, rt: &R, place: &Place<T, S, J, G>) {
+        self.crowd
+            .serve(rt, place, &*self.post, self.now, &mut self.served);
+    }
+
+    /// Stores what waits, where that is little and nobody else does.
+    fn store<S: Alter, G: Gate + Drop, R: Wait>(&mut self, rt: &R, place: &Place<T, S, J, G>) {
+        let made = self.crowd.take_made();
+        if made > 0 || self.asks_again {
+            self.asks_again = place.directory.help(rt, made);
+        }
+    }
+
+    /// How long to sleep: not at all where there is something to do.
+    fn pause<R: Wait + Clock>(&mut self, rt: &R) -> Option<Duration> {
+        if self.crowd.has_due() || self.asks_again || !self.post.may_sleep(rt) {
+            return Some(Duration::from_millis(0));
+        }
+        match self.crowd.wait(self.now) {
+            Some(millis) => Some(Duration::from_millis(millis)),
+            None => None,
+        }
+    }
+
+    /// Waits until there is something to do.
+    fn wait<R: Wait + Clock>(&mut self, rt: &R) -> io::Result<()> {
+        let pause = self.pause(rt);
+        self.poll.poll(&mut self.events, pause)?;
+        self.post.wakes(rt);
+        self.now = moment(rt, self.now);
+        for event in self.events.iter() {
+            let token = event.token();
+            if token != WAKER {
+                let is_readable = event.is_readable() || event.is_read_closed() || event.is_error();
+                self.crowd.note(token.0, is_readable);
+            }
+        }
+        self.crowd.expire(&*self.post, self.now);
+        Ok(())
+    }
+
+    /// Whether nothing is left to do, and nothing more comes.
+    fn is_over(&self, door: &Door) -> bool {
+        door.is_shut() && self.crowd.is_empty() && self.post.connections() == 0
+    }
+
+    /// Serves connections until no more come and all have ended, or until the store fails.
+    pub(crate) fn work<S: Alter, G: Gate + Drop, R: Wait + Clock>(
+        &mut self,
+        rt: &R,
+        place: &Place<T, S, J, G>,
+        door: &Door,
+    ) -> io::Result<()> {
+        self.now = moment(rt, self.now);
+        for _ in rt.forever() {
+            self.welcome(rt);
+            self.serve(rt, place);
+            self.store(rt, place);
+            if place.directory.is_closed() {
+                self.crowd.give_up(rt, place, &*self.post, self.now);
+                return Ok(());
+            }
+            if self.is_over(door) {
+                return Ok(());
+            }
+            self.wait(rt)?;
+        }
+        Ok(())
+    }
+}
