@@ -1,2 +1,3 @@
 -- Lemmas on what a topic opens with.
 pub mod Restarting
+pub mod Listed

@@ -1,6 +1,5 @@
 -- A cell that goes on from what was loaded opens as it should.
-use Rattle.std.proofs.Common.{◌≡◌, ◌⊎◌, inl, sym, ap, ◌∙◌, subst, Option, Some, None, Result, Ok, Err, IfOk, MatchOption, refl}
-use Rattle.position_core.specs.TopicName.{topic_text}
+use Rattle.std.proofs.Common.{◌≡◌, inl, sym, ap, ◌∙◌, subst, Some, Result, Ok, Err, IfOk}
 use Rattle.position_core.specs.declared.topic_name.TopicName.{TopicName}
 use Rattle.position_core.specs.declared.fault.Fault.{Fault}
 use Rattle.sqlite.specs.Tree.{Trees}
@@ -8,7 +7,7 @@ use Rattle.delivery_machine.specs.Snapshot.{restarted}
 use Rattle.delivery_machine.specs.Places.{KeptTopic, snapshot_in}
 use Rattle.kept_rows.specs.Noted.{Noted}
 use Rattle.stored_cell.specs.Held.{Held}
-use Rattle.row_forms.specs.Standing.{Stands, HasNone}
+use Rattle.row_forms.specs.Standing.{Stands}
 use Rattle.broker_dir.specs.declared.opening.Terms.{Terms}
 use Rattle.broker_dir.specs.Opening.{GoesOn, Opens, opened}
 

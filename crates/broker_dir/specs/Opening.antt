@@ -1,11 +1,11 @@
 -- What a topic opens with.
-use Rattle.std.specs.Prelude.{◌≡◌, ◌⊎◌, ℕ, List, [], Bool, true, false, Option, None, Some, replicate}
+use Rattle.std.specs.Prelude.{◌≡◌, ◌⊎◌, [], true, false, Option, None, Some, replicate}
 use Rattle.position_core.specs.TopicName.{topic_text}
 use Rattle.position_core.specs.declared.topic_name.TopicName.{TopicName}
 use Rattle.sqlite.specs.Tree.{Trees}
 use Rattle.delivery_machine.specs.State.{State, fresh}
 use Rattle.delivery_machine.specs.Snapshot.{restarted}
-use Rattle.delivery_machine.specs.Places.{KeptTopic, snapshot_in}
+use Rattle.delivery_machine.specs.Places.{snapshot_in}
 use Rattle.topic_shared.specs.Kept.{Kept}
 use Rattle.kept_rows.specs.Noted.{Noted}
 use Rattle.stored_cell.specs.Held.{Held}

@@ -1,4 +1,8 @@
 // The directory: topics by name, and who sits at them.
+ghost use Rattle.std.specs.Prelude.{◌≡◌, OnOk, OnErr};
+ghost use Rattle.std.specs.String.{string_bytes};
+ghost use Rattle.broker_dir.specs.Listing.{names_of, with_name};
+
 use crate::attached::{Attached, Seated};
 use crate::board::Board;
 use crate::gate::Gate;
@@ -104,7 +108,10 @@ impl<T: Opened + Drop, S: Alter, J: Naming, B: Bell + Drop> Directory<T, S, J, B
         name: &TopicName,
         create: bool,
         bell: Option<Arc<B>>,
-    ) -> Result<(Arc<Shared<T, J, B>>, u64), Fault> {
+    ) -> Result<(Arc<Shared<T, J, B>>, u64), Fault>
+        ensures opened { OnOk result (names_of table.new.topics.entries ≡ with_name (names_of table.old.topics.entries) (string_bytes text)) }
+        ensures refused { OnErr result (table.new.topics.entries ≡ table.old.topics.entries) }
+    {
         if table.count() >= MOST_OPEN {
             return Err(Fault::TooMany);
         }

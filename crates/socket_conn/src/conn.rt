@@ -1,6 +1,9 @@
 // A session's connection over a WebSocket.
-ghost use Rattle.std.specs.Prelude.{◌≡◌, IfOk, OnErr, true, false};
-ghost use Rattle.session_links.specs.Links.{goes_on};
+ghost use Rattle.std.specs.Prelude.{◌≡◌, ◌⊎◌, IfOk, OnOk, OnErr, Ok, [], true, false, IsErr, IsTrue, ◌↔◌};
+ghost use Rattle.session_links.specs.Links.{Tells, goes_on, receipt_of, same, with_receipt, with_sent};
+ghost use Rattle.tungstenite.specs.Content.{text as Text};
+ghost use Rattle.tungstenite.specs.Socket.{Flushed, content_of};
+ghost use Rattle.socket_conn.specs.Talks.{Brings, ComesTo, Receives, SendsText, Takes, WouldWait};
 
 use bytes::ByteStr;
 use session_links::{Conn, ConnFault, Incoming};
@@ -45,14 +48,18 @@ enum Came {
     Fails,
 }
 
-fn would_block(error: &Error) -> bool {
+fn would_block(error: &Error) -> bool
+    ensures { IsTrue result ↔ WouldWait error.now }
+{
     match error {
         Error::Io(cause) => cause.kind() == ErrorKind::WouldBlock,
         _ => false,
     }
 }
 
-fn message_in(alloc: Global, message: Message) -> Came {
+fn message_in(alloc: Global, message: Message) -> Came
+    ensures { ComesTo (Ok message) result }
+{
     let copy = match &message {
         Message::Text(text) => Vec::from_slice(alloc, text.as_str().as_bytes()),
         Message::Binary(bytes) => Vec::from_slice(alloc, bytes.as_slice()),
@@ -65,7 +72,9 @@ fn message_in(alloc: Global, message: Message) -> Came {
     }
 }
 
-fn outcome_of(alloc: Global, read: Result<Message, Error>) -> Came {
+fn outcome_of(alloc: Global, read: Result<Message, Error>) -> Came
+    ensures { ComesTo read result }
+{
     match read {
         Ok(message) => message_in(alloc, message),
         Err(error) => {
@@ -104,7 +113,9 @@ impl<S: Read + Write + Drop> SocketConn<S> {
     }
 
     /// Whether there may be something to read.
-    pub fn is_readable(&self) -> bool {
+    pub fn is_readable(&self) -> bool
+        ensures { result ≡ self.now.is_readable }
+    {
         self.is_readable
     }
 
@@ -116,7 +127,9 @@ impl<S: Read + Write + Drop> SocketConn<S> {
     }
 
     /// Whether the stream did not take all output.
-    pub fn is_blocked(&self) -> bool {
+    pub fn is_blocked(&self) -> bool
+        ensures { result ≡ self.now.is_blocked }
+    {
         self.is_blocked
     }
 
@@ -131,7 +144,9 @@ impl<S: Read + Write + Drop> SocketConn<S> {
 
     /// It is given up: the next receive says that the client has gone.
     pub fn hang_up(&mut self)
-        ensures { self.new.is_open ≡ self.old.is_open }
+        ensures open { self.new.is_open ≡ self.old.is_open }
+        ensures same { self.new.socket ≡ self.old.socket }
+        ensures lost { self.new.is_lost ≡ true }
     {
         self.is_lost = true;
         self.is_readable = true;
@@ -140,7 +155,10 @@ impl<S: Read + Write + Drop> SocketConn<S> {
 
     /// Hands the stream the output that waits. Whether it took all.
     pub fn flush(&mut self) -> bool
-        ensures { self.new.is_open ≡ self.old.is_open }
+        ensures open { self.new.is_open ≡ self.old.is_open }
+        ensures sent { Flushed S.contents self.old.socket self.new.socket }
+        ensures all { result ≡ true → self.new.socket.output ≡ [] }
+        ensures noted { result ≡ false → (self.new.is_blocked ≡ true) ⊎ (self.new.is_lost ≡ true) }
     {
         match self.socket.flush() {
             Ok(()) => {
@@ -157,7 +175,9 @@ impl<S: Read + Write + Drop> SocketConn<S> {
 
     /// What it means that the output did not leave.
     fn note(&mut self, error: &Error)
-        ensures { self.new.is_open ≡ self.old.is_open }
+        ensures open { self.new.is_open ≡ self.old.is_open }
+        ensures same { self.new.socket ≡ self.old.socket }
+        ensures noted { (self.new.is_blocked ≡ true) ⊎ (self.new.is_lost ≡ true) }
     {
         if would_block(error) {
             self.is_blocked = true;
@@ -167,7 +187,8 @@ impl<S: Read + Write + Drop> SocketConn<S> {
     }
 
     fn read(&mut self) -> Came
-        ensures { self.new.is_open ≡ self.old.is_open }
+        ensures same { self.new ≡ record self.old { socket = self.new.socket } }
+        ensures came { Brings S.remaining self.old.socket self.new.socket result }
     {
         let read = self.socket.read();
         outcome_of(self.alloc, read)
@@ -177,6 +198,7 @@ impl<S: Read + Write + Drop> SocketConn<S> {
         requires { self.old.is_open ≡ true }
         ensures ok { IfOk result (λ incoming. self.new.is_open ≡ goes_on incoming) }
         ensures err { OnErr result (self.new.is_open ≡ false) }
+        ensures takes { Takes S.contents what self.old self.new result }
     {
         match what {
             Came::Text(text) => {
@@ -203,7 +225,9 @@ impl<S: Read + Write + Drop> SocketConn<S> {
         }
     }
 
-    fn text_of(&self, text: &str) -> Result<Message, AllocError> {
+    fn text_of(&self, text: &str) -> Result<Message, AllocError>
+        ensures { IfOk result (λ message. content_of message ≡ Text text.now) }
+    {
         Message::text(self.alloc, text)
     }
 
@@ -221,13 +245,21 @@ impl<S: Read + Write + Drop> SocketConn<S> {
 impl<S: Read + Write + Drop> Conn for SocketConn<S> {
     ghost use Rattle.std.specs.Prelude.{None, ◌&&◌, not, nat_lt};
 
+    // A socket tells nothing of its exchange.
     ghost exchange = { λ c. None };
 
     ghost is_open = { λ c. c.is_open };
 
     ghost has_room = { λ c. not c.is_blocked && nat_lt c.unsent 65536 };
 
-    fn receive(&mut self) -> Result<Incoming, ConnFault> {
+    fn receive(&mut self) -> Result<Incoming, ConnFault>
+        requires { self.old.is_open ≡ true }
+        ensures ok { IfOk result (λ incoming. Tells (with_receipt (receipt_of incoming)) None None) }
+        ensures open { IfOk result (λ incoming. self.new.is_open ≡ goes_on incoming) }
+        ensures err { OnErr result ((self.new.is_open ≡ false) × Tells same None None) }
+        ensures read { Receives S.remaining S.contents self.old self.new result }
+        ensures lost { self.old.is_lost ≡ true → IsErr result × (self.new.socket ≡ self.old.socket) }
+    {
         if self.is_lost {
             self.is_open = false;
             return Err(ConnFault);
@@ -243,7 +275,12 @@ impl<S: Read + Write + Drop> Conn for SocketConn<S> {
         !self.is_blocked && self.unsent < MOST_UNSENT
     }
 
-    fn send(&mut self, text: &str) -> Result<(), ConnFault> {
+    fn send(&mut self, text: &str) -> Result<(), ConnFault>
+        requires { self.old.is_open ≡ true }
+        ensures ok { OnOk result ((self.new.is_open ≡ true) × Tells (with_sent text.now) None None) }
+        ensures err { OnErr result ((self.new.is_open ≡ false) × Tells same None None) }
+        ensures wrote { OnOk result (SendsText S.contents self.old.socket self.new.socket text.now) }
+    {
         if self.is_lost {
             self.is_open = false;
             return Err(ConnFault);

@@ -28,7 +28,8 @@ pub(crate) enum After {
 #[derive(Clone, Copy, Debug, PartialEq, Eq)]
 pub(crate) struct Turned {
     pub(crate) after: After,
-    /// How many texts it took, each of which may have changed its topic.
+    /// How much it may have changed its topic: as many times as it took texts, and at least once, since a moment may
+    /// have come.
     pub(crate) made: u64,
     /// When the connection is to be looked at again.
     pub(crate) due: Option<u64>,
@@ -128,7 +129,7 @@ fn turn<T: Opened + Drop, S: Alter, J: Naming, G: Gate + Drop, R: Wait>(
     };
     let turned = Turned {
         after,
-        made: u64::from(received),
+        made: u64::from(received).max(1),
         due: guest.session.waits().due,
     };
     (turned, Some(guest))
@@ -175,22 +176,5 @@ impl<T: Opened + Drop, J: Naming> Client<T, J> {
             self.stage = Stage::Open(guest);
         }
         turned
-    }
-
-    /// The connection is given up, and its session ends.
-    pub(crate) fn give_up<S: Alter, G: Gate + Drop, R: Wait>(
-        &mut self,
-        rt: &R,
-        place: &Place<T, S, J, G>,
-        now: Moment,
-    ) {
-        match mem::replace(&mut self.stage, Stage::Gone) {
-            Stage::Shaking(_) => {}
-            Stage::Open(mut guest) => {
-                guest.conn.hang_up();
-                let _ = self.turn(rt, place, guest, now);
-            }
-            Stage::Gone => {}
-        }
     }
 }

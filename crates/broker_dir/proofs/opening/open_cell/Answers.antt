@@ -1,4 +1,4 @@
-use Rattle.std.proofs.Common.{◌≡◌, Some, ap}
+use Rattle.std.proofs.Common.{ap}
 use Rattle.broker_dir.proofs.Restarting.{opens_loaded}
 use Rattle.broker_dir.proofs.opening.open_cell.Goals as goal
 

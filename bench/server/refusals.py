@@ -1,0 +1,79 @@
+#!/usr/bin/env python3
+# Every refusal of a handshake and of an attach, with the code and the reason that the session is closed with.
+# refusals.py PROGRAM [port]
+import json
+import sys
+
+from client import Broker, Client, consumer, producer, text_of
+
+program = sys.argv[1]
+port = int(sys.argv[2]) if len(sys.argv) > 2 else 18085
+T = '/persistent/public/default/t'
+
+
+def target(path):
+    return lambda: Client(port, f'/ws/v2{path}')
+
+
+def closes(what, open_it, code, reason, texts=()):
+    client = open_it()
+    for text in texts:
+        client.send(text)
+    got = client.receive()
+    while isinstance(got, dict):
+        got = client.receive()
+    assert got == (code, reason), f'{what}: {got}'
+    print(f'{code} {reason:4} {what}')
+    client.close()
+
+
+def answers(what, client, text, wanted):
+    client.send(text)
+    got = client.receive()
+    assert got == wanted, f'{what}: {got}'
+    print(f'answer    {what}')
+
+
+broker = Broker(program, port)
+try:
+    closes('an unknown path', target('/reader' + T + '/s'), 4008, 'F20')
+    closes('a trailing slash', target('/producer' + T + '/'), 4008, 'F20')
+    closes('a producer at a name with a slash', target('/producer/persistent/public/default/a%2Fb'), 4001, 'F20')
+    closes('a consumer at a name with a slash', target('/consumer/persistent/public/default/t/a%2Fb'), 4002, 'F20')
+    closes('encryption keys', target('/producer' + T + '?encryptionKeys=k'), 4001, 'F20')
+    closes('a producer of the name of a dead-letter producer', target('/producer' + T + '?producerName=dlq%2Fx'), 4001, 'F20')
+    closes('another type of subscription', target('/consumer' + T + '/s?subscriptionType=Some'), 4002, 'F20')
+    closes('a window that is too large', target('/consumer' + T + '/s?receiverQueueSize=100001'), 4002, 'F20')
+    closes('a dead-letter topic that is none', target('/consumer' + T + '/s?subscriptionType=Shared&maxRedeliverCount=1&deadLetterTopic=a%2Fb'), 4002, 'F20')
+    closes('an administrator of an unknown topic', target('/admin/persistent/public/default/none'), 4008, 'F11')
+
+    first = producer(port, 't', '?producerName=one')
+    first.send(text_of(b'a'))
+    assert first.receive()['result'] == 'ok'
+    closes('a producer name that is taken', lambda: producer(port, 't', '?producerName=one'), 4001, 'F2')
+    sole = consumer(port, 't', 'sole')
+    sole.send('{"type":"isEndOfTopic"}')
+    assert sole.receive() == {'endOfTopic': 'false'}
+    closes('a second Exclusive consumer', lambda: consumer(port, 't', 'sole'), 4002, 'F6')
+    closes('another type than the subscription has', lambda: consumer(port, 't', 'sole', '?subscriptionType=Shared'), 4002, 'F5')
+    closes('a dead-letter topic that is the topic itself', lambda: consumer(
+        port, 't', 'own', '?subscriptionType=Shared&maxRedeliverCount=1&deadLetterTopic=t'), 4002, 'F14')
+
+    one = lambda: consumer(port, 't', 'texts', '?subscriptionType=Shared')
+    closes('a text that is no JSON', one, 4003, 'F18', ['{'])
+    closes('an unknown command', one, 4003, 'F18', ['{"type":"some"}'])
+    closes('an id that is none', one, 4003, 'F17', ['{"messageId":"x"}'])
+    closes('acknowledging up to a message in Shared', one, 4008, 'F9',
+           ['{"type":"acknowledgeCumulative","messageId":"CAAQAA=="}'])
+    closes('an administrator\'s text that cannot be read', target('/admin' + T), 4003, 'F18', ['[]'])
+
+    answers('a publish that is no JSON', first, 'x', {'errorMsg': 'Failed to deserialize from JSON', 'result': 'send-error:3'})
+    answers('a payload that is no base64', first, '{"payload":"*","context":"c"}',
+            {'context': 'c', 'errorMsg': 'Invalid payload encoding', 'result': 'send-error:7'})
+    admin = target('/admin' + T)()
+    answers('the statistics of an unknown subscription', admin, '{"type":"stats","subscription":"none"}',
+            {'fault': 11, 'result': 'refused'})
+    answers('dropping a subscription that has members', admin, '{"type":"dropSubscription","subscription":"sole"}',
+            {'fault': 12, 'result': 'refused'})
+finally:
+    broker.kill()

@@ -1,0 +1,58 @@
+// What the program's arguments ask for.
+
+/// What is to be served, and where.
+#[derive(Clone, Copy, Debug, PartialEq, Eq)]
+pub struct Asked<'a> {
+    pub database: &'a str,
+    /// As the listener is given it, and as it is printed.
+    pub address: &'a str,
+    /// From 1 to 256.
+    pub workers: u32,
+    /// After how many connections to end, at most 2^61.
+    pub connections: Option<u64>,
+}
+
+const MOST_WORKERS: u64 = 256;
+
+const MOST_CONNECTIONS: u64 = 2_305_843_009_213_693_952;
+
+/// A decimal number with neither a sign nor leading zeros, up to a limit.
+fn number(word: &str, most: u64) -> Option<u64> {
+    let digits = word.as_bytes();
+    let is_plain = digits.iter().all(|digit| digit.is_ascii_digit());
+    if !is_plain || (digits.len() > 1 && digits.first() == Some(&b'0')) {
+        return None;
+    }
+    match word.parse::<u64>() {
+        Ok(number) if number <= most => Some(number),
+        _ => None,
+    }
+}
+
+/// How many workers a word asks for.
+fn workers(word: &str) -> Option<u32> {
+    match number(word, MOST_WORKERS)? {
+        0 => None,
+        count => u32::try_from(count).ok(),
+    }
+}
+
+/// What the words after the program's name ask for. None where they are wrong.
+pub fn read_arguments(words: &[String]) -> Option<Asked<'_>> {
+    let (database, address, count, connections) = match words {
+        [database, address, count] => (database, address, count, None),
+        [database, address, count, connections] => (
+            database,
+            address,
+            count,
+            Some(number(connections.as_str(), MOST_CONNECTIONS)?),
+        ),
+        _ => return None,
+    };
+    Some(Asked {
+        database: database.as_str(),
+        address: address.as_str(),
+        workers: workers(count.as_str())?,
+        connections,
+    })
+}

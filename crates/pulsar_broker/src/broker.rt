@@ -1,0 +1,118 @@
+// A database, the topics in it, and those who serve them at an address.
+ghost use Rattle.std.specs.Prelude.{◌≡◌};
+
+use crate::arguments::Asked;
+use broker_dir::{Directory, Open, Terms};
+use kept_rows::{Note, Notes};
+use marks::{Naming, Unnamed};
+use plain_topic::PlainTopic;
+use position_core::LedgerSize;
+use row_store::Keeper;
+use sqlite::{Alter, Connection};
+use std::alloc::AllocGlobal;
+use std::io::{Eprint, Print};
+use std::marker::Brand;
+use std::net::{Net, TcpListener, TcpStream};
+use std::rt::Clock;
+use std::sync::{Arc, Wait};
+use std::thread::Threads;
+use topic_shared::{LineLimit, SeatCount};
+use worker_pool::{Ended, Limits, Place, serve};
+
+/// How the program ends.
+#[derive(Clone, Copy, Debug, PartialEq, Eq)]
+pub enum Fate {
+    /// So many connections were served.
+    Served(u64),
+    /// The database is not one of ours, or answered an error.
+    StoreFailed,
+    /// The address could not be had, or a thread, or memory.
+    CannotServe,
+}
+
+/// What each topic begins with.
+const LEDGER_SIZE: u32 = 50_000;
+
+const LINES: u32 = 16_777_216;
+
+const SEATS: u32 = 1_024;
+
+fn terms() -> Option<Terms> {
+    Some(Terms {
+        ledger_size: LedgerSize::new(LEDGER_SIZE)?,
+        lines: LineLimit::new(LINES)?,
+        seats: SeatCount::new(SEATS)?,
+    })
+}
+
+/// How the program ends, as serving did.
+fn fate_of(ended: Ended) -> Fate {
+    match ended {
+        Ended::Served(count) => Fate::Served(count),
+        Ended::StoreFailed => Fate::StoreFailed,
+        Ended::Failed => Fate::CannotServe,
+    }
+}
+
+/// Serves the topics of a database, whose history is that of `J`.
+fn serve_named<
+    R: Threads
+        + Wait
+        + Net<Listener = TcpListener, Stream = TcpStream>
+        + Clock
+        + Print
+        + Eprint
+        + AllocGlobal
+        + Copy
+        + Send
+        + Sync
+        + Drop
+        + 'static,
+    S: Alter + Send + Drop + 'static,
+    J: Naming + Send + Sync + 'static,
+>(rt: &R, asked: &Asked<'_>, conn: Connection<S>, history: Unnamed<Note>) -> Fate
+    requires { history ≡ J.book }
+{
+    let alloc = rt.alloc();
+    let notes: Notes<J> = Notes::new(history);
+    let Ok(keeper) = Keeper::start(alloc, conn, notes) else {
+        return Fate::StoreFailed;
+    };
+    let Some(terms) = terms() else {
+        return Fate::CannotServe;
+    };
+    let directory = Directory::open(alloc, keeper, terms);
+    let place: Place<PlainTopic, S, J, Open> = Place::new(directory, Open);
+    let Ok(place) = Arc::new(alloc, place) else {
+        return Fate::CannotServe;
+    };
+    let Ok(listener) = TcpListener::bind(rt, asked.address) else {
+        return Fate::CannotServe;
+    };
+    let _ = println!(rt; "listening {}", asked.address);
+    let limits = Limits {
+        workers: asked.workers,
+        connections: asked.connections,
+    };
+    fate_of(serve(rt, alloc, listener, place, limits))
+}
+
+/// Serves the topics of a database: makes its tables where it has none, then listens, and ends when as many connections
+/// were served as were asked for, or the store has failed.
+pub fn serve_over<
+    R: Threads
+        + Wait
+        + Net<Listener = TcpListener, Stream = TcpStream>
+        + Clock
+        + Print
+        + Eprint
+        + AllocGlobal
+        + Copy
+        + Send
+        + Sync
+        + Drop
+        + 'static,
+    S: Alter + Send + Drop + 'static,
+>(rt: &R, asked: &Asked<'_>, conn: Connection<S>) -> Fate {
+    serve_named::<R, S, Brand>(rt, asked, conn, Unnamed::new())
+}

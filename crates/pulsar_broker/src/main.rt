@@ -1,0 +1,79 @@
+//! Serves topics over WebSockets: `pulsar_broker <database> <address> <workers> [connections]`.
+#![tactic(auto)]
+
+mod arguments;
+mod broker;
+
+use arguments::read_arguments;
+use broker::{Fate, serve_over};
+use sqlite::Connection;
+use std::env;
+use std::io::ErrorKind;
+use std::process::ExitCode;
+
+/// The database that is held in memory, and gone with the program.
+const IN_MEMORY: &str = ":memory:";
+
+/// Why there are no words to read.
+#[derive(Clone, Copy)]
+enum Unread {
+    /// One of them is no text.
+    Wrong,
+    /// A growth was refused while they were copied.
+    Memory,
+}
+
+/// The words after the program's name.
+fn words(rt: &HostRuntime) -> Result<Vec<String>, Unread> {
+    let mut arguments = match env::args(rt) {
+        Ok(arguments) => arguments,
+        Err(error) if error.kind() == ErrorKind::OutOfMemory => return Err(Unread::Memory),
+        Err(_) => return Err(Unread::Wrong),
+    };
+    arguments.next();
+    arguments
+        .collect::<Vec<String>>(rt.alloc())
+        .map_err(|_| Unread::Memory)
+}
+
+/// Says how serving ended, and gives the status to end with.
+fn ending(rt: &HostRuntime, fate: Fate) -> ExitCode {
+    match fate {
+        Fate::Served(count) => {
+            let _ = println!(rt; "served {count}");
+            ExitCode::SUCCESS
+        }
+        Fate::StoreFailed => {
+            let _ = eprintln!(rt; "store failed");
+            ExitCode::from(3)
+        }
+        Fate::CannotServe => {
+            let _ = eprintln!(rt; "cannot serve");
+            ExitCode::from(1)
+        }
+    }
+}
+
+fn main(rt: HostRuntime) -> ExitCode {
+    let words = match words(&rt) {
+        Ok(words) => words,
+        Err(Unread::Wrong) => Vec::new(rt.alloc()),
+        Err(Unread::Memory) => return ending(&rt, Fate::CannotServe),
+    };
+    let Some(asked) = read_arguments(words.as_slice()) else {
+        let _ = eprintln!(rt; "usage: pulsar_broker database address workers [connections]");
+        return ExitCode::from(2);
+    };
+    let fate = if asked.database == IN_MEMORY {
+        match Connection::open_in_memory(rt.alloc()) {
+            Ok(conn) => serve_over(&rt, &asked, conn),
+            Err(_) => Fate::CannotServe,
+        }
+    } else {
+        match Connection::open(&rt, asked.database) {
+            Ok(conn) => serve_over(&rt, &asked, conn),
+            Err(_) => Fate::StoreFailed,
+        }
+    };
+    ending(&rt, fate)
+}

@@ -1,0 +1,122 @@
+-- What a call of the socket comes to.
+use Rattle.std.proofs.Common.{◌≡◌, ◌++◌, ◌∙◌, [], ℕ, List, Option, None, Some, Result, Ok, Err, refl, sym, ap, subst, inl, inr, append_assoc}
+use Rattle.std.specs.Io.KnownBytes.{Appends, append_known}
+use Rattle.socket_conn.specs.Talks.{SendsText, IsTextFrame, ComesTo, Takes, ReadsOnce, Receives, WouldWait}
+use Rattle.socket_conn.specs.declared.conn.Came.{Came}
+use Rattle.socket_conn.specs.declared.conn.SocketConn.{SocketConn}
+use Rattle.session_links.specs.declared.conn.ConnFault.{ConnFault}
+use Rattle.session_links.specs.declared.conn.Incoming.{Incoming}
+use Rattle.tungstenite.specs.Failure.{IsIo}
+use Rattle.tungstenite.specs.declared.error.Error.{Error}
+use Rattle.tungstenite.specs.declared.error.Error.TheVariants as Why
+use Rattle.tungstenite.specs.declared.message.Message.{Message}
+use Rattle.tungstenite.specs.Socket.{Socket, Runs, Replies, Writes, Flushed, Reads}
+use Rattle.websocket.specs.View.{Leaves}
+use Rattle.websocket.specs.Content.{text}
+use Rattle.websocket.specs.Connection.{Connection, IsMaskOf, write_step, write_active, check_can_write}
+use Rattle.websocket.specs.Frame.{after_check}
+use Rattle.websocket.specs.declared.protocol.state.WebSocketState.{WebSocketState}
+use Rattle.websocket.specs.declared.protocol.state.WebSocketState.TheVariants as State
+
+-- ---- of a text that was sent
+
+-- what went and what waits grow by what joined the end of what waits
+pub handed-adds : (a b : Option (List ℕ)) (before after sent frame : List ℕ) → Appends a b sent → before ++ frame ≡ sent ++ after
+    → Appends (append_known a before) (append_known b after) frame
+handed-adds None b before after sent frame p e = tt
+handed-adds (Some x) None before after sent frame p e = absurd p
+handed-adds (Some x) (Some y) before after sent frame p e =
+    ap (λ l. l ++ after) p ∙ append_assoc x sent after ∙ ap (λ l. x ++ l) (sym e) ∙ sym (append_assoc x before frame)
+
+-- a text is taken in the active state alone, as its one frame
+pub text-leaves : (state : WebSocketState) (c d : Connection) (words before after : List ℕ)
+    → Leaves (after_check (check_can_write state) (write_active c (text words))) d before after
+    → (state ≡ State.Active) × (d ≡ c) × ((frame : List ℕ) × IsTextFrame c.role words frame × (after ≡ before ++ frame))
+text-leaves State.Active c d words before after h =
+    let mask = h.1.0 in
+    let of_role : IsMaskOf c.role mask = subst (λ (k : Connection). IsMaskOf k.role mask) h.0 h.1.1 in
+    (refl, h.0, (_, (mask, of_role, refl), h.1.2))
+text-leaves State.ClosedByUs c d words before after h = absurd h
+text-leaves State.ClosedByPeer c d words before after h = absurd h
+text-leaves State.CloseAcknowledged c d words before after h = absurd h
+text-leaves State.Failed c d words before after h = absurd h
+text-leaves State.Terminated c d words before after h = absurd h
+
+module _ {S : Type 0} where
+  pub text-sent : (contents : S → Option (List ℕ)) (old new : Socket S) (words : List ℕ)
+      → Writes contents old new (write_step old.conn (text words)) → SendsText contents old new words
+  text-sent contents old new words h =
+      let sent = h.0 in
+      let t = text-leaves old.conn.state old.conn new.conn words old.output (sent ++ new.output) h.1 in
+      let frame = t.2.0 in
+      let joins : old.output ++ frame ≡ sent ++ new.output = sym t.2.2 in (
+        frame,
+        t.2.1,
+        record {
+          active = t.0;
+          goes = (sent, joins, h.2);
+          adds = handed-adds _ _ old.output new.output sent frame h.2 joins;
+          same_state = t.1;
+          same_input = h.3;
+        },
+      )
+
+-- only the stream has to wait
+pub wait-is-io : (error : Error) → WouldWait error → IsIo error
+wait-is-io (Why.Io cause) h = tt
+wait-is-io Why.ConnectionClosed h = absurd h
+wait-is-io Why.AlreadyClosed h = absurd h
+wait-is-io (Why.Capacity cause) h = absurd h
+wait-is-io (Why.Protocol cause) h = absurd h
+wait-is-io Why.WriteBufferFull h = absurd h
+wait-is-io Why.Utf8 h = absurd h
+wait-is-io Why.AttackAttempt h = absurd h
+wait-is-io (Why.Handshake cause) h = absurd h
+wait-is-io Why.HandshakeIncomplete h = absurd h
+wait-is-io Why.JunkAfterRequest h = absurd h
+wait-is-io Why.CustomResponseSuccessful h = absurd h
+wait-is-io Why.Url h = absurd h
+wait-is-io (Why.Http response) h = absurd h
+wait-is-io (Why.Refused response) h = absurd h
+wait-is-io Why.OutOfMemory h = absurd h
+
+-- ---- of a read
+
+module _ {S : Type 0} where
+  -- a read after the flush is a read from the state and the bytes before it
+  pub reads-once : (remaining contents : S → Option (List ℕ)) (old idle new : Socket S) (given : Result Message Error)
+      → Flushed contents old idle → idle.output ≡ [] → Reads remaining idle new given → ReadsOnce remaining contents old new given
+  reads-once remaining contents old idle new (Ok message) flushed none reads =
+      let run = reads.0 in
+      let got = reads.1 in
+      let sent = reads.4 in
+      let gave = reads.6 in
+      let frames : Runs old.conn (old.input ++ got) run new.conn new.input =
+      rw (gave.1, gave.2, ← flushed.3, ← flushed.4) reads.5 in
+      let replies : Replies run [] (sent ++ new.output) = rw none at gave.3 in
+      (idle, run, got, sent, flushed, none, gave.4 none, frames, gave.0, replies)
+  reads-once remaining contents old idle new (Err error) flushed none reads = (idle, flushed, none, reads)
+
+  -- what the connection answers to a read, by what the read came to
+  pub answered : (remaining contents : S → Option (List ℕ)) (old mid new : SocketConn S) (given : Result Message Error) (came : Came) (answer : Result Incoming ConnFault)
+      → ReadsOnce remaining contents old.socket mid.socket given → ComesTo given came → Takes contents came mid new answer
+      → Receives remaining contents old new answer
+  answered remaining contents old mid new (Ok message) (Came.Text bytes) answer reads comes takes =
+      rw takes.0 (message, rw takes.1 reads, comes)
+  answered remaining contents old mid new (Ok message) Came.Control answer reads comes takes =
+      rw takes.0 (inr (inl (message, rw takes.1 reads, comes)))
+  answered remaining contents old mid new (Ok message) Came.Nothing answer reads comes takes = absurd comes
+  answered remaining contents old mid new (Ok message) Came.Closes answer reads comes takes =
+      rw takes.0 (mid.socket, takes.1, inl (message, reads, comes))
+  answered remaining contents old mid new (Ok message) Came.Fails (Ok incoming) reads comes takes = cc
+  answered remaining contents old mid new (Ok message) Came.Fails (Err fault) reads comes takes =
+      inr (inl (message, rw takes.1 reads, comes))
+  answered remaining contents old mid new (Err error) (Came.Text bytes) answer reads comes takes = absurd comes
+  answered remaining contents old mid new (Err error) Came.Control answer reads comes takes = absurd comes
+  answered remaining contents old mid new (Err error) Came.Nothing answer reads comes takes =
+      rw takes.0 (inr (inr (error, rw takes.1 reads, comes, takes.2)))
+  answered remaining contents old mid new (Err error) Came.Closes answer reads comes takes =
+      rw takes.0 (mid.socket, takes.1, inr (error, reads, comes))
+  answered remaining contents old mid new (Err error) Came.Fails (Ok incoming) reads comes takes = cc
+  answered remaining contents old mid new (Err error) Came.Fails (Err fault) reads comes takes =
+      inr (inr (error, rw takes.1 reads, comes.0, comes.1))

@@ -1,0 +1,163 @@
+-- What the calls of a connection do with its socket: a receive reads one message of it, and a send writes one.
+use Rattle.std.specs.Prelude.{◌≡◌, ◌⊎◌, ◌++◌, ⊤, ℕ, List, [], true, false, Option, Result, Ok, Err, IsErr}
+use Rattle.std.specs.IoError.{error_kind}
+use Rattle.std.specs.Io.KnownBytes.{Appends, Consumes, append_known}
+use Rattle.std.specs.declared.io.ErrorKind.TheVariants.{WouldBlock}
+use Rattle.session_links.specs.declared.conn.ConnFault.{ConnFault}
+use Rattle.session_links.specs.declared.conn.Incoming.{Incoming}
+use Rattle.session_links.specs.declared.conn.Incoming.TheVariants as Said
+use Rattle.socket_conn.specs.declared.conn.Came.{Came}
+use Rattle.socket_conn.specs.declared.conn.SocketConn.{SocketConn}
+use Rattle.tungstenite.specs.declared.error.Error.{Error}
+use Rattle.tungstenite.specs.declared.error.Error.TheVariants as Why
+use Rattle.tungstenite.specs.declared.message.Message.{Message}
+use Rattle.tungstenite.specs.declared.message.Message.TheVariants as Kind
+use Rattle.tungstenite.specs.Socket.{Socket, Run, Runs, Replies, EndsWith, Flushed, Reads, content_of}
+use Rattle.websocket.specs.declared.protocol.config.Role.{Role}
+use Rattle.websocket.specs.declared.protocol.frame.coding.Data.TheVariants as Data
+use Rattle.websocket.specs.declared.protocol.frame.coding.OpCode.TheVariants as Op
+use Rattle.websocket.specs.declared.protocol.state.WebSocketState.TheVariants.{Active}
+use Rattle.websocket.specs.Connection.{IsMaskOf, whole_header}
+use Rattle.websocket.specs.Frame.{encode_frame}
+
+-- ---- what a read gave
+
+-- a text message or a binary message with these bytes
+abbrev pub HasBytes : List ℕ → Message → Type 0
+HasBytes bytes (Kind.Text s) = bytes ≡ s
+HasBytes bytes (Kind.Binary s) = bytes ≡ s
+HasBytes bytes (Kind.Ping s) = ⊥
+HasBytes bytes (Kind.Pong s) = ⊥
+HasBytes bytes (Kind.Close frame) = ⊥
+
+-- a text message or a binary message
+abbrev pub IsData : Message → Type 0
+IsData (Kind.Text s) = ⊤
+IsData (Kind.Binary s) = ⊤
+IsData (Kind.Ping s) = ⊥
+IsData (Kind.Pong s) = ⊥
+IsData (Kind.Close frame) = ⊥
+
+-- a ping or a pong
+abbrev pub IsPingOrPong : Message → Type 0
+IsPingOrPong (Kind.Text s) = ⊥
+IsPingOrPong (Kind.Binary s) = ⊥
+IsPingOrPong (Kind.Ping s) = ⊤
+IsPingOrPong (Kind.Pong s) = ⊤
+IsPingOrPong (Kind.Close frame) = ⊥
+
+abbrev pub IsClose : Message → Type 0
+IsClose (Kind.Text s) = ⊥
+IsClose (Kind.Binary s) = ⊥
+IsClose (Kind.Ping s) = ⊥
+IsClose (Kind.Pong s) = ⊥
+IsClose (Kind.Close frame) = ⊤
+
+-- the stream would have to wait
+abbrev pub WouldWait : Error → Type 0
+WouldWait (Why.Io cause) = error_kind cause ≡ WouldBlock
+WouldWait error = ⊥
+
+-- the client has closed
+abbrev pub SaysClosed : Error → Type 0
+SaysClosed Why.ConnectionClosed = ⊤
+SaysClosed Why.AlreadyClosed = ⊤
+SaysClosed error = ⊥
+
+-- what a read comes to
+abbrev pub ComesTo : Result Message Error → Came → Type 0
+ComesTo (Ok message) (Came.Text bytes) = HasBytes bytes.items message
+ComesTo (Ok message) Came.Control = IsPingOrPong message
+ComesTo (Ok message) Came.Nothing = ⊥
+ComesTo (Ok message) Came.Closes = IsClose message
+ComesTo (Ok message) Came.Fails = IsData message
+ComesTo (Err error) (Came.Text bytes) = ⊥
+ComesTo (Err error) Came.Control = ⊥
+ComesTo (Err error) Came.Nothing = WouldWait error
+ComesTo (Err error) Came.Closes = SaysClosed error
+ComesTo (Err error) Came.Fails = (¬ WouldWait error) × (¬ SaysClosed error)
+
+module _ {S : Type 0} where
+  -- all that waited to be sent left, and then one message was read: the bytes that the stream gave, behind those kept from
+  -- before, begin with a run of frames, of which the last ends this message, and no other ends one
+  abbrev pub ReadsMessage : (remaining contents : S → Option (List ℕ)) → Socket S → Socket S → Message → Type 0
+  ReadsMessage remaining contents old new message =
+      (idle : Socket S) × (run : Run) × (got : List ℕ) × (sent : List ℕ)
+      × Flushed contents old idle × (idle.output ≡ [])
+      × Consumes (remaining idle.stream) (remaining new.stream) got
+      × Runs old.conn (old.input ++ got) run new.conn new.input
+      × EndsWith run (content_of message)
+      × Replies run [] (sent ++ new.output)
+
+  -- all that waited to be sent left, and then a read gave no message, but this error
+  abbrev pub ReadsError : (remaining contents : S → Option (List ℕ)) → Socket S → Socket S → Error → Type 0
+  ReadsError remaining contents old new error =
+      (idle : Socket S) × Flushed contents old idle × (idle.output ≡ []) × Reads remaining idle new (Err error)
+
+  -- a read of either kind
+  abbrev pub ReadsOnce : (remaining contents : S → Option (List ℕ)) → Socket S → Socket S → Result Message Error → Type 0
+  ReadsOnce remaining contents old new (Ok message) = ReadsMessage remaining contents old new message
+  ReadsOnce remaining contents old new (Err error) = ReadsError remaining contents old new error
+
+  -- the socket was not read: nothing had come, or the stream did not take what waits
+  abbrev pub ReadsNothing : (contents : S → Option (List ℕ)) → SocketConn S → SocketConn S → Type 0
+  ReadsNothing contents old new =
+      ((old.is_readable ≡ false) × (new.socket ≡ old.socket))
+      ⊎ (Flushed contents old.socket new.socket × ((new.is_blocked ≡ true) ⊎ (new.is_lost ≡ true)))
+
+  -- the socket was read once, and what that gave comes to this
+  abbrev pub Brings : (remaining : S → Option (List ℕ)) → Socket S → Socket S → Came → Type 0
+  Brings remaining old new came = (given : Result Message Error) × Reads remaining old new given × ComesTo given came
+
+  -- what the connection does with what a read came to, and what it answers
+  abbrev pub Takes : (contents : S → Option (List ℕ)) → Came → SocketConn S → SocketConn S → Result Incoming ConnFault → Type 0
+  Takes contents (Came.Text bytes) old new answer = (answer ≡ Ok (Said.Text bytes)) × (new.socket ≡ old.socket)
+  Takes contents Came.Control old new answer = (answer ≡ Ok Said.Nothing) × (new.socket ≡ old.socket)
+  Takes contents Came.Nothing old new answer = (answer ≡ Ok Said.Nothing) × (new.socket ≡ old.socket) × (new.is_readable ≡ false)
+  Takes contents Came.Closes old new answer = (answer ≡ Ok Said.Gone) × Flushed contents old.socket new.socket
+  Takes contents Came.Fails old new answer = IsErr answer × (new.socket ≡ old.socket)
+
+  -- what the socket did where the connection, before and after, gave this answer. A text: it read one message, of these bytes.
+  -- Nothing: it was not read, or read a ping or a pong, or would have had to wait, which is noted. Gone: it read a close, or
+  -- said that the client has closed. A fault: the connection was lost before, or there was no memory for a copy of the
+  -- message, or the read failed in another way
+  abbrev pub Receives : (remaining contents : S → Option (List ℕ)) → SocketConn S → SocketConn S → Result Incoming ConnFault → Type 0
+  Receives remaining contents old new (Ok (Said.Text bytes)) =
+      (message : Message) × ReadsMessage remaining contents old.socket new.socket message × HasBytes bytes.items message
+  Receives remaining contents old new (Ok Said.Nothing) =
+      ReadsNothing contents old new
+      ⊎ ((message : Message) × ReadsMessage remaining contents old.socket new.socket message × IsPingOrPong message)
+      ⊎ ((error : Error) × ReadsError remaining contents old.socket new.socket error × WouldWait error × (new.is_readable ≡ false))
+  Receives remaining contents old new (Ok Said.Gone) =
+      (last : Socket S) × Flushed contents last new.socket
+      × (((message : Message) × ReadsMessage remaining contents old.socket last message × IsClose message)
+      ⊎ ((error : Error) × ReadsError remaining contents old.socket last error × SaysClosed error))
+  Receives remaining contents old new (Err fault) =
+      ((old.is_lost ≡ true) × (new.socket ≡ old.socket))
+      ⊎ ((message : Message) × ReadsMessage remaining contents old.socket new.socket message × IsData message)
+      ⊎ ((error : Error) × ReadsError remaining contents old.socket new.socket error × (¬ WouldWait error) × (¬ SaysClosed error))
+
+-- ---- what was sent
+
+-- the one frame that carries a text whole, under some mask of the role
+abbrev pub IsTextFrame : Role → List ℕ → List ℕ → Type 0
+IsTextFrame role words frame =
+    (mask : Option (List ℕ)) × IsMaskOf role mask × (frame ≡ encode_frame (whole_header (Op.Data Data.Text) mask) words)
+
+module _ {S : Type 0} where
+  -- what went to the stream, and behind it what waits, where the stream tells that
+  abbrev pub handed : (S → Option (List ℕ)) → Socket S → Option (List ℕ)
+  handed contents s = append_known (contents s.stream) s.output
+
+  -- the frame joined what waits, some of that went to the stream in order, and nothing was read
+  pub record SendsFrame (contents : S → Option (List ℕ)) (old new : Socket S) (frame : List ℕ) : Type 0 where
+    pub active : old.conn.state ≡ Active
+    pub goes : (sent : List ℕ) × (old.output ++ frame ≡ sent ++ new.output) × Appends (contents old.stream) (contents new.stream) sent
+    pub adds : Appends (handed contents old) (handed contents new) frame
+    pub same_state : new.conn ≡ old.conn
+    pub same_input : new.input ≡ old.input
+
+  -- a text was taken whole: its one frame joined what waits
+  abbrev pub SendsText : (S → Option (List ℕ)) → Socket S → Socket S → List ℕ → Type 0
+  SendsText contents old new words =
+      (frame : List ℕ) × IsTextFrame old.conn.role words frame × SendsFrame contents old new frame

@@ -1,0 +1,110 @@
+-- What all workers share may be used by several threads.
+use denote.RattleType.{RattleType}
+use denote.Struct.Field.{row_field}
+use denote.Param.Send.{IsSend, IsSync, sendable, view_send}
+use denote.Param.SendFields.{as_row_send, as_row_sync, declared_send, declared_sync}
+use Rattle.std.proofs.Crossing.{crosses}
+use Rattle.delivery_machine.specs.declared.topic.Topic as topic
+use Rattle.marks.specs.declared.history.Naming as naming
+use Rattle.sqlite_trees.specs.declared.store.Store as store
+use Rattle.position_core.proofs.topic_name.TopicName.TheSendSync.{the_send as name_send, the_sync as name_sync}
+use Rattle.topic_shared.proofs.Crosses.{Cell-send}
+use Rattle.stored_cell.proofs.viewed.Stored.TheSendSync.{the_send as stored_send}
+use Rattle.stored_cell.proofs.viewed.Viewed.TheSendSync.{the_send as viewed_send}
+use Rattle.session_bells.proofs.bells.Bells.TheSendSync.{the_send as bells_send}
+use Rattle.broker_dir.proofs.inside.Grave.TheSendSync.{the_send as grave_send}
+use Rattle.broker_dir.proofs.board.Board.TheSendSync.{the_send as board_send, the_sync as board_sync}
+use Rattle.broker_dir.proofs.table.Table.TheSendSync.{the_send as table_send}
+use Rattle.broker_dir.proofs.opening.Terms.TheSendSync.{the_send as terms_send, the_sync as terms_sync}
+use Rattle.row_store.proofs.keeper.Keeper.TheSendSync.{the_send as keeper_send}
+use Rattle.worker_pool.proofs.post.Doorbell.TheSendSync.{the_send as doorbell_send, the_sync as doorbell_sync}
+use Rattle.std.specs.contracts.option.Option as Option
+use Rattle.std.specs.contracts.vec.Vec as Vec
+use Rattle.std.specs.contracts.sync.Mutex as Mutex
+use Rattle.std.specs.contracts.sync.Arc as Arc
+use Rattle.std.specs.contracts.alloc.Global as Global
+use Rattle.std.specs.contracts.impls.GlobalAllocator.TheImpl.{ghosts}
+use Rattle.stored_cell.specs.contracts.viewed.Stored as Stored
+use Rattle.stored_cell.specs.contracts.viewed.Viewed as Viewed
+use Rattle.stored_cell.specs.contracts.cell.StoredCell as StoredCell
+use Rattle.stored_cell.specs.contracts.cell.StoredCell.TheInside as StoredFields
+use Rattle.broker_dir.specs.contracts.inside.Grave as Grave
+use Rattle.broker_dir.specs.contracts.inside.Inside as Inside
+use Rattle.broker_dir.specs.contracts.table.Table as Table
+use Rattle.broker_dir.specs.contracts.topic.Shared as Shared
+use Rattle.broker_dir.specs.contracts.directory.Directory as Directory
+use Rattle.row_store.specs.contracts.keeper.Keeper as Keeper
+use Rattle.worker_pool.specs.contracts.post.Doorbell as Doorbell
+use Rattle.worker_pool.specs.contracts.place.Place as Place
+
+StoredCell-send : (T I : RattleType) (g : topic.Ghosts T.Denot) (n : naming.Ghosts I.Denot) → IsSend T → IsSend (StoredCell.the_row T I g n)
+StoredCell-send T I g n s = let c = Cell-send T g s in view_send _ _ _ _ _ (declared_send (StoredFields.the_type T I g n) (
+  c,
+  (
+    as_row_send (Option.the_field (Stored.the_row I n)) (search (sendable, crosses, stored_send) depth 20),
+    (as_row_send (Option.the_field (Viewed.the_row I n)) (search (sendable, crosses, viewed_send) depth 20), (search sendable, tt)),
+  ),
+))
+
+Inside-send : (T I B : RattleType) (g : topic.Ghosts T.Denot) (n : naming.Ghosts I.Denot) → IsSend T → IsSend B → IsSync B → IsSend (Inside.the_row T I B g n)
+Inside-send T I B g n s b c = let cell = StoredCell-send T I g n s in let bells = bells_send B b c in declared_send (Inside.the_type T I B g n) (
+  search (sendable, crosses) depth 20,
+  (
+    cell,
+    (
+      bells,
+      (
+        search sendable,
+        (
+          search sendable,
+          (as_row_send (Vec.the_field Grave.the_row Global.the_row ghosts) (search (sendable, crosses, grave_send) depth 20), (search sendable, (search sendable, tt))),
+        ),
+      ),
+    ),
+  ),
+)
+
+Shared-send : (T I B : RattleType) (g : topic.Ghosts T.Denot) (n : naming.Ghosts I.Denot) → IsSend T → IsSend B → IsSync B → IsSend (Shared.the_row T I B g n)
+Shared-send T I B g n s b c = let i = Inside-send T I B g n s b c in declared_send (Shared.the_type T I B g n)
+    (name_send, (as_row_send (Mutex.the_field (Inside.the_row T I B g n)) (search (sendable, crosses, i) depth 20), tt))
+
+Shared-sync : (T I B : RattleType) (g : topic.Ghosts T.Denot) (n : naming.Ghosts I.Denot) → IsSend T → IsSend B → IsSync B → IsSync (Shared.the_row T I B g n)
+Shared-sync T I B g n s b c = let i = Inside-send T I B g n s b c in declared_sync (Shared.the_type T I B g n)
+    (name_sync, (as_row_sync (Mutex.the_field (Inside.the_row T I B g n)) (search (sendable, crosses, i) depth 20), tt))
+
+Arc-send : (T I B : RattleType) (g : topic.Ghosts T.Denot) (n : naming.Ghosts I.Denot) → IsSend T → IsSend B → IsSync B → IsSend (Arc.the_row (Shared.the_row T I B g n) Global.the_row ghosts)
+Arc-send T I B g n s b c = let ss = Shared-send T I B g n s b c in let sy = Shared-sync T I B g n s b c in search (sendable, crosses, ss, sy) depth 20
+
+Directory-send : (T K I B : RattleType) (g : topic.Ghosts T.Denot) (o : store.Ghosts K.Denot) (n : naming.Ghosts I.Denot) → IsSend T → IsSend K → IsSend B → IsSync B → IsSend (Directory.the_row T K I B g o n)
+Directory-send T K I B g o n s k b c = let X = Arc.the_row (Shared.the_row T I B g n) Global.the_row ghosts in let a = Arc-send T I B g n s b c in
+    let t = table_send X a in let d = board_send X a in let e = keeper_send K I n o k in declared_send (Directory.the_type T K I B g o n) (
+      search (sendable, crosses) depth 20,
+      (
+        terms_send,
+        (
+          as_row_send (Mutex.the_field (Table.the_row X)) (search (sendable, crosses, t) depth 20),
+          (as_row_send (Mutex.the_field (Keeper.the_row K I n o)) (search (sendable, crosses, e) depth 20), (d, (search (sendable, crosses) depth 20, tt))),
+        ),
+      ),
+    )
+
+Directory-sync : (T K I B : RattleType) (g : topic.Ghosts T.Denot) (o : store.Ghosts K.Denot) (n : naming.Ghosts I.Denot) → IsSend T → IsSend K → IsSend B → IsSync B → IsSync (Directory.the_row T K I B g o n)
+Directory-sync T K I B g o n s k b c = let X = Arc.the_row (Shared.the_row T I B g n) Global.the_row ghosts in let a = Arc-send T I B g n s b c in
+    let t = table_send X a in let d = board_sync X a in let e = keeper_send K I n o k in declared_sync (Directory.the_type T K I B g o n) (
+      search (sendable, crosses) depth 20,
+      (
+        terms_sync,
+        (
+          as_row_sync (Mutex.the_field (Table.the_row X)) (search (sendable, crosses, t) depth 20),
+          (as_row_sync (Mutex.the_field (Keeper.the_row K I n o)) (search (sendable, crosses, e) depth 20), (d, (search (sendable, crosses) depth 20, tt))),
+        ),
+      ),
+    )
+
+pub Place-send : (T K I G : RattleType) (g : topic.Ghosts T.Denot) (o : store.Ghosts K.Denot) (n : naming.Ghosts I.Denot) → IsSend T → IsSend K → IsSend G → IsSend (Place.the_row T K I G g o n)
+Place-send T K I G g o n s k e = declared_send (Place.the_type T K I G g o n)
+    (Directory-send T K I Doorbell.the_row g o n s k doorbell_send doorbell_sync, (as_row_send (row_field G) e, tt))
+
+pub Place-sync : (T K I G : RattleType) (g : topic.Ghosts T.Denot) (o : store.Ghosts K.Denot) (n : naming.Ghosts I.Denot) → IsSend T → IsSend K → IsSync G → IsSync (Place.the_row T K I G g o n)
+Place-sync T K I G g o n s k e = declared_sync (Place.the_type T K I G g o n)
+    (Directory-sync T K I Doorbell.the_row g o n s k doorbell_send doorbell_sync, (as_row_sync (row_field G) e, tt))

@@ -1,0 +1,2 @@
+-- Lemmas on what may go to another thread.
+pub mod Crosses

@@ -1,0 +1,23 @@
+// Receives messages, and acknowledges each, as Pulsar's page on the WebSocket API has it.
+// node consumer.js [address] [topic] [subscription] [count]
+const WebSocket = require('ws');
+
+const address = process.argv[2] || 'localhost:8080';
+const topic = process.argv[3] || 'my-topic';
+const subscription = process.argv[4] || 'my-sub';
+const count = process.argv[5] ? Number(process.argv[5]) : Infinity;
+
+const ws = new WebSocket(
+  `ws://${address}/ws/v2/consumer/persistent/public/default/${topic}/${subscription}` +
+  '?subscriptionInitialPosition=Earliest');
+let received = 0;
+
+ws.on('open', () => console.log('Waiting for messages'));
+
+ws.on('message', (text) => {
+  const message = JSON.parse(text);
+  console.log('Received', Buffer.from(message.payload, 'base64').toString(), 'as', message.messageId);
+  ws.send(JSON.stringify({ messageId: message.messageId }));
+  received += 1;
+  if (received === count) ws.close();
+});
