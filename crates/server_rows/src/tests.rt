@@ -1,0 +1,4 @@
+// The server over a database in memory.
+mod attaching;
+mod letters;
+mod world;

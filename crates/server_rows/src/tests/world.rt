@@ -1,0 +1,118 @@
+// A directory over a database in memory, and topics that are asked by lines.
+ghost use Rattle.std.specs.Prelude.{◌≡◌};
+
+use broker_dir::{Attached, Directory, Errands, Open, Terms};
+use delivery_machine::{Event, Reply};
+use kept_rows::{Note, Notes};
+use marks::{Naming, Unnamed};
+use plain_topic::PlainTopic;
+use position_core::{LedgerSize, TopicName};
+use replay_lines::{Line, read_line};
+use row_store::Keeper;
+use session_bells::Bell;
+use session_links::Caller;
+use sqlite::{Connection, MemStore};
+use std::marker::Brand;
+use std::process::Abort;
+use std::rt::Clock;
+use std::sync::{Arc, Wait};
+use topic_shared::{LineLimit, SeatCount};
+
+/// A bell that nobody hears.
+#[derive(Drop)]
+pub(super) struct Silent;
+
+impl Bell for Silent {
+    fn ring<R: Wait>(&self, _rt: &R) {}
+}
+
+pub(super) type Rows<J> = Keeper<MemStore, J>;
+
+pub(super) type Topics<J> = Directory<PlainTopic, MemStore, J, Silent>;
+
+pub(super) type Seat<J> = Attached<PlainTopic, J, Silent>;
+
+/// What is done over a database that has no rows.
+pub(super) trait Scene {
+    fn play<J: Naming, R: Abort + AllocGlobal + Wait + Clock>(&self, rt: &R, keeper: Rows<J>);
+}
+
+fn run<J: Naming, X: Scene, R: Abort + AllocGlobal + Wait + Clock>(
+    rt: &R,
+    history: Unnamed<Note>,
+    scene: &X,
+)
+    requires { history ≡ J.book }
+{
+    let conn = Connection::open_in_memory(rt.alloc()).expect(rt, "no memory");
+    let keeper = Keeper::start(rt.alloc(), conn, Notes::<J>::new(history));
+    scene.play::<J, R>(rt, keeper.ok().expect(rt, "no tables"));
+}
+
+/// Plays the scene over a database that has no rows.
+pub(super) fn with_rows<X: Scene, R: Abort + AllocGlobal + Wait + Clock>(rt: &R, scene: &X) {
+    run::<Brand, X, R>(rt, Unnamed::new(), scene);
+}
+
+/// So many may sit at a topic.
+pub(super) fn open<J: Naming, R: Abort + AllocGlobal>(
+    rt: &R,
+    keeper: Rows<J>,
+    seats: u32,
+) -> Topics<J> {
+    let terms = Terms {
+        ledger_size: LedgerSize::new(50_000).expect(rt, "no size"),
+        lines: LineLimit::new(1_000).expect(rt, "no limit"),
+        seats: SeatCount::new(seats).expect(rt, "no seats"),
+    };
+    Directory::open(rt.alloc(), keeper, terms)
+}
+
+pub(super) fn topic_name<R: Abort + AllocGlobal>(rt: &R, text: &str) -> TopicName {
+    let name = TopicName::from_text(rt.alloc(), text);
+    name.expect(rt, "no memory").expect(rt, "no name")
+}
+
+pub(super) fn bell<R: Abort + AllocGlobal>(rt: &R) -> Arc<Silent> {
+    Arc::new(rt.alloc(), Silent).expect(rt, "no memory")
+}
+
+/// A seat at the topic, which is made where it is not known.
+pub(super) fn sit<J: Naming, R: Abort + AllocGlobal + Wait>(
+    rt: &R,
+    topics: &Topics<J>,
+    name: &str,
+) -> Seat<J> {
+    let attached = topics.attach(rt, &topic_name(rt, name), true, bell(rt));
+    attached.ok().expect(rt, "no seat")
+}
+
+fn event_in<R: AllocGlobal>(rt: &R, name: &TopicName, line: &str) -> Option<Event> {
+    match read_line(rt.alloc(), name, line.as_bytes()) {
+        Ok(Line::Event(event)) => Some(event),
+        _ => None,
+    }
+}
+
+/// What the topic answers to the line.
+pub(super) fn asked<J: Naming, R: Abort + AllocGlobal + Wait>(
+    rt: &R,
+    topics: &Topics<J>,
+    seat: &Seat<J>,
+    line: &str,
+) -> Reply {
+    let event = event_in(rt, seat.topic(), line).expect(rt, "no event");
+    let mut caller = topics.caller(rt, seat, &Open);
+    caller.call(event).ok().expect(rt, "no answer")
+}
+
+/// All that waits is stored, and all couriers go as far as they can.
+pub(super) fn settle<J: Naming, R: Abort + AllocGlobal + Wait + Clock>(rt: &R, topics: &Topics<J>) {
+    let mut errands = Errands::new(rt.alloc()).expect(rt, "no moment");
+    for _ in 0..100 {
+        if !topics.keep_once(rt, &mut errands) {
+            return;
+        }
+    }
+    panic!(rt; "it does not settle");
+}
