@@ -1,6 +1,7 @@
 #!/usr/bin/env python3
 # How fast the broker is: publishes, deliveries, eight topics at once, and connections that do nothing.
 # speed.py PROGRAM [port]
+import multiprocessing
 import os
 import sys
 import threading
@@ -71,15 +72,12 @@ def deliveries(count=600, pause=0.005):
 
 def rate(topics, count=800):
     """Publishes a second, of one publisher to each topic, that wait for their answers."""
-    def go(topic):
-        publishes(topic, count)
-
-    threads = [threading.Thread(target=go, args=(topic,)) for topic in topics]
+    publishers = [multiprocessing.Process(target=publishes, args=(topic, count)) for topic in topics]
     before = time.perf_counter()
-    for thread in threads:
-        thread.start()
-    for thread in threads:
-        thread.join()
+    for publisher in publishers:
+        publisher.start()
+    for publisher in publishers:
+        publisher.join()
     return len(topics) * count / (time.perf_counter() - before)
 
 
