@@ -1,6 +1,6 @@
 use mir.Syntax.{of_param}
 use denote.Param.{param}
-use denote.Param.Send.{IsSend, IsSync, Quiet-if}
+use denote.Param.Send.{Quiet-if}
 use Rattle.plain_topic.specs.contracts.plain.PlainTopic as Plain
 use Rattle.plain_topic.specs.contracts.plain.PlainTopicTopic.TheImpl as PlainTopic
 use Rattle.plain_topic.proofs.plain.PlainTopic.TheSendSync.{the_send as plain_send}
