@@ -1,6 +1,6 @@
 -- The dead letters of one subscription.
-use Rattle.std.specs.Prelude.{◌≡◌, ℕ, ◌-◌, ◌==◌, nat_lt, List, [], ◌∷◌, ◌++◌, length, drop, Bool, false, Option, None, if◌then◌else◌}
-use Rattle.std.specs.List.{slice_get}
+use Rattle.std.specs.Prelude.{◌≡◌, ℕ, ◌-◌, ◌==◌, nat_lt, max, List, [], ◌∷◌, ◌++◌, length, take, drop, Bool, false, Option, None, if◌then◌else◌}
+use Rattle.std.specs.List.{count_by, slice_get}
 use Rattle.std.specs.Option.{option_map_or}
 use Rattle.delivery_machine.specs.State.{DeadLetter, Subscription}
 
@@ -15,6 +15,14 @@ none_dead = record { dead = []; safe = 0 }
 -- a further one, not yet safe
 abbrev pub ending_with : DeadLetter → Letters → Letters
 ending_with letter q = record { dead = q.dead ++ letter ∷ []; safe = q.safe }
+
+-- the last one is taken back, where it is not safe
+abbrev pub without_last : Letters → Letters
+without_last q = if nat_lt q.safe (length q.dead) then record { dead = take (length q.dead - 1) q.dead; safe = q.safe } else q
+
+-- those below the ordinal are safe, and those that were
+abbrev pub safe_below : ℕ → Letters → Letters
+safe_below ordinal q = record { dead = q.dead; safe = max q.safe (count_by (λ d. nat_lt d.ordinal ordinal) q.dead) }
 
 abbrev pub all_safe : Letters → Letters
 all_safe q = record { dead = q.dead; safe = length q.dead }

@@ -1,16 +1,26 @@
 // A queue of letters: they come in at its back, and leave at its front once they are published.
-ghost use Rattle.std.specs.Prelude.{◌≡◌, [], length, None, IfSome, IfNone, OnOk, OnErr, is_some, if◌then◌else◌};
+ghost use Rattle.std.specs.Prelude.{◌≡◌, ◌≤◌, [], length, None, IfOk, IfSome, IfNone, OnOk, OnErr, is_some, if◌then◌else◌};
 ghost use Rattle.std.specs.Option.{option_copied};
 ghost use Rattle.delivery_machine.specs.State.{Subscription};
-ghost use Rattle.delivery_machine.specs.Producing.{storing};
+ghost use Rattle.delivery_machine.specs.Producing.{storing, storing_below};
 ghost use Rattle.delivery_machine.specs.Dying.{burying, first_safe, is_next_letter, moving};
-ghost use Rattle.dead_core.specs.Letters.{AreLettersOf, none_dead, ending_with, all_safe, next_safe, is_next, without_first};
+ghost use Rattle.dead_core.specs.Letters.{AreLettersOf, none_dead, ending_with, without_last, all_safe, safe_below, next_safe, is_next, without_first};
 
 use delivery_machine::DeadLetter;
 use position_core::Ordinal;
 use std::alloc::{AllocError, Global};
 use std::collections::VecDeque;
 use std::marker::Model;
+
+fn queue_of(alloc: Global, letters: &[DeadLetter]) -> Result<VecDeque<DeadLetter>, AllocError>
+    ensures { IfOk result (λ queue. queue.items ≡ letters.now) }
+{
+    let mut queue = VecDeque::new(alloc);
+    for letter in letters {
+        queue.push_back(letter.clone()?)?;
+    }
+    Ok(queue)
+}
 
 /// The dead letters of a subscription, in the order of dying. The first of them are safe: their deaths are
 /// stored, so that they may be published. A call takes constant time, but for a growth, and only `push`
@@ -47,14 +57,47 @@ impl DeadQueue {
         }
     }
 
+    /// The letters of a topic that goes on from its snapshot, where all deaths are stored.
+    pub fn restored(alloc: Global, letters: &[DeadLetter]) -> Result<Self, AllocError>
+        ensures { IfOk result (λ q. q ≡ record { dead = letters.now; safe = length letters.now }) }
+    {
+        Ok(DeadQueue {
+            letters: queue_of(alloc, letters)?,
+            safe: letters.len(),
+        })
+    }
+
     /// A message dies: its letter is the last one, and not safe yet.
     pub fn push(&mut self, letter: DeadLetter) -> Result<(), AllocError>
+        ensures within { self.old.safe ≤ length self.old.dead }
         ensures ok { OnOk result (self.new ≡ ending_with letter self.old) }
         ensures err { OnErr result (self.new ≡ self.old) }
         ensures machine { OnOk result ((sub : Subscription) → AreLettersOf self.old sub → AreLettersOf self.new (burying letter sub)) }
     {
         self.letters.push_back(letter)?;
         Ok(())
+    }
+
+    /// Takes the last letter back, where it is not safe.
+    pub fn take_back(&mut self)
+        ensures { self.new ≡ without_last self.old }
+    {
+        if self.safe < self.letters.len() {
+            self.letters.pop_back();
+        }
+    }
+
+    /// The deaths below the ordinal are stored, and those that were.
+    pub fn mark_safe_below(&mut self, ordinal: Ordinal)
+        ensures value { self.new ≡ safe_below ordinal self.old }
+        ensures machine { (sub : Subscription) → AreLettersOf self.old sub → AreLettersOf self.new (storing_below ordinal sub) }
+    {
+        let stored = self
+            .letters
+            .iter()
+            .filter(|letter| letter.ordinal < ordinal)
+            .count();
+        self.safe = self.safe.max(stored);
     }
 
     /// All deaths so far are stored.
@@ -98,6 +141,17 @@ impl DeadQueue {
         }
         self.safe -= 1;
         self.letters.pop_front()
+    }
+
+    /// Copies of the letters, which share their targets.
+    pub fn letters(&self, alloc: Global) -> Result<Vec<DeadLetter>, AllocError>
+        ensures { IfOk result (λ letters. letters.items ≡ self.now.dead) }
+    {
+        let mut letters = Vec::new(alloc);
+        'each: for i in 0..self.letters.len() {
+            letters.push(self.letters[i].clone()?)?;
+        }
+        Ok(letters)
     }
 
     pub fn count(&self) -> usize

@@ -1,5 +1,5 @@
 // The log of a topic.
-ghost use Rattle.std.specs.Prelude.{◌≡◌, ℕ, false, length, map, slice_get, IfOk, OnOk, OnErr, is_some};
+ghost use Rattle.std.specs.Prelude.{◌≡◌, ◌<◌, ◌≤◌, ◌+◌, ◌^◌, ℕ, None, false, length, map, slice_get, IfOk, OnOk, OnErr, is_some, All};
 ghost use Rattle.std.specs.Option.{option_copied};
 ghost use Rattle.std.specs.List.Sorted.{IsStrictlySortedBy};
 ghost use Rattle.position_core.specs.Position.{position_cmp, same_position};
@@ -8,7 +8,7 @@ ghost use Rattle.delivery_machine.specs.Words.{next_position};
 ghost use Rattle.delivery_machine.specs.Refusals.{is_full};
 ghost use Rattle.delivery_machine.specs.Producing.{with_message};
 ghost use Rattle.entry_log.specs.Log.{IsLogOf, empty_log, next_in, is_full_log, appended, popped, rolled};
-ghost use Rattle.log_pieces.specs.Pieces.{index_of};
+ghost use Rattle.log_pieces.specs.Pieces.{index_of, joined};
 
 use crate::open_ledger::{LAST_LEDGER, OpenLedger};
 use log_pieces::Pieces;
@@ -59,6 +59,42 @@ impl EntryLog {
             undo: None,
             ledger_size,
         }
+    }
+
+    /// The messages of a snapshot, and a ledger after theirs, into which further messages go.
+    pub fn restored(pieces: Pieces, ledger: u64, ledger_size: LedgerSize) -> Self
+        requires rising { IsStrictlySortedBy position_cmp (map (λ e. e.position) (joined pieces)) }
+        requires before { All (λ e. e.position.ledger < ledger) (joined pieces) }
+        requires bounded { ledger ≤ 2 ^ 62 + 1 }
+        ensures { result ≡ record { log = joined pieces; ledger = ledger; ledger_size = ledger_size; undo = None } }
+    {
+        EntryLog {
+            pieces,
+            current: OpenLedger { ledger, used: 0 },
+            undo: None,
+            ledger_size,
+        }
+    }
+
+    /// The messages, most of which the copy shares. Takes a step for each full segment.
+    pub fn pieces(&self) -> Result<Pieces, AllocError>
+        ensures { IfOk result (λ pieces. joined pieces ≡ self.now.log) }
+    {
+        self.pieces.clone()
+    }
+
+    /// The ledger that messages go into.
+    pub fn ledger(&self) -> u64
+        ensures { result ≡ self.now.ledger }
+    {
+        self.current.ledger
+    }
+
+    /// How many messages a ledger has at most.
+    pub fn ledger_size(&self) -> LedgerSize
+        ensures { result ≡ self.now.ledger_size }
+    {
+        self.ledger_size
     }
 
     /// How many messages the log has. Their positions rise, whatever was done with it.

@@ -1,0 +1,3 @@
+pub mod Undone
+mod Buried
+mod Halving

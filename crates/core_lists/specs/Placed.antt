@@ -1,0 +1,132 @@
+-- A subscription as the fast topic keeps it: what is acknowledged and dead by places in the log, all else by positions.
+use Rattle.std.specs.Prelude.{◌≡◌, ℕ, ◌≤◌, ◌<◌, ◌==◌, Bool, true, false, not, ◌||◌, List, [], ◌∷◌, ◌++◌, map, length, Some, slice_get}
+use Rattle.std.specs.List.{filter}
+use Rattle.std.specs.List.Sorted.{IsStrictlySortedBy}
+use Rattle.std.specs.Str.{bytes_eq}
+use Rattle.std.specs.Ordering.{nat_cmp}
+use Rattle.std.specs.FinSet as set
+use Rattle.position_core.specs.declared.position.Position.{Position}
+use Rattle.position_core.specs.declared.message.Entry.{Entry}
+use Rattle.position_core.specs.declared.held.Held.{Held}
+use Rattle.position_core.specs.declared.kind.Kind.{Kind}
+use Rattle.position_core.specs.declared.block.Block.{Block}
+use Rattle.position_core.specs.Position.{position_cmp}
+use Rattle.delivery_machine.specs.State.{State, DeadLetter, Subscription}
+use Rattle.delivery_machine.specs.Words.{is_live, members_of}
+use Rattle.delivery_machine.specs.Places.{AreBelow, positions_at}
+use Rattle.delivery_machine.specs.Shares.{shares_with, given_back}
+use Rattle.ack_ranges.specs.Ranges.{below}
+use Rattle.pending_core.specs.Pending as pending
+use Rattle.dead_core.specs.Letters as letters
+
+-- `places` is what is acknowledged; what died is among `buried`, and all of that is dead or acknowledged;
+-- `line` has the numbers of its members in the order of joining
+pub record Placed : Type 0 where
+  pub name : List ℕ
+  pub kind : Kind
+  pub places : set.FinSet nat_cmp
+  pub buried : set.FinSet nat_cmp
+  pub line : List ℕ
+  pub pending : pending.Pending
+  pub shares : List Block
+  pub letters : letters.Letters
+
+-- the machine's subscription, where the log is its topic's
+abbrev pub sub_in : List Entry → Placed → Subscription
+sub_in log p = record {
+  name = p.name;
+  kind = p.kind;
+  acknowledged = positions_at log p.places;
+  pending = p.pending.pending;
+  counts = p.pending.counts;
+  shares = p.shares;
+  dead = p.letters.dead;
+  safe = p.letters.safe;
+}
+
+abbrev pub is_placed : List ℕ → Placed → Bool
+is_placed name p = bytes_eq p.name name
+
+-- positions rise
+abbrev pub IsRising : List Entry → Type 0
+IsRising log = IsStrictlySortedBy position_cmp (map (λ e. e.position) log)
+
+-- the message at the place is neither acknowledged nor dead
+abbrev pub is_live_at : Placed → ℕ → Bool
+is_live_at p place = not (set.contains p.places place || set.contains p.buried place)
+
+-- what is kept of the subscription speaks of the log and of the members
+pub record IsPlacedIn (s : State) (p : Placed) : Type 0 where
+  pub within : AreBelow (length s.log) p.places
+  pub buried_within : AreBelow (length s.log) p.buried
+  pub live : (place : ℕ) (e : Entry) → slice_get s.log place ≡ Some e → is_live (sub_in s.log p) e ≡ is_live_at p place
+  pub line : p.line ≡ map (λ m. m.number) (members_of s p.name)
+
+-- the least place from the given one on whose message may be live
+pub record IsNextLive (p : Placed) (from place : ℕ) : Type 0 where
+  pub after : from ≤ place
+  pub live : is_live_at p place ≡ true
+  pub least : (k : ℕ) → from ≤ k → k < place → is_live_at p k ≡ false
+
+-- ---- changes
+
+-- as the first consumer makes it, with so many messages acknowledged
+abbrev pub made : List ℕ → Kind → ℕ → ℕ → Placed
+made name kind consumer end = record {
+  name = name;
+  kind = kind;
+  places = below end;
+  buried = set.empty;
+  line = consumer ∷ [];
+  pending = pending.nothing_pending;
+  shares = shares_with kind consumer [];
+  letters = letters.none_dead;
+}
+
+abbrev pub joined_by : Kind → ℕ → Placed → Placed
+joined_by kind consumer p = record p { kind = kind; shares = shares_with kind consumer p.shares; line = p.line ++ consumer ∷ [] }
+
+abbrev pub left_by : ℕ → Placed → Placed
+left_by consumer p = record p { shares = given_back consumer p.shares; line = filter (λ n. not (n == consumer)) p.line }
+
+abbrev pub acknowledged_at : ℕ → Position → Placed → Placed
+acknowledged_at place position p = record p { places = set.insert p.places place; pending = pending.without position p.pending }
+
+abbrev pub acknowledged_below : ℕ → Placed → Placed
+acknowledged_below end p = record p { places = set.union p.places (below end) }
+
+abbrev pub holding_at : Position → Held → Placed → Placed
+holding_at position held p = record p { pending = pending.holding position held p.pending }
+
+abbrev pub due_again_at : Position → ℕ → Placed → Placed
+due_again_at position due p = record p { pending = pending.due_again position due p.pending }
+
+abbrev pub released_at : Position → Placed → Placed
+released_at position p = record p { pending = pending.released position p.pending }
+
+abbrev pub redelivered_at : Position → Placed → Placed
+redelivered_at position p = record p { pending = pending.released position (pending.redelivered position p.pending) }
+
+abbrev pub forgotten_at : Position → Placed → Placed
+forgotten_at position p = record p { pending = pending.without position p.pending }
+
+abbrev pub buried_at : ℕ → DeadLetter → Placed → Placed
+buried_at place letter p = record p {
+  buried = set.insert p.buried place;
+  pending = pending.without letter.position p.pending;
+  letters = letters.ending_with letter p.letters;
+}
+
+-- the first letter is gone, and its message, which stands at the place, is acknowledged
+abbrev pub moved_from : ℕ → Position → Placed → Placed
+moved_from place position p = record (acknowledged_at place position p) { letters = letters.without_first p.letters }
+
+abbrev pub all_safe_in : Placed → Placed
+all_safe_in p = record p { letters = letters.all_safe p.letters }
+
+abbrev pub safe_below_in : ℕ → Placed → Placed
+safe_below_in ordinal p = record p { letters = letters.safe_below ordinal p.letters }
+
+-- so many messages are acknowledged, and of the others those are dead that stand at the places
+abbrev pub sought_to : ℕ → set.FinSet nat_cmp → Placed → Placed
+sought_to end buried p = record p { places = below end; buried = buried; pending = pending.nothing_pending }
