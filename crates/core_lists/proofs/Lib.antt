@@ -1,3 +1,4 @@
 pub mod Undone
 mod Buried
 mod Halving
+pub mod Links

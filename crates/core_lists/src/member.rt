@@ -1,7 +1,7 @@
 // What a consumer of a subscription asked for, and what it was sent.
 ghost use Rattle.std.specs.Prelude.{◌≡◌, OnOk, OnErr, IfOk, IfErr, None, Some};
 ghost use Rattle.delivery_machine.specs.Words.{is_member, is_at, comes_before, emptied};
-ghost use Rattle.position_core.specs.Flow.{granting_refused};
+ghost use Rattle.position_core.specs.Flow.{flow_has_room, granting_refused};
 ghost use Rattle.delivery_machine.specs.Joining.{permitted};
 ghost use Rattle.delivery_machine.specs.Delivering.{due_after};
 ghost use Rattle.core_lists.specs.Members.{joining, leaving_out, pushed, shortened, spending};
@@ -123,6 +123,16 @@ impl Member {
         let level = self.level.get();
         let their_level = other.level.get();
         level < their_level || (level == their_level && self.number < other.number)
+    }
+
+    /// Whether a further message may be sent to it, where so many are pending at it.
+    pub fn has_room(&self, pending: usize) -> bool
+        ensures { result ≡ flow_has_room self.now.flow pending }
+    {
+        match self.flow {
+            Flow::Window(size) => pending < size.get() as usize,
+            Flow::Credit(left) => left.get() > 0,
+        }
     }
 
     /// How long after a negative acknowledgement a message is sent again.
