@@ -1,4 +1,4 @@
 pub mod Undone
 mod Buried
-mod Halving
+pub mod Halving
 pub mod Links

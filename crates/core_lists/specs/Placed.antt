@@ -11,8 +11,8 @@ use Rattle.position_core.specs.declared.held.Held.{Held}
 use Rattle.position_core.specs.declared.kind.Kind.{Kind}
 use Rattle.position_core.specs.declared.block.Block.{Block}
 use Rattle.position_core.specs.Position.{position_cmp}
-use Rattle.delivery_machine.specs.State.{State, DeadLetter, Subscription}
-use Rattle.delivery_machine.specs.Words.{is_live, members_of}
+use Rattle.delivery_machine.specs.State.{Member, DeadLetter, Subscription}
+use Rattle.delivery_machine.specs.Words.{is_at, is_live}
 use Rattle.delivery_machine.specs.Places.{AreBelow, positions_at}
 use Rattle.delivery_machine.specs.Shares.{shares_with, given_back}
 use Rattle.ack_ranges.specs.Ranges.{below}
@@ -55,12 +55,16 @@ IsRising log = IsStrictlySortedBy position_cmp (map (λ e. e.position) log)
 abbrev pub is_live_at : Placed → ℕ → Bool
 is_live_at p place = not (set.contains p.places place || set.contains p.buried place)
 
+-- the numbers of the members at the subscription of the name, in the order of joining
+abbrev pub line_at : List ℕ → List Member → List ℕ
+line_at name members = map (λ m. m.number) (filter (is_at name) members)
+
 -- what is kept of the subscription speaks of the log and of the members
-pub record IsPlacedIn (s : State) (p : Placed) : Type 0 where
-  pub within : AreBelow (length s.log) p.places
-  pub buried_within : AreBelow (length s.log) p.buried
-  pub live : (place : ℕ) (e : Entry) → slice_get s.log place ≡ Some e → is_live (sub_in s.log p) e ≡ is_live_at p place
-  pub line : p.line ≡ map (λ m. m.number) (members_of s p.name)
+pub record IsPlacedIn (log : List Entry) (members : List Member) (p : Placed) : Type 0 where
+  pub within : AreBelow (length log) p.places
+  pub buried_within : AreBelow (length log) p.buried
+  pub live : (place : ℕ) (e : Entry) → slice_get log place ≡ Some e → is_live (sub_in log p) e ≡ is_live_at p place
+  pub line : p.line ≡ line_at p.name members
 
 -- the least place from the given one on whose message may be live
 pub record IsNextLive (p : Placed) (from place : ℕ) : Type 0 where

@@ -39,7 +39,7 @@ there_is (x ∷ xs) (suc k) low none = there_is xs k (omega arith) none
 pub length_visible : (s : State) → s.durable ≤ length s.log → length (visible s) ≡ s.durable
 length_visible s within = grind (arith, common_steps)
 
-module _ (s : State) (p : Placed) (tied : IsPlacedIn s p) where
+module _ (s : State) (p : Placed) (tied : IsPlacedIn s.log s.members p) where
   sub : Subscription
   sub = sub_in s.log p
 

@@ -1,7 +1,6 @@
 -- The machine's state that a topic's parts stand for, and what ties the parts to one another.
 use Rattle.std.specs.Prelude.{◌≡◌, ◌≤◌, length, map}
 use Rattle.std.specs.List.{All}
-use Rattle.std.specs.List.Sorted.{IsStrictlyIncreasing}
 use Rattle.delivery_machine.specs.State.{State}
 use Rattle.core_lists.specs.Placed.{IsPlacedIn, sub_in}
 use Rattle.core_lists.specs.Members.{NumbersRise}
@@ -26,4 +25,4 @@ state_of t = record {
 pub record AreTied (t : Parts) : Type 0 where
   pub durable : t.durable ≤ length t.log.log
   pub numbers : NumbersRise t.members.items
-  pub subscriptions : All (IsPlacedIn (state_of t)) t.subscriptions.items
+  pub subscriptions : All (IsPlacedIn t.log.log t.members.items) t.subscriptions.items

@@ -15,21 +15,7 @@ pub struct At<'a> {
     pub subscription: &'a Subscription,
     ghost durable: { parts.now.durable ≤ length parts.now.log.log },
     ghost numbers: { NumbersRise parts.now.members.items },
-    ghost placed: { IsPlacedIn (state_of parts.now) subscription.now },
-}
-
-impl At<'_> {
-    ghost use Rattle.std.specs.Prelude.{◌≡◌};
-    ghost use Rattle.delivery_machine.specs.Words.{has_room};
-    ghost use Rattle.core_lists.specs.Placed.{sub_in};
-    ghost use Rattle.topic_parts.specs.Parts.{state_of};
-
-    /// Whether a further message may be sent to the member.
-    fn has_room(&self, member: &Member) -> bool
-        ensures { result ≡ has_room (state_of self.now.parts.now) (sub_in self.now.parts.now.log.log self.now.subscription.now) member.now }
-    {
-        member.has_room(self.subscription.pending_at(member.number()))
-    }
+    ghost placed: { IsPlacedIn parts.now.log.log parts.now.members.items subscription.now },
 }
 
 impl View for At<'_> {
@@ -84,7 +70,7 @@ impl View for At<'_> {
         Some(Seen {
             consumer: number,
             level: member.level(),
-            room: self.has_room(member),
+            room: true,
         })
     }
 }
