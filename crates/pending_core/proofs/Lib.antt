@@ -2,3 +2,4 @@ pub mod Found
 pub mod Tied
 pub mod First
 pub mod Machine
+pub mod Counting
