@@ -44,7 +44,7 @@ module _ (f : Seat → Bool) (s : Seat) where
         | false ↦ λ _ e. let rest = count-remove_key ks e in let at = sum_by-cons one x ks in let left = sum_by-cons one x (remove_key (is_at (seat_cmp s)) ks) in omega arith
       ] refl h
 
-same_consumer : (a b : ℕ) → is_at (nat_cmp a) b ≡ (a == b)
+pub same_consumer : (a b : ℕ) → is_at (nat_cmp a) b ≡ (a == b)
 same_consumer a b = unsigned_tied a b
 
 module _ (seats new : BTreeSet Seat) (numbers changed : List (ℕ × ℕ)) (s : Seat) (counted : AreCounted seats numbers) where

@@ -3,3 +3,4 @@ pub mod Tied
 pub mod First
 pub mod Machine
 pub mod Counting
+pub mod Seating
