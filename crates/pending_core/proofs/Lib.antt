@@ -4,3 +4,6 @@ pub mod First
 pub mod Machine
 pub mod Counting
 pub mod Seating
+pub mod Matching
+pub mod FirstSeats
+pub mod Empty

@@ -20,13 +20,21 @@ use Rattle.pending_core.specs.Seats.{seat_cmp, seat_of, SeatChanges, AreSeatsOf}
 use Rattle.pending_core.proofs.Tied.{nothing_is_some}
 use Rattle.pending_core.proofs.Counting.{seats_total, exact_seats, same_consumer}
 
-abbrev Holding : Type 0
+abbrev pub Holding : Type 0
 Holding = map_of.FinMap position_cmp Held
 
 both : (o r : Ordering) → is_eq (ordering_then o r) ≡ (is_eq o && is_eq r)
 both Less r = refl
 both Equal r = refl
 both Greater r = refl
+
+pub and_true : (b : Bool) → (b && true) ≡ b
+and_true true = refl
+and_true false = refl
+
+pub and_false : (b : Bool) → (b && false) ≡ false
+and_false true = refl
+and_false false = refl
 
 -- two seats are the same where the consumers and the positions are
 pub seat_test : (a b : Seat) → is_at (seat_cmp a) b ≡ ((a.consumer == b.consumer) && is_at (position_cmp a.position) b.position)
@@ -63,17 +71,9 @@ module _ (seats new : BTreeSet Seat) (m n : Holding) (p : Position) (o : Option 
 module _ (old new : BTreeSet Seat) (consumer : ℕ) (p : Position) (taken : Bool) (change : SeatChanges (seat_of consumer p) taken old new) (s : Seat) where
   at_position : is_at (position_cmp p) s.position ≡ true → contains seat_cmp new s ≡ cond (consumer == s.consumer) taken (contains seat_cmp old s)
   at_position e = change s ∙ ap (λ b. cond b taken (contains seat_cmp old s)) (seat_test (seat_of consumer p) s ∙ ap (λ b. (consumer == s.consumer) && b) e ∙ and_true (consumer == s.consumer))
-    where
-      and_true : (b : Bool) → (b && true) ≡ b
-      and_true true = refl
-      and_true false = refl
 
   at_others : is_at (position_cmp p) s.position ≡ false → contains seat_cmp new s ≡ contains seat_cmp old s
   at_others e = change s ∙ ap (λ b. cond b taken (contains seat_cmp old s)) (seat_test (seat_of consumer p) s ∙ ap (λ b. (consumer == s.consumer) && b) e ∙ and_false (consumer == s.consumer))
-    where
-      and_false : (b : Bool) → (b && false) ≡ false
-      and_false true = refl
-      and_false false = refl
 
 abbrev seat_held : Position → Option Held → Option Seat
 seat_held p = option_map (λ h. seat_of h.consumer p)

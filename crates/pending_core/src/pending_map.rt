@@ -166,7 +166,10 @@ impl PendingMap {
     pub fn first(&self) -> Option<Position>
         ensures { IsFirstPending self.now result }
     {
-        self.seats.first().map(|seat| seat.position)
+        match self.seats.first() {
+            Some(seat) => Some(seat.position),
+            None => None,
+        }
     }
 
     /// The first message that is pending at the consumer.

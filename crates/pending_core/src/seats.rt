@@ -26,7 +26,8 @@ pub(crate) struct Seats {
 impl Model for Seats {
     ghost use Rattle.std.specs.BTreeSet.{BTreeSet as Keys};
     ghost use Rattle.pending_core.specs.declared.seats.Seat.{Seat as OneSeat};
-    ghost use Rattle.pending_core.specs.Seats.{coded_seats, AreCounted};
+    ghost use Rattle.std.specs.BTreeSet.{IsOrdered};
+    ghost use Rattle.pending_core.specs.Seats.{seat_cmp as in_order, coded_seats, AreCounted};
 
     ghost Value = { Keys OneSeat };
 
@@ -34,7 +35,7 @@ impl Model for Seats {
 
     ghost view = { λ s. s.seats };
 
-    ghost invariant = { λ s. AreCounted s.seats s.counts.entries };
+    ghost invariant = { λ s. IsOrdered in_order s.seats × AreCounted s.seats s.counts.entries };
 }
 
 impl Seats {
@@ -83,7 +84,8 @@ impl Seats {
     }
 
     pub(crate) fn count_at(&self, consumer: ConsumerNumber) -> usize
-        ensures { result ≡ seats_at self.now consumer }
+        ensures number { result ≡ seats_at self.now consumer }
+        ensures ordered { tree_set.IsOrdered seat_cmp self.now }
     {
         counts::number(&self.counts, consumer)
     }
