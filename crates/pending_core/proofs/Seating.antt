@@ -18,7 +18,7 @@ use Rattle.pending_core.specs.declared.seats.Seat.{Seat}
 use Rattle.pending_core.specs.Pending.{Pending, due_again, redelivered}
 use Rattle.pending_core.specs.Seats.{seat_cmp, seat_of, SeatChanges, AreSeatsOf}
 use Rattle.pending_core.proofs.Tied.{nothing_is_some}
-use Rattle.pending_core.proofs.Counting.{seats_total, exact_seats, same_consumer}
+use Rattle.pending_core.proofs.Counting.{seats_total, same_consumer}
 
 abbrev pub Holding : Type 0
 Holding = map_of.FinMap position_cmp Held
@@ -110,9 +110,9 @@ module _ (seats : BTreeSet Seat) (m : Holding) (p : Position) (are : AreSeatsOf 
           let apart : (x.consumer == h.consumer) ≡ false = sym (ap (is_held_by h.consumer) e) ∙ elsewhere in
           reseated seats new m (map_of.insert m p h) p (Some h) are (got-insert m p h)
           (λ s here was.
-              at_position taken new x.consumer p false leaves s here
-              ∙ ap (cond (x.consumer == s.consumer) false) (at_position seats taken h.consumer p true took s here)
-              ∙ moves (x.consumer == s.consumer) (h.consumer == s.consumer) _ (was ∙ ap (is_held_by s.consumer) e) (λ t. nat_eq_equiv.symm h.consumer s.consumer ∙ sym (nat_eq_equiv.congr x.consumer s.consumer h.consumer t) ∙ apart))
+          at_position taken new x.consumer p false leaves s here
+          ∙ ap (cond (x.consumer == s.consumer) false) (at_position seats taken h.consumer p true took s here)
+          ∙ moves (x.consumer == s.consumer) (h.consumer == s.consumer) _ (was ∙ ap (is_held_by s.consumer) e) (λ t. nat_eq_equiv.symm h.consumer s.consumer ∙ sym (nat_eq_equiv.congr x.consumer s.consumer h.consumer t) ∙ apart))
           (λ s there. at_others taken new x.consumer p false leaves s there ∙ at_others seats taken h.consumer p true took s there)
 
   -- or left the one that had it

@@ -78,12 +78,7 @@ impl PendingMap {
         ensures acknowledged { (sub : Subscription) → IsPendingOf self.old sub → IsPendingOf self.new (acknowledging (position ∷ []) sub) }
         ensures died { (letter : DeadLetter) (sub : Subscription) → letter.position ≡ position → IsPendingOf self.old sub → IsPendingOf self.new (burying letter sub) }
     {
-        seated::remove(
-            &mut self.kept,
-            &mut self.slots,
-            &mut self.seats,
-            position,
-        );
+        seated::remove(&mut self.kept, &mut self.slots, &mut self.seats, position);
     }
 
     /// Gives a pending message another due moment. Where it is not pending, nothing changes.
@@ -99,12 +94,7 @@ impl PendingMap {
     pub fn release(&mut self, position: Position)
         ensures { self.new ≡ released position self.old }
     {
-        seated::release(
-            &mut self.kept,
-            &mut self.slots,
-            &mut self.seats,
-            position,
-        );
+        seated::release(&mut self.kept, &mut self.slots, &mut self.seats, position);
     }
 
     /// Counts one more redelivery of a pending message, up to 2^31 - 1. Where it is not pending, nothing

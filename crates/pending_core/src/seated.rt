@@ -99,12 +99,7 @@ pub(crate) fn hold(
     }
 }
 
-pub(crate) fn release(
-    table: &mut Table,
-    slots: &mut DueTree,
-    seats: &mut Seats,
-    position: Position,
-)
+pub(crate) fn release(table: &mut Table, slots: &mut DueTree, seats: &mut Seats, position: Position)
     requires tied { AreTied table.old.entries slots.old }
     requires seated { AreSeatsOf seats.old (pending_in table.old.entries).pending }
     ensures tied { AreTied table.new.entries slots.new }

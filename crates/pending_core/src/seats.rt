@@ -107,7 +107,13 @@ impl Seats {
             entry: 0,
         };
         match first_from(&self.seats, Seat { consumer, position }) {
-            Some(seat) => { if seat.consumer == consumer { Some(seat.position) } else { None } }
+            Some(seat) => {
+                if seat.consumer == consumer {
+                    Some(seat.position)
+                } else {
+                    None
+                }
+            }
             None => None,
         }
     }

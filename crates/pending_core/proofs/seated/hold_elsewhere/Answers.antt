@@ -1,4 +1,4 @@
-use Rattle.std.proofs.Common.{ap, subst, sym}
+use Rattle.std.proofs.Common.{subst, sym}
 use Rattle.pending_core.specs.Kept.{pending_in}
 use Rattle.pending_core.specs.Pending.{Pending}
 use Rattle.pending_core.specs.Seats.{AreSeatsOf}
