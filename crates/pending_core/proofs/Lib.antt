@@ -2,3 +2,8 @@ pub mod Found
 pub mod Tied
 pub mod First
 pub mod Machine
+pub mod Counting
+pub mod Seating
+pub mod Matching
+pub mod FirstSeats
+pub mod Empty

@@ -8,7 +8,7 @@ use Rattle.delivery_machine.specs.Acknowledging.{acknowledging}
 use Rattle.delivery_machine.specs.Dying.{burying}
 use Rattle.delivery_machine.specs.Ticking.{redelivering}
 use Rattle.delivery_machine.proofs.Retained.{removed_one}
-use Rattle.pending_core.specs.Pending.{Pending, without, released, redelivered, count_at, IsPendingOf, CountedAndReleased}
+use Rattle.pending_core.specs.Pending.{Pending, without, IsPendingOf, CountedAndReleased}
 
 pub acknowledged_one : (s new : Pending) (position : Position) → new ≡ without position s → (sub : Subscription) → IsPendingOf s sub → IsPendingOf new (acknowledging (position ∷ []) sub)
 acknowledged_one s new position is sub agrees = (

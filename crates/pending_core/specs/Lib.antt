@@ -1,3 +1,4 @@
 pub mod Pending
 pub mod Codes
 pub mod Kept
+pub mod Seats

@@ -1,12 +1,15 @@
 -- What is pending in a subscription, and how often it was redelivered.
-use Rattle.std.specs.Prelude.{◌≡◌, ℕ, ◌+◌, min, true, [], ◌∷◌, Option, Some, None, if◌then◌else◌}
+use Rattle.std.specs.Prelude.{◌≡◌, ℕ, ◌+◌, ◌<◌, ◌==◌, min, true, [], ◌∷◌, Option, Some, None, if◌then◌else◌, IsTrue}
+use Rattle.std.specs.List.{count_by}
 use Rattle.std.specs.Option.{option_map_or, option_and_then, unwrap_or}
 use Rattle.std.specs.FinMap as map_of
 use Rattle.std.specs.BTreeMap.Range.{IsLeBy}
+use Rattle.position_core.specs.Numbers.{ConsumerNumber}
 use Rattle.position_core.specs.Position.{position_cmp}
 use Rattle.position_core.specs.declared.position.Position.{Position}
 use Rattle.position_core.specs.declared.held.Held.{Held}
 use Rattle.delivery_machine.specs.State.{Subscription}
+use Rattle.delivery_machine.specs.Words.{is_held_by}
 use Rattle.delivery_machine.specs.Ticking.{redelivering}
 use Rattle.due_tree.specs.declared.due.Due.{Due}
 use Rattle.due_tree.specs.Due.{due_cmp}
@@ -54,6 +57,24 @@ IsDue s due = option_and_then (λ held. held.due) (map_of.get s.pending due.posi
 abbrev pub IsFirstDue : Pending → Option Due → Type 0
 IsFirstDue s None = (due : Due) → IsDue s due → ⊥
 IsFirstDue s (Some first) = IsDue s first × ((other : Due) → IsDue s other → IsLeBy due_cmp first other)
+
+-- the message is pending at the consumer
+abbrev pub IsPendingAt : Pending → ConsumerNumber → Position → Type 0
+IsPendingAt s consumer position = IsTrue (is_held_by consumer (map_of.get s.pending position))
+
+-- the least position that is pending at the consumer; or none is
+abbrev pub IsFirstAt : Pending → ConsumerNumber → Option Position → Type 0
+IsFirstAt s consumer None = (position : Position) → IsPendingAt s consumer position → ⊥
+IsFirstAt s consumer (Some first) = IsPendingAt s consumer first × ((other : Position) → IsPendingAt s consumer other → IsLeBy position_cmp first other)
+
+-- the first at the least consumer at which one is pending; or none is pending
+abbrev pub IsFirstPending : Pending → Option Position → Type 0
+IsFirstPending s None = (position : Position) → map_of.get s.pending position ≡ None
+IsFirstPending s (Some first) = (consumer : ConsumerNumber) × IsFirstAt s consumer (Some first) × ((lesser : ConsumerNumber) → lesser < consumer → IsFirstAt s lesser None)
+
+-- how many messages are pending at the consumer
+abbrev pub pending_count_at : Pending → ConsumerNumber → ℕ
+pending_count_at s consumer = count_by (λ held. held.consumer == consumer) (map_of.values s.pending)
 
 -- what is pending and counted is the subscription's
 abbrev pub IsPendingOf : Pending → Subscription → Type 0

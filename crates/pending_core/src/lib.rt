@@ -1,8 +1,11 @@
 //! The pending messages of a subscription, with their redelivery counts.
 #![tactic(auto)]
 
+mod counts;
 mod kept;
 mod pending_map;
+mod seated;
+mod seats;
 mod table;
 
 pub use due_tree::Due;

@@ -9,12 +9,13 @@ ghost use Rattle.delivery_machine.specs.Acknowledging.{acknowledging};
 ghost use Rattle.delivery_machine.specs.Delivering as delivering;
 ghost use Rattle.delivery_machine.specs.Dying.{burying};
 ghost use Rattle.delivery_machine.specs.Seeking.{seeking};
-ghost use Rattle.pending_core.specs.Pending.{nothing_pending, holding, without, released, due_again, redelivered, count_at, most_count, CountedAndReleased, IsFirstDue, IsPendingOf};
+ghost use Rattle.pending_core.specs.Pending.{nothing_pending, holding, without, released, due_again, redelivered, count_at, most_count, pending_count_at, CountedAndReleased, IsFirstAt, IsFirstDue, IsFirstPending, IsPendingOf};
 
 use crate::kept::Kept;
-use crate::table;
+use crate::seats::Seats;
+use crate::{seated, table};
 use due_tree::{Due, DueTree};
-use position_core::{DueMoment, Held, Position};
+use position_core::{ConsumerNumber, DueMoment, Held, Position};
 use std::alloc::{AllocError, Global};
 use std::collections::BTreeMap;
 use std::marker::Model;
@@ -26,12 +27,14 @@ use std::marker::Model;
 pub struct PendingMap {
     kept: BTreeMap<Position, Kept>,
     slots: DueTree,
+    seats: Seats,
 }
 
 impl Model for PendingMap {
     ghost use Rattle.pending_core.specs.Pending.{Pending};
     ghost use Rattle.pending_core.specs.Codes.{coded_pending};
     ghost use Rattle.pending_core.specs.Kept.{pending_in, AreTied};
+    ghost use Rattle.pending_core.specs.Seats.{AreSeatsOf};
 
     ghost Value = { Pending };
 
@@ -39,7 +42,7 @@ impl Model for PendingMap {
 
     ghost view = { λ m. pending_in m.kept.entries };
 
-    ghost invariant = { λ m. AreTied m.kept.entries m.slots };
+    ghost invariant = { λ m. AreTied m.kept.entries m.slots × AreSeatsOf m.seats (pending_in m.kept.entries).pending };
 }
 
 impl PendingMap {
@@ -50,6 +53,7 @@ impl PendingMap {
         PendingMap {
             kept: BTreeMap::new(alloc),
             slots: DueTree::new(alloc),
+            seats: Seats::new(alloc),
         }
     }
 
@@ -59,7 +63,13 @@ impl PendingMap {
         ensures err { OnErr result (self.new ≡ self.old) }
         ensures machine { OnOk result ((sub : Subscription) → IsPendingOf self.old sub → IsPendingOf self.new (delivering.holding position held sub)) }
     {
-        table::hold(&mut self.kept, &mut self.slots, position, held)
+        seated::hold(
+            &mut self.kept,
+            &mut self.slots,
+            &mut self.seats,
+            position,
+            held,
+        )
     }
 
     /// Forgets a message, with its count: it was acknowledged, or died.
@@ -68,7 +78,7 @@ impl PendingMap {
         ensures acknowledged { (sub : Subscription) → IsPendingOf self.old sub → IsPendingOf self.new (acknowledging (position ∷ []) sub) }
         ensures died { (letter : DeadLetter) (sub : Subscription) → letter.position ≡ position → IsPendingOf self.old sub → IsPendingOf self.new (burying letter sub) }
     {
-        table::remove(&mut self.kept, &mut self.slots, position);
+        seated::remove(&mut self.kept, &mut self.slots, &mut self.seats, position);
     }
 
     /// Gives a pending message another due moment. Where it is not pending, nothing changes.
@@ -84,7 +94,7 @@ impl PendingMap {
     pub fn release(&mut self, position: Position)
         ensures { self.new ≡ released position self.old }
     {
-        table::release(&mut self.kept, &mut self.slots, position);
+        seated::release(&mut self.kept, &mut self.slots, &mut self.seats, position);
     }
 
     /// Counts one more redelivery of a pending message, up to 2^31 - 1. Where it is not pending, nothing
@@ -98,10 +108,7 @@ impl PendingMap {
     pub fn get(&self, position: Position) -> Option<Held>
         ensures { result ≡ map_of.get self.now.pending position }
     {
-        match table::find(&self.kept, position) {
-            Some(kept) => kept.held,
-            None => None,
-        }
+        table::held(&self.kept, position)
     }
 
     /// The consumer at which a message is pending.
@@ -131,6 +138,37 @@ impl PendingMap {
         self.slots.first()
     }
 
+    /// How many messages are pending.
+    pub fn len(&self) -> usize
+        ensures { result ≡ map_of.len self.now.pending }
+    {
+        self.seats.len()
+    }
+
+    /// How many messages are pending at the consumer.
+    pub fn count_at(&self, consumer: ConsumerNumber) -> usize
+        ensures { result ≡ pending_count_at self.now consumer }
+    {
+        self.seats.count_at(consumer)
+    }
+
+    /// A pending message: of those at the least consumer the first.
+    pub fn first(&self) -> Option<Position>
+        ensures { IsFirstPending self.now result }
+    {
+        match self.seats.first() {
+            Some(seat) => Some(seat.position),
+            None => None,
+        }
+    }
+
+    /// The first message that is pending at the consumer.
+    pub fn first_at(&self, consumer: ConsumerNumber) -> Option<Position>
+        ensures { IsFirstAt self.now consumer result }
+    {
+        self.seats.first_at(consumer)
+    }
+
     /// Forgets all messages and counts.
     pub fn clear(&mut self)
         ensures value { self.new ≡ nothing_pending }
@@ -138,6 +176,7 @@ impl PendingMap {
     {
         self.kept.clear();
         self.slots.clear();
+        self.seats.clear();
     }
 }
 

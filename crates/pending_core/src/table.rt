@@ -1,5 +1,6 @@
 // Changes of what is kept of a position, and of its slot.
 ghost use Rattle.std.specs.Prelude.{◌≡◌, ◌<◌, length, List, Some, None, IfSome, OnOk, OnErr, slice_set};
+ghost use Rattle.std.specs.FinMap as map_of;
 ghost use Rattle.due_tree.specs.declared.due.Slot.{Slot};
 ghost use Rattle.pending_core.specs.Pending.{holding, without, released, due_again, redelivered};
 ghost use Rattle.pending_core.specs.Kept.{kept_at, pending_in, slot_of, ChangesAt, AreTied};
@@ -10,12 +11,21 @@ use position_core::{DueMoment, Held, Position};
 use std::alloc::AllocError;
 use std::collections::BTreeMap;
 
-type Table = BTreeMap<Position, Kept>;
+pub(crate) type Table = BTreeMap<Position, Kept>;
 
 pub(crate) fn find(table: &Table, position: Position) -> Option<Kept>
     ensures { result ≡ kept_at table.now.entries position }
 {
     table.get(&position).copied()
+}
+
+pub(crate) fn held(table: &Table, position: Position) -> Option<Held>
+    ensures { result ≡ map_of.get (pending_in table.now.entries).pending position }
+{
+    match find(table, position) {
+        Some(kept) => kept.held,
+        None => None,
+    }
 }
 
 /// Gives a position another holder, or none.
