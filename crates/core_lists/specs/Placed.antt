@@ -5,6 +5,7 @@ use Rattle.std.specs.List.Sorted.{IsStrictlySortedBy}
 use Rattle.std.specs.Str.{bytes_eq}
 use Rattle.std.specs.Ordering.{nat_cmp}
 use Rattle.std.specs.FinSet as set
+use Rattle.std.specs.FinMap as map_of
 use Rattle.position_core.specs.declared.position.Position.{Position}
 use Rattle.position_core.specs.declared.message.Entry.{Entry}
 use Rattle.position_core.specs.declared.held.Held.{Held}
@@ -14,6 +15,7 @@ use Rattle.position_core.specs.Position.{position_cmp}
 use Rattle.delivery_machine.specs.State.{Member, DeadLetter, Subscription}
 use Rattle.delivery_machine.specs.Words.{is_at, is_live}
 use Rattle.delivery_machine.specs.Places.{AreBelow, positions_at}
+use Rattle.delivery_machine.specs.WellFormed.{has_message}
 use Rattle.delivery_machine.specs.Shares.{shares_with, given_back}
 use Rattle.ack_ranges.specs.Ranges.{below}
 use Rattle.pending_core.specs.Pending as pending
@@ -65,6 +67,7 @@ pub record IsPlacedIn (log : List Entry) (members : List Member) (p : Placed) : 
   pub buried_within : AreBelow (length log) p.buried
   pub live : (place : ℕ) (e : Entry) → slice_get log place ≡ Some e → is_live (sub_in log p) e ≡ is_live_at p place
   pub line : p.line ≡ line_at p.name members
+  pub pending : (position : Position) → map_of.contains_key p.pending.pending position ≡ true → has_message log position ≡ true
 
 -- the least place from the given one on whose message may be live
 pub record IsNextLive (p : Placed) (from place : ℕ) : Type 0 where

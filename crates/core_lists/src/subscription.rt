@@ -1,11 +1,11 @@
 // What a subscription of the fast topic knows of its messages.
-ghost use Rattle.std.specs.Prelude.{◌≡◌, ◌+◌, ◌<◌, ◌≤◌, ◌^◌, ◌==◌, ◌||◌, ℕ, true, false, not, IfOk, OnOk, OnErr, length};
+ghost use Rattle.std.specs.Prelude.{◌≡◌, ◌+◌, ◌<◌, ◌≤◌, ◌^◌, ◌==◌, ◌||◌, ℕ, true, false, not, IfOk, OnOk, OnErr, length, slice_get};
 ghost use Rattle.std.specs.List.{filter};
 ghost use Rattle.std.specs.Option.{option_copied, option_map};
 ghost use Rattle.std.specs.FinSet as set;
 ghost use Rattle.std.specs.FinMap as map_of;
 ghost use Rattle.delivery_machine.specs.Shares.{owner_of, shares_with};
-ghost use Rattle.pending_core.specs.Pending.{IsFirstDue, count_at};
+ghost use Rattle.pending_core.specs.Pending.{IsFirstAt, IsFirstDue, IsFirstPending, count_at, pending_count_at};
 ghost use Rattle.dead_core.specs.Letters.{next_safe};
 ghost use Rattle.core_lists.specs.Placed.{IsNextLive, acknowledged_at, acknowledged_below, all_safe_in, buried_at, due_again_at, forgotten_at, holding_at, is_placed, joined_by, left_by, made, moved_from, redelivered_at, released_at, safe_below_in, sought_to};
 
@@ -136,6 +136,14 @@ impl Subscription {
         &self.line
     }
 
+    /// The number of the member at the place of the line.
+    pub fn number_at(&self, place: u64) -> Option<ConsumerNumber>
+        ensures value { result ≡ slice_get self.now.line place }
+        ensures few { length self.now.line < 2 ^ 64 }
+    {
+        self.line.get(place as usize).copied()
+    }
+
     /// Lets the consumer in, and takes its kind. Nothing changes where there is no memory.
     pub fn join(&mut self, kind: Kind, consumer: ConsumerNumber) -> Result<(), AllocError>
         ensures ok { OnOk result (self.new ≡ joined_by kind consumer self.old) }
@@ -189,6 +197,34 @@ impl Subscription {
         ensures { result ≡ option_map (λ h. h.consumer) (map_of.get self.now.pending.pending position) }
     {
         self.pending.held_by(position)
+    }
+
+    /// How many messages are pending at the consumer.
+    pub fn pending_at(&self, consumer: ConsumerNumber) -> usize
+        ensures { result ≡ pending_count_at self.now.pending consumer }
+    {
+        self.pending.count_at(consumer)
+    }
+
+    /// How many messages are pending.
+    pub fn number_pending(&self) -> usize
+        ensures { result ≡ map_of.len self.now.pending.pending }
+    {
+        self.pending.len()
+    }
+
+    /// A pending message.
+    pub fn first_pending(&self) -> Option<Position>
+        ensures { IsFirstPending self.now.pending result }
+    {
+        self.pending.first()
+    }
+
+    /// The first message that is pending at the consumer.
+    pub fn first_pending_at(&self, consumer: ConsumerNumber) -> Option<Position>
+        ensures { IsFirstAt self.now.pending consumer result }
+    {
+        self.pending.first_at(consumer)
     }
 
     /// What is pending first falls due.

@@ -45,7 +45,7 @@ put_count f p h (e ∷ es) none =
 pub count-insert : (f : Held → Bool) (m : Holding) (p : Position) (h : Held) → map_of.get m p ≡ None → count_by f (map_of.values (map_of.insert m p h)) ≡ count_by f (map_of.values m) + cond (f h) 1 0
 count-insert f m p h none = ap (λ es. count_by f (map (λ e. e.1) es)) (map_of.entries-insert positions_total m p h) ∙ put_count f p h (map_of.entries m) (sym (map_of.get-entries m p) ∙ none)
 
-no_more : (f : Held → Bool) → count_by f (map_of.values (map_of.empty {X = Held} {R = position_cmp})) ≡ 0
+pub no_more : (f : Held → Bool) → count_by f (map_of.values (map_of.empty {X = Held} {R = position_cmp})) ≡ 0
 no_more f =
     let most = count_by-le-length f (map_of.values (map_of.empty {X = Held} {R = position_cmp})) in
     let same = length-map (map_of.entries (map_of.empty {X = Held} {R = position_cmp})) (λ e. e.1) in

@@ -1,6 +1,6 @@
 -- What members were sent of a message: the one that holds it may have a copy, and no other.
 use Rattle.std.proofs.Common.{◌≡◌, ◌≢◌, ℕ, zero, suc, ◌+◌, ◌<◌, List, [], ◌∷◌, map, length, Some, None, Option, Bool, true, false, cond, get_or, set, refl, ap, ap₂, ◌∙◌, sym, subst, arith, Contains, All, true≢false}
-use Rattle.std.specs.Prelude.{not, ◌||◌, ◌==◌}
+use Rattle.std.specs.Prelude.{not, ◌||◌, ◌==◌, IsTrue}
 use Rattle.std.specs.List.{filter, find, position, list_any}
 use Rattle.std.specs.Option.{option_map_or}
 use Rattle.std.specs.FinMap as map_of
@@ -13,9 +13,9 @@ use Rattle.position_core.specs.declared.position.Position.{Position}
 use Rattle.position_core.specs.declared.held.Held.{Held}
 use Rattle.position_core.specs.Position.{same_position}
 use Rattle.delivery_machine.specs.State.{State, Member, Subscription}
-use Rattle.delivery_machine.specs.Words.{is_at, is_member, is_named, is_held_by, members_of}
+use Rattle.delivery_machine.specs.Words.{is_at, is_member, is_named, is_held_at, is_held_by, members_of}
 use Rattle.delivery_machine.specs.Acknowledging.{is_one_of, without, forgetting}
-use Rattle.delivery_machine.specs.WellFormed.{IsWellFormed}
+use Rattle.delivery_machine.specs.WellFormed.{IsSentWell, IsWellFormed, IsWellFormedIn}
 use Rattle.delivery_machine.specs.declared.delivery.Delivery.{Delivery}
 use Rattle.delivery_machine.proofs.Behind.{same_name}
 use Rattle.delivery_machine.proofs.Deciding.{number_is, itself}
@@ -59,7 +59,10 @@ module _ (s : State) (well : IsWellFormed s) (name : List ℕ) (sub : Subscripti
       kept at d out = by (is_one_of (p ∷ []) d.message.position) refl
         where
           held : option_map_or (λ (z : Subscription). is_held_by m.number (map_of.get z.pending d.message.position)) (find (is_named m.subscription) s.subscriptions) false ≡ true
-          held = (All-contains _ m.out d (All-contains _ s.members m well.sent there) out).1
+          held =
+              let sent : IsSentWell s m = All-contains (IsSentWell s) s.members m well.sent there in
+              let one = All-contains (λ (x : Delivery). Contains s.log x.message × IsTrue (is_held_at s m.subscription m.number x.message.position)) m.out d sent out in
+              one.1
 
           held_here : is_held_by m.number (map_of.get sub.pending d.message.position) ≡ true
           held_here = sym (ap (λ (o : Option Subscription). option_map_or (λ (z : Subscription). is_held_by m.number (map_of.get z.pending d.message.position)) o false) (ap (λ (n : List ℕ). find (is_named n) s.subscriptions) at ∙ named)) ∙ held
@@ -116,7 +119,7 @@ module _ (s : State) (well : IsWellFormed s) (name : List ℕ) (sub : Subscripti
       -- the one that holds it is at the subscription
       at_it : is_at name m ≡ true
       at_it =
-          let formed = All-contains _ s.subscriptions sub well.subscriptions (found_contained (is_named name) s.subscriptions sub named) in
+          let formed : IsWellFormedIn s sub = All-contains (IsWellFormedIn s) s.subscriptions sub well.subscriptions (found_contained (is_named name) s.subscriptions sub named) in
           let any = Any-from_list_any (is_member held.consumer) (members_of s sub.name) (formed.pending p held is).member in
           let among : Contains (members_of s sub.name) any.1 = (any.0, any.2, any.3) in
           let there_is : Contains s.members any.1 = filter_contained (is_at sub.name) s.members any.1 among in

@@ -1,3 +1,5 @@
 pub mod Mapped
 pub mod Waiting
 pub mod Forgotten
+pub mod Pending
+pub mod Seen

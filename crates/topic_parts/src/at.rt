@@ -1,7 +1,9 @@
 // A topic's parts, as the dispatcher of one of its subscriptions sees them.
-ghost use Rattle.std.specs.Prelude.{◌≡◌, ◌≤◌, length};
+ghost use Rattle.std.specs.Prelude.{◌≡◌, ◌≤◌, length, map};
+ghost use Rattle.std.specs.List.Sorted.{IsStrictlySortedBy-prop};
+ghost use Rattle.position_core.specs.Position.{position_cmp};
 ghost use Rattle.core_lists.specs.Members.{NumbersRise};
-ghost use Rattle.core_lists.specs.Placed.{IsPlacedIn};
+ghost use Rattle.core_lists.specs.Placed.{IsPlacedIn, IsRising};
 ghost use Rattle.topic_parts.specs.Parts.{state_of};
 
 use crate::parts::Parts;
@@ -14,8 +16,23 @@ pub struct At<'a> {
     pub parts: &'a Parts,
     pub subscription: &'a Subscription,
     ghost durable: { parts.now.durable ≤ length parts.now.log.log },
+    ghost rising: { IsRising parts.now.log.log } by { IsStrictlySortedBy-prop position_cmp (map (λ e. e.position) parts.now.log.log) },
     ghost numbers: { NumbersRise parts.now.members.items },
     ghost placed: { IsPlacedIn parts.now.log.log parts.now.members.items subscription.now },
+}
+
+impl At<'_> {
+    ghost use Rattle.std.specs.Prelude.{◌≡◌};
+    ghost use Rattle.delivery_machine.specs.Words.{has_room};
+    ghost use Rattle.core_lists.specs.Placed.{sub_in};
+    ghost use Rattle.topic_parts.specs.Parts.{state_of};
+
+    /// Whether a further message may be sent to the member.
+    fn has_room(&self, member: &Member) -> bool
+        ensures { result ≡ has_room (state_of self.now.parts.now) (sub_in self.now.parts.now.log.log self.now.subscription.now) member.now }
+    {
+        member.has_room(self.subscription.pending_at(member.number()))
+    }
 }
 
 impl View for At<'_> {
@@ -65,12 +82,16 @@ impl View for At<'_> {
     }
 
     fn member(&self, place: u64) -> Option<Seen> {
-        let number = *self.subscription.line().get(place as usize)?;
-        let member = self.parts.member(number)?;
-        Some(Seen {
-            consumer: number,
-            level: member.level(),
-            room: true,
-        })
+        let Some(consumer) = self.subscription.number_at(place) else {
+            return None;
+        };
+        match self.parts.member(consumer) {
+            Some(member) => Some(Seen {
+                consumer,
+                level: member.level(),
+                room: self.has_room(member),
+            }),
+            None => None,
+        }
     }
 }

@@ -1,0 +1,125 @@
+-- How many messages of a log are pending at a consumer, as the map of what is pending counts them.
+use Rattle.std.proofs.Common.{◌≡◌, ℕ, ◌+◌, List, [], ◌∷◌, map, Some, None, Option, Bool, true, false, cond, refl, ap, ◌∙◌, sym, arith, true≢false}
+use Rattle.std.specs.Prelude.{◌||◌, ◌==◌, is_some}
+use Rattle.std.specs.List.{count_by, AllByRecursion}
+use Rattle.std.specs.List.Sorted.{IsStrictlySortedBy}
+use Rattle.std.specs.FinMap as map_of
+use Rattle.std.specs.declared.cmp.Ordering.TheVariants.{Less}
+use Rattle.std.proofs.lemmas.List.Sums.{sum_by-cons}
+use Rattle.position_core.specs.declared.position.Position.{Position}
+use Rattle.position_core.specs.declared.message.Entry.{Entry}
+use Rattle.position_core.specs.declared.held.Held.{Held}
+use Rattle.position_core.specs.Position.{position_cmp, same_position, positions_total, exact_positions}
+use Rattle.delivery_machine.specs.Words.{is_held_by}
+use Rattle.delivery_machine.specs.WellFormed.{has_message}
+use Rattle.delivery_machine.proofs.Messages.{either_way, message_there, position_itself}
+use Rattle.delivery_machine.proofs.Tended.{position_is}
+use Rattle.delivery_machine.proofs.Rising.{keys_above, below_itself}
+use Rattle.pending_core.proofs.Matching.{count-insert, no_more}
+use Rattle.core_lists.specs.Placed.{IsRising}
+
+abbrev Holding : Type 0
+Holding = map_of.FinMap position_cmp Held
+
+-- what is pending is of the log
+abbrev AreOfLog : List Entry → Holding → Type 0
+AreOfLog log m = (q : Position) → map_of.contains_key m q ≡ true → has_message log q ≡ true
+
+abbrev counted : ℕ → Holding → List Entry → ℕ
+counted n m log = count_by (λ e. is_held_by n (map_of.get m e.position)) log
+
+key_is : (m : Holding) (q : Position) (h : Held) → map_of.get m q ≡ Some h → map_of.contains_key m q ≡ true
+key_is m q h is = ap is_some is
+
+nothing_pending : (m : Holding) → AreOfLog [] m → m ≡ map_of.empty
+nothing_pending m are = map_of.same_map positions_total exact_positions m map_of.empty (λ q. by q (map_of.get m q) refl ∙ sym (map_of.get-empty position_cmp q))
+  where
+    by : (q : Position) (o : Option Held) → map_of.get m q ≡ o → map_of.get m q ≡ None
+    by q None is = is
+    by q (Some h) is = absurd (true≢false (sym (are q (key_is m q h is))))
+
+-- the first position is of no later message
+apart : (e : Entry) (log : List Entry) → AllByRecursion (λ (q : Position). position_cmp e.position q ≡ Less) (map (λ (x : Entry). x.position) log) → has_message log e.position ≡ false
+apart e log above = by (has_message log e.position) refl
+  where
+    by : (b : Bool) → has_message log e.position ≡ b → has_message log e.position ≡ false
+    by false is = is
+    by true is =
+        let at = message_there log e.position is in
+        absurd (below_itself positions_total e.position (ap (position_cmp e.position) (sym at.2) ∙ keys_above position_cmp (λ (x : Entry). x.position) e.position log at.0 above at.1))
+
+-- a map with the same at the messages of a log counts the same
+counted_alike : (n : ℕ) (m rest : Holding) (log : List Entry) (p : Position) → has_message log p ≡ false → ((q : Position) → same_position q p ≡ false → map_of.get rest q ≡ map_of.get m q) → counted n rest log ≡ counted n m log
+counted_alike n m rest [] p out same = refl
+counted_alike n m rest (x ∷ log) p out same =
+    sum_by-cons (λ (e : Entry). cond (is_held_by n (map_of.get rest e.position)) 1 0) x log
+    ∙ ap (λ o. cond (is_held_by n o) 1 0 + counted n rest log) (same x.position (first (same_position x.position p) (has_message log p) out))
+    ∙ ap (λ k. cond (is_held_by n (map_of.get m x.position)) 1 0 + k) (counted_alike n m rest log p (second (same_position x.position p) (has_message log p) out) same)
+    ∙ sym (sum_by-cons (λ (e : Entry). cond (is_held_by n (map_of.get m e.position)) 1 0) x log)
+  where
+    first : (a b : Bool) → (a || b) ≡ false → a ≡ false
+    first true b e = e
+    first false b e = refl
+
+    second : (a b : Bool) → (a || b) ≡ false → b ≡ false
+    second true b e = absurd (true≢false e)
+    second false b e = e
+
+pub pending_counted : (n : ℕ) (log : List Entry) (m : Holding) → IsRising log → AreOfLog log m → counted n m log ≡ count_by (λ (h : Held). h.consumer == n) (map_of.values m)
+unfolding IsStrictlySortedBy
+pending_counted n [] m rising are = sym (ap (λ (k : Holding). count_by (λ (h : Held). h.consumer == n) (map_of.values k)) (nothing_pending m are) ∙ no_more (λ (h : Held). h.consumer == n))
+pending_counted n (e ∷ log) m rising are = sum_by-cons (λ (x : Entry). cond (is_held_by n (map_of.get m x.position)) 1 0) e log ∙ by (λ k of_log. pending_counted n log k rising.1 of_log) (map_of.get m e.position) refl
+  where
+    out : has_message log e.position ≡ false
+    out = apart e log rising.0
+
+    -- another key is of a later message
+    later : (q : Position) → map_of.contains_key m q ≡ true → same_position e.position q ≡ false → has_message log q ≡ true
+    later q key differ = sym (ap (λ b. b || has_message log q) differ) ∙ are q key
+
+    by : ((k : Holding) → AreOfLog log k → counted n k log ≡ count_by (λ (h : Held). h.consumer == n) (map_of.values k)) → (o : Option Held) → map_of.get m e.position ≡ o → cond (is_held_by n (map_of.get m e.position)) 1 0 + counted n m log ≡ count_by (λ (h : Held). h.consumer == n) (map_of.values m)
+    by behind None is =
+        ap (λ o. cond (is_held_by n o) 1 0 + counted n m log) is
+        ∙ (let rest = behind m all_later in omega (arith, rest))
+      where
+        all_later : AreOfLog log m
+        all_later q key = by_test (same_position e.position q) refl
+          where
+            by_test : (b : Bool) → same_position e.position q ≡ b → has_message log q ≡ true
+            by_test true same = absurd (true≢false (sym key ∙ ap (map_of.contains_key m) (sym (position_is e.position q same)) ∙ ap is_some is))
+            by_test false differ = later q key differ
+    by behind (Some h) is =
+        ap (λ o. cond (is_held_by n o) 1 0 + counted n m log) is
+        ∙ (let here = behind rest rest_later in
+        let alike = counted_alike n m rest log e.position out untouched in
+        let more = ap (λ (k : Holding). count_by (λ (h : Held). h.consumer == n) (map_of.values k)) whole ∙ count-insert (λ (h : Held). h.consumer == n) rest e.position h gone in
+        omega (arith, here, alike, more))
+      where
+        rest : Holding
+        rest = map_of.remove m e.position
+
+        got : (q : Position) → map_of.get rest q ≡ cond (same_position q e.position) None (map_of.get m q)
+        got q = map_of.get-remove positions_total m e.position q
+
+        untouched : (q : Position) → same_position q e.position ≡ false → map_of.get rest q ≡ map_of.get m q
+        untouched q differ = got q ∙ ap (λ b. cond b None (map_of.get m q)) differ
+
+        gone : map_of.get rest e.position ≡ None
+        gone = got e.position ∙ ap (λ b. cond b None (map_of.get m e.position)) (position_itself e.position)
+
+        whole : m ≡ map_of.insert rest e.position h
+        whole = map_of.same_map positions_total exact_positions m (map_of.insert rest e.position h) (λ q. by_test q (same_position q e.position) refl)
+          where
+            by_test : (q : Position) (b : Bool) → same_position q e.position ≡ b → map_of.get m q ≡ map_of.get (map_of.insert rest e.position h) q
+            by_test q true same =
+                ap (map_of.get m) (position_is q e.position same) ∙ is
+                ∙ sym (map_of.get-insert positions_total rest e.position h q ∙ ap (λ b. cond b (Some h) (map_of.get rest q)) same)
+            by_test q false differ =
+                sym (untouched q differ) ∙ sym (map_of.get-insert positions_total rest e.position h q ∙ ap (λ b. cond b (Some h) (map_of.get rest q)) differ)
+
+        rest_later : AreOfLog log rest
+        rest_later q key = by_test (same_position q e.position) refl
+          where
+            by_test : (b : Bool) → same_position q e.position ≡ b → has_message log q ≡ true
+            by_test true same = absurd (true≢false (sym key ∙ ap is_some (got q ∙ ap (λ b. cond b None (map_of.get m q)) same)))
+            by_test false differ = later q (sym (ap is_some (untouched q differ)) ∙ key) (either_way e.position q ∙ differ)
