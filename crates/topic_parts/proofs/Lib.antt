@@ -3,3 +3,4 @@ pub mod Waiting
 pub mod Forgotten
 pub mod Pending
 pub mod Seen
+pub mod Acknowledged
