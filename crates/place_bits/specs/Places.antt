@@ -1,5 +1,6 @@
 -- A set of places below a room.
-use Rattle.std.specs.Prelude.{◌≡◌, ℕ, ◌≤◌, Bool, true, false}
+use Rattle.std.specs.Prelude.{◌≡◌, ℕ, ◌≤◌, Bool, true, false, refl}
+use Rattle.std.specs.Coded.{Coded, code_by, coded×, coded_ℕ}
 use Rattle.std.specs.Ordering.{nat_cmp}
 use Rattle.std.specs.FinSet as set
 
@@ -17,3 +18,7 @@ NoneFrom has from = (k : ℕ) → from ≤ k → has k ≡ false
 pub record Places : Type 0 where
   pub places : set.FinSet nat_cmp
   pub room : ℕ
+
+abbrev pub places_code : Coded Places
+places_code =
+    code_by (set.FinSet nat_cmp × ℕ) (coded× (set.code coded_ℕ) coded_ℕ) (λ p. (p.places, p.room)) (λ p. record { places = p.0; room = p.1 }) (λ _. refl)

@@ -21,16 +21,13 @@ pub struct PlaceBits {
 }
 
 impl Model for PlaceBits {
-    ghost use Rattle.std.specs.Prelude.{◌*◌, ℕ, vec_len, refl};
-    ghost use Rattle.std.specs.Coded.{code_by, coded×, coded_ℕ};
-    ghost use Rattle.std.specs.FinSet as set;
-    ghost use Rattle.std.specs.Ordering.{nat_cmp};
-    ghost use Rattle.place_bits.specs.Places.{Places};
+    ghost use Rattle.std.specs.Prelude.{◌*◌, vec_len};
+    ghost use Rattle.place_bits.specs.Places.{Places, places_code};
     ghost use Rattle.place_bits.specs.Bits.{set_of};
 
     ghost Value = { Places };
 
-    ghost coded = { code_by (set.FinSet nat_cmp × ℕ) (coded× (set.code coded_ℕ) coded_ℕ) (λ p. (p.places, p.room)) (λ p. record { places = p.0; room = p.1 }) (λ _. refl) };
+    ghost coded = { places_code };
 
     ghost view = { λ a. record { places = set_of a.tree.words.items; room = 64 * vec_len a.tree.words } };
 }

@@ -52,6 +52,14 @@ module _ (w : Waiting) (s : State) (sub : Subscription) (t : State) (new : Subsc
       let seen : w.read ≤ length (visible t) = omega (arith, all, within, durable, tells.seen) in
       still seen (λ i before. sym (change.appended.others i (omega (arith, before, seen, all, change.unseen))).waits)
 
+-- nothing was sent
+pub tells-new : (s : State) (sub : Subscription) → Tells (record { read = 0; returned = set.empty }) s sub
+tells-new s sub = record {
+  seen = omega arith;
+  before = λ i before. absurd (omega (arith, before));
+  after = λ i _. set.contains-empty nat_cmp i;
+}
+
 -- ---- after a change of one message
 
 module _ (w : Waiting) (returned : set.FinSet nat_cmp) (index : ℕ) (s : State) (sub : Subscription) (t : State) (new : Subscription) (tells : Tells w s sub) (change : OnlyChangesAt index s sub t new) where

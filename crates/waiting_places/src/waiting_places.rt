@@ -23,15 +23,12 @@ pub struct WaitingPlaces {
 }
 
 impl Model for WaitingPlaces {
-    ghost use Rattle.std.specs.Prelude.{◌≤◌, ℕ, refl};
-    ghost use Rattle.std.specs.Ordering.{nat_cmp};
-    ghost use Rattle.std.specs.FinSet as set;
-    ghost use Rattle.std.specs.Coded.{code_by, coded×, coded_ℕ};
-    ghost use Rattle.waiting_places.specs.Waiting.{Waiting};
+    ghost use Rattle.std.specs.Prelude.{◌≤◌};
+    ghost use Rattle.waiting_places.specs.Waiting.{Waiting, waiting_code};
 
     ghost Value = { Waiting };
 
-    ghost coded = { code_by (ℕ × set.FinSet nat_cmp) (coded× coded_ℕ (set.code coded_ℕ)) (λ w. (w.read, w.returned)) (λ p. record { read = p.0; returned = p.1 }) (λ _. refl) };
+    ghost coded = { waiting_code };
 
     ghost view = { λ w. record { read = w.read; returned = w.returned.places } };
 
