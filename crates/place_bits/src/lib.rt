@@ -4,6 +4,8 @@
 mod layer;
 mod place_bits;
 mod summed;
+#[cfg(test)]
+mod tests;
 mod top;
 mod words;
 
