@@ -1,6 +1,4 @@
 // How much of a topic an offer looks at, where many messages are pending.
-ghost use Rattle.std.specs.Prelude.{◌≡◌};
-
 use super::subscription::Only;
 use super::topic::Topic;
 use crate::ListView;
@@ -23,9 +21,7 @@ struct CountedView<'a> {
 }
 
 impl<'a> CountedView<'a> {
-    fn new(list: ListView<'a>) -> Self
-        ensures { result.list ≡ list }
-    {
+    fn new(list: ListView<'a>) -> Self {
         CountedView {
             list,
             calls: Cell::new(0),
