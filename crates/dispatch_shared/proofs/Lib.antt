@@ -1,2 +1,3 @@
-pub mod Turns
+pub mod Goes
 pub mod Serving
+pub mod Agreeing

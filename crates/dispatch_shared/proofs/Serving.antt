@@ -15,7 +15,7 @@ use Rattle.dispatch_core.specs.Log.{IsNextReady, NoneReady}
 use Rattle.dispatch_core.specs.Offers.{seen_of, IsGoodOffer}
 use Rattle.dispatch_core.specs.declared.view.Seen.{Seen}
 use Rattle.dispatch_core.proofs.Ready.{first_waiting-next, first_waiting-none}
-use Rattle.dispatch_shared.specs.Turn.{roomy, goes_first, IsFirst}
+use Rattle.dispatch_shared.specs.Turn.{pair_of, roomy, goes_first, IsFirst}
 use Rattle.delivery_machine.proofs.Deciding.{and_second}
 
 -- ---- the members with room, and as they are seen
@@ -42,7 +42,7 @@ has_room-with_room s sub m at =
     and_second (is_at sub.name m) (has_room s sub m)
     (passes (λ (x : Member). is_at sub.name x && has_room s sub x) s.members m at)
 
-at_best_level : (last : ℕ) (a b : Seen) → goes_first last b a ≡ false → a.level ≤ b.level
+at_best_level : (last : ℕ) (a b : ℕ × ℕ) → goes_first last b a ≡ false → a.1 ≤ b.1
 at_best_level last a b behind = grind (arith, nat_tests)
 
 -- ---- eligible pairs
@@ -81,9 +81,9 @@ served last s sub seen first = among (subst (λ (ys : List Seen). IsFirst last y
                   is = is;
                   at = (k, at.1, at.3);
                   best = λ j d below.
-                      let behind : goes_first last (seen_of s sub (get_or (with_room s sub) j d)) seen ≡ false =
-                      ap (λ (y : Seen). goes_first last y seen) (sym (get_or-map (seen_of s sub) (with_room s sub) j d (seen_of s sub d) below)) ∙ here.1 j (seen_of s sub d) (omega (arith, below, as_many)) in
-                      omega (arith, at_best_level last seen (seen_of s sub (get_or (with_room s sub) j d)) behind, ap (λ (y : Seen). y.level) is);
+                      let behind : goes_first last (pair_of (seen_of s sub (get_or (with_room s sub) j d))) (pair_of seen) ≡ false =
+                      ap (λ (y : Seen). goes_first last (pair_of y) (pair_of seen)) (sym (get_or-map (seen_of s sub) (with_room s sub) j d (seen_of s sub d) below)) ∙ here.1 j (seen_of s sub d) (omega (arith, below, as_many)) in
+                      omega (arith, at_best_level last (pair_of seen) (pair_of (seen_of s sub (get_or (with_room s sub) j d))) behind, ap (λ (y : Seen). y.level) is);
                 },
               )
           | inr past ↦ absurd (omega (arith, past.0, here.0.1, as_many))

@@ -1,1 +1,3 @@
+-- What the contracts of the dispatcher of Shared cite.
 pub mod Turn
+pub mod Seats

@@ -1,6 +1,7 @@
 //! The dispatcher of Shared subscriptions: messages in topic order, to the members in turn.
 #![tactic(auto)]
 
+mod seat;
 mod shared;
 mod turn;
 

@@ -1,106 +1,147 @@
 // The dispatcher of the kind whose members are served in turn.
-use crate::turn::first_in_turn;
-use dispatch_core::{Dispatcher, Offer, Seen, View};
+ghost use Rattle.std.specs.Prelude.{◌≡◌, [], ◌∷◌, ◌++◌, OnOk, OnErr, IfErr};
+ghost use Rattle.position_core.specs.declared.fault.Fault.TheVariants.{NoMemory};
+
+use crate::seat::Seat;
+use crate::turn::next_in_turn;
+use dispatch_core::{Dispatcher, Offer, View};
 use position_core::{ConsumerNumber, Fault, LogIndex};
 use std::alloc::Global;
 use std::marker::Model;
+use waiting_places::WaitingPlaces;
 
 /// Offers the first waiting message to a member of the best level among those with room. Members
-/// of one level take turns, by their numbers, which the law leaves free. It keeps no tables.
+/// of one level take turns, by their numbers, which the law leaves free. It keeps which messages
+/// wait, and the members' seats in line, so an offer goes over the seats, and asks the view of the
+/// messages once at most, and of one member where the first in turn has room.
 #[derive(Drop)]
 pub struct Shared {
+    waiting: WaitingPlaces,
+    /// In the order of joining.
+    seats: Vec<Seat>,
     /// The consumer that was sent a message last; 0 at first.
     last: u64,
 }
 
 impl Model for Shared {
-    ghost use Rattle.std.specs.Prelude.{ℕ};
+    ghost use Rattle.std.specs.Prelude.{map};
+    ghost use Rattle.dispatch_shared.specs.Turn.{Turns, turns_code};
+    ghost use Rattle.dispatch_shared.specs.Seats.{seat_pair};
 
-    ghost Value = { ℕ };
+    ghost Value = { Turns };
 
-    ghost view = { λ d. d.last };
+    ghost coded = { turns_code };
+
+    ghost view = { λ d. record { waiting = d.waiting; line = map seat_pair d.seats.items; last = d.last } };
 }
 
 impl Dispatcher for Shared {
-    ghost use Rattle.std.specs.Prelude.{◌≡◌, IsOk, IfSome, IfNone};
+    ghost use Rattle.std.specs.Prelude.{◌≡◌, [], IsOk, OnOk, OnErr, IfOk, IfErr, IfSome, IfNone};
+    ghost use Rattle.position_core.specs.declared.fault.Fault.TheVariants.{NoMemory};
     ghost use Rattle.position_core.specs.Kind.{same_kind};
     ghost use Rattle.position_core.specs.declared.kind.Kind.TheVariants as kinds;
     ghost use Rattle.delivery_machine.specs.Words.{NoneEligible};
     ghost use Rattle.dispatch_core.specs.Offers.{IsGoodOffer};
-    ghost use Rattle.dispatch_shared.specs.Turn.{IsInTurn};
+    ghost use Rattle.dispatch_core.specs.Changes.{Joined, Left, Sent, Gone, Released, Reset, AgreesAfter};
+    ghost use Rattle.dispatch_shared.specs.Turn.{Agrees, IsInTurn};
 
     ghost serves = { λ kind. same_kind kind kinds.Shared };
 
-    ghost agrees = { λ _ _ sub. sub.kind ≡ kinds.Shared };
+    ghost agrees = { Agrees };
 
-    fn begin<V: View>(_alloc: Global, _view: &V) -> Result<Self, Fault>
-        ensures { result ≡ Ok 0 }
-    {
-        Ok(Shared { last: 0 })
+    fn begin<V: View>(alloc: Global, _view: &V) -> Result<Self, Fault> {
+        Ok(Shared {
+            waiting: WaitingPlaces::new(alloc),
+            seats: Vec::new(alloc),
+            last: 0,
+        })
     }
 
     fn offer<V: View>(&self, view: &V) -> Option<Offer>
-        requires { (V.subscription view.now).kind ≡ kinds.Shared }
-        ensures some { IfSome result (IsGoodOffer (V.state view.now) (V.subscription view.now)) }
-        ensures turn { IfSome result (IsInTurn self.now (V.state view.now) (V.subscription view.now)) }
-        ensures none { IfNone result (NoneEligible (V.state view.now) (V.subscription view.now)) }
+        ensures some { Agrees self.now (V.state view.now) (V.subscription view.now)
+            → IfSome result (IsGoodOffer (V.state view.now) (V.subscription view.now)) }
+        ensures turn { Agrees self.now (V.state view.now) (V.subscription view.now)
+            → IfSome result (IsInTurn self.now.last (V.state view.now) (V.subscription view.now)) }
+        ensures none { Agrees self.now (V.state view.now) (V.subscription view.now)
+            → IfNone result (NoneEligible (V.state view.now) (V.subscription view.now)) }
     {
-        let index = view.next_waiting(0)?;
-        let Seen { consumer, .. } = first_in_turn(view, self.last)?;
-        Some(Offer { index, consumer })
+        let index = self.waiting.first(view)?;
+        let seen = next_in_turn(view, &self.seats, self.last)?;
+        Some(Offer {
+            index,
+            consumer: seen.consumer,
+        })
     }
 
-    fn on_append<V: View>(&mut self, _view: &V) -> Result<(), Fault>
-        ensures ok { IsOk result }
-        ensures same { self.new ≡ self.old }
-    {
+    fn on_append<V: View>(&mut self, _view: &V) -> Result<(), Fault> {
         Ok(())
     }
 
-    fn undo_append<V: View>(&mut self, _view: &V)
-        ensures { self.new ≡ self.old }
-    {}
+    fn undo_append<V: View>(&mut self, _view: &V) {}
 
-    fn on_join<V: View>(&mut self, _view: &V, _consumer: ConsumerNumber) -> Result<(), Fault>
-        ensures ok { IsOk result }
-        ensures same { self.new ≡ self.old }
-    {
-        Ok(())
+    fn on_join<V: View>(&mut self, view: &V, _consumer: ConsumerNumber) -> Result<(), Fault> {
+        match view.member(self.seats.len() as u64) {
+            Some(seen) => sit(&mut self.seats, Seat::of(&seen)),
+            None => Ok(()),
+        }
     }
 
-    fn on_leave<V: View>(&mut self, _view: &V, _consumer: ConsumerNumber)
-        ensures { self.new ≡ self.old }
-    {}
+    fn on_leave<V: View>(&mut self, _view: &V, consumer: ConsumerNumber) {
+        self.seats.retain(|seat| seat.consumer != consumer);
+    }
 
     fn on_sent<V: View>(
         &mut self,
-        _view: &V,
-        _index: LogIndex,
+        view: &V,
+        index: LogIndex,
         consumer: ConsumerNumber,
     ) -> Result<(), Fault>
-        ensures ok { IsOk result }
-        ensures last { self.new ≡ consumer }
+        ensures ok { OnOk result (AgreesAfter (Sent index consumer) (Agrees self.old) (Agrees self.new)
+            (V.state view.now) (V.subscription view.now)) }
+        ensures last { OnOk result (self.new.last ≡ consumer) }
+        ensures err { IfErr result (λ fault. fault ≡ NoMemory) }
+        ensures unchanged { OnErr result (self.new ≡ self.old) }
     {
-        self.last = consumer;
+        match self.waiting.on_sent(view, index) {
+            Ok(()) => {
+                self.last = consumer;
+                Ok(())
+            }
+            Err(_) => Err(Fault::NoMemory),
+        }
+    }
+
+    fn on_gone<V: View>(&mut self, view: &V, index: LogIndex) {
+        self.waiting.on_gone(view, index);
+    }
+
+    fn on_released<V: View>(&mut self, view: &V, index: LogIndex) {
+        self.waiting.on_released(view, index);
+    }
+
+    fn on_reset<V: View>(&mut self, _view: &V) -> Result<(), Fault> {
+        self.waiting.reset();
         Ok(())
     }
 
-    fn on_gone<V: View>(&mut self, _view: &V, _index: LogIndex)
-        ensures { self.new ≡ self.old }
-    {}
+    ghost use Rattle.std.proofs.Common.{◌∙◌, sym};
+    ghost use Rattle.waiting_places.proofs.Telling.{tells-kept};
 
-    fn on_released<V: View>(&mut self, _view: &V, _index: LogIndex)
-        ensures { self.new ≡ self.old }
-    {}
+    ghost kept = { λ d s sub agreed t new change. record {
+      kind = change.kind ∙ agreed.kind;
+      waiting = tells-kept d.waiting s sub t new agreed.waiting change;
+      line = agreed.line ∙ sym change.line;
+    } };
+}
 
-    fn on_reset<V: View>(&mut self, _view: &V) -> Result<(), Fault>
-        ensures ok { IsOk result }
-        ensures same { self.new ≡ self.old }
-    {
-        Ok(())
+/// A further seat, as the last in line.
+fn sit(seats: &mut Vec<Seat>, seat: Seat) -> Result<(), Fault>
+    ensures ok { OnOk result (seats.new.items ≡ seats.old.items ++ seat ∷ []) }
+    ensures err { IfErr result (λ fault. fault ≡ NoMemory) }
+    ensures unchanged { OnErr result (seats.new.items ≡ seats.old.items) }
+{
+    match seats.push(seat) {
+        Ok(()) => Ok(()),
+        Err(_) => Err(Fault::NoMemory),
     }
-
-    ghost use Rattle.std.proofs.Common.{◌∙◌};
-
-    ghost kept = { λ _ _ _ agreed _ _ change. change.kind ∙ agreed };
 }

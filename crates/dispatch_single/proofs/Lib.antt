@@ -1,1 +1,3 @@
-pub mod Serving
+pub mod InLine
+pub mod Serves
+pub mod Agreeing

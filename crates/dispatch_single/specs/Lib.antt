@@ -1,1 +1,3 @@
+-- What the contracts of the dispatcher of Exclusive and Failover cite.
 pub mod InOrder
+pub mod Best

@@ -1,71 +1,115 @@
 // The dispatcher of the kinds that have one active member.
-use crate::active::active;
-use dispatch_core::{Dispatcher, Offer, Seen, View};
+use crate::active::active_place;
+use dispatch_core::{Dispatcher, Offer, View};
 use position_core::{ConsumerNumber, Fault, LogIndex};
 use std::alloc::Global;
+use std::marker::Model;
+use waiting_places::WaitingPlaces;
 
-/// Offers the first waiting message to the active member. It keeps no tables.
+/// Offers the first waiting message to the active member. It keeps which messages wait, and the
+/// place of the active member in line, so an offer goes over neither the pending messages nor the
+/// members; joining and leaving go over the members.
 #[derive(Drop)]
-pub struct Single;
+pub struct Single {
+    waiting: WaitingPlaces,
+    active: Option<u64>,
+}
+
+impl Model for Single {
+    ghost use Rattle.dispatch_single.specs.InOrder.{Serving, serving_code};
+
+    ghost Value = { Serving };
+
+    ghost coded = { serving_code };
+
+    ghost view = { λ d. record { waiting = d.waiting; active = d.active } };
+}
 
 impl Dispatcher for Single {
-    ghost use Rattle.std.specs.Prelude.{◌≡◌, IsTrue, IsOk};
+    ghost use Rattle.std.specs.Prelude.{◌≡◌, IsOk, OnOk, OnErr, IfOk, IfErr, IfSome, IfNone};
+    ghost use Rattle.position_core.specs.declared.fault.Fault.TheVariants.{NoMemory};
     ghost use Rattle.position_core.specs.Kind.{is_in_order};
+    ghost use Rattle.delivery_machine.specs.Words.{NoneEligible};
+    ghost use Rattle.dispatch_core.specs.Offers.{IsGoodOffer};
+    ghost use Rattle.dispatch_single.specs.InOrder.{Agrees};
 
     ghost serves = { is_in_order };
 
-    ghost agrees = { λ _ s sub. IsTrue (is_in_order sub.kind) };
+    ghost agrees = { Agrees };
 
-    fn begin<V: View>(_alloc: Global, _view: &V) -> Result<Self, Fault>
-        ensures { IsOk result }
-    {
-        Ok(Single)
+    fn begin<V: View>(alloc: Global, view: &V) -> Result<Self, Fault> {
+        Ok(Single {
+            waiting: WaitingPlaces::new(alloc),
+            active: active_place(view),
+        })
     }
 
-    fn offer<V: View>(&self, view: &V) -> Option<Offer> {
-        let index = view.next_waiting(0)?;
-        let Seen { consumer, room, .. } = active(view)?;
-        room.then_some(Offer { index, consumer })
+    fn offer<V: View>(&self, view: &V) -> Option<Offer>
+        ensures some { Agrees self.now (V.state view.now) (V.subscription view.now)
+            → IfSome result (IsGoodOffer (V.state view.now) (V.subscription view.now)) }
+        ensures none { Agrees self.now (V.state view.now) (V.subscription view.now)
+            → IfNone result (NoneEligible (V.state view.now) (V.subscription view.now)) }
+    {
+        let active = view.member(self.active?)?;
+        if !active.room {
+            return None;
+        }
+        let index = self.waiting.first(view)?;
+        Some(Offer {
+            index,
+            consumer: active.consumer,
+        })
     }
 
-    fn on_append<V: View>(&mut self, _view: &V) -> Result<(), Fault>
-        ensures { IsOk result }
-    {
+    fn on_append<V: View>(&mut self, _view: &V) -> Result<(), Fault> {
         Ok(())
     }
 
     fn undo_append<V: View>(&mut self, _view: &V) {}
 
-    fn on_join<V: View>(&mut self, _view: &V, _consumer: ConsumerNumber) -> Result<(), Fault>
-        ensures { IsOk result }
-    {
+    fn on_join<V: View>(&mut self, view: &V, _consumer: ConsumerNumber) -> Result<(), Fault> {
+        self.active = active_place(view);
         Ok(())
     }
 
-    fn on_leave<V: View>(&mut self, _view: &V, _consumer: ConsumerNumber) {}
+    fn on_leave<V: View>(&mut self, view: &V, _consumer: ConsumerNumber) {
+        self.active = active_place(view);
+    }
 
     fn on_sent<V: View>(
         &mut self,
-        _view: &V,
-        _index: LogIndex,
+        view: &V,
+        index: LogIndex,
         _consumer: ConsumerNumber,
-    ) -> Result<(), Fault>
-        ensures { IsOk result }
-    {
+    ) -> Result<(), Fault> {
+        match self.waiting.on_sent(view, index) {
+            Ok(()) => Ok(()),
+            Err(_) => Err(Fault::NoMemory),
+        }
+    }
+
+    fn on_gone<V: View>(&mut self, view: &V, index: LogIndex) {
+        self.waiting.on_gone(view, index);
+    }
+
+    fn on_released<V: View>(&mut self, view: &V, index: LogIndex) {
+        self.waiting.on_released(view, index);
+    }
+
+    fn on_reset<V: View>(&mut self, _view: &V) -> Result<(), Fault> {
+        self.waiting.reset();
         Ok(())
     }
 
-    fn on_gone<V: View>(&mut self, _view: &V, _index: LogIndex) {}
+    ghost use Rattle.std.specs.Prelude.{ℕ, List, length};
+    ghost use Rattle.std.proofs.Common.{ap, subst, sym, ◌∙◌};
+    ghost use Rattle.dispatch_core.specs.Log.{line_of};
+    ghost use Rattle.dispatch_single.specs.InOrder.{IsActiveIn};
+    ghost use Rattle.waiting_places.proofs.Telling.{tells-kept};
 
-    fn on_released<V: View>(&mut self, _view: &V, _index: LogIndex) {}
-
-    fn on_reset<V: View>(&mut self, _view: &V) -> Result<(), Fault>
-        ensures { IsOk result }
-    {
-        Ok(())
-    }
-
-    ghost use Rattle.std.proofs.Common.{ap, ◌∙◌};
-
-    ghost kept = { λ _ _ _ agreed _ _ change. ap is_in_order change.kind ∙ agreed };
+    ghost kept = { λ d s sub agreed t new change. record {
+      kind = ap is_in_order change.kind ∙ agreed.kind;
+      waiting = tells-kept d.waiting s sub t new agreed.waiting change;
+      active = subst (λ (l : List (ℕ × ℕ)). IsActiveIn l (length l) d.active) (sym change.line) agreed.active;
+    } };
 }

@@ -1,5 +1,6 @@
 // Tests over messages: what a view over lists shows, the law of a dispatcher, and who is offered what, step by
 // step, with the answers that the rules of each kind give; and that the calls of logs and lists succeed.
+mod counted;
 mod deliveries;
 mod in_order;
 mod keyed;

@@ -1,13 +1,17 @@
 // Scenes, each with its offers by the rules of Exclusive and Failover.
+ghost use Rattle.std.specs.Prelude.{IsTrue};
+ghost use Rattle.position_core.specs.Kind.{is_in_order};
+
 use super::member::Takes;
 use super::scene::{Change, Scene, Stage, play};
+use super::subscription::Only;
 use super::topic::Topic;
 use dispatch_core::{Dispatcher, Offer};
 use dispatch_single::Single;
 use position_core::Kind;
 use std::process::Abort;
 
-/// The dispatcher keeps nothing, so it is told of nothing.
+/// The dispatcher is told who joins, and nothing else, so it finds what waits by the view alone.
 #[derive(Drop)]
 struct SingleStage {
     topic: Topic,
@@ -15,11 +19,17 @@ struct SingleStage {
 }
 
 impl SingleStage {
-    fn new<R: Abort + AllocGlobal>(rt: &R, kind: Kind, scene: Scene) -> Self {
-        SingleStage {
-            topic: Topic::new(rt, kind, scene),
-            dispatcher: Single,
+    fn new<R: Abort + AllocGlobal>(rt: &R, kind: Kind, scene: Scene) -> Self
+        requires { IsTrue (is_in_order kind) }
+    {
+        let only = Only::new(rt, kind);
+        let mut dispatcher = Single::begin(rt.alloc(), &only.alone()).expect(rt, "no memory");
+        let topic = Topic::new(rt, kind, scene);
+        for (number, _, _) in scene.members {
+            let done = dispatcher.on_join(&topic.view(), *number);
+            done.expect(rt, "no memory");
         }
+        SingleStage { topic, dispatcher }
     }
 }
 

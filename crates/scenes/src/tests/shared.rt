@@ -3,7 +3,8 @@ use super::member::Takes;
 use super::scene::{Change, Scene, Stage, play};
 use super::subscription::Only;
 use super::topic::Topic;
-use dispatch_core::{Dispatcher, Offer};
+use crate::ListView;
+use dispatch_core::{Dispatcher, Offer, View};
 use dispatch_shared::Shared;
 use position_core::Kind;
 use std::process::Abort;
@@ -17,10 +18,21 @@ struct SharedStage {
 impl SharedStage {
     fn new<R: Abort + AllocGlobal>(rt: &R, scene: Scene) -> Self {
         let only = Only::new(rt, Kind::Shared);
-        let dispatcher = Shared::begin(rt.alloc(), &only.alone());
-        SharedStage {
-            topic: Topic::new(rt, Kind::Shared, scene),
-            dispatcher: dispatcher.expect(rt, "no memory"),
+        let mut dispatcher = Shared::begin(rt.alloc(), &only.alone()).expect(rt, "no memory");
+        let topic = Topic::new(rt, Kind::Shared, scene);
+        for (number, _, _) in scene.members {
+            let done = dispatcher.on_join(&topic.view(), *number);
+            done.expect(rt, "no memory");
+        }
+        SharedStage { topic, dispatcher }
+    }
+}
+
+/// What is pending at the consumer waits again.
+fn release(dispatcher: &mut Shared, view: &ListView<'_>, consumer: u64) {
+    for index in 0..view.length() {
+        if view.holder(index) == Some(consumer) {
+            dispatcher.on_released(view, index);
         }
     }
 }
@@ -38,6 +50,9 @@ impl Stage for SharedStage {
 
     fn make<R: Abort + AllocGlobal>(self, rt: &R, change: Change, offer: Option<Offer>) -> Self {
         let mut dispatcher = self.dispatcher;
+        if let Change::Left(consumer) = change {
+            release(&mut dispatcher, &self.topic.view(), consumer);
+        }
         let topic = self.topic.make(rt, change, offer);
         match change {
             Change::Sent => {

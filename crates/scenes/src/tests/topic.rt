@@ -3,7 +3,7 @@ ghost use Rattle.std.specs.Prelude.{◌≡◌, []};
 ghost use Rattle.delivery_machine.specs.Joining.{joining, leaving};
 
 use super::member::{Takes, new_member};
-use super::message::new_log;
+use super::message::{message_at, new_log, position_at};
 use super::scene::{Change, Scene};
 use super::subscription::Only;
 use crate::ListView;
@@ -33,6 +33,24 @@ impl Topic {
         Topic {
             log: new_log(rt, scene.keys),
             durable: scene.durable,
+            members,
+            only: Only::new(rt, kind),
+        }
+    }
+
+    /// A topic of so many messages, and one member that may hold them all.
+    pub(super) fn long<R: Abort + AllocGlobal>(rt: &R, kind: Kind, count: u64) -> Self {
+        let mut log = Vec::new(rt.alloc());
+        for index in 0..count {
+            let message = message_at(rt, position_at(index), None);
+            log.push(message).expect(rt, "no memory");
+        }
+        let mut members = Vec::new(rt.alloc());
+        let member = new_member(rt, 1, 0, Takes::Pushed(100_000));
+        members.push(member).expect(rt, "no memory");
+        Topic {
+            durable: log.len(),
+            log,
             members,
             only: Only::new(rt, kind),
         }

@@ -1,0 +1,3 @@
+-- What the contracts of sets of places cite.
+pub mod Bits
+pub mod Places

@@ -1,0 +1,12 @@
+//! A set of places in a log, one bit a place, with its least member at hand.
+#![tactic(auto)]
+
+mod layer;
+mod place_bits;
+mod summed;
+#[cfg(test)]
+mod tests;
+mod top;
+mod words;
+
+pub use place_bits::PlaceBits;

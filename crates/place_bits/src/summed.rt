@@ -1,0 +1,63 @@
+// The layers of a tree of words.
+ghost use Rattle.std.specs.Prelude.{◌≡◌, ℕ, ◌*◌, ◌≤◌, ◌^◌, length, vec_len};
+ghost use Rattle.place_bits.specs.Bits.{has, is_used};
+
+use crate::layer::Layer;
+use crate::words::{BITS, next_in_word, put, take_out, widen, words_for};
+use std::alloc::{AllocError, Global};
+
+/// A layer under one that has the indexes of its words that are not empty.
+#[derive(Drop)]
+pub(crate) struct Summed<S: Layer + Drop> {
+    words: Vec<u64>,
+    above: S,
+    ghost few: { vec_len words ≤ 2 ^ 58 },
+    ghost covered: { vec_len words ≤ S.room above },
+    ghost summed: { (w : ℕ) → S.has above w ≡ is_used words.items w },
+}
+
+impl<S: Layer + Drop> Layer for Summed<S> {
+    ghost has = { λ s. has s.words.items };
+
+    ghost room = { λ s. 64 * vec_len s.words };
+
+    fn new(alloc: Global) -> Self {
+        Summed {
+            words: Vec::new(alloc),
+            above: S::new(alloc),
+        }
+    }
+
+    fn grow(&mut self, limit: u64) -> Result<(), AllocError> {
+        let count = words_for(limit);
+        self.above.grow(count as u64)?;
+        widen(&mut self.words, count)
+    }
+
+    fn insert(&mut self, number: u64) {
+        if put(&mut self.words, number) {
+            self.above.insert(number / BITS);
+        }
+    }
+
+    fn remove(&mut self, number: u64) {
+        if take_out(&mut self.words, number) {
+            self.above.remove(number / BITS);
+        }
+    }
+
+    fn next_from(&self, from: u64) -> Option<u64> {
+        match next_in_word(&self.words, from) {
+            Some(next) => Some(next),
+            None => {
+                let word = self.above.next_from(from / BITS + 1)?;
+                next_in_word(&self.words, BITS * word)
+            }
+        }
+    }
+
+    fn clear(&mut self) {
+        self.words.clear();
+        self.above.clear();
+    }
+}

@@ -1,0 +1,2 @@
+-- What the contracts of the table of waiting messages cite.
+pub mod Waiting
