@@ -1,7 +1,7 @@
-//! The fast topic's parts under one roof: what is asked of them, and each small change, by the machine's state.
+//! The fast topic's parts under one roof: the machine's state that they stand for, and what a dispatcher sees of
+//! them.
 #![tactic(auto)]
 
-mod acknowledging;
 mod at;
 mod finding;
 mod parts;
