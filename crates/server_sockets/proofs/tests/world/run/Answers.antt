@@ -1,8 +1,6 @@
 use mir.Syntax.{of_param}
-use denote.Exit.{yes}
 use denote.Param.{param}
-use denote.Param.Send.{IsSend, IsSync, Quiet-if, sendable}
-use Rattle.std.proofs.Crossing.{crosses}
+use denote.Param.Send.{Quiet-if}
 use Rattle.plain_topic.specs.contracts.plain.PlainTopic as Plain
 use Rattle.plain_topic.specs.contracts.plain.PlainTopicTopic.TheImpl as PlainTopic
 use Rattle.plain_topic.proofs.plain.PlainTopic.TheSendSync.{the_send as plain_send}
@@ -12,6 +10,7 @@ use Rattle.sqlite_trees.proofs.memory.MemStore.TheSendSync.{the_send as mem_send
 use Rattle.worker_pool.proofs.Crosses.{Place-send, Place-sync}
 use Rattle.server_sockets.proofs.tests.world.run.Goals as goal
 
+-- nothing is left behind in any field
 pub serve-ended-requires-send-X : goal.serve-ended-requires-send-X
 serve-ended-requires-send-X g c κs within =
     let place = Place-send Plain.the_row Mem.the_row (param 1 g.row.J) (param 2 g.row.G) PlainTopic.ghosts MemStore.ghosts g.J.Naming plain_send mem_send c.type_bounds.send-G in
