@@ -1,0 +1,248 @@
+// How fast the broker is, by a client that costs little: publishes, deliveries, and eight topics at once.
+// cc -O2 -pthread -o speed speed.c; pulsar_broker FOLDER/broker.db 127.0.0.1:PORT 4 & ./speed PORT FOLDER
+#define _GNU_SOURCE
+#include <arpa/inet.h>
+#include <fcntl.h>
+#include <netinet/tcp.h>
+#include <pthread.h>
+#include <stdarg.h>
+#include <stdint.h>
+#include <stdio.h>
+#include <stdlib.h>
+#include <string.h>
+#include <sys/socket.h>
+#include <time.h>
+#include <unistd.h>
+
+enum { PAYLOAD = 1024, MOST = 4096, PAUSE = 5000, COUNT = 1000, EIGHT = 8, FRAME_ROOM = 8192 };
+
+static int port;
+
+// A connection, and what came on it that was not read yet.
+struct client {
+    int socket;
+    size_t filled;
+    char room[FRAME_ROOM];
+};
+
+static _Noreturn void fail(const char *why) {
+    fprintf(stderr, "speed: %s\n", why);
+    exit(1);
+}
+
+static double now_us(void) {
+    struct timespec now;
+    clock_gettime(CLOCK_MONOTONIC, &now);
+    return now.tv_sec * 1e6 + now.tv_nsec / 1e3;
+}
+
+static int compare(const void *a, const void *b) {
+    double x = *(const double *)a, y = *(const double *)b;
+    return (x > y) - (x < y);
+}
+
+// The time below which so many hundredths of the times are.
+static double part(double *times, int count, int hundredths) {
+    qsort(times, count, sizeof *times, compare);
+    return times[count * hundredths / 100];
+}
+
+static void send_all(int socket, const char *bytes, size_t count) {
+    for (size_t sent = 0; sent < count;) {
+        ssize_t some = write(socket, bytes + sent, count - sent);
+        if (some <= 0) fail("a write failed");
+        sent += some;
+    }
+}
+
+static void more(struct client *client) {
+    ssize_t some = read(client->socket, client->room + client->filled, FRAME_ROOM - client->filled);
+    if (some <= 0) fail("the connection ended");
+    client->filled += some;
+}
+
+static void forget(struct client *client, size_t count) {
+    client->filled -= count;
+    memmove(client->room, client->room + count, client->filled);
+}
+
+// Connects, and says the handshake.
+static void begin(struct client *client, const char *format, ...) {
+    char target[256], text[512];
+    va_list rest;
+    va_start(rest, format);
+    vsnprintf(target, sizeof target, format, rest);
+    va_end(rest);
+    struct sockaddr_in address = {.sin_family = AF_INET, .sin_port = htons(port)};
+    address.sin_addr.s_addr = htonl(INADDR_LOOPBACK);
+    client->socket = socket(AF_INET, SOCK_STREAM, 0);
+    client->filled = 0;
+    int on = 1;
+    setsockopt(client->socket, IPPROTO_TCP, TCP_NODELAY, &on, sizeof on);
+    if (connect(client->socket, (struct sockaddr *)&address, sizeof address)) fail("no broker is there");
+    int length = snprintf(text, sizeof text,
+                          "GET /ws/v2/%s HTTP/1.1\r\nHost: 127.0.0.1\r\nUpgrade: websocket\r\nConnection: Upgrade\r\n"
+                          "Sec-WebSocket-Key: AAAAAAAAAAAAAAAAAAAAAA==\r\nSec-WebSocket-Version: 13\r\n\r\n",
+                          target);
+    send_all(client->socket, text, length);
+    char *end;
+    while (!(end = memmem(client->room, client->filled, "\r\n\r\n", 4))) more(client);
+    if (!memmem(client->room, 16, " 101 ", 5)) fail("the handshake was refused");
+    forget(client, end + 4 - client->room);
+}
+
+// A client's text frame, whose mask is all zeros; how long it is.
+static size_t frame(char *out, const char *text) {
+    size_t length = strlen(text), head = length < 126 ? 2 : 4;
+    out[0] = (char)0x81;
+    out[1] = (char)(0x80 | (length < 126 ? length : 126));
+    if (head == 4) {
+        out[2] = (char)(length >> 8);
+        out[3] = (char)length;
+    }
+    memset(out + head, 0, 4);
+    memcpy(out + head + 4, text, length);
+    return head + 4 + length;
+}
+
+// The next text, ended by a zero, in the room given.
+static void receive(struct client *client, char *text) {
+    while (client->filled < 4) more(client);
+    size_t length = client->room[1] & 127, head = 2;
+    if (length == 126) {
+        length = (size_t)(uint8_t)client->room[2] << 8 | (uint8_t)client->room[3];
+        head = 4;
+    }
+    if ((client->room[0] & 15) != 1 || head + length > FRAME_ROOM) fail("no text came");
+    while (client->filled < head + length) more(client);
+    memcpy(text, client->room + head, length);
+    text[length] = 0;
+    forget(client, head + length);
+}
+
+// A publish of a payload, as a frame.
+static size_t publish_frame(char *out) {
+    static const char digits[] = "ABCDEFGHIJKLMNOPQRSTUVWXYZabcdefghijklmnopqrstuvwxyz0123456789+/";
+    char text[FRAME_ROOM];
+    int at = snprintf(text, sizeof text, "{\"payload\":\"");
+    for (int i = 0; i < PAYLOAD / 3 * 4; i++) text[at++] = digits[rand() & 63];
+    memcpy(text + at, "aA==\"}", 7);
+    return frame(out, text);
+}
+
+static void publish(struct client *client, const char *bytes, size_t length) {
+    char text[FRAME_ROOM];
+    send_all(client->socket, bytes, length);
+    receive(client, text);
+    if (!strstr(text, "\"result\":\"ok\"")) fail(text);
+}
+
+// How long each publish takes until its answer, with a pause before each.
+static void publishes(const char *topic, int count, int pause, double *times) {
+    struct client client;
+    char bytes[FRAME_ROOM];
+    size_t length = publish_frame(bytes);
+    begin(&client, "producer/persistent/public/default/%s", topic);
+    for (int i = 0; i < count; i++) {
+        if (pause) usleep(pause);
+        double before = now_us();
+        publish(&client, bytes, length);
+        times[i] = now_us() - before;
+    }
+    close(client.socket);
+}
+
+// What each commit waits for at least: a write of a frame of the journal, and the disk's answer.
+static void syncs(const char *folder, int count, int pause, double *times) {
+    char path[512], bytes[3 * 4120] = {0};
+    snprintf(path, sizeof path, "%s/sync", folder);
+    int file = open(path, O_CREAT | O_WRONLY, 0600);
+    for (int i = 0; i < count; i++) {
+        if (pause) usleep(pause);
+        double before = now_us();
+        if (pwrite(file, bytes, sizeof bytes, (off_t)i * (off_t)sizeof bytes) < 0 || fdatasync(file)) fail("no file");
+        times[i] = now_us() - before;
+    }
+    close(file);
+    unlink(path);
+}
+
+static double sent[MOST], came[MOST];
+
+// Takes in so many messages, and acknowledges each.
+static void *consume(void *consumer) {
+    struct client *client = consumer;
+    char text[FRAME_ROOM], answer[256], bytes[512];
+    for (int i = 0; i < COUNT; i++) {
+        receive(client, text);
+        came[i] = now_us();
+        char *id = strstr(text, "\"messageId\":\"");
+        if (!id) fail(text);
+        id += 13;
+        snprintf(answer, sizeof answer, "{\"messageId\":\"%.*s\"}", (int)strcspn(id, "\""), id);
+        send_all(client->socket, bytes, frame(bytes, answer));
+    }
+    return NULL;
+}
+
+// From the sending of a publish until its message has come to a consumer.
+static void deliveries(double *times) {
+    static struct client consumer, producer;
+    char bytes[FRAME_ROOM];
+    size_t length = publish_frame(bytes);
+    pthread_t thread;
+    begin(&consumer, "consumer/persistent/public/default/through/s?subscriptionType=Shared");
+    begin(&producer, "producer/persistent/public/default/through");
+    pthread_create(&thread, NULL, consume, &consumer);
+    for (int i = 0; i < COUNT; i++) {
+        usleep(PAUSE);
+        sent[i] = now_us();
+        publish(&producer, bytes, length);
+    }
+    pthread_join(thread, NULL);
+    for (int i = 0; i < COUNT; i++) times[i] = came[i] - sent[i];
+    close(producer.socket);
+    close(consumer.socket);
+}
+
+static void *publish_many(void *topic) {
+    double times[COUNT];
+    publishes(topic, COUNT, 0, times);
+    return NULL;
+}
+
+// Publishes a second that wait for their answers, of one publisher to each topic.
+static double rate(int topics) {
+    pthread_t threads[EIGHT];
+    char names[EIGHT][32];
+    double before = now_us();
+    for (int i = 0; i < topics; i++) {
+        snprintf(names[i], sizeof names[i], "of-%d-%d", topics, i);
+        pthread_create(&threads[i], NULL, publish_many, names[i]);
+    }
+    for (int i = 0; i < topics; i++) pthread_join(threads[i], NULL);
+    return topics * COUNT * 1e6 / (now_us() - before);
+}
+
+int main(int count, char **words) {
+    if (count != 3) fail("usage: speed PORT FOLDER");
+    port = atoi(words[1]);
+    setvbuf(stdout, NULL, _IOLBF, 0);
+    double times[MOST];
+    syncs(words[2], COUNT, 0, times);
+    double disk = part(times, COUNT, 50);
+    syncs(words[2], COUNT, PAUSE, times);
+    printf("fdatasync: p50 %.0f us; every 5 ms %.0f us\n", disk, part(times, COUNT, 50));
+    publishes("warm", 200, 0, times);
+    publishes("alone", COUNT, 0, times);
+    double alone = part(times, COUNT, 50);
+    printf("publish of 1 KiB, answered: p50 %.0f us, %.0f us more than fdatasync\n", alone, alone - disk);
+    publishes("paced", COUNT, PAUSE, times);
+    printf("the same every 5 ms: p50 %.0f us\n", part(times, COUNT, 50));
+    deliveries(times);
+    printf("end to end at 200 a second: p50 %.0f us, p99 %.0f us\n", part(times, COUNT, 50), part(times, COUNT, 99));
+    double one = rate(1), eight = rate(EIGHT);
+    printf("1 publisher: %.0f a second; %d publishers on %d topics: %.0f a second, %.1f times\n", one, EIGHT, EIGHT,
+           eight, eight / one);
+    return 0;
+}

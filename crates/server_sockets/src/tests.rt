@@ -1,0 +1,6 @@
+// The server over real sockets, and a database in memory.
+mod client;
+mod closing;
+mod gates;
+mod loopback;
+mod world;

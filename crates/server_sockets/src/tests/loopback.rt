@@ -1,0 +1,97 @@
+// Publishes and their deliveries through real sockets, and a message that is given back.
+use super::client::{connect, hears, publish, say, say_bytes};
+use super::world::{Visit, serve_all};
+use broker_dir::Open;
+use std::net::{Net, SocketAddr, TcpListener, TcpStream};
+use std::process::Abort;
+use std::rt::Clock;
+use std::sync::Wait;
+use std::test::*;
+use std::time::{Duration, Instant};
+
+const PRODUCER: &str = "ws://127.0.0.1/ws/v2/producer/persistent/public/default/t";
+
+const CONSUMER: &str =
+    "ws://127.0.0.1/ws/v2/consumer/persistent/public/default/t/s?subscriptionType=Shared&subscriptionInitialPosition=Earliest&negativeAckRedeliveryDelay=200";
+
+/// A publish as a text, and one as bytes whose payload has no padding.
+#[derive(Clone, Copy)]
+struct BothForms;
+
+impl Visit for BothForms {
+    fn connections(&self) -> u64 {
+        2
+    }
+
+    fn go<R: Net<Listener = TcpListener, Stream = TcpStream> + Wait + Clock + Abort + AllocGlobal>(
+        &self,
+        rt: &R,
+        address: SocketAddr,
+    ) {
+        let mut producer = connect(rt, address, PRODUCER);
+        publish(rt, &mut producer, "{\"payload\":\"aGk=\"}");
+        say_bytes(rt, &mut producer, "{\"payload\":\"aG8\"}");
+        assert!(rt; hears(rt, &mut producer, "\"messageId\":\"CAAQAQ==\""));
+        let mut consumer = connect(rt, address, CONSUMER);
+        assert!(rt;
+            hears(
+                rt,
+                &mut consumer,
+                "\"messageId\":\"CAAQAA==\",\"payload\":\"aGk=\""
+            )
+        );
+        assert!(rt;
+            hears(
+                rt,
+                &mut consumer,
+                "\"messageId\":\"CAAQAQ==\",\"payload\":\"aG8=\""
+            )
+        );
+        say(rt, &mut consumer, "{\"messageId\":\"CAAQAA==\"}");
+    }
+}
+
+#[test]
+fn what_is_published_is_delivered(rt: HostRuntime) {
+    serve_all(&rt, Open, BothForms);
+}
+
+fn now<R: Clock + Abort>(rt: &R) -> Instant {
+    Instant::now(rt).ok().expect(rt, "no clock")
+}
+
+/// A message that is given back comes again after its delay, and soon after it.
+#[derive(Clone, Copy)]
+struct GivenBack;
+
+impl Visit for GivenBack {
+    fn connections(&self) -> u64 {
+        2
+    }
+
+    fn go<R: Net<Listener = TcpListener, Stream = TcpStream> + Wait + Clock + Abort + AllocGlobal>(
+        &self,
+        rt: &R,
+        address: SocketAddr,
+    ) {
+        let mut producer = connect(rt, address, PRODUCER);
+        publish(rt, &mut producer, "{\"payload\":\"aGk=\"}");
+        let mut consumer = connect(rt, address, CONSUMER);
+        assert!(rt; hears(rt, &mut consumer, "\"redeliveryCount\":0"));
+        let before = now(rt);
+        say(
+            rt,
+            &mut consumer,
+            "{\"type\":\"negativeAcknowledge\",\"messageId\":\"CAAQAA==\"}",
+        );
+        assert!(rt; hears(rt, &mut consumer, "\"redeliveryCount\":1"));
+        let waited = now(rt).duration_since(before);
+        assert!(rt; waited >= Duration::from_millis(199));
+        assert!(rt; waited < Duration::from_secs(5));
+    }
+}
+
+#[test]
+fn what_is_given_back_comes_at_its_moment(rt: HostRuntime) {
+    serve_all(&rt, Open, GivenBack);
+}

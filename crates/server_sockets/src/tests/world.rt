@@ -1,0 +1,102 @@
+// A server with two workers, and a client in a thread of its own.
+ghost use Rattle.std.specs.Prelude.{◌≡◌};
+
+use broker_dir::{Directory, Gate, Terms};
+use kept_rows::{Note, Notes};
+use marks::{Naming, Unnamed};
+use plain_topic::PlainTopic;
+use position_core::LedgerSize;
+use row_store::Keeper;
+use sqlite::{Connection, MemStore};
+use std::io::Eprint;
+use std::marker::Brand;
+use std::net::{Net, SocketAddr, TcpListener, TcpStream};
+use std::process::Abort;
+use std::rt::Clock;
+use std::sync::{Arc, Wait};
+use std::thread;
+use std::thread::Threads;
+use topic_shared::{LineLimit, SeatCount};
+use worker_pool::{Ended, Limits, Place, serve};
+
+/// What a client does, and over how many connections.
+pub(super) trait Visit {
+    fn connections(&self) -> u64;
+
+    fn go<R: Net<Listener = TcpListener, Stream = TcpStream> + Wait + Clock + Abort + AllocGlobal>(
+        &self,
+        rt: &R,
+        address: SocketAddr,
+    );
+}
+
+fn run<
+    R: Threads
+        + Wait
+        + Net<Listener = TcpListener, Stream = TcpStream>
+        + Clock
+        + Eprint
+        + Abort
+        + AllocGlobal
+        + Copy
+        + Send
+        + Sync
+        + Drop
+        + 'static,
+    J: Naming + Send + Sync + 'static,
+    G: Gate + Send + Sync + Drop + 'static,
+    X: Visit + Send + Drop + 'static,
+>(rt: &R, history: Unnamed<Note>, gate: G, visit: X)
+    requires { history ≡ J.book }
+{
+    let alloc = rt.alloc();
+    let conn = Connection::open_in_memory(alloc).expect(rt, "no memory");
+    let keeper: Keeper<MemStore, J> = Keeper::start(alloc, conn, Notes::new(history))
+        .ok()
+        .expect(rt, "no tables");
+    let terms = Terms {
+        ledger_size: LedgerSize::new(50_000).expect(rt, "no size"),
+        lines: LineLimit::new(1_000).expect(rt, "no limit"),
+        seats: SeatCount::new(2).expect(rt, "no seats"),
+    };
+    let place: Place<PlainTopic, MemStore, J, G> = Place::new(
+        Directory::open(alloc, keeper, terms),
+        gate,
+    );
+    let place = Arc::new(alloc, place).ok().expect(rt, "no memory");
+    let listener = TcpListener::bind(rt, "127.0.0.1:0")
+        .ok()
+        .expect(rt, "no listener");
+    let address = listener.local_addr().ok().expect(rt, "no address");
+    let limits = Limits {
+        workers: 2,
+        connections: Some(visit.connections()),
+    };
+    let handle = *rt;
+    let client = thread::spawn(rt, move || visit.go(&handle, address))
+        .ok()
+        .expect(rt, "no thread");
+    let ended = serve(rt, alloc, listener, place, limits);
+    client.join(rt);
+    assert_eq!(rt; ended, Ended::Served(limits.connections.unwrap_or(0)));
+}
+
+/// Serves the client's connections, and ends once they have.
+pub(super) fn serve_all<
+    R: Threads
+        + Wait
+        + Net<Listener = TcpListener, Stream = TcpStream>
+        + Clock
+        + Eprint
+        + Abort
+        + AllocGlobal
+        + Copy
+        + Send
+        + Sync
+        + Drop
+        + 'static,
+    G: Gate + Send + Sync + Drop + 'static,
+    X: Visit + Send + Drop + 'static,
+>(rt: &R, gate: G, visit: X) {
+    run::<R, Brand, G, X>(rt, Unnamed::new(), gate, visit);
+}
