@@ -10,6 +10,7 @@ mod permits;
 mod plain;
 mod sequences;
 mod shares;
+mod subscription;
 mod texts;
 mod topic_names;
 

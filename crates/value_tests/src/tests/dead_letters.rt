@@ -60,3 +60,24 @@ fn pushes_where_there_is_memory(rt: HostRuntime) {
     assert_eq!(rt; queue.count(), 2_000);
     assert_eq!(rt; next_ordinal(&queue), Some(1_000));
 }
+
+#[test]
+fn a_queue_goes_on_from_the_letters_of_a_snapshot(rt: HostRuntime) {
+    let target = target(&rt);
+    let mut queue = DeadQueue::new(rt.alloc());
+    for ordinal in 4..7u64 {
+        push(&rt, &mut queue, &target, ordinal);
+    }
+    queue.mark_safe_below(6);
+    queue.take_back();
+    assert_eq!(rt; queue.count(), 2);
+    // Both are stored now.
+    queue.take_back();
+    assert_eq!(rt; queue.count(), 2);
+    let letters = queue.letters(rt.alloc()).expect(&rt, "no memory");
+    let mut again = DeadQueue::restored(rt.alloc(), &letters).expect(&rt, "no memory");
+    assert_eq!(rt; next_ordinal(&again), Some(4));
+    assert!(rt; again.done(4).is_some());
+    assert!(rt; again.done(5).is_some());
+    assert_eq!(rt; again.count(), 0);
+}
