@@ -1,3 +1,2 @@
 -- What the contracts of a keeper cite.
 pub mod Keeping
-pub mod Counting
