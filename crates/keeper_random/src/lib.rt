@@ -1,0 +1,5 @@
+//! The keeper over random topics: a test.
+#![tactic(auto)]
+
+#[cfg(test)]
+mod tests;

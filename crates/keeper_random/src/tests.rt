@@ -1,0 +1,2 @@
+// What a keeper stores and loads after random events.
+mod random;

@@ -1,0 +1,5 @@
+//! The keeper over disks that stop: tests.
+#![tactic(auto)]
+
+#[cfg(test)]
+mod tests;

@@ -1,0 +1,4 @@
+// What a keeper leaves where a disk stops.
+mod disks;
+mod scene;
+mod stops;
