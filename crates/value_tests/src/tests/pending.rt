@@ -56,6 +56,19 @@ fn answers_as_a_plain_list(rt: HostRuntime) {
         assert_eq!(rt; map.due_first(), plain.due_first(), "after {step}");
         assert_eq!(rt; map.get(at), plain.get(at), "after {step}");
         assert_eq!(rt; map.count_of(at), plain.count_of(at), "after {step}");
+        let consumer = (draw >> 20) % 5;
+        assert_eq!(rt; map.len(), plain.len(), "after {step}");
+        assert_eq!(rt;
+            map.count_at(consumer),
+            plain.count_at(consumer),
+            "after {step}"
+        );
+        assert_eq!(rt; map.first(), plain.first(), "after {step}");
+        assert_eq!(rt;
+            map.first_at(consumer),
+            plain.first_at(consumer),
+            "after {step}"
+        );
     }
 }
 

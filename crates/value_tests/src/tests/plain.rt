@@ -17,6 +17,13 @@ impl Row {
         let position = self.position;
         Some(Due { moment, position })
     }
+
+    fn is_at(&self, consumer: u64) -> bool {
+        match self.held {
+            Some(held) => held.consumer == consumer,
+            None => false,
+        }
+    }
 }
 
 #[derive(Drop)]
@@ -90,5 +97,24 @@ impl Plain {
 
     pub(super) fn due_first(&self) -> Option<Due> {
         self.rows.iter().filter_map(|row| row.due()).min()
+    }
+
+    pub(super) fn len(&self) -> usize {
+        self.rows.iter().filter(|row| row.held.is_some()).count()
+    }
+
+    pub(super) fn count_at(&self, consumer: u64) -> usize {
+        self.rows.iter().filter(|row| row.is_at(consumer)).count()
+    }
+
+    pub(super) fn first_at(&self, consumer: u64) -> Option<Position> {
+        let at = self.rows.iter().filter(|row| row.is_at(consumer));
+        at.map(|row| row.position).min()
+    }
+
+    pub(super) fn first(&self) -> Option<Position> {
+        let held = self.rows.iter().filter_map(|row| row.held);
+        let least = held.map(|held| held.consumer).min()?;
+        self.first_at(least)
     }
 }
