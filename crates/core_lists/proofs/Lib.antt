@@ -1,4 +1,2 @@
-pub mod Undone
-mod Buried
 pub mod Halving
 pub mod Links
