@@ -87,6 +87,14 @@ impl DeadQueue {
         }
     }
 
+    /// Takes the first letter out, if there is one.
+    pub fn take_first(&mut self)
+        ensures { self.new ≡ without_first self.old }
+    {
+        self.letters.pop_front();
+        self.safe = self.safe.saturating_sub(1);
+    }
+
     /// The deaths below the ordinal are stored, and those that were.
     pub fn mark_safe_below(&mut self, ordinal: Ordinal)
         ensures value { self.new ≡ safe_below ordinal self.old }
