@@ -119,7 +119,10 @@ impl Dispatcher for Shared {
         self.waiting.on_released(view, index);
     }
 
-    fn on_reset<V: View>(&mut self, _view: &V) -> Result<(), Fault> {
+    fn on_reset<V: View>(&mut self, _view: &V) -> Result<(), Fault>
+        ensures ok { OnOk result (AgreesAfter Reset (Agrees self.old) (Agrees self.new) (V.state _view.now) (V.subscription _view.now)) }
+        ensures never { IsOk result }
+    {
         self.waiting.reset();
         Ok(())
     }

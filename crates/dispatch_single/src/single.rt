@@ -31,6 +31,7 @@ impl Dispatcher for Single {
     ghost use Rattle.position_core.specs.Kind.{is_in_order};
     ghost use Rattle.delivery_machine.specs.Words.{NoneEligible};
     ghost use Rattle.dispatch_core.specs.Offers.{IsGoodOffer};
+    ghost use Rattle.dispatch_core.specs.Changes.{Reset, AgreesAfter};
     ghost use Rattle.dispatch_single.specs.InOrder.{Agrees};
 
     ghost serves = { is_in_order };
@@ -96,7 +97,10 @@ impl Dispatcher for Single {
         self.waiting.on_released(view, index);
     }
 
-    fn on_reset<V: View>(&mut self, _view: &V) -> Result<(), Fault> {
+    fn on_reset<V: View>(&mut self, _view: &V) -> Result<(), Fault>
+        ensures ok { OnOk result (AgreesAfter Reset (Agrees self.old) (Agrees self.new) (V.state _view.now) (V.subscription _view.now)) }
+        ensures never { IsOk result }
+    {
         self.waiting.reset();
         Ok(())
     }
