@@ -1,5 +1,5 @@
 -- Lists of what is kept, as the machine's lists of what that stands for.
-use Rattle.std.proofs.Common.{◌≡◌, ℕ, ◌+◌, ◌<◌, List, [], ◌∷◌, map, length, Some, None, Option, Bool, true, false, cond, get_or, set, refl, ap, ap₂, ◌∙◌, sym, arith}
+use Rattle.std.proofs.Common.{◌≡◌, ℕ, ◌+◌, List, [], ◌∷◌, map, Some, None, Bool, cond, get_or, set, refl, ap, ap₂, ◌∙◌, sym}
 use Rattle.std.specs.List.{position, position_or_len, find}
 use Rattle.std.specs.Prelude.{nat_lt, not}
 use Rattle.std.proofs.lemmas.List.{length-map, map-set}

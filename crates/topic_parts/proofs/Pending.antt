@@ -1,10 +1,12 @@
 -- How many messages of a log are pending at a consumer, as the map of what is pending counts them.
-use Rattle.std.proofs.Common.{◌≡◌, ℕ, ◌+◌, List, [], ◌∷◌, map, Some, None, Option, Bool, true, false, cond, refl, ap, ◌∙◌, sym, arith, true≢false}
+use Rattle.std.proofs.Common.{◌≡◌, ℕ, ◌+◌, List, [], ◌∷◌, map, Some, None, Option, Bool, true, false, cond, refl, ap, ◌∙◌, sym, arith, get_or, true≢false}
 use Rattle.std.specs.Prelude.{◌||◌, ◌==◌, is_some}
 use Rattle.std.specs.List.{count_by, AllByRecursion}
 use Rattle.std.specs.List.Sorted.{IsStrictlySortedBy}
 use Rattle.std.specs.FinMap as map_of
 use Rattle.std.specs.declared.cmp.Ordering.TheVariants.{Less}
+use Rattle.std.proofs.lemmas.List.{get_or_default}
+use Rattle.std.proofs.lemmas.List.Quantifiers.{position-Some}
 use Rattle.std.proofs.lemmas.List.Sums.{sum_by-cons}
 use Rattle.position_core.specs.declared.position.Position.{Position}
 use Rattle.position_core.specs.declared.message.Entry.{Entry}
@@ -12,11 +14,14 @@ use Rattle.position_core.specs.declared.held.Held.{Held}
 use Rattle.position_core.specs.Position.{position_cmp, same_position, positions_total, exact_positions}
 use Rattle.delivery_machine.specs.Words.{is_held_by}
 use Rattle.delivery_machine.specs.WellFormed.{has_message}
-use Rattle.delivery_machine.proofs.Messages.{either_way, message_there, position_itself}
+use Rattle.delivery_machine.specs.State.{Member}
+use Rattle.delivery_machine.proofs.Messages.{either_way, has_there, message_there, position_itself}
 use Rattle.delivery_machine.proofs.Tended.{position_is}
 use Rattle.delivery_machine.proofs.Rising.{keys_above, below_itself}
 use Rattle.pending_core.proofs.Matching.{count-insert, no_more}
-use Rattle.core_lists.specs.Placed.{IsRising}
+use Rattle.log_pieces.specs.Pieces.{index_of, stands_at}
+use Rattle.topic_subscriptions.specs.Placed.{IsPlacedIn, IsRising, Placed}
+use Rattle.topic_parts.specs.Parts.{IsSeenIn}
 
 abbrev Holding : Type 0
 Holding = map_of.FinMap position_cmp Held
@@ -123,3 +128,18 @@ pending_counted n (e ∷ log) m rising are = sum_by-cons (λ (x : Entry). cond (
             by_test : (b : Bool) → same_position q e.position ≡ b → has_message log q ≡ true
             by_test true same = absurd (true≢false (sym key ∙ ap is_some (got q ∙ ap (λ b. cond b None (map_of.get m q)) same)))
             by_test false differ = later q (sym (ap is_some (untouched q differ)) ∙ key) (either_way e.position q ∙ differ)
+
+-- what has an index is of the log
+pub indexed : (log : List Entry) (q : Position) (i : ℕ) → index_of q log ≡ Some i → has_message log q ≡ true
+indexed [] q i is = cc
+indexed (e ∷ log) q i is =
+    let at = position-Some (stands_at q) (e ∷ log) i e is in
+    has_there (e ∷ log) q (get_or (e ∷ log) i e, (i, at.0, get_or_default (e ∷ log) i (get_or (e ∷ log) i e) e at.0), position_is (get_or (e ∷ log) i e).position q at.1)
+
+-- what a view needs
+pub seen_of_placed : (log : List Entry) (ms : List Member) (p : Placed) → IsPlacedIn log ms p → IsSeenIn log ms p
+seen_of_placed log ms p placed = record {
+  live = placed.live;
+  line = placed.line;
+  pending = λ q key. (let live = placed.pending q key in indexed log q live.place live.there);
+}

@@ -1,6 +1,6 @@
 -- The members of a subscription, by the line of their numbers.
-use Rattle.std.proofs.Common.{◌≡◌, ℕ, ◌<◌, List, map, length, Bool, Some, None, Option, refl, ap, ◌∙◌, sym, Contains, slice_get, ◌^◌, arith}
-use Rattle.std.specs.List.{filter, find, position}
+use Rattle.std.proofs.Common.{◌≡◌, ℕ, ◌<◌, List, length, Bool, Some, None, Option, refl, ap, ◌∙◌, sym, Contains, slice_get, ◌^◌, arith}
+use Rattle.std.specs.List.{filter, find}
 use Rattle.std.specs.Option.{option_map}
 use Rattle.std.proofs.lemmas.List.{length-map}
 use Rattle.std.proofs.lemmas.Option.{slice_get_within, slice_get-map, get_or_from_slice_get}
@@ -9,9 +9,9 @@ use Rattle.delivery_machine.specs.Words.{is_at, is_member}
 use Rattle.dispatch_core.specs.declared.view.Seen.{Seen}
 use Rattle.delivery_machine.proofs.Firsts.{filter_contained}
 use Rattle.delivery_machine.proofs.Places.{found_there}
-use Rattle.core_lists.specs.Members.{NumbersRise}
-use Rattle.core_lists.specs.Placed.{line_at}
-use Rattle.core_lists.proofs.Halving.{found}
+use Rattle.topic_members.specs.Members.{NumbersRise}
+use Rattle.topic_subscriptions.specs.Placed.{line_at}
+use Rattle.topic_members.proofs.Halving.{found}
 
 -- nobody stands where no number does
 pub none_in_line : (name : List ℕ) (ms : List Member) (place : ℕ) → slice_get (line_at name ms) place ≡ None → slice_get (filter (is_at name) ms) place ≡ None

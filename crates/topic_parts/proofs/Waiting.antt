@@ -1,20 +1,19 @@
 -- The next message that waits, as places are looked at one after another.
-use Rattle.std.proofs.Common.{◌≡◌, ℕ, ◌+◌, ◌<◌, ◌≤◌, zero, suc, List, [], ◌∷◌, Some, None, Option, Bool, true, false, refl, ap, ap₂, ◌∙◌, sym, subst, arith, length, take, inl, inr, true≢false}
-use Rattle.std.specs.Prelude.{◌||◌, ◌&&◌, not, slice_get, is_some}
+use Rattle.std.proofs.Common.{◌≡◌, ℕ, ◌+◌, ◌<◌, ◌≤◌, zero, suc, List, [], ◌∷◌, Some, None, Option, Bool, true, false, refl, ap, ap₂, ◌∙◌, sym, subst, arith, length, inl, inr, true≢false}
+use Rattle.std.specs.Prelude.{◌&&◌, not, slice_get, is_some}
 use Rattle.std.specs.Option.{option_map, option_map_or}
 use Rattle.std.specs.FinMap as map_of
-use Rattle.std.specs.FinSet as set
 use Rattle.std.proofs.lemmas.Bool.{cases_lt}
 use Rattle.std.proofs.lemmas.Grind.{common_steps}
-use Rattle.std.proofs.lemmas.Option.{slice_get_within}
 use Rattle.position_core.specs.declared.message.Entry.{Entry}
 use Rattle.position_core.specs.declared.held.Held.{Held}
 use Rattle.position_core.specs.declared.position.Position.{Position}
 use Rattle.position_core.specs.Position.{position_cmp}
 use Rattle.delivery_machine.specs.State.{State, Subscription}
-use Rattle.delivery_machine.specs.Words.{is_live, is_waiting, visible}
-use Rattle.dispatch_core.specs.Log.{waits_at, IsReadyAt, IsNextReady, NoneReady}
-use Rattle.core_lists.specs.Placed.{Placed, IsNextLive, IsPlacedIn, is_live_at, sub_in}
+use Rattle.delivery_machine.specs.Words.{is_waiting, visible}
+use Rattle.dispatch_core.specs.Log.{waits_at, IsNextReady, NoneReady}
+use Rattle.topic_subscriptions.specs.Placed.{Placed, IsNextLive, is_live_at, sub_in}
+use Rattle.topic_parts.specs.Parts.{IsSeenIn}
 
 pub held_by_nobody : (pending : map_of.FinMap position_cmp Held) (q : Position) → None ≡ option_map (λ (h : Held). h.consumer) (map_of.get pending q) → map_of.contains_key pending q ≡ false
 held_by_nobody pending q none = by (map_of.get pending q) none
@@ -39,7 +38,7 @@ there_is (x ∷ xs) (suc k) low none = there_is xs k (omega arith) none
 pub length_visible : (s : State) → s.durable ≤ length s.log → length (visible s) ≡ s.durable
 length_visible s within = grind (arith, common_steps)
 
-module _ (s : State) (p : Placed) (tied : IsPlacedIn s.log s.members p) where
+module _ (s : State) (p : Placed) (tied : IsSeenIn s.log s.members p) where
   sub : Subscription
   sub = sub_in s.log p
 

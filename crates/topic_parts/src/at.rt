@@ -2,49 +2,72 @@
 ghost use Rattle.std.specs.Prelude.{◌≡◌, ◌≤◌, length, map};
 ghost use Rattle.std.specs.List.Sorted.{IsStrictlySortedBy-prop};
 ghost use Rattle.position_core.specs.Position.{position_cmp};
-ghost use Rattle.core_lists.specs.Members.{NumbersRise};
-ghost use Rattle.core_lists.specs.Placed.{IsPlacedIn, IsRising};
-ghost use Rattle.topic_parts.specs.Parts.{state_of};
+ghost use Rattle.topic_members.specs.Members.{NumbersRise};
+ghost use Rattle.topic_subscriptions.specs.Placed.{IsRising};
+ghost use Rattle.topic_parts.specs.Parts.{IsSeenIn, log_of};
 
 use crate::parts::Parts;
-use core_lists::{Member, Subscription};
 use dispatch_core::{Seen, View};
 use position_core::{ConsumerNumber, LogIndex};
+use topic_members::Member;
+use topic_subscriptions::Subscription;
 
 /// One of the subscriptions, among the parts.
+#[derive(Drop)]
 pub struct At<'a> {
     pub parts: &'a Parts,
     pub subscription: &'a Subscription,
-    ghost durable: { parts.now.durable ≤ length parts.now.log.log },
-    ghost rising: { IsRising parts.now.log.log } by { IsStrictlySortedBy-prop position_cmp (map (λ e. e.position) parts.now.log.log) },
-    ghost numbers: { NumbersRise parts.now.members.items },
-    ghost placed: { IsPlacedIn parts.now.log.log parts.now.members.items subscription.now },
+    ghost durable: { parts.now.log.durable ≤ length (log_of parts.now) },
+    ghost rising: { IsRising (log_of parts.now) } by { IsStrictlySortedBy-prop position_cmp (map (λ e. e.position) (log_of parts.now)) },
+    ghost numbers: { NumbersRise parts.now.members.members },
+    ghost placed: { IsSeenIn (log_of parts.now) parts.now.members.members subscription.now },
+}
+
+impl Parts {
+    ghost use Rattle.std.specs.Prelude.{◌≡◌, ◌<◌, length, slice_get, Some};
+    ghost use Rattle.topic_parts.specs.Parts.{AreTied};
+
+    /// What the dispatcher of the subscription at the place sees.
+    pub fn at(&self, place: usize) -> At<'_>
+        requires tied { AreTied self.now }
+        requires within { place < length self.now.subscriptions.items }
+        ensures parts { result.parts.now ≡ self.now }
+        ensures subscription { Some result.subscription.now ≡ slice_get self.now.subscriptions.items place }
+    {
+        let _length = self.log.len();
+        let _durable = self.log.durable();
+        let _members = self.members.len();
+        At {
+            parts: self,
+            subscription: &self.subscriptions[place],
+        }
+    }
 }
 
 impl At<'_> {
     ghost use Rattle.std.specs.Prelude.{◌≡◌};
     ghost use Rattle.delivery_machine.specs.Words.{has_room};
-    ghost use Rattle.core_lists.specs.Placed.{sub_in};
-    ghost use Rattle.topic_parts.specs.Parts.{state_of};
+    ghost use Rattle.topic_subscriptions.specs.Placed.{sub_in};
+    ghost use Rattle.topic_parts.specs.Parts.{log_of, state_of};
 
     /// Whether a further message may be sent to the member.
     fn has_room(&self, member: &Member) -> bool
-        ensures { result ≡ has_room (state_of self.now.parts.now) (sub_in self.now.parts.now.log.log self.now.subscription.now) member.now }
+        ensures { result ≡ has_room (state_of self.now.parts.now) (sub_in (log_of self.now.parts.now) self.now.subscription.now) member.now }
     {
         member.has_room(self.subscription.pending_at(member.number()))
     }
 }
 
 impl View for At<'_> {
-    ghost use Rattle.core_lists.specs.Placed.{sub_in};
-    ghost use Rattle.topic_parts.specs.Parts.{state_of};
+    ghost use Rattle.topic_subscriptions.specs.Placed.{sub_in};
+    ghost use Rattle.topic_parts.specs.Parts.{log_of, state_of};
 
     ghost state = { λ v. state_of v.parts.now };
 
-    ghost subscription = { λ v. sub_in v.parts.now.log.log v.subscription.now };
+    ghost subscription = { λ v. sub_in (log_of v.parts.now) v.subscription.now };
 
     fn visible(&self) -> u64 {
-        self.parts.durable as u64
+        self.parts.log.durable() as u64
     }
 
     fn length(&self) -> u64 {
@@ -61,7 +84,7 @@ impl View for At<'_> {
     }
 
     fn next_waiting(&self, from: LogIndex) -> Option<LogIndex> {
-        let durable = self.parts.durable as u64;
+        let durable = self.parts.log.durable() as u64;
         let mut place = self.subscription.next_live(from);
         while place < durable {
             let Some(message) = self.parts.log.get(place as usize) else {
@@ -85,7 +108,7 @@ impl View for At<'_> {
         let Some(consumer) = self.subscription.number_at(place) else {
             return None;
         };
-        match self.parts.member(consumer) {
+        match self.parts.members.get(consumer) {
             Some(member) => Some(Seen {
                 consumer,
                 level: member.level(),

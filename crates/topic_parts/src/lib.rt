@@ -2,9 +2,13 @@
 //! them.
 #![tactic(auto)]
 
+mod acknowledging;
 mod at;
+mod burying;
 mod finding;
+mod holding;
 mod parts;
+mod seeking;
 
 pub use at::At;
 pub use parts::Parts;

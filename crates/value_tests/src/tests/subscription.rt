@@ -1,16 +1,27 @@
 // A subscription of the fast topic, by places and positions, and that its calls succeed where there is memory.
 use super::{position_at, shared_text, topic_name};
-use ack_ranges::AckSet;
-use core_lists::Subscription;
 use dead_core::DeadLetter;
 use position_core::{Held, Kind, SubscriptionName};
 use std::process::Abort;
+use topic_subscriptions::Subscription;
 
 /// With consumer 3, and the first two messages acknowledged.
 fn subscription<R: Abort + AllocGlobal>(rt: &R) -> Subscription {
     let name = SubscriptionName::new(shared_text(rt, "billing")).expect(rt, "no name");
     let made = Subscription::new(rt.alloc(), name, Kind::Shared, 3, 2);
     made.expect(rt, "no memory")
+}
+
+/// The message at the place dies.
+fn bury<R: Abort + AllocGlobal>(rt: &R, subscription: &mut Subscription, place: u64) {
+    if subscription.next_live(place) == place && place < 9 {
+        let letter = DeadLetter {
+            position: position_at(0, place),
+            target: topic_name(rt, "persistent://public/default/orders-billing-DLQ"),
+            ordinal: 9,
+        };
+        subscription.bury(place, letter).expect(rt, "no memory");
+    }
 }
 
 #[test]
@@ -21,6 +32,18 @@ fn consumers_come_and_go(rt: HostRuntime) {
     assert_eq!(rt; subscription.number_at(1), Some(5));
     subscription.leave(3);
     assert_eq!(rt; subscription.number_at(0), Some(5));
+    assert_eq!(rt; subscription.number_at(1), None);
+}
+
+#[test]
+fn a_join_is_taken_back(rt: HostRuntime) {
+    let mut subscription = subscription(&rt);
+    subscription
+        .join(Kind::KeyShared, 7)
+        .expect(&rt, "no memory");
+    assert_eq!(rt; subscription.owner(40_000), Some(7));
+    subscription.undo_join(Kind::Shared, 7);
+    assert_eq!(rt; subscription.owner(40_000), None);
     assert_eq!(rt; subscription.number_at(1), None);
 }
 
@@ -46,23 +69,48 @@ fn a_message_is_held_and_waits_again(rt: HostRuntime) {
 }
 
 #[test]
-fn messages_are_acknowledged_die_and_are_sought(rt: HostRuntime) {
+fn messages_are_acknowledged_and_die(rt: HostRuntime) {
     let mut subscription = subscription(&rt);
     assert_eq!(rt; subscription.next_live(0), 2);
-    let letter = DeadLetter {
-        position: position_at(0, 2),
-        target: topic_name(&rt, "persistent://public/default/orders-billing-DLQ"),
-        ordinal: 9,
-    };
-    subscription.bury(2, letter).expect(&rt, "no memory");
+    bury(&rt, &mut subscription, 3);
     subscription
         .acknowledge(4, position_at(0, 4))
         .expect(&rt, "no memory");
-    assert_eq!(rt; subscription.next_live(0), 3);
-    assert_eq!(rt; subscription.next_live(4), 5);
+    assert_eq!(rt; subscription.next_live(0), 2);
+    assert_eq!(rt; subscription.next_live(3), 5);
     assert_eq!(rt; subscription.number_acknowledged(), 3);
-    assert_eq!(rt; subscription.number_of_dead(), 1);
-    subscription.seek(1, AckSet::new(rt.alloc()));
+    assert_eq!(rt; subscription.first_buried(), Some(3));
+}
+
+#[test]
+fn a_seek_leaves_who_is_dead(rt: HostRuntime) {
+    let mut subscription = subscription(&rt);
+    bury(&rt, &mut subscription, 3);
+    subscription
+        .seek(rt.alloc(), 1, &[3])
+        .expect(&rt, "no memory");
     assert_eq!(rt; subscription.next_live(0), 1);
+    assert_eq!(rt; subscription.next_live(3), 4);
     assert_eq!(rt; subscription.number_of_dead(), 1);
+}
+
+#[test]
+fn a_dead_message_is_moved(rt: HostRuntime) {
+    let mut subscription = subscription(&rt);
+    bury(&rt, &mut subscription, 2);
+    assert_eq!(rt; subscription.mark_delete_end(), 2);
+    subscription
+        .move_first(2, position_at(0, 2))
+        .expect(&rt, "no memory");
+    assert_eq!(rt; subscription.mark_delete_end(), 3);
+    assert_eq!(rt; subscription.number_of_dead(), 0);
+}
+
+#[test]
+fn a_subscription_goes_on_from_what_is_kept(rt: HostRuntime) {
+    let kept = subscription(&rt).kept(rt.alloc()).expect(&rt, "no memory");
+    let again = Subscription::restored(rt.alloc(), &kept, &[3]).expect(&rt, "no memory");
+    assert_eq!(rt; again.mark_delete_end(), 2);
+    assert_eq!(rt; again.next_live(0), 2);
+    assert_eq!(rt; again.next_live(3), 4);
 }

@@ -10,4 +10,4 @@ returns c =
     c.has_room.ensures
     ∙ ap (flow_has_room c.args.member.now.flow)
     (c.pending_at.ensures ∙ ap (pending_count_at at.subscription.now.pending) c.number.ensures
-    ∙ sym (pending_counted c.args.member.now.number at.parts.now.log.log at.subscription.now.pending.pending at.rising at.placed.pending))
+    ∙ sym (pending_counted c.args.member.now.number at.parts.now.log.log.log at.subscription.now.pending.pending at.rising at.placed.pending))

@@ -1,12 +1,10 @@
-use Rattle.std.proofs.Common.{◌≡◌, ◌∙◌, sym, ap, arith, refl, false, true, length, Some, None}
-use Rattle.std.specs.Prelude.{slice_get}
+use Rattle.std.proofs.Common.{◌∙◌, sym, ap, arith, false, true}
 use Rattle.std.specs.Option.{option_copied, option_map}
 use Rattle.std.specs.FinMap as map_of
 use Rattle.position_core.specs.declared.position.Position.{Position}
 use Rattle.position_core.specs.declared.held.Held.{Held}
-use Rattle.core_lists.specs.Placed.{sub_in}
 use Rattle.topic_parts.specs.Parts.{state_of}
-use Rattle.topic_parts.proofs.Waiting.{begins, goes_on, finds, finds_none, live_waits, held_by_nobody, held_by_one, there_is, length_visible}
+use Rattle.topic_parts.proofs.Waiting.{begins, goes_on, finds, live_waits, held_by_nobody, held_by_one, there_is, length_visible}
 use Rattle.topic_parts.proofs.at.AtView.next_waiting.Goals as goal
 
 pub loop-place-init : goal.loop-place-init
@@ -14,7 +12,7 @@ loop-place-init c = begins (state_of c.args.self.now.parts.now) c.args.self.now.
 
 pub returns-in_default-clause-none : goal.returns-in_default-clause-none
 returns-in_default-clause-none c =
-    absurd (there_is c.args.self.now.parts.now.log.log c.loop-place.place (omega (arith, c.loop-place-test.true, c.args.self.now.durable)) (sym c.get.ensures ∙ ap option_copied c.in_default.is))
+    absurd (there_is c.args.self.now.parts.now.log.log.log c.loop-place.place (omega (arith, c.loop-place-test.true, c.args.self.now.durable)) (sym c.get.ensures ∙ ap option_copied c.in_default.is))
 
 pub returns-in-None-clause-some : goal.returns-in-None-clause-some
 returns-in-None-clause-some c =

@@ -1,0 +1,5 @@
+pub mod Writers
+pub mod Told
+pub mod Renumbered
+pub mod Gaps
+pub mod Free

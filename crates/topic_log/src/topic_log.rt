@@ -1,0 +1,146 @@
+// The log of a topic, and who may write to it.
+ghost use Rattle.std.specs.Prelude.{◌≡◌, ◌≤◌, [], IfOk, length, map, slice_get};
+ghost use Rattle.std.specs.Option.{option_copied};
+ghost use Rattle.std.specs.List.Sorted.{IsStrictlySortedBy};
+ghost use Rattle.position_core.specs.Position.{position_cmp};
+ghost use Rattle.log_pieces.specs.Pieces.{index_of, joined};
+ghost use Rattle.delivery_machine.specs.State.{State};
+ghost use Rattle.delivery_machine.specs.Words.{next_position};
+ghost use Rattle.delivery_machine.specs.Run.{Answers};
+ghost use Rattle.delivery_machine.specs.declared.event.Event.TheVariants.{Progress};
+ghost use Rattle.entry_log.specs.Log.{next_in};
+ghost use Rattle.dedup_core.specs.Sequences.{AgreesWith};
+ghost use Rattle.topic_log.specs.Written.{blank, written_in};
+
+use crate::producer::Producer;
+use dedup_core::Sequences;
+use delivery_machine::Reply;
+use entry_log::EntryLog;
+use log_pieces::Pieces;
+use position_core::{LedgerSize, Message, Position, ProducerNumber};
+use std::alloc::{AllocError, Global};
+use std::marker::Model;
+
+/// The messages of a topic with the last sequence number of each name, and the connected producers. A
+/// message is appended first and noted then, so the numbers agree with the log only where a clause says so.
+#[derive(Drop)]
+pub struct TopicLog {
+    pub(crate) alloc: Global,
+    pub(crate) entries: EntryLog,
+    pub(crate) sequences: Sequences,
+    pub(crate) durable: usize,
+    pub(crate) producers: Vec<Producer>,
+    pub(crate) next_producer: ProducerNumber,
+    /// The log has messages under the names that the topic makes of the numbers below, but for the gaps:
+    /// those of connected producers without a message, as far as the last search saw them.
+    pub(crate) first_auto: u64,
+    pub(crate) gaps: Vec<u64>,
+}
+
+impl Model for TopicLog {
+    ghost use Rattle.std.specs.Coded.{codes};
+    ghost use Rattle.dedup_core.specs.Sequences.{coded_numbers};
+    ghost use Rattle.topic_log.specs.Written.{Written, IsKept};
+
+    ghost Value = { Written };
+
+    ghost coded = { Prim.hlevel (codes, coded_numbers) };
+
+    ghost view = { λ t. record {
+      log = t.entries;
+      numbers = t.sequences;
+      durable = t.durable;
+      producers = t.producers.items;
+      next_producer = t.next_producer;
+    } };
+
+    ghost invariant = { λ t. IsKept t.entries.log t.durable t.first_auto t.gaps.items };
+}
+
+impl TopicLog {
+    /// Without messages and producers.
+    pub fn new(alloc: Global, ledger_size: LedgerSize) -> Self
+        ensures value { result ≡ blank ledger_size }
+        ensures agrees { AgreesWith [] result.numbers }
+    {
+        TopicLog {
+            alloc,
+            entries: EntryLog::new(alloc, ledger_size),
+            sequences: Sequences::new(alloc),
+            durable: 0,
+            producers: Vec::new(alloc),
+            next_producer: 1,
+            first_auto: 0,
+            gaps: Vec::new(alloc),
+        }
+    }
+
+    /// How many messages the log has. Their positions rise.
+    pub fn len(&self) -> usize
+        ensures value { result ≡ length self.now.log.log }
+        ensures rising { IsStrictlySortedBy position_cmp (map (λ e. e.position) self.now.log.log) }
+    {
+        self.entries.len()
+    }
+
+    /// The message at an index.
+    pub fn get(&self, index: usize) -> Option<&Message>
+        ensures { option_copied result ≡ slice_get self.now.log.log index }
+    {
+        self.entries.get(index)
+    }
+
+    /// The index of the message at the position. Takes the logarithm of the log's length.
+    pub fn index_of(&self, at: Position) -> Option<usize>
+        ensures { result ≡ index_of at self.now.log.log }
+    {
+        self.entries.index_of(at)
+    }
+
+    /// How many of the first messages are stored.
+    pub fn durable(&self) -> usize
+        ensures value { result ≡ self.now.durable }
+        ensures within { result ≤ length self.now.log.log }
+    {
+        self.durable
+    }
+
+    /// The messages, most of which the copy shares. Takes a step for each full segment.
+    pub fn pieces(&self) -> Result<Pieces, AllocError>
+        ensures { IfOk result (λ pieces. joined pieces ≡ self.now.log.log) }
+    {
+        self.entries.pieces()
+    }
+
+    /// The ledger that messages go into.
+    pub fn ledger(&self) -> u64
+        ensures { result ≡ self.now.log.ledger }
+    {
+        self.entries.ledger()
+    }
+
+    /// How many messages a ledger has at most.
+    pub fn ledger_size(&self) -> LedgerSize
+        ensures { result ≡ self.now.log.ledger_size }
+    {
+        self.entries.ledger_size()
+    }
+
+    /// The position of the next message.
+    pub fn next_position(&self) -> Position
+        ensures value { result ≡ next_in self.now.log }
+        ensures machine { (s : State) → result ≡ next_position (written_in self.now s) }
+    {
+        self.entries.next_position()
+    }
+
+    /// How much of the log is stored.
+    pub fn progress(&self) -> Reply
+        ensures { (s : State) → Answers (written_in self.now s) Progress result (written_in self.now s) }
+    {
+        Reply::Progress {
+            durable: self.durable as u64,
+            length: self.entries.len() as u64,
+        }
+    }
+}

@@ -1,0 +1,4 @@
+pub mod Closed
+pub mod Less
+pub mod Placed
+pub mod Sought
