@@ -1,0 +1,38 @@
+-- What leaves a dispatcher of any kind right though it is not told.
+use Rattle.std.proofs.Common.{sym, ◌∙◌}
+use Rattle.delivery_machine.specs.State.{State, Subscription}
+use Rattle.dispatch_core.specs.Changes.{Kept, Appended, TakenBack}
+use Rattle.waiting_places.proofs.Telling.{tells-kept, tells-appended, tells-taken_back}
+use Rattle.dispatch_single.proofs.Agreeing.{agrees-with}
+use Rattle.dispatchers.specs.declared.dispatch.Dispatch.{Dispatch}
+use Rattle.dispatchers.specs.declared.dispatch.Dispatch.TheVariants.{InOrder, InTurn, ByKey}
+use Rattle.dispatchers.specs.Agreeing.{agrees}
+
+module _ (s : State) (sub : Subscription) (t : State) (new : Subscription) where
+  pub agrees-kept : (d : Dispatch) → Kept s sub t new → agrees d s sub → agrees d t new
+  agrees-kept (InOrder d) change agreed = agrees-with d s sub agreed t new d.waiting change.kind change.line (tells-kept d.waiting s sub t new agreed.waiting change)
+  agrees-kept (InTurn d) change agreed = record {
+    kind = change.kind ∙ agreed.kind;
+    waiting = tells-kept d.waiting s sub t new agreed.waiting change;
+    line = agreed.line ∙ sym change.line;
+  }
+  agrees-kept (ByKey d) change agreed = (change.kind ∙ agreed.0, agreed.1 ∙ sym change.shares)
+
+  -- none keeps anything of a message that nobody has seen
+  pub agrees-appended : (d : Dispatch) → Appended s sub t new → agrees d s sub → agrees d t new
+  agrees-appended (InOrder d) change agreed = agrees-with d s sub agreed t new d.waiting change.kind change.line (tells-appended d.waiting s sub t new agreed.waiting change)
+  agrees-appended (InTurn d) change agreed = record {
+    kind = change.kind ∙ agreed.kind;
+    waiting = tells-appended d.waiting s sub t new agreed.waiting change;
+    line = agreed.line ∙ sym change.line;
+  }
+  agrees-appended (ByKey d) change agreed = (change.kind ∙ agreed.0, agreed.1 ∙ sym change.shares)
+
+  pub agrees-taken_back : (d : Dispatch) → TakenBack s sub t new → agrees d s sub → agrees d t new
+  agrees-taken_back (InOrder d) change agreed = agrees-with d s sub agreed t new d.waiting (sym change.appended.kind) (sym change.appended.line) (tells-taken_back d.waiting s sub t new agreed.waiting change)
+  agrees-taken_back (InTurn d) change agreed = record {
+    kind = sym change.appended.kind ∙ agreed.kind;
+    waiting = tells-taken_back d.waiting s sub t new agreed.waiting change;
+    line = agreed.line ∙ change.appended.line;
+  }
+  agrees-taken_back (ByKey d) change agreed = (sym change.appended.kind ∙ agreed.0, agreed.1 ∙ change.appended.shares)

@@ -1,0 +1,4 @@
+use Rattle.dispatchers.proofs.dispatch.Dispatch.on_join.Goals as goal
+
+pub returns-in-InOrder-clause-ok : goal.returns-in-InOrder-clause-ok
+returns-in-InOrder-clause-ok g c = rw c.in-InOrder.is c.on_join.ensures.ok

@@ -1,0 +1,184 @@
+// A subscription's dispatcher, of whichever kind.
+ghost use Rattle.std.specs.Prelude.{◌≡◌, [], IsOk, IfOk, IfErr, OnOk, OnErr, IfSome, IfNone};
+ghost use Rattle.position_core.specs.declared.fault.Fault.TheVariants.{NoMemory};
+ghost use Rattle.delivery_machine.specs.Words.{members_of, NoneEligible};
+ghost use Rattle.dispatch_core.specs.Offers.{IsGoodOffer};
+ghost use Rattle.dispatch_core.specs.Changes.{Appended, TakenBack, Joined, Left, Sent, Gone, Released, Reset, AgreesAfter, WillAgree};
+ghost use Rattle.dispatchers.specs.Agreeing.{agrees};
+
+use dispatch_core::{Dispatcher, Offer, View};
+use dispatch_keyed::Keyed;
+use dispatch_shared::Shared;
+use dispatch_single::Single;
+use position_core::{ConsumerNumber, Fault, Kind, LogIndex};
+use std::alloc::Global;
+
+/// The dispatcher of a subscription, by its kind.
+#[derive(Drop)]
+pub enum Dispatch {
+    /// Exclusive and Failover.
+    InOrder(Single),
+    /// Shared.
+    InTurn(Shared),
+    /// Key_Shared.
+    ByKey(Keyed),
+}
+
+impl Dispatch {
+    /// For a subscription of the kind, without members.
+    pub fn begin<V: View>(alloc: Global, view: &V, kind: Kind) -> Result<Self, Fault>
+        requires kind { kind ≡ (V.subscription view.now).kind }
+        requires empty { members_of (V.state view.now) (V.subscription view.now).name ≡ [] }
+        requires unshared { (V.subscription view.now).shares ≡ [] }
+        ensures ok { IfOk result (λ d. agrees d (V.state view.now) (V.subscription view.now)) }
+        ensures err { IfErr result (λ fault. fault ≡ NoMemory) }
+    {
+        match kind {
+            Kind::Exclusive | Kind::Failover => match Single::begin(alloc, view) {
+                Ok(d) => Ok(Dispatch::InOrder(d)),
+                Err(fault) => Err(fault),
+            },
+            Kind::Shared => match Shared::begin(alloc, view) {
+                Ok(d) => Ok(Dispatch::InTurn(d)),
+                Err(fault) => Err(fault),
+            },
+            Kind::KeyShared => match Keyed::begin(alloc, view) {
+                Ok(d) => Ok(Dispatch::ByKey(d)),
+                Err(fault) => Err(fault),
+            },
+        }
+    }
+
+    /// A message and a member that it may be sent to. None where there is no such pair.
+    pub fn offer<V: View>(&self, view: &V) -> Option<Offer>
+        requires { agrees self.now (V.state view.now) (V.subscription view.now) }
+        ensures some { IfSome result (IsGoodOffer (V.state view.now) (V.subscription view.now)) }
+        ensures none { IfNone result (NoneEligible (V.state view.now) (V.subscription view.now)) }
+    {
+        match self {
+            Dispatch::InOrder(d) => d.offer(view),
+            Dispatch::InTurn(d) => d.offer(view),
+            Dispatch::ByKey(d) => d.offer(view),
+        }
+    }
+
+    /// A message was appended.
+    pub fn on_append<V: View>(&mut self, view: &V) -> Result<(), Fault>
+        ensures ok { OnOk result (AgreesAfter Appended (agrees self.old) (agrees self.new)
+            (V.state view.now) (V.subscription view.now)) }
+        ensures err { IfErr result (λ fault. fault ≡ NoMemory) }
+        ensures unchanged { OnErr result (self.new ≡ self.old) }
+    {
+        match self {
+            Dispatch::InOrder(d) => d.on_append(view),
+            Dispatch::InTurn(d) => d.on_append(view),
+            Dispatch::ByKey(d) => d.on_append(view),
+        }
+    }
+
+    /// The last message of the log, which nobody has seen, is about to be taken back.
+    pub fn undo_append<V: View>(&mut self, view: &V)
+        ensures { WillAgree TakenBack (agrees self.old) (agrees self.new)
+            (V.state view.now) (V.subscription view.now) }
+    {
+        match self {
+            Dispatch::InOrder(d) => d.undo_append(view),
+            Dispatch::InTurn(d) => d.undo_append(view),
+            Dispatch::ByKey(d) => d.undo_append(view),
+        }
+    }
+
+    /// The consumer joined.
+    pub fn on_join<V: View>(&mut self, view: &V, consumer: ConsumerNumber) -> Result<(), Fault>
+        ensures ok { OnOk result (AgreesAfter (Joined consumer) (agrees self.old) (agrees self.new)
+            (V.state view.now) (V.subscription view.now)) }
+        ensures err { IfErr result (λ fault. fault ≡ NoMemory) }
+        ensures unchanged { OnErr result (self.new ≡ self.old) }
+    {
+        match self {
+            Dispatch::InOrder(d) => d.on_join(view, consumer),
+            Dispatch::InTurn(d) => d.on_join(view, consumer),
+            Dispatch::ByKey(d) => d.on_join(view, consumer),
+        }
+    }
+
+    /// The consumer left.
+    pub fn on_leave<V: View>(&mut self, view: &V, consumer: ConsumerNumber)
+        ensures { AgreesAfter (Left consumer) (agrees self.old) (agrees self.new)
+            (V.state view.now) (V.subscription view.now) }
+    {
+        match self {
+            Dispatch::InOrder(d) => d.on_leave(view, consumer),
+            Dispatch::InTurn(d) => d.on_leave(view, consumer),
+            Dispatch::ByKey(d) => d.on_leave(view, consumer),
+        }
+    }
+
+    /// The message was sent to the consumer.
+    pub fn on_sent<V: View>(
+        &mut self,
+        view: &V,
+        index: LogIndex,
+        consumer: ConsumerNumber,
+    ) -> Result<(), Fault>
+        ensures ok { OnOk result (AgreesAfter (Sent index consumer) (agrees self.old) (agrees self.new)
+            (V.state view.now) (V.subscription view.now)) }
+        ensures err { IfErr result (λ fault. fault ≡ NoMemory) }
+        ensures unchanged { OnErr result (self.new ≡ self.old) }
+    {
+        match self {
+            Dispatch::InOrder(d) => d.on_sent(view, index, consumer),
+            Dispatch::InTurn(d) => d.on_sent(view, index, consumer),
+            Dispatch::ByKey(d) => d.on_sent(view, index, consumer),
+        }
+    }
+
+    /// The message was acknowledged, or died.
+    pub fn on_gone<V: View>(&mut self, view: &V, index: LogIndex)
+        ensures { AgreesAfter (Gone index) (agrees self.old) (agrees self.new)
+            (V.state view.now) (V.subscription view.now) }
+    {
+        match self {
+            Dispatch::InOrder(d) => d.on_gone(view, index),
+            Dispatch::InTurn(d) => d.on_gone(view, index),
+            Dispatch::ByKey(d) => d.on_gone(view, index),
+        }
+    }
+
+    /// The message was pending, and waits again.
+    pub fn on_released<V: View>(&mut self, view: &V, index: LogIndex)
+        ensures { AgreesAfter (Released index) (agrees self.old) (agrees self.new)
+            (V.state view.now) (V.subscription view.now) }
+    {
+        match self {
+            Dispatch::InOrder(d) => d.on_released(view, index),
+            Dispatch::InTurn(d) => d.on_released(view, index),
+            Dispatch::ByKey(d) => d.on_released(view, index),
+        }
+    }
+
+    /// Nothing is pending any more, and other messages wait.
+    pub fn on_reset<V: View>(&mut self, view: &V) -> Result<(), Fault>
+        ensures never { IsOk result }
+        ensures ok { OnOk result (AgreesAfter Reset (agrees self.old) (agrees self.new)
+            (V.state view.now) (V.subscription view.now)) }
+        ensures err { IfErr result (λ fault. fault ≡ NoMemory) }
+        ensures unchanged { OnErr result (self.new ≡ self.old) }
+    {
+        match self {
+            Dispatch::InOrder(d) => d.on_reset(view),
+            Dispatch::InTurn(d) => d.on_reset(view),
+            Dispatch::ByKey(d) => d.on_reset(view),
+        }
+    }
+
+    /// As `on_reset`: none of the kinds takes memory for it.
+    pub fn reset<V: View>(&mut self, view: &V)
+        ensures { AgreesAfter Reset (agrees self.old) (agrees self.new) (V.state view.now) (V.subscription view.now) }
+    {
+        match self.on_reset(view) {
+            Ok(()) => (),
+            Err(_) => unreachable!(),
+        }
+    }
+}

@@ -1,0 +1,92 @@
+// One dispatcher of each kind, over a topic that nothing has happened to.
+ghost use Rattle.std.specs.Prelude.{◌<◌, length};
+ghost use Rattle.dispatchers.specs.Bare.{bare, only};
+
+use crate::{
+    Dispatch, begin_again, begin_at, offer_at, tell_gone, tell_joined, tell_left, tell_released,
+    tell_reset, tell_sent,
+};
+use dispatch_core::{Seen, View};
+use position_core::{Fault, Kind, LogIndex};
+use std::process::Abort;
+
+/// Its subscription is of the kind.
+#[derive(Clone, Copy)]
+struct Bare {
+    kind: Kind,
+}
+
+impl View for Bare {
+    ghost use Rattle.dispatchers.specs.Bare.{bare, only};
+
+    ghost state = { λ v. bare v.kind };
+
+    ghost subscription = { λ v. only v.kind };
+
+    fn visible(&self) -> u64 {
+        0
+    }
+
+    fn length(&self) -> u64 {
+        0
+    }
+
+    #[tactic(auto, unfolding(dispatch_core::specs::Log::key_at))]
+    fn key(&self, _index: LogIndex) -> Option<&str> {
+        None
+    }
+
+    fn next_waiting(&self, _from: LogIndex) -> Option<LogIndex> {
+        None
+    }
+
+    #[tactic(auto, unfolding(dispatch_core::specs::Log::holder_at))]
+    fn holder(&self, _index: LogIndex) -> Option<u64> {
+        None
+    }
+
+    fn member(&self, _place: u64) -> Option<Seen> {
+        None
+    }
+}
+
+/// Makes each call that tells of a change.
+fn tell_each<V: View>(dispatchers: &mut [Dispatch], view: &V) -> Result<(), Fault>
+    requires { 0 < length dispatchers.old }
+{
+    tell_joined(dispatchers, 0, view, 2)?;
+    tell_sent(dispatchers, 0, view, 0, 2)?;
+    tell_released(dispatchers, 0, view, 0);
+    tell_gone(dispatchers, 0, view, 0);
+    tell_left(dispatchers, 0, view, 2);
+    tell_reset(dispatchers, 0, view)
+}
+
+/// So those of a message that comes and is taken back, of which none need be told.
+fn tell_of_message<V: View>(dispatch: &mut Dispatch, view: &V) -> Result<(), Fault> {
+    dispatch.on_append(view)?;
+    dispatch.undo_append(view);
+    Ok(())
+}
+
+fn expect_told<R: Abort + AllocGlobal>(rt: &R, kind: Kind) {
+    let view = Bare { kind };
+    let mut dispatchers = Vec::new(rt.alloc());
+    begin_at(rt.alloc(), &mut dispatchers, 0, &view, kind).expect(rt, "no memory");
+    assert_eq!(rt; offer_at(&dispatchers, 0, &view), None);
+    begin_again(rt.alloc(), &mut dispatchers, 0, &view, kind).expect(rt, "no memory");
+    tell_each(&mut dispatchers, &view).expect(rt, "no memory");
+    tell_of_message(&mut dispatchers[0], &view).expect(rt, "no memory");
+}
+
+#[test]
+fn each_kind_begins_and_is_told(rt: HostRuntime) {
+    for kind in [
+        Kind::Exclusive,
+        Kind::Failover,
+        Kind::Shared,
+        Kind::KeyShared,
+    ] {
+        expect_told(&rt, kind);
+    }
+}
