@@ -1,0 +1,5 @@
+pub mod Telling
+pub mod Visible
+pub mod Settled
+pub mod Merging
+pub mod Over

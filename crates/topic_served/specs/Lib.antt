@@ -1,0 +1,3 @@
+-- What the contracts of the fast topic cite.
+pub mod Served
+pub mod Firsts
