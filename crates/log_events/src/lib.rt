@@ -1,0 +1,10 @@
+//! The fast topic's events of producers and the log: connecting, leaving, publishing, storing.
+#![tactic(auto)]
+
+mod connecting;
+mod publishing;
+mod storing;
+
+pub use connecting::{add_producer, drop_producer};
+pub use publishing::publish;
+pub use storing::{progress, stored, stored_to};
