@@ -1,0 +1,3 @@
+-- What the contracts of the fast topic's events of consumers cite.
+pub mod Places
+pub mod Entering
