@@ -1,0 +1,2 @@
+-- What the contracts of events of messages cite.
+pub mod Consumers
