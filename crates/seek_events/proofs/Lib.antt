@@ -1,0 +1,4 @@
+pub mod Dropped
+pub mod Sought
+pub mod Skipped
+pub mod InTurn

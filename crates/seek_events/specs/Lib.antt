@@ -1,0 +1,2 @@
+-- What the contracts of seeks and skips cite.
+pub mod Live
