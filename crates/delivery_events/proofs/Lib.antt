@@ -1,0 +1,5 @@
+pub mod HeldAt
+pub mod Letters
+pub mod Named
+pub mod Handing
+pub mod Offered

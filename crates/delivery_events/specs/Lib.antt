@@ -1,0 +1,3 @@
+-- What the contracts of events of deliveries cite.
+pub mod Moving
+pub mod Handing
