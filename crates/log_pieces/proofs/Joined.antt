@@ -1,5 +1,5 @@
 -- Lists in pieces: how long they are, and what stands at an index.
-use Rattle.std.proofs.Common.{◌≡◌, ℕ, ◌+◌, ◌-◌, ◌*◌, ◌<◌, ◌≤◌, suc, zero, List, [], ◌∷◌, ◌++◌, length, take, Some, refl, ap, ◌∙◌, append_assoc, arith, slice_set}
+use Rattle.std.proofs.Common.{◌≡◌, ℕ, ◌+◌, ◌-◌, ◌*◌, ◌<◌, ◌≤◌, suc, zero, List, [], ◌∷◌, ◌++◌, length, take, Some, refl, ap, sym, ◌∙◌, append_assoc, arith, slice_set}
 use Rattle.std.specs.List.{flat_map, slice_get}
 use Rattle.std.proofs.Math.ListN.{length-append}
 use Rattle.std.proofs.lemmas.Grind.{flat_map-append}
@@ -70,3 +70,10 @@ joined_push segments s e =
 pub first_set : (xs : List Entry) (e : Entry) → length xs ≡ 1024 → slice_set (take 1 xs) 0 e ≡ e ∷ []
 first_set [] e is = absurd (omega arith)
 first_set (x ∷ xs) e is = refl
+
+pub long_segment : (segments : List (List Entry)) (s : List Entry) (i : ℕ) → AreSegments segments → slice_get segments i ≡ Some s → length s ≡ 1024
+long_segment [] s i are at = absurd (cc)
+long_segment (t ∷ segments) s zero are at =
+    let same : t ≡ s = cc in
+    ap length (sym same) ∙ are.0
+long_segment (t ∷ segments) s (suc i) are at = long_segment segments s i are.1 at

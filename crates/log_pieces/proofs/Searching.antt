@@ -150,3 +150,8 @@ found log at middle m rising here equal = sym (by (index_of at log) refl)
             | inr not_after ↦ let one : i ≡ middle = omega arith in e ∙ ap Some one
           ]
         ]
+
+-- ---- where none passes, the first that does stands past the end
+
+pub at_the_end : (i n : ℕ) → i ≤ n → None ≡ cond (nat_lt i n) (Some i) None → n ≡ i
+at_the_end i n within nowhere = grind (arith, nat_tests)

@@ -4,6 +4,7 @@ use Rattle.std.specs.List.{flat_map, position}
 use Rattle.position_core.specs.declared.position.Position.{Position}
 use Rattle.position_core.specs.declared.message.Entry.{Entry}
 use Rattle.position_core.specs.Position.{same_position}
+use Rattle.log_pieces.specs.Times.{moments_after}
 
 pub record Parts : Type 0 where
   pub sealed : List (List Entry)
@@ -17,10 +18,12 @@ abbrev pub AreSegments : List (List Entry) → Type 0
 AreSegments [] = ⊤
 AreSegments (segment ∷ segments) = (length segment ≡ 1024) × AreSegments segments
 
-pub record ArePieces (p : Parts) : Type 0 where
+-- beside each segment stands the first moment after it and all before it
+pub record ArePieces (p : Parts) (after : List ℕ) : Type 0 where
   pub segments : AreSegments p.sealed
   pub few : length p.sealed ≤ 1024
   pub rest : length p.loose ≤ 1024
+  pub moments : after ≡ moments_after 0 p.sealed
 
 -- without its last message
 abbrev pub front : List Entry → List Entry

@@ -4,5 +4,6 @@
 mod pieces;
 mod search;
 mod segment;
+mod times;
 
 pub use pieces::Pieces;

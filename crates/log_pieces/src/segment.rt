@@ -1,8 +1,11 @@
 // A run of messages that several logs may share.
-ghost use Rattle.std.specs.Prelude.{◌≡◌, IfOk, slice_get};
+ghost use Rattle.std.specs.Prelude.{◌≡◌, ◌≤◌, IfOk, length, slice_get};
+ghost use Rattle.std.specs.List.{position_or_len};
 ghost use Rattle.std.specs.Option.{option_copied};
+ghost use Rattle.log_pieces.specs.Times.{is_from};
 
-use position_core::Message;
+use crate::times;
+use position_core::{Message, Moment};
 use std::alloc::{AllocError, Global};
 use std::marker::Model;
 use std::sync::Arc;
@@ -48,6 +51,14 @@ impl Segment {
         ensures { option_copied result ≡ slice_get self.now place }
     {
         message_at(&self.messages, place)
+    }
+
+    /// How many messages stand before the first that is not earlier than the time.
+    pub(crate) fn count_earlier(&self, time: Moment) -> usize
+        ensures value { result ≡ position_or_len (is_from time) self.now }
+        ensures within { result ≤ length self.now }
+    {
+        times::count_earlier(&self.messages, time)
     }
 }
 
