@@ -1,12 +1,10 @@
 -- What no step does: it takes no message out of the log, and makes nothing durable but by the word of a store.
-use Rattle.std.proofs.Common.{◌≡◌, ℕ, List, [], ◌∷◌, ◌++◌, Option, Some, None, Bool, true, false, refl, sym, subst, true≢false}
+use Rattle.std.proofs.Common.{◌≡◌, ℕ, List, [], ◌∷◌, Option, Bool, true, false, refl, sym, subst, true≢false}
 use Rattle.std.proofs.lemmas.List.{append-nil}
-use Rattle.std.specs.Prelude.{length, ◌+◌, ℤ, if◌then◌else◌}
+use Rattle.std.specs.Prelude.{ℤ, if◌then◌else◌}
 use Rattle.std.specs.List.{find}
-use Rattle.std.specs.Option.{option_map_or}
 use mathlib.Core.List.{IsPrefix}
 use Rattle.position_core.specs.declared.message.Entry.{Entry}
-use Rattle.position_core.specs.declared.topic_name.TopicName.{TopicName}
 use Rattle.delivery_machine.specs.State.{State, Subscription}
 use Rattle.delivery_machine.specs.Words.{is_named, is_member, is_producer, active_at}
 use Rattle.delivery_machine.specs.Refusals.{is_duplicate}

@@ -1,12 +1,10 @@
 -- What stands at the first place that passes a test.
-use Rattle.std.proofs.Common.{◌≡◌, ℕ, ◌<◌, List, [], ◌∷◌, Some, None, Bool, true, false, cond, get_or, set, length, refl, ap, ◌∙◌, sym, arith, suc, zero, ◌≤◌}
-use Rattle.std.specs.Prelude.{nat_lt, ◌||◌}
-use Rattle.std.specs.List.{find, list_any, position, position_or_len, remove}
+use Rattle.std.proofs.Common.{◌≡◌, ℕ, ◌<◌, List, [], ◌∷◌, Some, None, Bool, true, false, cond, get_or, set, length, refl, ap, ◌∙◌, sym, arith, suc, zero}
+use Rattle.std.specs.Prelude.{◌||◌}
+use Rattle.std.specs.List.{find, list_any, position, remove}
 use Rattle.std.proofs.lemmas.List.Recursion.{found_at, found_nowhere}
 use Rattle.std.proofs.lemmas.List.Quantifiers.{position-Some}
-use Rattle.std.proofs.lemmas.List.Sums.{fails_before_first}
-use Rattle.std.proofs.lemmas.Bool.Decides.{nat_tests}
-pub use Rattle.log_pieces.proofs.Searching.{fails_everywhere}
+pub use Rattle.log_pieces.proofs.Searching.{at_the_end, fails_everywhere}
 use Rattle.delivery_machine.specs.Words.{changed, removed}
 
 pub find-position : {A : Type 0} (p : A → Bool) (xs : List A) (i : ℕ) (d : A) → position p xs ≡ Some i → find p xs ≡ Some (get_or xs i d)
@@ -82,6 +80,3 @@ removed_there p xs i d there =
 
 pub none_removed : {A : Type 0} (p : A → Bool) (xs : List A) → None ≡ position p xs → xs ≡ removed p xs
 none_removed p xs nowhere = sym (removed_nowhere p xs (fails_everywhere p xs (sym nowhere)))
-
-pub at_the_end : (i n : ℕ) → i ≤ n → None ≡ cond (nat_lt i n) (Some i) None → n ≡ i
-at_the_end i n within nowhere = grind (arith, nat_tests)

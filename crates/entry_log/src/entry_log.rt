@@ -1,6 +1,7 @@
 // The log of a topic.
-ghost use Rattle.std.specs.Prelude.{◌≡◌, ◌<◌, ◌≤◌, ◌+◌, ◌^◌, ℕ, None, false, length, map, slice_get, IfOk, OnOk, OnErr, is_some, All};
+ghost use Rattle.std.specs.Prelude.{◌≡◌, ◌<◌, ◌≤◌, ◌+◌, ◌^◌, ℕ, None, false, length, map, nat_le, slice_get, IfOk, OnOk, OnErr, is_some, All};
 ghost use Rattle.std.specs.Option.{option_copied};
+ghost use Rattle.std.specs.List.{position_or_len};
 ghost use Rattle.std.specs.List.Sorted.{IsStrictlySortedBy};
 ghost use Rattle.position_core.specs.Position.{position_cmp, same_position};
 ghost use Rattle.delivery_machine.specs.State.{State};
@@ -12,7 +13,7 @@ ghost use Rattle.log_pieces.specs.Pieces.{index_of, joined};
 
 use crate::open_ledger::{LAST_LEDGER, OpenLedger};
 use log_pieces::Pieces;
-use position_core::{LedgerSize, Message, Position};
+use position_core::{LedgerSize, Message, Moment, Position};
 use std::alloc::{AllocError, Global};
 use std::marker::Model;
 
@@ -117,6 +118,14 @@ impl EntryLog {
         ensures { result ≡ index_of at self.now.log }
     {
         self.pieces.index_of(at)
+    }
+
+    /// How many messages stand before the first that is not earlier than the time. Takes the logarithm of
+    /// the log's length, and goes through 1,024 messages at most.
+    pub fn count_earlier(&self, time: Moment) -> usize
+        ensures { result ≡ position_or_len (λ e. nat_le time e.time) self.now.log }
+    {
+        self.pieces.count_earlier(time)
     }
 
     /// The position of the next message.

@@ -3,3 +3,4 @@ pub mod Told
 pub mod Renumbered
 pub mod Gaps
 pub mod Free
+pub mod Earlier

@@ -1,5 +1,6 @@
 // The log of a topic, and who may write to it.
-ghost use Rattle.std.specs.Prelude.{◌≡◌, ◌≤◌, [], IfOk, length, map, slice_get};
+ghost use Rattle.std.specs.Prelude.{◌≡◌, ◌≤◌, [], IfOk, length, map, nat_le, slice_get, take};
+ghost use Rattle.std.specs.List.{position_or_len};
 ghost use Rattle.std.specs.Option.{option_copied};
 ghost use Rattle.std.specs.List.Sorted.{IsStrictlySortedBy};
 ghost use Rattle.position_core.specs.Position.{position_cmp};
@@ -17,7 +18,7 @@ use dedup_core::Sequences;
 use delivery_machine::Reply;
 use entry_log::EntryLog;
 use log_pieces::Pieces;
-use position_core::{LedgerSize, Message, Position, ProducerNumber};
+use position_core::{LedgerSize, Message, Moment, Position, ProducerNumber};
 use std::alloc::{AllocError, Global};
 use std::marker::Model;
 
@@ -95,6 +96,15 @@ impl TopicLog {
         ensures { result ≡ index_of at self.now.log.log }
     {
         self.entries.index_of(at)
+    }
+
+    /// How many of the stored messages stand before the first of them that is not earlier than the time.
+    /// Takes the logarithm of the log's length, and goes through 1,024 messages at most.
+    pub fn count_earlier(&self, time: Moment) -> usize
+        ensures value { result ≡ position_or_len (λ e. nat_le time e.time) (take self.now.durable self.now.log.log) }
+        ensures within { result ≤ length self.now.log.log }
+    {
+        self.durable.min(self.entries.count_earlier(time))
     }
 
     /// How many of the first messages are stored.
