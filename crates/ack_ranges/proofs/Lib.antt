@@ -1,4 +1,5 @@
 pub mod Adding
+pub mod Counts
 pub mod Covers
 pub mod Equal
 pub mod Joins

@@ -17,10 +17,10 @@ pub above_covers : (a : ℕ) (es : List (ℕ × ℕ)) (q : ℕ) → RiseAbove a 
 above_covers a [] q rise le = refl
 above_covers a (r ∷ rs) q rise le = past r.0 r.1 q _ (omega (arith, le, rise.0)) (above_covers r.1 rs q rise.2 (omega (arith, le, rise.0, rise.1)))
 
-abbrev size : List ℕ → ℕ
+abbrev pub size : List ℕ → ℕ
 size ks = set.len (set.from_list {R = nat_cmp} ks)
 
-size_new : (k : ℕ) (ks : List ℕ) → has k ks ≡ false → size (k ∷ ks) ≡ size ks + 1
+pub size_new : (k : ℕ) (ks : List ℕ) → has k ks ≡ false → size (k ∷ ks) ≡ size ks + 1
 size_new k ks h = set.len-insert nat_cmp_total (set.from_list ks) k ∙ ap (λ b. cond b (size ks) (size ks + 1)) (set.contains-from_list_nat ks k ∙ h)
 
 first_out : (a n : ℕ) (b : Bool) → b ≡ false → ((leb (suc a) a && ltb a (suc a + n)) || b) ≡ false

@@ -1,5 +1,5 @@
 -- How a set is kept: the numbers below low, and ranges above it.
-use Rattle.std.specs.Prelude.{◌≡◌, ℕ, zero, suc, ◌+◌, ◌-◌, ◌<◌, ◌≤◌, ◌^◌, Bool, true, not, cond, List, [], ◌∷◌, ◌++◌}
+use Rattle.std.specs.Prelude.{◌≡◌, ℕ, zero, suc, ◌+◌, ◌-◌, ◌<◌, ◌≤◌, ◌^◌, max, Bool, true, not, cond, List, [], ◌∷◌, ◌++◌}
 use Rattle.std.specs.Ordering.{nat_cmp}
 use Rattle.std.specs.FinSet as set
 use Rattle.ack_ranges.specs.Ranges.{numbers, spread, from_to, Rise, RiseAbove}
@@ -17,6 +17,11 @@ set_of low es = set.from_list {R = nat_cmp} (numbers 0 low ++ spread es)
 abbrev pub total : List (ℕ × ℕ) → ℕ
 total [] = 0
 total (r ∷ rs) = (r.1 - r.0) + total rs
+
+-- how many numbers from a on the ranges have
+abbrev pub total_from : ℕ → List (ℕ × ℕ) → ℕ
+total_from a [] = 0
+total_from a (r ∷ rs) = (r.1 - max r.0 a) + total_from a rs
 
 -- the ends are numbers of 64 bits
 abbrev pub AreSmall : List (ℕ × ℕ) → Type 0

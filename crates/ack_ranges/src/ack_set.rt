@@ -1,11 +1,12 @@
 // The set, by the numbers that are in it.
-ghost use Rattle.std.specs.Prelude.{◌≡◌, ◌+◌, ◌^◌, ◌<◌, ℕ, List, length, false, true, OnOk, OnErr, IfOk, IfSome, IfNone, IsTrue, ◌↔◌, if◌then◌else◌};
+ghost use Rattle.std.specs.Prelude.{◌≡◌, ◌+◌, ◌^◌, ◌<◌, ◌≤◌, ℕ, List, length, false, true, OnOk, OnErr, IfOk, IfSome, IfNone, IsTrue, ◌↔◌, if◌then◌else◌};
 ghost use Rattle.std.specs.Ordering.{nat_cmp};
 ghost use Rattle.std.specs.FinSet as set;
-ghost use Rattle.ack_ranges.specs.Ranges.{below, from_to, AreRangesOf, HasGapBefore, IsNextMissing, MayFollow};
+ghost use Rattle.std.specs.List.{count_by};
+ghost use Rattle.ack_ranges.specs.Ranges.{below, from_to, numbers, AreRangesOf, HasGapBefore, IsNextMissing, MayFollow};
 
 use crate::ranges::Ranges;
-use crate::{joining, lookup, swallowing};
+use crate::{counting, joining, lookup, swallowing};
 use position_core::LogIndex;
 use std::alloc::{AllocError, Global};
 use std::collections::BTreeMap;
@@ -54,6 +55,17 @@ impl AckSet {
         ensures { result ≡ set.len self.now }
     {
         self.count
+    }
+
+    /// How many places below `end` are in the set. Looks at those ranges alone that end behind it.
+    pub fn count_below(&self, end: LogIndex) -> u64
+        ensures value { result ≡ count_by (set.contains self.now) (numbers 0 end) }
+        ensures within { result ≤ end }
+    {
+        if end <= self.low {
+            return end;
+        }
+        self.count - counting::total_from(self.low, &self.ranges, end)
     }
 
     pub fn contains(&self, place: LogIndex) -> bool

@@ -2,6 +2,7 @@
 #![tactic(auto)]
 
 mod ack_set;
+mod counting;
 mod joining;
 mod lookup;
 mod ranges;
