@@ -1,8 +1,8 @@
 // The places of a subscription's messages that are acknowledged or dead.
 ghost use Rattle.std.specs.Prelude.{◌≡◌, ◌+◌, ◌<◌, ◌≤◌, ◌^◌, ℕ, List, [], true, false, OnOk, OnErr, IfOk, IfSome, IfNone};
-ghost use Rattle.std.specs.List.{All};
+ghost use Rattle.std.specs.List.{All, count_by};
 ghost use Rattle.std.specs.FinSet as set;
-ghost use Rattle.ack_ranges.specs.Ranges.{IsNextMissing, below};
+ghost use Rattle.ack_ranges.specs.Ranges.{IsNextMissing, below, numbers};
 ghost use Rattle.place_bits.specs.Places.{IsNext, NoneFrom};
 ghost use Rattle.topic_subscriptions.specs.Closed.{is_open, outcomes_of, with_acknowledged, with_buried};
 
@@ -89,6 +89,13 @@ impl Closed {
         ensures least { (k : ℕ) → from ≤ k → k < result → is_open self.now k ≡ false }
     {
         self.all.next_missing(from)
+    }
+
+    /// How many places below `end` are open.
+    pub(crate) fn number_open_below(&self, end: LogIndex) -> u64
+        ensures { result ≡ count_by (is_open self.now) (numbers 0 end) }
+    {
+        end - self.all.count_below(end)
     }
 
     pub(crate) fn first_buried(&self) -> Option<LogIndex>

@@ -1,10 +1,10 @@
 // What becomes of the messages of a subscription.
 ghost use Rattle.std.specs.Prelude.{◌≡◌, ◌+◌, ◌<◌, ◌^◌, ℕ, true, IfOk, OnOk, OnErr, IfSome, IfNone, length};
-ghost use Rattle.std.specs.List.{All};
+ghost use Rattle.std.specs.List.{All, count_by};
 ghost use Rattle.std.specs.Option.{option_copied, option_map};
 ghost use Rattle.std.specs.FinSet as set;
 ghost use Rattle.std.specs.FinMap as map_of;
-ghost use Rattle.ack_ranges.specs.Ranges.{IsNextMissing};
+ghost use Rattle.ack_ranges.specs.Ranges.{IsNextMissing, numbers};
 ghost use Rattle.place_bits.specs.Places.{IsNext, NoneFrom};
 ghost use Rattle.pending_core.specs.Pending.{IsFirstAt, IsFirstDue, IsFirstPending, count_at, pending_count_at};
 ghost use Rattle.dead_core.specs.Letters.{next_safe};
@@ -47,6 +47,14 @@ impl Subscription {
         ensures { IsNextLive self.now from result }
     {
         self.closed.next_open(from)
+    }
+
+    /// How many places below `end` have a message that is neither acknowledged nor dead, or none. Looks at
+    /// those ranges alone that end behind it.
+    pub fn number_live_below(&self, end: LogIndex) -> u64
+        ensures { result ≡ count_by (is_live_at self.now) (numbers 0 end) }
+    {
+        self.closed.number_open_below(end)
     }
 
     /// The least place whose message died and is not acknowledged.
