@@ -3,6 +3,7 @@ use Rattle.std.proofs.Common.{◌≡◌, ℕ, ◌+◌, List, [], ◌∷◌, map,
 use Rattle.std.specs.Prelude.{◌||◌, ◌==◌, is_some}
 use Rattle.std.specs.List.{count_by, AllByRecursion}
 use Rattle.std.specs.List.Sorted.{IsStrictlySortedBy}
+use Rattle.std.specs.Option.{option_map_or}
 use Rattle.std.specs.FinMap as map_of
 use Rattle.std.specs.declared.cmp.Ordering.TheVariants.{Less}
 use Rattle.std.proofs.lemmas.List.{get_or_default}
@@ -23,15 +24,16 @@ use Rattle.log_pieces.specs.Pieces.{index_of, stands_at}
 use Rattle.topic_subscriptions.specs.Placed.{IsPlacedIn, IsRising, Placed}
 use Rattle.topic_parts.specs.Parts.{IsSeenIn}
 
-abbrev Holding : Type 0
+abbrev pub Holding : Type 0
 Holding = map_of.FinMap position_cmp Held
 
 -- what is pending is of the log
-abbrev AreOfLog : List Entry → Holding → Type 0
+abbrev pub AreOfLog : List Entry → Holding → Type 0
 AreOfLog log m = (q : Position) → map_of.contains_key m q ≡ true → has_message log q ≡ true
 
-abbrev counted : ℕ → Holding → List Entry → ℕ
-counted n m log = count_by (λ e. is_held_by n (map_of.get m e.position)) log
+-- how many messages of the log are pending so that the test passes
+abbrev pub counted : (Held → Bool) → Holding → List Entry → ℕ
+counted f m log = count_by (λ e. option_map_or f (map_of.get m e.position) false) log
 
 key_is : (m : Holding) (q : Position) (h : Held) → map_of.get m q ≡ Some h → map_of.contains_key m q ≡ true
 key_is m q h is = ap is_some is
@@ -54,13 +56,13 @@ apart e log above = by (has_message log e.position) refl
         absurd (below_itself positions_total e.position (ap (position_cmp e.position) (sym at.2) ∙ keys_above position_cmp (λ (x : Entry). x.position) e.position log at.0 above at.1))
 
 -- a map with the same at the messages of a log counts the same
-counted_alike : (n : ℕ) (m rest : Holding) (log : List Entry) (p : Position) → has_message log p ≡ false → ((q : Position) → same_position q p ≡ false → map_of.get rest q ≡ map_of.get m q) → counted n rest log ≡ counted n m log
-counted_alike n m rest [] p out same = refl
-counted_alike n m rest (x ∷ log) p out same =
-    sum_by-cons (λ (e : Entry). cond (is_held_by n (map_of.get rest e.position)) 1 0) x log
-    ∙ ap (λ o. cond (is_held_by n o) 1 0 + counted n rest log) (same x.position (first (same_position x.position p) (has_message log p) out))
-    ∙ ap (λ k. cond (is_held_by n (map_of.get m x.position)) 1 0 + k) (counted_alike n m rest log p (second (same_position x.position p) (has_message log p) out) same)
-    ∙ sym (sum_by-cons (λ (e : Entry). cond (is_held_by n (map_of.get m e.position)) 1 0) x log)
+counted_alike : (f : Held → Bool) (m rest : Holding) (log : List Entry) (p : Position) → has_message log p ≡ false → ((q : Position) → same_position q p ≡ false → map_of.get rest q ≡ map_of.get m q) → counted f rest log ≡ counted f m log
+counted_alike f m rest [] p out same = refl
+counted_alike f m rest (x ∷ log) p out same =
+    sum_by-cons (λ (e : Entry). cond (option_map_or f (map_of.get rest e.position) false) 1 0) x log
+    ∙ ap (λ o. cond (option_map_or f o false) 1 0 + counted f rest log) (same x.position (first (same_position x.position p) (has_message log p) out))
+    ∙ ap (λ k. cond (option_map_or f (map_of.get m x.position) false) 1 0 + k) (counted_alike f m rest log p (second (same_position x.position p) (has_message log p) out) same)
+    ∙ sym (sum_by-cons (λ (e : Entry). cond (option_map_or f (map_of.get m e.position) false) 1 0) x log)
   where
     first : (a b : Bool) → (a || b) ≡ false → a ≡ false
     first true b e = e
@@ -70,10 +72,10 @@ counted_alike n m rest (x ∷ log) p out same =
     second true b e = absurd (true≢false e)
     second false b e = e
 
-pub pending_counted : (n : ℕ) (log : List Entry) (m : Holding) → IsRising log → AreOfLog log m → counted n m log ≡ count_by (λ (h : Held). h.consumer == n) (map_of.values m)
+pub counted_where : (f : Held → Bool) (log : List Entry) (m : Holding) → IsRising log → AreOfLog log m → counted f m log ≡ count_by f (map_of.values m)
 unfolding IsStrictlySortedBy
-pending_counted n [] m rising are = sym (ap (λ (k : Holding). count_by (λ (h : Held). h.consumer == n) (map_of.values k)) (nothing_pending m are) ∙ no_more (λ (h : Held). h.consumer == n))
-pending_counted n (e ∷ log) m rising are = sum_by-cons (λ (x : Entry). cond (is_held_by n (map_of.get m x.position)) 1 0) e log ∙ by (λ k of_log. pending_counted n log k rising.1 of_log) (map_of.get m e.position) refl
+counted_where f [] m rising are = sym (ap (λ (k : Holding). count_by f (map_of.values k)) (nothing_pending m are) ∙ no_more f)
+counted_where f (e ∷ log) m rising are = sum_by-cons (λ (x : Entry). cond (option_map_or f (map_of.get m x.position) false) 1 0) e log ∙ by (λ k of_log. counted_where f log k rising.1 of_log) (map_of.get m e.position) refl
   where
     out : has_message log e.position ≡ false
     out = apart e log rising.0
@@ -82,9 +84,9 @@ pending_counted n (e ∷ log) m rising are = sum_by-cons (λ (x : Entry). cond (
     later : (q : Position) → map_of.contains_key m q ≡ true → same_position e.position q ≡ false → has_message log q ≡ true
     later q key differ = sym (ap (λ b. b || has_message log q) differ) ∙ are q key
 
-    by : ((k : Holding) → AreOfLog log k → counted n k log ≡ count_by (λ (h : Held). h.consumer == n) (map_of.values k)) → (o : Option Held) → map_of.get m e.position ≡ o → cond (is_held_by n (map_of.get m e.position)) 1 0 + counted n m log ≡ count_by (λ (h : Held). h.consumer == n) (map_of.values m)
+    by : ((k : Holding) → AreOfLog log k → counted f k log ≡ count_by f (map_of.values k)) → (o : Option Held) → map_of.get m e.position ≡ o → cond (option_map_or f (map_of.get m e.position) false) 1 0 + counted f m log ≡ count_by f (map_of.values m)
     by behind None is =
-        ap (λ o. cond (is_held_by n o) 1 0 + counted n m log) is
+        ap (λ o. cond (option_map_or f o false) 1 0 + counted f m log) is
         ∙ (let rest = behind m all_later in omega (arith, rest))
       where
         all_later : AreOfLog log m
@@ -94,10 +96,10 @@ pending_counted n (e ∷ log) m rising are = sum_by-cons (λ (x : Entry). cond (
             by_test true same = absurd (true≢false (sym key ∙ ap (map_of.contains_key m) (sym (position_is e.position q same)) ∙ ap is_some is))
             by_test false differ = later q key differ
     by behind (Some h) is =
-        ap (λ o. cond (is_held_by n o) 1 0 + counted n m log) is
+        ap (λ o. cond (option_map_or f o false) 1 0 + counted f m log) is
         ∙ (let here = behind rest rest_later in
-        let alike = counted_alike n m rest log e.position out untouched in
-        let more = ap (λ (k : Holding). count_by (λ (h : Held). h.consumer == n) (map_of.values k)) whole ∙ count-insert (λ (h : Held). h.consumer == n) rest e.position h gone in
+        let alike = counted_alike f m rest log e.position out untouched in
+        let more = ap (λ (k : Holding). count_by f (map_of.values k)) whole ∙ count-insert f rest e.position h gone in
         omega (arith, here, alike, more))
       where
         rest : Holding
@@ -128,6 +130,9 @@ pending_counted n (e ∷ log) m rising are = sum_by-cons (λ (x : Entry). cond (
             by_test : (b : Bool) → same_position q e.position ≡ b → has_message log q ≡ true
             by_test true same = absurd (true≢false (sym key ∙ ap is_some (got q ∙ ap (λ b. cond b None (map_of.get m q)) same)))
             by_test false differ = later q (sym (ap is_some (untouched q differ)) ∙ key) (either_way e.position q ∙ differ)
+
+pub pending_counted : (n : ℕ) (log : List Entry) (m : Holding) → IsRising log → AreOfLog log m → count_by (λ e. is_held_by n (map_of.get m e.position)) log ≡ count_by (λ (h : Held). h.consumer == n) (map_of.values m)
+pending_counted n log m rising are = counted_where (λ (h : Held). h.consumer == n) log m rising are
 
 -- what has an index is of the log
 pub indexed : (log : List Entry) (q : Position) (i : ℕ) → index_of q log ≡ Some i → has_message log q ≡ true
