@@ -6,3 +6,5 @@ pub mod Entered
 pub mod Opened
 pub mod Absent
 pub mod Kinded
+pub mod Welcome
+pub mod Newcomer

@@ -1,20 +1,25 @@
 -- A newcomer enters a subscription that is there.
-use Rattle.std.specs.Prelude.{◌≡◌, ℕ, ◌+◌, ◌<◌, ◌^◌, false, List, [], ◌∷◌, ◌++◌, Some, length, slice_get}
+use Rattle.std.specs.Prelude.{◌≡◌, ℕ, ◌+◌, ◌<◌, ◌^◌, false, List, [], ◌∷◌, ◌++◌, Some, None, length, slice_get}
 use Rattle.std.specs.List.{filter, list_any, position}
 use Rattle.position_core.specs.declared.message.Entry.{Entry}
 use Rattle.position_core.specs.declared.kind.Kind.{Kind}
+use Rattle.position_core.specs.declared.topic_name.TopicName.{TopicName}
 use Rattle.delivery_machine.specs.State.{State, Member}
 use Rattle.delivery_machine.specs.Words.{changed, is_at, is_member, is_named, members_of}
 use Rattle.delivery_machine.specs.Joining.{joining}
+use Rattle.delivery_machine.specs.Refusals.{subscribing_refused}
 use Rattle.delivery_machine.specs.Shares.{is_share_of}
 use Rattle.delivery_machine.specs.declared.event.Initial.{Initial}
 use Rattle.delivery_machine.specs.declared.event.Initial.TheVariants.{Earliest, Latest}
 use Rattle.dispatch_core.specs.Changes.{AgreesAfter, Joined}
 use Rattle.dispatchers.specs.Agreeing.{agrees}
 use Rattle.dispatchers.specs.declared.dispatch.Dispatch.{Dispatch}
+use Rattle.topic_members.specs.declared.member.Terms.{Terms}
 use Rattle.topic_subscriptions.specs.Placed.{Placed, is_placed, made, sub_in}
 use Rattle.topic_parts.specs.declared.parts.Parts.{Parts}
 use Rattle.topic_parts.specs.Parts.{AreTied, log_of, state_of}
+use Rattle.topic_served.specs.declared.served.Served.{Served}
+use Rattle.topic_served.specs.Served.{IsSettled, state_in}
 use Rattle.member_events.specs.Places.{AreOrdered, names_of}
 
 -- without its first consumer
@@ -52,6 +57,16 @@ pub record MayEnter (t : Parts) (place : ℕ) (name : List ℕ) : Type 0 where
   pub unshared : (p : Placed) → Some p ≡ slice_get t.subscriptions.items place → list_any (is_share_of t.members.next) p.shares ≡ false
   pub room : 0 < t.members.room
   pub left : t.members.next < 2 ^ 63
+
+-- the consumer is not turned away
+abbrev pub IsAllowed : State → List ℕ → Kind → Terms → TopicName → Type 0
+IsAllowed s name kind terms dead_topic = None ≡ subscribing_refused s name kind terms.max_redeliver dead_topic
+
+-- between events, the next consumer is not turned away, and there is room for it
+pub record IsWelcome (c : Served) (name : List ℕ) (kind : Kind) (terms : Terms) (dead_topic : TopicName) : Type 0 where
+  pub settled : IsSettled c
+  pub allowed : IsAllowed (state_in c) name kind terms dead_topic
+  pub room : 0 < c.parts.members.room
 
 -- the member is in its subscription, whose kind it has
 abbrev pub entered : State → Member → State

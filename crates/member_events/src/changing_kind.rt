@@ -1,5 +1,6 @@
 // The first member brings another kind.
-ghost use Rattle.std.specs.Prelude.{◌≡◌, [], Some, OnOk, OnErr, slice_get};
+ghost use Rattle.std.specs.Prelude.{◌≡◌, [], Some, IfErr, OnOk, OnErr, slice_get};
+ghost use Rattle.position_core.specs.declared.fault.Fault.TheVariants.{NoMemory};
 ghost use Rattle.delivery_machine.specs.Words.{members_of};
 ghost use Rattle.dispatchers.specs.Stepping.{with_kind};
 ghost use Rattle.topic_members.specs.Members.{joining};
@@ -29,6 +30,7 @@ pub(crate) fn enter_anew(
     requires unshared { HasNoShares served.old.parts place }
     ensures ok { OnOk result (state_in served.new ≡ entered (with_kind (state_in served.old) name kind) (joining served.old.parts.members.next name terms dead_topic)) }
     ensures names { names_of served.new.parts.subscriptions.items ≡ names_of served.old.parts.subscriptions.items }
+    ensures err { IfErr result (λ fault. fault ≡ NoMemory) }
     ensures same { OnErr result (state_in served.new ≡ state_in served.old) }
     ensures bound { IsBound served.new }
 {

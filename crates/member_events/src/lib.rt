@@ -8,7 +8,9 @@ mod opening;
 mod permitting;
 mod refusing;
 mod releasing;
+mod subscribing;
 mod taking_over;
 
 pub use leaving::leave;
 pub use permitting::{collect, out_copy, permit};
+pub use subscribing::subscribe;

@@ -8,7 +8,7 @@ ghost use Rattle.topic_subscriptions.specs.Placed.{is_placed};
 ghost use Rattle.topic_parts.specs.Parts.{AreTied, log_of};
 ghost use Rattle.topic_served.specs.Served.{IsBound, state_in};
 ghost use Rattle.member_events.specs.Places.{StandsAt};
-ghost use Rattle.member_events.specs.Entering.{AgreesAt, IsBareAt, first_end, made_bare};
+ghost use Rattle.member_events.specs.Entering.{AgreesAt, HasNoShares, IsBareAt, first_end, made_bare};
 
 use delivery_machine::Initial;
 use dispatchers::Dispatch;
@@ -71,6 +71,7 @@ pub(crate) fn open(
     requires nobody { members_of (state_in served.old) name ≡ [] }
     ensures ok { OnOk result (state_in served.new ≡ opened (state_in served.old) name kind initial) }
     ensures place { IfOk result (λ place. Some place ≡ place_in (is_placed name) served.new.parts.subscriptions.items) }
+    ensures unshared { IfOk result (λ place. HasNoShares served.new.parts place) }
     ensures err { IfErr result (λ fault. fault ≡ NoMemory) }
     ensures same { OnErr result (state_in served.new ≡ state_in served.old) }
     ensures members { served.new.parts.members ≡ served.old.parts.members }

@@ -1,5 +1,6 @@
 use Rattle.std.proofs.Common.{◌≡◌, ◌≤◌, ◌∙◌, ℕ, List, All, ap, arith, length, map, refl, sym, subst, subst₂}
 use Rattle.std.specs.List.{insert, position, position_or_len, remove}
+use Rattle.std.proofs.lemmas.Option.{same_Some}
 use Rattle.std.specs.Ordering.{is_lt}
 use Rattle.position_core.specs.Name.{name_order}
 use Rattle.dispatchers.specs.Agreeing.{agrees}
@@ -101,6 +102,14 @@ returns-clause-place c =
     let low = low_in c.place_for-place.result c.deref.result.now t.subscriptions.items c.place_for-place.ensures.within c.deref.ensures.value in
     place_opened t c.place_for-place.result c.args.name c.args.kind c.args.initial y rising is goes c.requires.absent
     ∙ ap (position (is_placed c.args.name)) (sym c.in-Ok-insert.ensures.items)
+
+pub returns-clause-unshared : goal.returns-clause-unshared
+returns-clause-unshared c p at =
+    let t = c.args.served.now.parts in
+    let y = c.in-Ok.made in
+    let place = c.place_for-place.result in
+    let low = low_in place c.deref.result.now t.subscriptions.items c.place_for-place.ensures.within c.deref.ensures.value in
+    ap (λ (q : Placed). q.shares) (same_Some p y (at ∙ ap (λ (xs : List Placed). slice_get xs place) c.in-Ok-insert.ensures.items ∙ inserted_at t.subscriptions.items place y low) ∙ c.in-Ok.ensures)
 
 pub returns-clause-bound : goal.returns-clause-bound
 returns-clause-bound c =
