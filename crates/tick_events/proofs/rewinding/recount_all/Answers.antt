@@ -1,0 +1,16 @@
+use Rattle.std.specs.FinMap as map_of
+use Rattle.tick_events.proofs.Recounted.{ends, fewer_left, goes_on, pending_there}
+use Rattle.tick_events.proofs.rewinding.recount_all.Goals as goal
+
+pub loop-position-smaller : goal.loop-position-smaller
+loop-position-smaller c =
+    fewer_left c.loop-position.subscription c.redeliver.new.self c.in-Some.position c.redeliver.ensures
+    (pending_there c.in-Some.ensures.0 (map_of.get c.loop-position.subscription.pending.pending c.in-Some.position) c.in-Some.ensures.1.0)
+
+pub loop-position-preserved : goal.loop-position-preserved
+loop-position-preserved c =
+    goes_on c.args.subscription.now c.loop-position.subscription c.redeliver.new.self c.in-Some.position c.redeliver.ensures
+    (pending_there c.in-Some.ensures.0 (map_of.get c.loop-position.subscription.pending.pending c.in-Some.position) c.in-Some.ensures.1.0) c.loop-position.invariant
+
+pub returns : goal.returns
+returns c = ends c.args.subscription.now c.loop-position.subscription c.in_default.ensures c.loop-position.invariant

@@ -1,0 +1,3 @@
+-- What the contracts of a tick cite.
+pub mod Rewinding
+pub mod Due
