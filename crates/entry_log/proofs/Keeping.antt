@@ -1,6 +1,6 @@
 -- What a log keeps of its messages stays true as it grows, and as it goes on in the next ledger.
 use Rattle.std.proofs.Common.{◌≡◌, ℕ, ◌+◌, ◌-◌, ◌<◌, ◌≤◌, ◌^◌, Bool, true, false, cond, List, [], ◌∷◌, ◌++◌, length, take, refl, ap, sym, ◌∙◌, subst, inl, inr, arith, nat_lt}
-use Rattle.std.specs.Prelude.{◌==◌, ◌⊎◌}
+use Rattle.std.specs.Prelude.{◌==◌, ◌⊎◌, nat_le}
 use Rattle.std.specs.List.{AllByRecursion}
 use Rattle.std.specs.List.Sorted.{IsStrictlySortedBy}
 use Rattle.std.specs.declared.cmp.Ordering.TheVariants.{Less}
@@ -67,6 +67,13 @@ front_push log e =
     let whole = length-append log (e ∷ []) in
     let less : length (log ++ e ∷ []) - 1 ≡ length log = omega (arith, whole) in
     ap (λ (n : ℕ). take n (log ++ e ∷ [])) less ∙ take-append_seam log (e ∷ [])
+
+-- a log that is not full has room for one more
+pub one_longer : (log longer : List Entry) (e : Entry) → longer ≡ log ++ e ∷ [] → nat_le 1048576 (length log) ≡ false → length longer ≤ 1048576
+one_longer log longer e is room =
+    let more = length-append log (e ∷ []) in
+    let same = ap length is in
+    grind (arith, nat_tests)
 
 -- the next position is in the ledger, or the first of the next one
 abbrev IsNext : ℕ → ℕ → Position → Type 0

@@ -24,5 +24,6 @@ abbrev pub WasAt : Parts → Option OpenLedger → Type 0
 WasAt p None = ⊤
 WasAt p (Some was) = (0 < length p.loose) × IsAt (front (joined p)) was.ledger was.used
 
+-- a log has at most 1,048,576 messages
 abbrev pub IsKept : Parts → OpenLedger → Option OpenLedger → Type 0
-IsKept p current undo = IsAt (joined p) current.ledger current.used × WasAt p undo
+IsKept p current undo = IsAt (joined p) current.ledger current.used × WasAt p undo × (length (joined p) ≤ 1048576)

@@ -67,6 +67,7 @@ impl EntryLog {
         requires rising { IsStrictlySortedBy position_cmp (map (λ e. e.position) (joined pieces)) }
         requires before { All (λ e. e.position.ledger < ledger) (joined pieces) }
         requires bounded { ledger ≤ 2 ^ 62 + 1 }
+        requires short { length (joined pieces) ≤ 1048576 }
         ensures { result ≡ record { log = joined pieces; ledger = ledger; ledger_size = ledger_size; undo = None } }
     {
         EntryLog {
@@ -101,6 +102,7 @@ impl EntryLog {
     /// How many messages the log has. Their positions rise, whatever was done with it.
     pub fn len(&self) -> usize
         ensures value { result ≡ length self.now.log }
+        ensures short { result ≤ 1048576 }
         ensures rising { IsStrictlySortedBy position_cmp (map (λ e. e.position) self.now.log) }
     {
         self.pieces.count()

@@ -1,11 +1,11 @@
-use Rattle.std.proofs.Common.{◌≡◌, ℕ, ◌+◌, ◌^◌, ◌++◌, ◌∷◌, [], List, cond, false, nat_lt, sym, ◌∙◌, ap, subst}
-use Rattle.std.specs.Prelude.{◌==◌}
+use Rattle.std.proofs.Common.{◌≡◌, ℕ, ◌+◌, ◌^◌, ◌++◌, ◌∷◌, [], List, cond, false, length, nat_lt, sym, ◌∙◌, ap, subst}
+use Rattle.std.specs.Prelude.{◌==◌, nat_le}
 use Rattle.position_core.specs.declared.position.Position.{Position}
 use Rattle.position_core.specs.declared.message.Entry.{Entry}
 use Rattle.entry_log.specs.Log.{Log, next_in, position_after, used_in}
 use Rattle.log_pieces.specs.Pieces.{joined, front}
 use Rattle.entry_log.specs.Kept.{IsAt}
-use Rattle.entry_log.proofs.Keeping.{appended_at, front_push}
+use Rattle.entry_log.proofs.Keeping.{appended_at, front_push, one_longer}
 use Rattle.entry_log.proofs.entry_log.EntryLog.append.Goals as goal
 use Rattle.delivery_machine.proofs.Deciding.{or_false}
 
@@ -22,4 +22,4 @@ invariant_of-self-2 c =
     let its_ledger : c.with-current.result.ledger ≡ e.position.ledger = c.with-current.ensures.ledger ∙ ap (λ (p : Position). p.ledger) c.position.ensures in
     let its_used = c.with-current.ensures.used ∙ ap (λ (p : Position). cond {A = ℕ} (p.ledger == ledger) (used + 1) 1) c.position.ensures in
     let at = appended_at log ledger used inside.ledger_size c.with-current.result.ledger c.with-current.result.used e c.self.invariant.0 next room its_ledger its_used in
-    (subst (λ (xs : List Entry). IsAt xs c.with-current.result.ledger c.with-current.result.used) (sym is) at, (c.in_ok-push.ensures.some, subst (λ (xs : List Entry). IsAt xs ledger used) (sym (ap (λ (xs : List Entry). front xs) is ∙ front_push log e)) c.self.invariant.0))
+    (subst (λ (xs : List Entry). IsAt xs c.with-current.result.ledger c.with-current.result.used) (sym is) at, (c.in_ok-push.ensures.some, subst (λ (xs : List Entry). IsAt xs ledger used) (sym (ap (λ (xs : List Entry). front xs) is ∙ front_push log e)) c.self.invariant.0), one_longer log (joined c.push.new.self) e is (ap (λ (q : Log). nat_le 1048576 (length q.log)) c.self.view_is ∙ (or_false _ _ c.requires.room).0))
