@@ -60,6 +60,7 @@ impl TopicLog {
         requires rising { IsStrictlySortedBy position_cmp (map (λ e. e.position) (joined pieces)) }
         requires before { All (λ e. e.position.ledger < ledger) (joined pieces) }
         requires bounded { ledger ≤ 2 ^ 62 + 1 }
+        requires short { length (joined pieces) ≤ 1048576 }
         ensures log { IfOk result (λ t. t.log ≡ record { log = joined pieces; ledger = ledger; ledger_size = ledger_size; undo = None }) }
         ensures stored { IfOk result (λ t. t.durable ≡ length (joined pieces)) }
         ensures producers { IfOk result (λ t. (t.producers ≡ []) × (t.next_producer ≡ 1)) }

@@ -79,6 +79,7 @@ impl TopicLog {
     /// How many messages the log has. Their positions rise.
     pub fn len(&self) -> usize
         ensures value { result ≡ length self.now.log.log }
+        ensures short { result ≤ 1048576 }
         ensures rising { IsStrictlySortedBy position_cmp (map (λ e. e.position) self.now.log.log) }
     {
         self.entries.len()

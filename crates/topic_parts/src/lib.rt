@@ -12,3 +12,4 @@ mod seeking;
 
 pub use at::At;
 pub use parts::Parts;
+pub use seeking::places_of;

@@ -10,8 +10,8 @@ use position_core::LogIndex;
 use std::alloc::{AllocError, Global};
 use topic_log::TopicLog;
 
-/// Where the messages of the letters stand.
-fn places_of(
+/// Where the messages of the letters stand in the log.
+pub fn places_of(
     alloc: Global,
     log: &TopicLog,
     letters: &[DeadLetter],

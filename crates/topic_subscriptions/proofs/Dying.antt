@@ -81,7 +81,7 @@ pub sought_in : (log : List Entry) (p : Placed) (end : ℕ) (dead : List ℕ) �
 sought_in log p end dead rising = ap (λ (a : set.FinSet position_cmp). record (sub_in log p) { acknowledged = a; pending = map_of.empty; counts = map_of.empty }) (first_acknowledged log end rising)
 
 -- a place is of the dead ones exactly where its message is dead
-dead_at : (log : List Entry) → IsRising log → (ls : List DeadLetter) (dead : List ℕ) → StandAt log ls dead → (k : ℕ) (d : Entry) → slice_get log k ≡ Some d → list_any (λ y. nat_eq y k) dead ≡ list_any (λ (l : DeadLetter). same_position l.position d.position) ls
+pub dead_at : (log : List Entry) → IsRising log → (ls : List DeadLetter) (dead : List ℕ) → StandAt log ls dead → (k : ℕ) (d : Entry) → slice_get log k ≡ Some d → list_any (λ y. nat_eq y k) dead ≡ list_any (λ (l : DeadLetter). same_position l.position d.position) ls
 dead_at log rising [] [] stand k d there = refl
 dead_at log rising [] (y ∷ ys) stand k d there = cc
 dead_at log rising (l ∷ ls) [] stand k d there = cc
@@ -93,7 +93,7 @@ dead_at log rising (l ∷ ls) (y ∷ ys) stand k d there =
     (sym (unsigned_tied y k) ∙ sym (same_places log y k e.0 d rising e.1 there) ∙ ap (λ (q : Position). same_position q d.position) e.2)
     (dead_at log rising ls ys rest k d there)
 
-dead_below : (log : List Entry) (ls : List DeadLetter) (dead : List ℕ) → StandAt log ls dead → (k : ℕ) → list_any (λ y. nat_eq y k) dead ≡ true → k < length log
+pub dead_below : (log : List Entry) (ls : List DeadLetter) (dead : List ℕ) → StandAt log ls dead → (k : ℕ) → list_any (λ y. nat_eq y k) dead ≡ true → k < length log
 dead_below log [] [] stand k inside = absurd (false≢true inside)
 dead_below log [] (y ∷ ys) stand k inside = cc
 dead_below log (l ∷ ls) [] stand k inside = cc

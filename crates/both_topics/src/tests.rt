@@ -1,0 +1,50 @@
+// The plain topic and the fast one, over random lists of events.
+mod dice;
+mod lists;
+mod seen;
+
+use lists::Lines;
+use plain_topic::PlainTopic;
+use position_core::LedgerSize;
+use replay_core::replay_fresh;
+use seen::Seen;
+use std::alloc::Global;
+use std::process::Abort;
+use std::test::Fail;
+use topic_core::TopicCore;
+
+/// How many lists.
+const LISTS: u64 = 2_000;
+
+/// How many events a list has.
+const EVENTS: u64 = 80;
+
+/// A ledger has so few messages that a list fills several.
+const IN_A_LEDGER: u32 = 3;
+
+/// What both answer to the lines of one list.
+fn replies<R: Abort + AllocGlobal>(rt: &R, size: LedgerSize, lines: &[u8]) -> Result<Vec<u8>, Fail> {
+    let alloc = rt.alloc();
+    let mut plain = Vec::new(alloc);
+    let mut fast = Vec::new(alloc);
+    let plainly = replay_fresh::<PlainTopic, &[u8], Vec<u8>>(alloc, &mut &lines[..], &mut plain, size);
+    let fastly = replay_fresh::<TopicCore, &[u8], Vec<u8>>(alloc, &mut &lines[..], &mut fast, size);
+    assert!(rt; plainly == Ok(()), "{:?}", lines);
+    assert!(rt; fastly == Ok(()), "{:?}", lines);
+    assert!(rt; fast.as_slice() == plain.as_slice(), "{:?} {:?}", lines, fast.as_slice());
+    Ok(fast)
+}
+
+/// 2,000 lists: every reply is the same, and replies of every kind come.
+#[test]
+fn random_lists(rt: HostRuntime) -> Result<(), Fail> {
+    let size = LedgerSize::new(IN_A_LEDGER).unwrap();
+    let mut seen = Seen::new();
+    for seed in 0..LISTS {
+        let lines = Lines::random(rt.alloc(), seed, EVENTS)?;
+        let replies = replies(&rt, size, lines.as_bytes())?;
+        seen.note_all(&rt, replies.as_slice());
+    }
+    assert!(rt; seen.is_all(), "{:?}", seen);
+    Ok(())
+}

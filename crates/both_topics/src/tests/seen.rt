@@ -1,0 +1,66 @@
+// Which replies came.
+use std::io::BufRead;
+use std::process::Abort;
+
+const KINDS: usize = 19;
+
+/// The words with which replies begin.
+const WORDS: [&str; KINDS] = [
+    "producer",
+    "published",
+    "duplicate",
+    "durable",
+    "progress",
+    "consumer",
+    "done",
+    "released",
+    "died",
+    "rewound",
+    "quiet",
+    "sent",
+    "idle",
+    "copies",
+    "dead",
+    "nodead",
+    "stats",
+    "refused",
+    "restarted",
+];
+
+/// For each of the words, whether a reply began with it.
+#[derive(Debug, Drop)]
+pub(super) struct Seen {
+    words: [bool; KINDS],
+}
+
+impl Seen {
+    pub(super) fn new() -> Self {
+        Seen {
+            words: [false; KINDS],
+        }
+    }
+
+    fn note(&mut self, reply: &str) {
+        let word = match reply.split_once(" ") {
+            Some((word, _)) => word,
+            None => reply,
+        };
+        for place in 0..KINDS {
+            if WORDS[place] == word {
+                self.words[place] = true;
+            }
+        }
+    }
+
+    pub(super) fn note_all<R: Abort + AllocGlobal>(&mut self, rt: &R, replies: &[u8]) {
+        for reply in replies.lines(rt.alloc()) {
+            let reply = reply.expect(rt, "no text");
+            self.note(reply.as_str());
+        }
+    }
+
+    /// Whether each of the words came.
+    pub(super) fn is_all(&self) -> bool {
+        self.words.iter().all(|seen| *seen)
+    }
+}

@@ -1,0 +1,3 @@
+mod Goes
+mod Kept
+mod Restored

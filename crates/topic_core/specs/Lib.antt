@@ -1,0 +1,2 @@
+-- What the contracts of the fast topic cite.
+pub mod Restored

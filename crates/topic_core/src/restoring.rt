@@ -1,0 +1,138 @@
+// A topic that goes on from a snapshot.
+ghost use Rattle.std.specs.Prelude.{◌≡◌, ◌<◌, [], All, Some, IfOk, IfErr, length, map, slice_get};
+ghost use Rattle.position_core.specs.declared.fault.Fault.TheVariants.{NoMemory};
+ghost use Rattle.delivery_machine.specs.State.{Subscription as MachineSubscription};
+ghost use Rattle.delivery_machine.specs.Places.{kept_in, snapshot_in};
+ghost use Rattle.delivery_machine.specs.Snapshot.{restarted, subscription_from};
+ghost use Rattle.delivery_machine.specs.Laws.{IsReached};
+ghost use Rattle.dedup_core.specs.Sequences.{AgreesWith};
+ghost use Rattle.dispatchers.specs.Agreeing.{agrees};
+ghost use Rattle.dispatchers.specs.Told.{AreTold};
+ghost use Rattle.topic_subscriptions.specs.Placed.{IsPlacedIn, sub_in};
+ghost use Rattle.topic_parts.specs.Parts.{AreTied, log_of, state_of};
+ghost use Rattle.topic_served.specs.Served.{IsSettled, state_in};
+ghost use Rattle.topic_core.specs.Restored.{IsAlone, IsRestoredFrom, IsSoundOver};
+
+use delivery_machine::{KeptSubscription, Snapshot};
+use dispatchers::Dispatch;
+use position_core::Fault;
+use std::alloc::{AllocError, Global};
+use topic_log::TopicLog;
+use topic_members::Members;
+use topic_parts::{Parts, places_of};
+use topic_served::Served;
+use topic_subscriptions::Subscription;
+
+/// The last ledger, into which no message goes any more.
+const LAST_LEDGER: u64 = (1 << 62) + 1;
+
+/// The subscription as it was kept over the log.
+fn subscription_over(
+    alloc: Global,
+    log: &TopicLog,
+    kept: &KeptSubscription,
+) -> Result<Subscription, AllocError>
+    requires { IsSoundOver log.now.log.log kept.now }
+    ensures { IfOk result (IsRestoredFrom log.now.log.log kept.now) }
+{
+    let _length = log.len();
+    let dead = places_of(alloc, log, &kept.dead)?;
+    match Subscription::restored(alloc, kept, &dead) {
+        Ok(subscription) => Ok(subscription),
+        Err(failed) => Err(failed),
+    }
+}
+
+/// The subscriptions as they were kept over the log.
+fn subscriptions_over(
+    alloc: Global,
+    log: &TopicLog,
+    kept: &[KeptSubscription],
+) -> Result<Vec<Subscription>, AllocError>
+    requires { All (IsSoundOver log.now.log.log) kept.now }
+    ensures state { IfOk result (λ subs. map (sub_in log.now.log.log) subs.items ≡ map (λ k. subscription_from (kept_in log.now.log.log k)) kept.now) }
+    ensures placed { IfOk result (λ subs. All (IsPlacedIn log.now.log.log []) subs.items) }
+    ensures alone { IfOk result (λ subs. All IsAlone subs.items) }
+{
+    let mut subscriptions = Vec::new(alloc);
+    for one in kept {
+        subscriptions.push(subscription_over(alloc, log, one)?)?;
+    }
+    Ok(subscriptions)
+}
+
+/// With what the snapshot has, and nobody there.
+fn parts_of(alloc: Global, snapshot: &Snapshot) -> Result<Parts, AllocError>
+    ensures state { IfOk result (λ parts. state_of parts ≡ restarted (snapshot_in snapshot.now)) }
+    ensures reached { IfOk result (λ parts. IsReached (state_of parts)) }
+    ensures tied { IfOk result AreTied }
+    ensures alone { IfOk result (λ parts. All IsAlone parts.subscriptions.items) }
+    ensures numbers { IfOk result (λ parts. AgreesWith (log_of parts) parts.log.numbers) }
+{
+    let name = snapshot.name().clone()?;
+    let pieces = snapshot.log().clone()?;
+    let ledger = (snapshot.ledger() + 1).min(LAST_LEDGER);
+    let log = TopicLog::restored(alloc, pieces, ledger, snapshot.ledger_size())?;
+    let subscriptions = subscriptions_over(alloc, &log, snapshot.subscriptions())?;
+    Ok(Parts {
+        alloc,
+        name,
+        next_ordinal: snapshot.next_ordinal(),
+        log,
+        members: Members::new(alloc),
+        subscriptions,
+    })
+}
+
+/// A dispatcher for the subscription at the place, at which nobody is.
+fn begun_at(parts: &Parts, place: usize) -> Result<Dispatch, Fault>
+    requires tied { AreTied parts.now }
+    requires alone { All IsAlone parts.now.subscriptions.items }
+    requires nobody { parts.now.members.members ≡ [] }
+    requires within { place < length parts.now.subscriptions.items }
+    ensures ok { IfOk result (λ d. (sub : MachineSubscription) → slice_get (state_of parts.now).subscriptions place ≡ Some sub → agrees d (state_of parts.now) sub) }
+    ensures err { IfErr result (λ fault. fault ≡ NoMemory) }
+{
+    let kind = parts.subscriptions[place].kind();
+    let view = parts.at(place);
+    Dispatch::begin(parts.alloc, &view, kind)
+}
+
+/// A dispatcher for each subscription, at none of which anybody is.
+fn dispatchers_of(parts: &Parts) -> Result<Vec<Dispatch>, Fault>
+    requires tied { AreTied parts.now }
+    requires alone { All IsAlone parts.now.subscriptions.items }
+    requires nobody { parts.now.members.members ≡ [] }
+    ensures ok { IfOk result (λ ds. AreTold ds.items (state_of parts.now)) }
+    ensures err { IfErr result (λ fault. fault ≡ NoMemory) }
+{
+    let mut dispatchers = Vec::new(parts.alloc);
+    for place in 0..parts.subscriptions.len() {
+        let begun = match begun_at(parts, place) {
+            Ok(begun) => begun,
+            Err(fault) => return Err(fault),
+        };
+        match dispatchers.push(begun) {
+            Ok(()) => (),
+            Err(_) => return Err(Fault::NoMemory),
+        }
+    }
+    Ok(dispatchers)
+}
+
+/// With what the snapshot has, and nobody there. Takes a step for each message, each range of acknowledged
+/// messages and each dead letter.
+pub(crate) fn restored(alloc: Global, snapshot: &Snapshot) -> Result<Served, Fault>
+    ensures state { IfOk result (λ served. state_in served ≡ restarted (snapshot_in snapshot.now)) }
+    ensures settled { IfOk result IsSettled }
+    ensures err { IfErr result (λ fault. fault ≡ NoMemory) }
+{
+    let parts = match parts_of(alloc, snapshot) {
+        Ok(parts) => parts,
+        Err(_) => return Err(Fault::NoMemory),
+    };
+    match dispatchers_of(&parts) {
+        Ok(dispatchers) => Ok(Served { parts, dispatchers }),
+        Err(fault) => Err(fault),
+    }
+}
