@@ -1,5 +1,5 @@
 -- What was known to stand, after a store.
-use Rattle.std.proofs.Common.{◌≡◌, ◌≢◌, ℕ, Bool, true, false, not, List, [], ◌∷◌, map, length, slice_index_or, ap, sym, subst, ◌∙◌, arith, suc, zero, ◌<◌, refl}
+use Rattle.std.proofs.Common.{◌≡◌, ◌≢◌, ℕ, Bool, true, false, not, List, [], ◌∷◌, map, slice_index_or, ap, sym, subst, ◌∙◌, arith, suc, refl}
 use Rattle.std.specs.Prelude.{All, string_bytes, filter}
 use Rattle.std.specs.List.{list_any, AllByRecursion}
 use Rattle.std.specs.Str.{bytes_eq}
@@ -9,7 +9,7 @@ use Rattle.std.proofs.lemmas.List.Sorted.{IsPermutation-trans}
 use Rattle.position_core.specs.TopicName.{topic_text}
 use Rattle.sqlite.specs.Tree.{Trees}
 use Rattle.delivery_machine.specs.Places.{KeptTopic}
-use Rattle.row_forms.specs.Standing.{Has, Stands, Same, KeepsOthers}
+use Rattle.row_forms.specs.Standing.{Stands, Same, KeepsOthers}
 use Rattle.row_rounds.specs.declared.saving.Write.{Write}
 use Rattle.row_rounds.specs.Rounds.{IsNamed, StandAll, name_of}
 use Rattle.row_store.specs.Keeping.{StoresAll}

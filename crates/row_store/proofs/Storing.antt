@@ -1,5 +1,5 @@
 -- What a store leads to, for any connection.
-use Rattle.std.proofs.Common.{◌≡◌, ◌≤◌, ℕ, zero, suc, ◌<◌, Bool, true, false, List, [], ◌∷◌, map, length, slice_index_or, refl, ap, sym, subst, ◌∙◌, arith}
+use Rattle.std.proofs.Common.{◌≡◌, ◌≤◌, ℕ, zero, suc, Bool, true, false, List, [], ◌∷◌, map, slice_index_or, refl, ap, sym, subst, ◌∙◌, arith}
 use Rattle.std.specs.Prelude.{All, IsTrue, ◌&&◌}
 use Rattle.position_core.specs.TopicName.{topic_text}
 use Rattle.position_core.specs.declared.topic_name.TopicName.{TopicName}
@@ -23,6 +23,7 @@ use Rattle.row_tables.specs.Ready.{IsReady}
 use Rattle.row_rounds.specs.declared.saving.Write.{Write}
 use Rattle.row_rounds.specs.Rounds.{Fits, Rounds, StandAll}
 use Rattle.kept_rows.specs.Noted.{Noted, StandsAmong, all_rows, is_shown}
+use Rattle.row_store.specs.declared.written.Written.{Written}
 use Rattle.row_store.specs.Keeping.{IsKept, StoresAll, stored_in}
 use Rattle.row_store.proofs.Standing.{stores_all}
 
@@ -31,8 +32,8 @@ all_of_map P f [] all n d lt = absurd (omega (arith, lt))
 all_of_map P f (y ∷ ys) all zero d lt = all 0 (f d) (omega arith)
 all_of_map P f (y ∷ ys) all (suc n) d lt = all_of_map P f ys (λ m e within. all (suc m) e (omega (arith, within))) n d (omega (arith, lt))
 
-module _ {S : Type 0} (g : Ghosts S) (old new : Held S) (failed : Bool) (known : List KeptTopic) (writes : List Write)
-    (kept : IsKept g (record { conn = old; failed = failed }) known) (working : failed ≡ false)
+module _ {S : Type 0} (g : Ghosts S) (old new : Held S) (failed : Bool) (known : List KeptTopic) (written : Written) (writes : List Write)
+    (kept : IsKept g (record { conn = old; failed = failed; known = known; written = written })) (working : failed ≡ false)
     (fits : (db : Trees) → All (λ (k : KeptTopic). Stands k db) known → All (Fits db) writes)
     (less : doubt (state g old).is_clean ≤ doubt (state g new).is_clean) where
   -- a committed store
@@ -88,12 +89,12 @@ unfolding doubt
 shown_is s h = let b = both_true s.is_clean s.is_open h in (ap doubt b.0, subst IsTrue (sym b.1) refl)
 
 -- a keeper whose database was only read
-pub kept_through : {S : Type 0} (g : Ghosts S) (old new : Held S) (failed : Bool) (known : List KeptTopic) → IsKept g (record { conn = old; failed = failed }) known → new.in_transaction ≡ false
+pub kept_through : {S : Type 0} (g : Ghosts S) (old new : Held S) (failed : Bool) (known : List KeptTopic) (written : Written) → IsKept g (record { conn = old; failed = failed; known = known; written = written }) → new.in_transaction ≡ false
     → doubt (state g old).is_clean ≤ doubt (state g new).is_clean
     → (HasCleanDisk (state g new) → IsTrue (state g new).is_open → (state g new).now ≡ (state g old).now)
     → (HasCleanDisk (state g new) → IsTrue (state g new).is_open → IsTrue (state g old).is_open)
-    → IsKept g (record { conn = new; failed = failed }) known
-kept_through g old new failed known kept autocommit less same was = record {
+    → IsKept g (record { conn = new; failed = failed; known = known; written = written })
+kept_through g old new failed known written kept autocommit less same was = record {
   autocommit = autocommit;
   ready = λ working clean shown.
       let early : HasCleanDisk (state g old) = omega (arith, less, clean) in

@@ -1,7 +1,7 @@
 -- What a keeper holds true, and what a store of several snapshots does.
-use Rattle.std.specs.Prelude.{◌≡◌, ◌⊎◌, ℕ, Bool, false, List, [], ◌∷◌, All, map, IsTrue}
-use Rattle.std.specs.Str.{bytes_eq}
-use Rattle.position_core.specs.TopicName.{topic_text}
+use Rattle.std.specs.Prelude.{◌≡◌, ◌⊎◌, Bool, false, not, List, [], ◌∷◌, All, filter, map, IsTrue}
+use Rattle.position_core.specs.declared.topic_name.TopicName.{TopicName}
+use Rattle.position_core.specs.TopicName.{same_topic, topic_text}
 use Rattle.sqlite_trees.specs.declared.store.Store.{Ghosts}
 use Rattle.sqlite.specs.Tree.{Trees}
 use Rattle.sqlite.specs.State.{State, HasCleanDisk}
@@ -13,17 +13,21 @@ use Rattle.row_forms.specs.Standing.{Stands, KeepsOthers}
 use Rattle.row_forms.specs.Schema.{schema_6}
 use Rattle.row_tables.specs.Ready.{IsReady, IsBlank}
 use Rattle.kept_rows.specs.Noted.{Noted, all_rows, is_shown}
+use Rattle.row_store.specs.declared.written.Written.{Written}
 
--- a keeper, as contracts see it: its connection, and whether it failed
+-- a keeper, as contracts see it: its connection, whether it failed, the snapshots that it knows to stand in the rows,
+-- and how much its last store wrote
 pub record Keeping (S : Type 0) : Type 0 where
   pub conn : Held S
   pub failed : Bool
+  pub known : List KeptTopic
+  pub written : Written
 
 -- no transaction is under way; and unless it failed, the tables are there and what it knows stands in them
-pub record IsKept {S : Type 0} (g : Ghosts S) (k : Keeping S) (kepts : List KeptTopic) : Type 0 where
+pub record IsKept {S : Type 0} (g : Ghosts S) (k : Keeping S) : Type 0 where
   pub autocommit : k.conn.in_transaction ≡ false
   pub ready : k.failed ≡ false → HasCleanDisk (state g k.conn) → IsTrue (state g k.conn).is_open → IsReady (state g k.conn).now
-  pub known : k.failed ≡ false → HasCleanDisk (state g k.conn) → IsTrue (state g k.conn).is_open → All (λ (kept : KeptTopic). Stands kept (state g k.conn).now.trees) kepts
+  pub known : k.failed ≡ false → HasCleanDisk (state g k.conn) → IsTrue (state g k.conn).is_open → All (λ (kept : KeptTopic). Stands kept (state g k.conn).now.trees) k.known
 
 -- the rows of these topics are what is kept of them, and those of all others are as they were
 pub record StoresAll (kepts : List KeptTopic) (old new : Trees) : Type 0 where
@@ -42,6 +46,6 @@ StoresState s old new = (kept : KeptTopic) × (snapshot_in kept ≡ snapshot_of 
 abbrev pub MayLeave : State → Trees → Type 0
 MayLeave old db = old.may_leave db ⊎ ((db ≡ old.committed.trees) ⊎ IsBlank (record { schema = schema_6; trees = db }))
 
--- it is of the topic
-unfoldable pub is_of_topic : List ℕ → KeptTopic → Bool
-is_of_topic topic kept = bytes_eq (topic_text kept.name) topic
+-- what is known of all topics but this one
+abbrev pub known_without : TopicName → List KeptTopic → List KeptTopic
+known_without name known = filter (λ (kept : KeptTopic). not (same_topic kept.name name)) known

@@ -1,2 +1,3 @@
 -- What the contracts of a keeper cite.
 pub mod Keeping
+pub mod Counting

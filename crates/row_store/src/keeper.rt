@@ -3,15 +3,17 @@ ghost use Rattle.std.specs.Prelude.{◌≡◌, ◌⊎◌, map, true, false, IfOk
 ghost use Rattle.position_core.specs.declared.fault.Fault.TheVariants.{NoMemory, StoreFailed};
 ghost use Rattle.sqlite.specs.State.{HasCleanDisk, Survives};
 ghost use Rattle.sqlite.specs.Held.{state};
-ghost use Rattle.row_store.specs.Keeping.{StoresAll, stored_in};
+ghost use Rattle.row_store.specs.Counting.{Counts};
+ghost use Rattle.row_store.specs.Keeping.{StoresAll, known_without, stored_in};
 
-use crate::knowing::{forget, keep_all, marks_of, remember};
+use crate::knowing::{forget, forget_topic, keep_all, marks_of, remember};
 use crate::known::Known;
 use crate::planning::{are_apart, plan_all};
 use crate::written::Written;
 use delivery_machine::Fault;
 use kept_rows::{Kept, Notes, Part};
 use marks::Naming;
+use position_core::TopicName;
 use row_rounds::{room_for, save};
 use sqlite::{Alter, Connection};
 use std::alloc::Global;
@@ -33,15 +35,16 @@ pub struct Keeper<S: Alter, J: Naming> {
 impl<S: Alter, J: Naming> Model for Keeper<S, J> {
     ghost use Rattle.sqlite.specs.Held.{held_code};
     ghost use Rattle.std.specs.Coded.{codes};
+    ghost use Rattle.delivery_machine.specs.Codes.{coded_places};
     ghost use Rattle.row_store.specs.Keeping.{Keeping, IsKept};
 
     ghost Value = { Keeping S };
 
-    ghost coded = { Prim.hlevel (codes, held_code S.code) };
+    ghost coded = { Prim.hlevel (codes, coded_places, held_code S.code) };
 
-    ghost view = { λ k. record { conn = k.conn; failed = k.failed } };
+    ghost view = { λ k. record { conn = k.conn; failed = k.failed; known = k.known.items; written = k.written } };
 
-    ghost invariant = { λ k. IsKept S.Store (record { conn = k.conn; failed = k.failed }) k.known.items };
+    ghost invariant = { λ k. IsKept S.Store (record { conn = k.conn; failed = k.failed; known = k.known.items; written = k.written }) };
 }
 
 impl<S: Alter, J: Naming> Keeper<S, J> {
@@ -54,6 +57,7 @@ impl<S: Alter, J: Naming> Keeper<S, J> {
         ensures kept { IfOk result (λ kept. kept.items ≡ map (stored_in (state S.Store self.new.conn)) parts.items) }
         ensures crash { Survives (state S.Store self.old.conn) (state S.Store self.new.conn) (λ db. IsTrue (state S.Store self.old.conn).is_open → StoresAll parts.items (state S.Store self.old.conn).now.trees db) }
         ensures ok { OnOk result (self.new.failed ≡ false) }
+        ensures written { HasCleanDisk (state S.Store self.new.conn) → OnOk result (Counts self.new.written parts.items (state S.Store self.old.conn).now.trees) }
         ensures failed { self.old.failed ≡ true → (result ≡ Err StoreFailed) × (self.new ≡ self.old) }
         ensures memory { result ≡ Err NoMemory → self.new ≡ self.old }
         ensures stuck { result ≡ Err StoreFailed → (self.new.failed ≡ true) ⊎ (self.new ≡ self.old) }
@@ -96,8 +100,18 @@ impl<S: Alter, J: Naming> Keeper<S, J> {
     }
 
     /// What the last store that went well wrote; nothing before the first one.
-    pub fn written(&self) -> Written {
+    pub fn written(&self) -> Written
+        ensures { result ≡ self.now.written }
+    {
         self.written
+    }
+
+    /// Lets go of what is known of the topic. Its rows stay; the next store of it writes all of them anew,
+    /// unless it is loaded before.
+    pub fn forget(&mut self, name: &TopicName)
+        ensures { self.new ≡ record self.old { known = known_without name.now self.old.known } }
+    {
+        forget_topic(&mut self.known, name);
     }
 
     /// Whether a store failed: then all is refused (F16) until the database is adopted again.

@@ -9,13 +9,14 @@ ghost use Rattle.row_forms.specs.Standing.{Stands};
 ghost use Rattle.kept_rows.specs.Noted.{Noted, StandsAmong};
 ghost use Rattle.row_rounds.specs.declared.saving.Write.{Write};
 ghost use Rattle.row_rounds.specs.Rounds.{IsNamed};
-ghost use Rattle.row_store.specs.Keeping.{is_of_topic};
+ghost use Rattle.row_store.specs.Keeping.{known_without};
 
 use crate::known::Known;
 use crate::planning::is_among;
 use delivery_machine::Snapshot;
 use kept_rows::{Kept, Note, Part};
 use marks::{Mark, Naming};
+use position_core::TopicName;
 use row_rounds::Write;
 
 /// What is written is known no more.
@@ -68,18 +69,11 @@ pub fn keep_all<J: Naming>(rows: &Mark<Note, J>, marks: &[Mark<Note, J>], kept: 
     }
 }
 
-#[tactic(auto, unfolding(crate::specs::Keeping::is_of_topic))]
-fn is_of<J: Naming>(one: &Known<J>, topic: &str) -> bool
-    ensures { result ≡ is_of_topic topic.now one.now }
-{
-    one.topic() == topic
-}
-
 /// What was known of the topic is known no more.
-pub fn forget_topic<J: Naming>(known: &mut Vec<Known<J>>, topic: &str)
-    ensures { known.new.items ≡ filter (λ kept. not (is_of_topic topic.now kept)) known.old.items }
+pub fn forget_topic<J: Naming>(known: &mut Vec<Known<J>>, name: &TopicName)
+    ensures { known.new.items ≡ known_without name.now known.old.items }
 {
-    known.retain(|one| !is_of(one, topic));
+    known.retain(|one| !one.is_of(name));
 }
 
 /// The snapshot is known to stand, under its mark, if there is memory for it.

@@ -1,10 +1,11 @@
 // A topic whose rows are known.
 ghost use Rattle.std.specs.Prelude.{◌≡◌, string_bytes};
-ghost use Rattle.position_core.specs.TopicName.{topic_text};
+ghost use Rattle.position_core.specs.TopicName.{same_topic, topic_text};
 
 use delivery_machine::Snapshot;
 use kept_rows::Note;
 use marks::{Mark, Naming};
+use position_core::TopicName;
 use std::marker::Model;
 
 /// A topic whose rows are known: what stands there of it, under its mark. Contracts see what stands.
@@ -49,6 +50,13 @@ impl<J: Naming> Known<J> {
         ensures { result.now ≡ topic_text self.now.name }
     {
         self.topic.as_str()
+    }
+
+    /// Whether it is of the topic of this name.
+    pub fn is_of(&self, name: &TopicName) -> bool
+        ensures { result ≡ same_topic self.now.name name.now }
+    {
+        self.snapshot.name().is(name)
     }
 
     pub fn snapshot(&self) -> &Snapshot

@@ -64,7 +64,7 @@ impl<S: Alter, J: Naming> Keeper<S, J> {
     fn know_loaded(&mut self, topic: String, snapshot: Snapshot) -> Result<Loaded<J>, Fault>
         requires topic { string_bytes topic ≡ topic_text snapshot.name }
         requires stands { HasCleanDisk (state S.Store self.old.conn) → IsTrue (state S.Store self.old.conn).is_open → Stands snapshot (state S.Store self.old.conn).now.trees }
-        ensures same { self.new ≡ self.old }
+        ensures same { (self.new.conn ≡ self.old.conn) × (self.new.failed ≡ self.old.failed) }
         ensures snapshot { IfOk result (λ loaded. loaded.snapshot ≡ snapshot) }
         ensures kept { IfOk result (λ loaded. loaded.kept ≡ stored_in (state S.Store self.old.conn) snapshot) }
         ensures faults { IfErr result (λ fault. (fault ≡ NoMemory) ⊎ (fault ≡ StoreFailed)) }
@@ -79,7 +79,7 @@ impl<S: Alter, J: Naming> Keeper<S, J> {
         let Some(rows) = self.notes.commit(&self.conn) else {
             return Err(Fault::StoreFailed);
         };
-        forget_topic(&mut self.known, topic.as_str());
+        forget_topic(&mut self.known, snapshot.name());
         know(&mut self.known, topic, copy, mark.again());
         Ok(Loaded {
             snapshot,

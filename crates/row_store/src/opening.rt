@@ -1,5 +1,5 @@
 // How a keeper comes by its database: it makes the tables, or takes those that are there.
-ghost use Rattle.std.specs.Prelude.{◌≡◌, ◌≢◌, ◌⊎◌, false, IfOk, IfErr, IsTrue};
+ghost use Rattle.std.specs.Prelude.{[], ◌≡◌, ◌≢◌, ◌⊎◌, false, IfOk, IfErr, IsTrue};
 ghost use Rattle.position_core.specs.declared.fault.Fault.TheVariants.{StoreFailed};
 ghost use Rattle.sqlite.specs.Tree.{Trees};
 ghost use Rattle.sqlite.specs.State.{HasCleanDisk};
@@ -55,7 +55,7 @@ fn keeper_over<S: Alter, J: Naming>(
 ) -> Keeper<S, J>
     requires autocommit { conn.in_transaction ≡ false }
     requires ready { HasCleanDisk (state S.Store conn) → IsTrue (state S.Store conn).is_open → IsReady (state S.Store conn).now }
-    ensures { result ≡ record { conn = conn; failed = false } }
+    ensures { result ≡ record { conn = conn; failed = false; known = []; written = record { inserted = 0; updated = 0; deleted = 0; cleared = 0 } } }
 {
     Keeper {
         alloc,

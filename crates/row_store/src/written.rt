@@ -1,4 +1,8 @@
 // How much a store writes.
+ghost use Rattle.std.specs.Prelude.{◌≡◌};
+ghost use Rattle.row_store.specs.Counting.{own_changing, own_coming, with_difference, with_own, with_write, written_by};
+
+use row_forms::Difference;
 use row_rounds::Write;
 
 /// How many rows a store inserted, updated and deleted. Of the rows of a table, one that goes while another
@@ -12,9 +16,24 @@ pub struct Written {
     pub cleared: u64,
 }
 
+/// How many rows of the topic itself come, and how many become others.
+fn own_rows(write: &Write) -> (u64, u64)
+    ensures { (result.0 ≡ own_coming write.now) × (result.1 ≡ own_changing write.now) }
+{
+    if write.whole {
+        (1, 0)
+    } else if write.change.topic {
+        (0, 1)
+    } else {
+        (0, 0)
+    }
+}
+
 impl Written {
     /// Nothing.
-    pub(crate) fn none() -> Self {
+    pub(crate) fn none() -> Self
+        ensures { result ≡ record { inserted = 0; updated = 0; deleted = 0; cleared = 0 } }
+    {
         Written {
             inserted: 0,
             updated: 0,
@@ -24,7 +43,9 @@ impl Written {
     }
 
     /// What these writes come to.
-    pub(crate) fn by(writes: &[Write]) -> Self {
+    pub(crate) fn by(writes: &[Write]) -> Self
+        ensures { result ≡ written_by writes.now }
+    {
         let mut written = Written::none();
         for write in writes {
             written.count(write);
@@ -32,26 +53,40 @@ impl Written {
         written
     }
 
-    /// So many rows go, and so many come in their place.
-    fn replaces(&mut self, gone: usize, news: usize) {
-        let same = gone.min(news);
-        self.updated = self.updated.saturating_add(same as u64);
-        self.deleted = self.deleted.saturating_add((gone - same) as u64);
-        self.inserted = self.inserted.saturating_add((news - same) as u64);
+    /// The rows of one table.
+    fn count_table<R: Drop>(&mut self, rows: &Difference<R>)
+        ensures { self.new ≡ with_difference self.old rows.now }
+    {
+        let gone = rows.gone.len();
+        let news = rows.news.len();
+        self.inserted = self
+            .inserted
+            .saturating_add(news.saturating_sub(gone) as u64);
+        self.updated = self.updated.saturating_add(gone.min(news) as u64);
+        self.deleted = self
+            .deleted
+            .saturating_add(gone.saturating_sub(news) as u64);
     }
 
-    fn count(&mut self, write: &Write) {
+    /// The topic's own row.
+    fn count_own(&mut self, write: &Write)
+        ensures { self.new ≡ with_own self.old write.now }
+    {
+        let (comes, changes) = own_rows(write);
+        self.inserted = self.inserted.saturating_add(comes);
+        self.updated = self.updated.saturating_add(changes);
+        self.cleared = self.cleared.saturating_add(comes);
+    }
+
+    fn count(&mut self, write: &Write)
+        ensures { self.new ≡ with_write self.old write.now }
+    {
         let change = &write.change;
         let messages = write.snapshot.log().count().saturating_sub(change.from);
         self.inserted = self.inserted.saturating_add(messages as u64);
-        if write.whole {
-            self.cleared = self.cleared.saturating_add(1);
-            self.inserted = self.inserted.saturating_add(1);
-        } else if change.topic {
-            self.updated = self.updated.saturating_add(1);
-        }
-        self.replaces(change.subs.gone.len(), change.subs.news.len());
-        self.replaces(change.acks.gone.len(), change.acks.news.len());
-        self.replaces(change.deads.gone.len(), change.deads.news.len());
+        self.count_own(write);
+        self.count_table(&change.subs);
+        self.count_table(&change.acks);
+        self.count_table(&change.deads);
     }
 }

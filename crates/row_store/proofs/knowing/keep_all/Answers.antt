@@ -1,4 +1,4 @@
-use Rattle.std.proofs.Common.{rules, ◌≡◌, subst, sym, ap, ◌∙◌, true}
+use Rattle.std.proofs.Common.{subst, sym, ap, ◌∙◌}
 use Rattle.kept_rows.specs.Noted.{Noted, StandsAmong}
 use Rattle.row_store.proofs.knowing.keep_all.Goals as goal
 

@@ -1,7 +1,6 @@
 use Rattle.std.proofs.Common.{rules, ◌≡◌, All, subst, sym, ap, ◌∙◌, Some, ◌++◌, ◌∷◌, [], map}
 use Rattle.std.proofs.lemmas.List.{map-append}
 use Rattle.std.proofs.lemmas.List.Elements.{All-push, All-pop}
-use Rattle.sqlite.specs.Tree.{Trees}
 use Rattle.delivery_machine.specs.Places.{KeptTopic}
 use Rattle.kept_rows.specs.Noted.{Noted}
 use Rattle.row_forms.specs.Standing.{Stands}

@@ -1,7 +1,5 @@
-use Rattle.std.proofs.Common.{rules, ◌≡◌, ◌<◌, ℕ, List, take, length, slice_index_or, false, subst, sym, ap, ◌∙◌, arith}
+use Rattle.std.proofs.Common.{rules, ◌<◌, length, sym, ap, ◌∙◌, arith}
 use Rattle.std.specs.Prelude.{string_bytes}
-use Rattle.std.specs.List.{list_any}
-use Rattle.std.specs.Str.{bytes_eq}
 use Rattle.row_rounds.specs.declared.saving.Write.{Write}
 use Rattle.row_store.proofs.Lists.{apart_more, same_element}
 use Rattle.row_store.proofs.planning.are_apart.Goals as goal

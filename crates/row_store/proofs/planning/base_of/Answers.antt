@@ -1,4 +1,4 @@
-use Rattle.std.proofs.Common.{◌≡◌, subst, sym}
+use Rattle.std.proofs.Common.{subst, sym}
 use Rattle.delivery_machine.specs.Places.{KeptTopic}
 use Rattle.row_forms.specs.Standing.{Stands}
 use Rattle.row_store.proofs.planning.base_of.Goals as goal

@@ -1,4 +1,4 @@
-use Rattle.std.proofs.Common.{◌≡◌, All, IfOk, subst}
+use Rattle.std.proofs.Common.{All, IfOk, subst}
 use Rattle.std.proofs.lemmas.Result.{IfOk-weaker}
 use Rattle.sqlite.specs.Tree.{Trees}
 use Rattle.delivery_machine.specs.Places.{KeptTopic}

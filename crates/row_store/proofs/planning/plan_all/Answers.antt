@@ -1,8 +1,6 @@
-use Rattle.std.proofs.Common.{rules, ◌≡◌, All, map, ◌++◌, ◌∷◌, [], subst, sym, ap, ◌∙◌, List}
+use Rattle.std.proofs.Common.{rules, ◌≡◌, All, map, ◌++◌, ◌∷◌, [], subst, sym, ap, ◌∙◌}
 use Rattle.std.proofs.lemmas.List.{map-append}
 use Rattle.std.proofs.lemmas.List.Elements.{All-push}
-use Rattle.sqlite.specs.Tree.{Trees}
-use Rattle.delivery_machine.specs.Places.{KeptTopic}
 use Rattle.row_rounds.specs.declared.saving.Write.{Write}
 use Rattle.row_rounds.specs.Rounds.{IsNamed, Fits}
 use Rattle.row_store.proofs.planning.plan_all.Goals as goal

@@ -1,4 +1,4 @@
-use Rattle.std.proofs.Common.{◌≡◌, subst, sym}
+use Rattle.std.proofs.Common.{subst, sym}
 use Rattle.position_core.specs.TopicName.{topic_text}
 use Rattle.row_forms.specs.Standing.{Has}
 use Rattle.row_store.proofs.planning.plan_over.Goals as goal

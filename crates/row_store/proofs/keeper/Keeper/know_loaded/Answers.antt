@@ -1,11 +1,11 @@
-use Rattle.std.proofs.Common.{rules, ◌≡◌, All, not, IsTrue, refl, subst, sym, ap, ◌∙◌}
+use Rattle.std.proofs.Common.{◌≡◌, All, not, IsTrue, refl, subst, sym, ap, ◌∙◌}
 use Rattle.std.proofs.lemmas.List.Elements.{All-filter}
+use Rattle.position_core.specs.TopicName.{same_topic}
 use Rattle.sqlite.specs.Effect.{Database}
 use Rattle.sqlite.specs.Held.{state}
 use Rattle.delivery_machine.specs.Places.{KeptTopic}
 use Rattle.row_forms.specs.Standing.{Stands}
 use Rattle.kept_rows.specs.Noted.{StandsAmong, all_rows}
-use Rattle.row_store.specs.Keeping.{is_of_topic}
 use Rattle.row_store.proofs.Storing.{among, shown_is}
 use Rattle.row_store.proofs.keeper.Keeper.know_loaded.Goals as goal
 
@@ -21,7 +21,7 @@ new-requires g c = λ is_clean.
 
 pub invariant_of-self-2 : goal.invariant_of-self-2
 invariant_of-self-2 g c =
-    let p = λ (kept : KeptTopic). not (is_of_topic c.as_str.result.now kept) in
+    let p = λ (kept : KeptTopic). not (same_topic kept.name c.name.result.now) in
     record {
       autocommit = c.self.invariant.autocommit;
       ready = c.self.invariant.ready;

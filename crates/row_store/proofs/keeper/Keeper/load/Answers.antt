@@ -1,4 +1,4 @@
-use Rattle.std.proofs.Common.{arith, rules, ◌≡◌, ◌≤◌, IfSome, Some, IsTrue, refl, subst, sym, ap, ◌∙◌}
+use Rattle.std.proofs.Common.{arith, rules, ◌≡◌, IfSome, Some, IsTrue, refl, subst, sym, ap, ◌∙◌}
 use Rattle.position_core.specs.TopicName.{topic_text}
 use Rattle.sqlite.specs.Effect.{Database}
 use Rattle.sqlite.specs.State.{HasCleanDisk}
@@ -13,27 +13,27 @@ use Rattle.row_store.proofs.keeper.Keeper.load.Goals as goal
 pub invariant_of-self : goal.invariant_of-self
 invariant_of-self g c =
     let k = c.self.inside in
-    kept_through g.S.Store k.conn c.read.new.conn k.failed k.known.items c.self.invariant c.read.ensures.autocommit c.read.ensures.crash.clean c.read.ensures.kept c.read.ensures.was_open
+    kept_through g.S.Store k.conn c.read.new.conn k.failed k.known.items k.written c.self.invariant c.read.ensures.autocommit c.read.ensures.crash.clean c.read.ensures.kept c.read.ensures.was_open
 
 pub invariant_of-self-then-is_empty : goal.invariant_of-self-then-is_empty
 invariant_of-self-then-is_empty g c =
     let k = c.self.inside in
-    kept_through g.S.Store k.conn c.read.new.conn k.failed k.known.items c.self.invariant c.read.ensures.autocommit c.read.ensures.crash.clean c.read.ensures.kept c.read.ensures.was_open
+    kept_through g.S.Store k.conn c.read.new.conn k.failed k.known.items k.written c.self.invariant c.read.ensures.autocommit c.read.ensures.crash.clean c.read.ensures.kept c.read.ensures.was_open
 
 pub invariant_of-self-in-Ok-Some : goal.invariant_of-self-in-Ok-Some
 invariant_of-self-in-Ok-Some g c =
     let k = c.self.inside in
-    kept_through g.S.Store k.conn c.read.new.conn k.failed k.known.items c.self.invariant c.read.ensures.autocommit c.read.ensures.crash.clean c.read.ensures.kept c.read.ensures.was_open
+    kept_through g.S.Store k.conn c.read.new.conn k.failed k.known.items k.written c.self.invariant c.read.ensures.autocommit c.read.ensures.crash.clean c.read.ensures.kept c.read.ensures.was_open
 
 pub invariant_of-self-in-Ok-None : goal.invariant_of-self-in-Ok-None
 invariant_of-self-in-Ok-None g c =
     let k = c.self.inside in
-    kept_through g.S.Store k.conn c.read.new.conn k.failed k.known.items c.self.invariant c.read.ensures.autocommit c.read.ensures.crash.clean c.read.ensures.kept c.read.ensures.was_open
+    kept_through g.S.Store k.conn c.read.new.conn k.failed k.known.items k.written c.self.invariant c.read.ensures.autocommit c.read.ensures.crash.clean c.read.ensures.kept c.read.ensures.was_open
 
 pub invariant_of-self-in-Err : goal.invariant_of-self-in-Err
 invariant_of-self-in-Err g c =
     let k = c.self.inside in
-    kept_through g.S.Store k.conn c.read.new.conn k.failed k.known.items c.self.invariant c.read.ensures.autocommit c.read.ensures.crash.clean c.read.ensures.kept c.read.ensures.was_open
+    kept_through g.S.Store k.conn c.read.new.conn k.failed k.known.items k.written c.self.invariant c.read.ensures.autocommit c.read.ensures.crash.clean c.read.ensures.kept c.read.ensures.was_open
 
 pub returns-then-is_empty-clause-rows : goal.returns-then-is_empty-clause-rows
 returns-then-is_empty-clause-rows g c = λ clean.
@@ -62,7 +62,7 @@ pub returns-in-Ok-know_loaded-clause-rows : goal.returns-in-Ok-know_loaded-claus
 returns-in-Ok-know_loaded-clause-rows g c = λ clean.
     let k = c.self.inside in
     let old = state g.S.Store k.conn in
-    let late = subst (λ v. HasCleanDisk (state g.S.Store v.conn)) c.know_loaded.ensures.same clean in
+    let late = subst (λ v. HasCleanDisk (state g.S.Store v)) c.know_loaded.ensures.same.0 clean in
     let early : HasCleanDisk old = omega (arith, c.read.ensures.crash.clean, late) in
     let ready = c.self.invariant.ready c.if-self.false early (c.in-Ok-read.ensures.shown late) in
     let text = c.as_str.ensures.value ∙ c.in-Ok.ensures in

@@ -1,15 +1,10 @@
-use Rattle.std.proofs.Common.{arith, ◌≡◌, ◌≤◌, All, map, true, IsTrue, refl, sym, subst, ap, ◌∙◌}
-use Rattle.sqlite.specs.Tree.{Trees}
-use Rattle.sqlite.specs.State.{HasCleanDisk, Survives}
-use Rattle.sqlite.specs.Held.{Held, state}
+use Rattle.std.proofs.Common.{arith, ◌≡◌, All, IsTrue, refl, sym, subst, ap, ◌∙◌}
+use Rattle.sqlite.specs.State.{HasCleanDisk}
+use Rattle.sqlite.specs.Held.{state}
 use Rattle.delivery_machine.specs.Places.{KeptTopic}
 use Rattle.row_forms.specs.Standing.{Stands}
-use Rattle.row_tables.specs.Goes.{Saves}
-use Rattle.row_tables.specs.Ready.{IsReady}
-use Rattle.row_rounds.specs.declared.saving.Write.{Write}
-use Rattle.row_rounds.specs.Rounds.{AreApart, Fits, IsNamed, Rounds, StandAll}
+use Rattle.row_rounds.specs.Rounds.{AreApart}
 use Rattle.kept_rows.specs.Noted.{Noted, StandsAmong, all_rows}
-use Rattle.row_store.specs.Keeping.{StoresAll, stored_in}
 use Rattle.row_store.proofs.Standing.{still_standing, stores_all}
 use Rattle.row_store.proofs.Storing.{all_stored, leaves, marked_among, shown_is, went}
 use Rattle.row_store.proofs.keeper.Keeper.store.Goals as goal
@@ -23,14 +18,14 @@ returns-in_default-save-clause-crash g c =
     let k = c.self.inside in
     let fits = rw c.deref-2.ensures.value at c.in-Ok-plan_all.ensures.fits in
     let left = rw c.deref-6.ensures.value at c.save.ensures.crash in
-    rw (← c.self.view_is) (leaves g.S.Store k.conn c.save.new.conn k.failed k.known.items c.in-Ok-plan_all.writes.items c.self.invariant c.if-self.false fits c.save.ensures.crash.clean c.args.parts.items c.in-Ok-plan_all.ensures.snapshots left)
+    rw (← c.self.view_is) (leaves g.S.Store k.conn c.save.new.conn k.failed k.known.items k.written c.in-Ok-plan_all.writes.items c.self.invariant c.if-self.false fits c.save.ensures.crash.clean c.args.parts.items c.in-Ok-plan_all.ensures.snapshots left)
 
 pub returns-in_default-commit-clause-crash : goal.returns-in_default-commit-clause-crash
 returns-in_default-commit-clause-crash g c =
     let k = c.self.inside in
     let fits = rw c.deref-2.ensures.value at c.in-Ok-plan_all.ensures.fits in
     let left = rw c.deref-6.ensures.value at c.save.ensures.crash in
-    rw (← c.self.view_is) (leaves g.S.Store k.conn c.save.new.conn k.failed k.known.items c.in-Ok-plan_all.writes.items c.self.invariant c.if-self.false fits c.save.ensures.crash.clean c.args.parts.items c.in-Ok-plan_all.ensures.snapshots left)
+    rw (← c.self.view_is) (leaves g.S.Store k.conn c.save.new.conn k.failed k.known.items k.written c.in-Ok-plan_all.writes.items c.self.invariant c.if-self.false fits c.save.ensures.crash.clean c.args.parts.items c.in-Ok-plan_all.ensures.snapshots left)
 
 pub keep_all-requires-clause-stand : goal.keep_all-requires-clause-stand
 keep_all-requires-clause-stand g c = λ is_clean.
@@ -39,7 +34,7 @@ keep_all-requires-clause-stand g c = λ is_clean.
     let clean = (shown_is new (sym c.in-Some.ensures.clean ∙ is_clean)).0 in
     let fits = rw c.deref-2.ensures.value at c.in-Ok-plan_all.ensures.fits in
     let saves = rw c.deref-6.ensures.value at (c.in-Ok-save.ensures.saved clean) in
-    let all = (went g.S.Store k.conn c.save.new.conn k.failed k.known.items c.in-Ok-plan_all.writes.items c.self.invariant c.if-self.false fits c.save.ensures.crash.clean saves clean).1 in
+    let all = (went g.S.Store k.conn c.save.new.conn k.failed k.known.items k.written c.in-Ok-plan_all.writes.items c.self.invariant c.if-self.false fits c.save.ensures.crash.clean saves clean).1 in
     let stored = stores_all c.in-Ok-plan_all.writes.items c.args.parts.items _ new.now.trees c.in-Ok-plan_all.ensures.snapshots all in
     let marks = marked_among c.marks_of.new.marks.items c.args.parts.items new.now.trees (c.marks_of.ensures ∙ c.deref.ensures.value) stored.each in
     let rows : c.in-Some.rows.rows ≡ all_rows new.now.trees = c.in-Some.ensures.rows ∙ ap (λ db. all_rows db.trees) saves.committed in
@@ -53,7 +48,7 @@ invariant_of-self-2 g c =
     let writes = c.in-Ok-plan_all.writes.items in
     let fits = rw c.deref-2.ensures.value at c.in-Ok-plan_all.ensures.fits in
     let does = λ (clean : HasCleanDisk new).
-    (went g.S.Store k.conn c.save.new.conn k.failed k.known.items writes c.self.invariant c.if-self.false fits c.save.ensures.crash.clean (rw c.deref-6.ensures.value at (c.in-Ok-save.ensures.saved clean)) clean) in
+    (went g.S.Store k.conn c.save.new.conn k.failed k.known.items k.written writes c.self.invariant c.if-self.false fits c.save.ensures.crash.clean (rw c.deref-6.ensures.value at (c.in-Ok-save.ensures.saved clean)) clean) in
     let knows = λ (clean : HasCleanDisk new).
     let early : HasCleanDisk old = omega (arith, c.save.ensures.crash.clean, clean) in
     let shown = (c.in-Ok-save.ensures.saved clean).was_shown in
@@ -71,7 +66,7 @@ pub returns-clause-rows : goal.returns-clause-rows
 returns-clause-rows g c = λ clean.
     let k = c.self.inside in
     let fits = rw c.deref-2.ensures.value at c.in-Ok-plan_all.ensures.fits in
-    let all = (went g.S.Store k.conn c.save.new.conn k.failed k.known.items c.in-Ok-plan_all.writes.items c.self.invariant c.if-self.false fits c.save.ensures.crash.clean (rw c.deref-6.ensures.value at (c.in-Ok-save.ensures.saved clean)) clean).1 in
+    let all = (went g.S.Store k.conn c.save.new.conn k.failed k.known.items k.written c.in-Ok-plan_all.writes.items c.self.invariant c.if-self.false fits c.save.ensures.crash.clean (rw c.deref-6.ensures.value at (c.in-Ok-save.ensures.saved clean)) clean).1 in
     rw (← c.self.view_is) (stores_all c.in-Ok-plan_all.writes.items c.args.parts.items (state g.S.Store k.conn).now.trees (state g.S.Store c.save.new.conn).now.trees c.in-Ok-plan_all.ensures.snapshots all)
 
 pub returns-clause-kept : goal.returns-clause-kept
@@ -84,4 +79,14 @@ returns-clause-crash g c =
     let k = c.self.inside in
     let fits = rw c.deref-2.ensures.value at c.in-Ok-plan_all.ensures.fits in
     let left = rw c.deref-6.ensures.value at c.save.ensures.crash in
-    rw (← c.self.view_is) (leaves g.S.Store k.conn c.save.new.conn k.failed k.known.items c.in-Ok-plan_all.writes.items c.self.invariant c.if-self.false fits c.save.ensures.crash.clean c.args.parts.items c.in-Ok-plan_all.ensures.snapshots left)
+    rw (← c.self.view_is) (leaves g.S.Store k.conn c.save.new.conn k.failed k.known.items k.written c.in-Ok-plan_all.writes.items c.self.invariant c.if-self.false fits c.save.ensures.crash.clean c.args.parts.items c.in-Ok-plan_all.ensures.snapshots left)
+
+pub returns-clause-written : goal.returns-clause-written
+returns-clause-written g c = λ clean.
+    let k = c.self.inside in
+    let old = state g.S.Store k.conn in
+    let early : HasCleanDisk old = omega (arith, c.save.ensures.crash.clean, clean) in
+    let shown = (c.in-Ok-save.ensures.saved clean).was_shown in
+    let fits = rw c.deref-2.ensures.value at c.in-Ok-plan_all.ensures.fits in
+    let counts = rw c.deref-5.ensures.value at c.by-written.ensures in
+    rw (← c.self.view_is) (c.in-Ok-plan_all.writes.items, c.in-Ok-plan_all.ensures.snapshots, fits old.now.trees (c.self.invariant.known c.if-self.false early shown), counts)
