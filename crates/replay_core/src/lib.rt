@@ -2,6 +2,7 @@
 #![tactic(auto)]
 
 mod arguments;
+mod asking;
 mod engine;
 mod names;
 mod output;
@@ -11,6 +12,7 @@ mod restartable;
 mod stop;
 
 pub use arguments::read_ledger_size;
+pub use asking::{Unasked, asked_ledger_size, replay_asked};
 pub use engine::replay_over;
 pub use plain::{replay, replay_fresh, replay_to_status};
 pub use restartable::Restartable;

@@ -1,4 +1,4 @@
-// The replay of the topic that the program replays, kept as a plain topic.
+// The replay of the topic that the programs replay.
 ghost use Rattle.std.specs.Prelude.{◌≡◌, IsTrue, IfOk, IfErr};
 ghost use Rattle.position_core.specs.Name.{is_name};
 ghost use Rattle.delivery_machine.specs.State.{fresh};
@@ -83,8 +83,8 @@ pub fn replay<R: Read, W: Write>(
     replay_fresh::<PlainTopic, R, W>(alloc, reader, writer, ledger_size)
 }
 
-/// Replays a fresh topic, and answers the status for a program to end with.
-pub fn replay_to_status<R: Read, W: Write>(
+/// Replays a fresh topic, however it is kept, and answers the status for a program to end with.
+pub fn replay_to_status<T: Opened + Drop, R: Read, W: Write>(
     alloc: Global,
     reader: &mut R,
     writer: &mut W,
@@ -93,6 +93,6 @@ pub fn replay_to_status<R: Read, W: Write>(
     ensures { EndsWith (sides (R.remaining reader.old) (W.contents writer.old) (opening (fresh this_topic ledger_size))) result
         (R.remaining reader.new) (W.contents writer.new) }
 {
-    let outcome = replay(alloc, reader, writer, ledger_size);
+    let outcome = replay_fresh::<T, R, W>(alloc, reader, writer, ledger_size);
     status(&outcome)
 }
