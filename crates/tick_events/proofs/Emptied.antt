@@ -1,6 +1,6 @@
 -- What the members of a subscription were sent is pending there.
 use Rattle.std.proofs.Common.{◌≡◌, ℕ, List, [], ◌∷◌, map, Some, Option, Bool, true, false, cond, All, get_or, refl, ap, ap₂, ◌∙◌, sym}
-use Rattle.std.specs.Prelude.{not, IsTrue}
+use Rattle.std.specs.Prelude.{is_some, not, IsTrue}
 use Rattle.std.specs.List.{Contains, find}
 use Rattle.std.specs.Option.{option_map_or}
 use Rattle.std.specs.FinMap as map_of
@@ -12,9 +12,9 @@ use Rattle.delivery_machine.specs.Acknowledging.{forgetting, is_one_of, without}
 use Rattle.delivery_machine.specs.WellFormed.{IsSentWell, IsWellFormed}
 use Rattle.delivery_machine.specs.declared.delivery.Delivery.{Delivery}
 use Rattle.delivery_machine.proofs.Behind.{same_name}
-use Rattle.tick_events.proofs.Recounted.{pending_there}
+use Rattle.topic_parts.proofs.Held.{holder_is}
 
--- copies of nothing else are left out than these, so none is left
+-- where all copies are of the positions, none is left
 nothing_left : (ps : List Position) (out : List Delivery) → All (λ (d : Delivery). is_one_of ps d.message.position ≡ true) out → without ps out ≡ []
 nothing_left ps [] all = refl
 nothing_left ps (d ∷ out) all =
@@ -27,10 +27,10 @@ module _ (s : State) (name : List ℕ) (sub : Subscription) (ps : List Position)
     sent_pending : (m : Member) (out : List Delivery) → m.subscription ≡ name → All (λ (d : Delivery). Contains s.log d.message × IsTrue (is_held_at s m.subscription m.number d.message.position)) out → All (λ (d : Delivery). is_one_of ps d.message.position ≡ true) out
     sent_pending m out at sent k d low =
         let held = (sent k d low).1 in
-        all _ (pending_there m.number _
+        all _ (ap is_some (holder_is m.number _
         (sym (ap (λ (n : List ℕ). is_held_at s n m.number (get_or out k d).message.position) at
         ∙ ap (λ (o : Option Subscription). option_map_or (λ (x : Subscription). is_held_by m.number (map_of.get x.pending (get_or out k d).message.position)) o false) named)
-        ∙ held))
+        ∙ held)).1)
 
     emptied_one : (m : Member) → IsSentWell s m → emptied_at name m ≡ forgetting name ps m
     emptied_one m sent = by (is_at name m) refl

@@ -10,6 +10,7 @@ use Rattle.delivery_machine.specs.State.{DeadLetter}
 use Rattle.delivery_machine.specs.Dying.{burying}
 use Rattle.delivery_machine.specs.Ticking.{redelivered, redelivering}
 use Rattle.delivery_machine.specs.WellFormed.{IsWellFormed}
+use Rattle.delivery_machine.proofs.Tended.{some_is}
 use Rattle.dispatch_core.specs.Changes.{Gone, Released}
 use Rattle.dispatchers.specs.Happening.{HappensAt}
 use Rattle.dispatchers.specs.Stepping.{buried}
@@ -37,10 +38,7 @@ module _ (t : Parts) (name : List ℕ) (place : ℕ) (x : Placed) (q : Position)
     pub is_live : AreTied t → (k : ℕ) → index_of q (log_of t) ≡ Some k → is_live_at x k ≡ true
     is_live tied k is =
         let l = (placed tied).pending q pending in
-        ap (is_live_at x) (some_is k l.place (sym is ∙ l.there)) ∙ l.live
-      where
-        some_is : (a b : ℕ) → ◌≡◌ {A = Option ℕ} (Some a) (Some b) → a ≡ b
-        some_is a b e = cc
+        ap (is_live_at x) (some_is (index_of q (log_of t)) k l.place is l.there) ∙ l.live
 
     pub happens_released : IsRising (log_of t) → IsWellFormed (state_of t) → Some x ≡ slice_get t.subscriptions.items place → (k : ℕ) → index_of q (log_of t) ≡ Some k
         → HappensAt place (Released k) (state_of t) (sub_in (log_of t) x) (redelivered (state_of t) name (q ∷ [])) (redelivering (q ∷ []) (sub_in (log_of t) x))

@@ -1,5 +1,5 @@
 -- Messages redelivered one after another come to the same as all of them at once.
-use Rattle.std.proofs.Common.{◌≡◌, ℕ, ◌+◌, ◌<◌, min, List, [], ◌∷◌, Some, None, Option, Bool, true, false, cond, refl, ap, ap₂, ◌∙◌, sym, subst, true≢false}
+use Rattle.std.proofs.Common.{◌≡◌, ℕ, ◌+◌, ◌<◌, min, List, [], ◌∷◌, Some, None, Option, Bool, true, false, cond, refl, ap, ap₂, ◌∙◌, sym, subst}
 use Rattle.std.specs.Prelude.{◌||◌, ◌&&◌, not, is_some}
 use Rattle.std.specs.Option.{unwrap_or}
 use Rattle.std.specs.FinMap as map_of
@@ -8,7 +8,6 @@ use Rattle.position_core.specs.declared.message.Entry.{Entry}
 use Rattle.position_core.specs.declared.held.Held.{Held}
 use Rattle.position_core.specs.Position.{position_cmp, same_position, positions_total, exact_positions}
 use Rattle.delivery_machine.specs.State.{Member, Subscription}
-use Rattle.delivery_machine.specs.Words.{is_held_by}
 use Rattle.delivery_machine.specs.Acknowledging.{is_one_of}
 use Rattle.delivery_machine.specs.Ticking.{counted_again, pending_positions_in, recounted, redelivering}
 use Rattle.delivery_machine.specs.WellFormed.{has_message}
@@ -164,8 +163,3 @@ ends old x none was = record {
       ∙ was.same log members placed;
   placed = was.placed;
 }
-
--- what is pending at a consumer is pending
-pub pending_there : (consumer : ℕ) (o : Option Held) → is_held_by consumer o ≡ true → is_some o ≡ true
-pending_there consumer None none = absurd (true≢false (sym none))
-pending_there consumer (Some h) some = refl
