@@ -118,10 +118,10 @@ fn enter_new(
     let Ok(own) = name.clone() else {
         return Err(Fault::NoMemory);
     };
-    let Ok(place) = open(served, own, kind, initial) else {
+    let Ok(place) = open(served, name, kind, initial) else {
         return Err(Fault::NoMemory);
     };
-    match enter(served, place, name, terms, dead_topic) {
+    match enter(served, place, own, terms, dead_topic) {
         Ok(()) => Ok(place),
         Err(fault) => {
             // A subscription without its first member would show.
