@@ -14,12 +14,15 @@ mod seeking;
 mod shared;
 mod statistics;
 
+use delivery_machine::Opened;
 use doubles::{ByByte, Narrow};
+use plain_topic::PlainTopic;
 use position_core::LedgerSize;
-use replay_core::{Stop, replay, status};
+use replay_core::{Stop, replay, replay_fresh, status};
 use rows::check_rows;
 use std::io::Read;
 use std::process::Abort;
+use topic_core::TopicCore;
 
 type Ended = Result<(), Stop>;
 
@@ -57,9 +60,25 @@ fn check_read<R: Abort + AllocGlobal, I: Read>(rt: &R, input: &mut I, output: &[
     assert!(rt; outcome == ended);
 }
 
-fn check<R: Abort + AllocGlobal>(rt: &R, input: &[u8], output: &[u8], ended: Ended) {
+/// Replays the input over a topic of the type, and compares what is written and how it ends.
+fn check_over<T: Opened + Drop, R: Abort + AllocGlobal>(
+    rt: &R,
+    input: &[u8],
+    output: &[u8],
+    ended: Ended,
+) {
     let mut reader = input;
-    check_read(rt, &mut reader, output, ended);
+    let mut written = Vec::new(rt.alloc());
+    let outcome =
+        replay_fresh::<T, &[u8], Vec<u8>>(rt.alloc(), &mut reader, &mut written, size_of(50_000));
+    assert!(rt; written.as_slice() == output, "{:?}", written.as_slice());
+    assert!(rt; outcome == ended);
+}
+
+/// Both topics answer the input so.
+fn check<R: Abort + AllocGlobal>(rt: &R, input: &[u8], output: &[u8], ended: Ended) {
+    check_over::<PlainTopic, R>(rt, input, output, ended);
+    check_over::<TopicCore, R>(rt, input, output, ended);
 }
 
 #[test]

@@ -57,7 +57,8 @@ impl Lines {
             18..=37 => self.send(),
             38..=49 => self.join_or_leave(),
             50..=67 => self.answer(),
-            68..=80 => self.turn_clock(),
+            68..=77 => self.turn_clock(),
+            78..=80 => self.wear_out(),
             81..=91 => self.go_elsewhere(),
             _ => self.connect_or_restart(),
         }
@@ -183,7 +184,7 @@ impl Lines {
         let level = self.dice.roll(3);
         let flow = self.flow();
         let timeout = self.dice.roll(4).saturating_mul(200);
-        let delay = self.dice.roll(3).saturating_mul(300);
+        let delay = self.dice.roll(2).saturating_mul(300);
         let max = self.dice.roll(3);
         let initial = match self.dice.roll(4) {
             0 => "Latest",
@@ -243,6 +244,31 @@ impl Lines {
             0 => self.move_letter(subscription),
             _ => Ok(()),
         }
+    }
+
+    /// One message is sent and given back until it dies, where it comes first.
+    fn wear_out(&mut self) -> Result<(), Fail> {
+        let subscription = self.subscription();
+        let id = self.id()?;
+        self.now = self.now.saturating_add(1_000);
+        let now = self.now;
+        let tick = format!(in self.alloc; "tick {subscription} {now}")?;
+        let dispatch = format!(in self.alloc; "dispatch {subscription} {now}")?;
+        for _ in 0..3 {
+            self.add(dispatch.as_str())?;
+            self.give_back(id.as_str())?;
+            self.repeat(tick.as_str(), 2)?;
+        }
+        self.move_letter(subscription)
+    }
+
+    /// Those who joined last give the message back: mostly one of them has it.
+    fn give_back(&mut self, id: &str) -> Result<(), Fail> {
+        for back in 0..4 {
+            let consumer = self.joined.saturating_sub(back);
+            self.answer_as(5, consumer, id)?;
+        }
+        Ok(())
     }
 
     fn move_letter(&mut self, subscription: &str) -> Result<(), Fail> {
