@@ -1,6 +1,7 @@
 // The plain topic and the fast one, over random lists of events.
 mod dice;
 mod lists;
+mod memory;
 mod seen;
 
 use lists::Lines;
