@@ -5,7 +5,7 @@ use crate::arguments::Asked;
 use broker_dir::{Directory, Open, Terms};
 use kept_rows::{Note, Notes};
 use marks::{Naming, Unnamed};
-use plain_topic::PlainTopic;
+use topic_core::TopicCore;
 use position_core::LedgerSize;
 use row_store::Keeper;
 use sqlite::{Alter, Connection};
@@ -82,7 +82,7 @@ fn serve_named<
         return Fate::CannotServe;
     };
     let directory = Directory::open(alloc, keeper, terms);
-    let place: Place<PlainTopic, S, J, Open> = Place::new(directory, Open);
+    let place: Place<TopicCore, S, J, Open> = Place::new(directory, Open);
     let Ok(place) = Arc::new(alloc, place) else {
         return Fate::CannotServe;
     };

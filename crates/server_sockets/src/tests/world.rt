@@ -4,7 +4,7 @@ ghost use Rattle.std.specs.Prelude.{◌≡◌};
 use broker_dir::{Directory, Gate, Terms};
 use kept_rows::{Note, Notes};
 use marks::{Naming, Unnamed};
-use plain_topic::PlainTopic;
+use topic_core::TopicCore;
 use position_core::LedgerSize;
 use row_store::Keeper;
 use sqlite::{Connection, MemStore};
@@ -59,7 +59,7 @@ fn run<
         lines: LineLimit::new(1_000).expect(rt, "no limit"),
         seats: SeatCount::new(2).expect(rt, "no seats"),
     };
-    let place: Place<PlainTopic, MemStore, J, G> = Place::new(
+    let place: Place<TopicCore, MemStore, J, G> = Place::new(
         Directory::open(alloc, keeper, terms),
         gate,
     );

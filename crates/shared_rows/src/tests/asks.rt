@@ -1,6 +1,6 @@
 // What the tests ask of a topic, and the events that say it.
 use delivery_machine::{Event, Flow, Initial, Kind};
-use plain_topic::PlainTopic;
+use topic_core::TopicCore;
 use position_core::{
     Base, Body, Content, LedgerSize, Level, Millis, Moment, Name, Payload, ProducerName,
     Properties, RedeliverLimit, SubscriptionName, TopicName, WindowSize,
