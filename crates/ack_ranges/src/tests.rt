@@ -53,6 +53,8 @@ fn a_run_from_the_start_takes_ranges_in(rt: HostRuntime) {
     set.add_below(6);
     assert!(rt; has_ranges(&set, &[(0, 7), (9, 10)]));
     assert_eq!(rt; set.len(), 8);
+    assert_eq!(rt; set.count_below(3), 3);
+    assert_eq!(rt; set.count_below(9), 7);
     assert_eq!(rt; set.first_missing(), 7);
     assert!(rt; has_ranges(&copy, &[(2, 3), (4, 5), (6, 7), (9, 10)]));
     set.reset(3);
