@@ -148,12 +148,14 @@ impl Scene {
     fn publish(&mut self) -> io::Result<Reply> {
         let index = self.published;
         self.published = index.saturating_add(1);
-        Ok(self.topic.apply(&Event::Publish {
-            producer: 1,
-            sequence: index as i64,
-            body: self.body.clone()?,
-            now: moment(index.saturating_add(1_000))?,
-        }))
+        Ok(
+            self.topic.apply(&Event::Publish {
+                producer: 1,
+                sequence: index as i64,
+                body: self.body.clone()?,
+                now: moment(index.saturating_add(1_000))?,
+            }),
+        )
     }
 
     fn publish_all(&mut self) -> io::Result<()> {
@@ -191,10 +193,12 @@ impl Scene {
 
     fn dispatch(&mut self, now: u64) -> io::Result<Reply> {
         let subscription = self.asked()?;
-        Ok(self.topic.apply(&Event::Dispatch {
-            subscription,
-            now: moment(now)?,
-        }))
+        Ok(
+            self.topic.apply(&Event::Dispatch {
+                subscription,
+                now: moment(now)?,
+            }),
+        )
     }
 
     fn collect(&mut self) -> Reply {

@@ -24,15 +24,29 @@ const EVENTS: u64 = 80;
 const IN_A_LEDGER: u32 = 3;
 
 /// What both answer to the lines of one list.
-fn replies<R: Abort + AllocGlobal>(rt: &R, size: LedgerSize, lines: &[u8]) -> Result<Vec<u8>, Fail> {
+fn replies<R: Abort + AllocGlobal>(
+    rt: &R,
+    size: LedgerSize,
+    lines: &[u8],
+) -> Result<Vec<u8>, Fail> {
     let alloc = rt.alloc();
     let mut plain = Vec::new(alloc);
     let mut fast = Vec::new(alloc);
-    let plainly = replay_fresh::<PlainTopic, &[u8], Vec<u8>>(alloc, &mut &lines[..], &mut plain, size);
+    let plainly = replay_fresh::<PlainTopic, &[u8], Vec<u8>>(
+        alloc,
+        &mut &lines[..],
+        &mut plain,
+        size,
+    );
     let fastly = replay_fresh::<TopicCore, &[u8], Vec<u8>>(alloc, &mut &lines[..], &mut fast, size);
     assert!(rt; plainly == Ok(()), "{:?}", lines);
     assert!(rt; fastly == Ok(()), "{:?}", lines);
-    assert!(rt; fast.as_slice() == plain.as_slice(), "{:?} {:?}", lines, fast.as_slice());
+    assert!(rt;
+        fast.as_slice() == plain.as_slice(),
+        "{:?} {:?}",
+        lines,
+        fast.as_slice()
+    );
     Ok(fast)
 }
 

@@ -5,7 +5,6 @@ use crate::arguments::Asked;
 use broker_dir::{Directory, Open, Terms};
 use kept_rows::{Note, Notes};
 use marks::{Naming, Unnamed};
-use topic_core::TopicCore;
 use position_core::LedgerSize;
 use row_store::Keeper;
 use sqlite::{Alter, Connection};
@@ -16,6 +15,7 @@ use std::net::{Net, TcpListener, TcpStream};
 use std::rt::Clock;
 use std::sync::{Arc, Wait};
 use std::thread::Threads;
+use topic_core::TopicCore;
 use topic_shared::{LineLimit, SeatCount};
 use worker_pool::{Ended, Limits, Place, serve};
 

@@ -69,8 +69,12 @@ fn check_over<T: Opened + Drop, R: Abort + AllocGlobal>(
 ) {
     let mut reader = input;
     let mut written = Vec::new(rt.alloc());
-    let outcome =
-        replay_fresh::<T, &[u8], Vec<u8>>(rt.alloc(), &mut reader, &mut written, size_of(50_000));
+    let outcome = replay_fresh::<T, &[u8], Vec<u8>>(
+        rt.alloc(),
+        &mut reader,
+        &mut written,
+        size_of(50_000),
+    );
     assert!(rt; written.as_slice() == output, "{:?}", written.as_slice());
     assert!(rt; outcome == ended);
 }

@@ -1,10 +1,10 @@
 //! Replays a topic, kept as the fast topic: `topic_replay [ledger_size]` reads one event a line and prints one reply a line.
 #![tactic(auto)]
 
-use topic_core::TopicCore;
 use replay_core::{asked_ledger_size, replay_asked};
 use std::io::{Stdin, Stdout};
 use std::process::ExitCode;
+use topic_core::TopicCore;
 
 fn main(rt: HostRuntime) -> ExitCode {
     let size = asked_ledger_size(&rt);

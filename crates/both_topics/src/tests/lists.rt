@@ -191,7 +191,9 @@ impl Lines {
             _ => "Earliest",
         };
         self.joined = self.joined.saturating_add(1);
-        let line = format!(in self.alloc; "subscribe {subscription} {kind} {level} {flow} {timeout} {delay} {max} - {initial}")?;
+        let line = format!(in self.alloc;
+            "subscribe {subscription} {kind} {level} {flow} {timeout} {delay} {max} - {initial}"
+        )?;
         self.add(line.as_str())?;
         if flow == "pull" {
             let consumer = self.joined;

@@ -5,7 +5,6 @@ use broker_dir::{Attached, Directory, Errands, Open, Terms};
 use delivery_machine::{Event, Reply};
 use kept_rows::{Note, Notes};
 use marks::{Naming, Unnamed};
-use topic_core::TopicCore;
 use position_core::{LedgerSize, TopicName};
 use replay_lines::{Line, read_line};
 use row_store::Keeper;
@@ -16,6 +15,7 @@ use std::marker::Brand;
 use std::process::Abort;
 use std::rt::Clock;
 use std::sync::{Arc, Wait};
+use topic_core::TopicCore;
 use topic_shared::{LineLimit, SeatCount};
 
 /// A bell that nobody hears.

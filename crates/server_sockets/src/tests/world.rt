@@ -4,7 +4,6 @@ ghost use Rattle.std.specs.Prelude.{◌≡◌};
 use broker_dir::{Directory, Gate, Terms};
 use kept_rows::{Note, Notes};
 use marks::{Naming, Unnamed};
-use topic_core::TopicCore;
 use position_core::LedgerSize;
 use row_store::Keeper;
 use sqlite::{Connection, MemStore};
@@ -16,6 +15,7 @@ use std::rt::Clock;
 use std::sync::{Arc, Wait};
 use std::thread;
 use std::thread::Threads;
+use topic_core::TopicCore;
 use topic_shared::{LineLimit, SeatCount};
 use worker_pool::{Ended, Limits, Place, serve};
 

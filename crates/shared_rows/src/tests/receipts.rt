@@ -4,7 +4,6 @@ ghost use Rattle.delivery_machine.specs.State.{fresh};
 
 use super::asks::{Ask, event_of, name, size};
 use delivery_machine::{Deliveries, Event, Reply};
-use topic_core::TopicCore;
 use std::alloc::AllocError;
 use std::marker::Brand;
 use std::process::Abort;
@@ -13,6 +12,7 @@ use std::sync::ledger::Blank;
 use std::test::Fail;
 use std::thread;
 use std::thread::Threads;
+use topic_core::TopicCore;
 use topic_shared::{Journal, LineLimit, Opening, Receipt, Seat, SeatCount, SharedTopic};
 
 const THREADS: u32 = 8;

@@ -1,13 +1,13 @@
 // Threads at one cell, of which some begin the journal anew between the others' calls.
 use super::asks::{Ask, event_of, name, size};
 use delivery_machine::Reply;
-use topic_core::TopicCore;
 use std::alloc::AllocError;
 use std::process::Abort;
 use std::sync::{Mutex, Wait};
 use std::test::Fail;
 use std::thread;
 use std::thread::Threads;
+use topic_core::TopicCore;
 use topic_shared::{Cell, LineLimit, SeatCount};
 
 static NAMES: [&str; 4] = ["a", "b", "c", "d"];

@@ -1,9 +1,9 @@
 // A journal of eight lines, which is full after five: one is the topic's own, and two are kept for ends.
 use super::asks::{Ask, event_of, name, size};
 use delivery_machine::{Reply, Saved};
-use topic_core::TopicCore;
 use position_core::Fault;
 use std::process::Abort;
+use topic_core::TopicCore;
 use topic_shared::{Cell, LineLimit, SeatCount};
 
 #[derive(Clone, Copy, PartialEq, Eq)]
