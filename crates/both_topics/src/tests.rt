@@ -55,8 +55,8 @@ fn replies<R: Abort + AllocGlobal>(
 fn random_lists(rt: HostRuntime) -> Result<(), Fail> {
     let size = LedgerSize::new(IN_A_LEDGER).unwrap();
     let mut seen = Seen::new();
-    for seed in 0..LISTS {
-        let lines = Lines::random(rt.alloc(), seed, EVENTS)?;
+    for number in 0..LISTS {
+        let lines = Lines::random(rt.alloc(), number, EVENTS)?;
         let replies = replies(&rt, size, lines.as_bytes())?;
         seen.note_all(&rt, replies.as_slice());
     }

@@ -7,9 +7,9 @@ pub(super) struct Dice {
 }
 
 impl Dice {
-    pub(super) fn new(seed: u64) -> Self {
+    pub(super) fn new(number: u64) -> Self {
         Dice {
-            state: seed
+            state: number
                 .wrapping_mul(2_654_435_761)
                 .wrapping_add(88_172_645_463_325_252),
         }

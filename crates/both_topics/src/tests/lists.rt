@@ -16,11 +16,11 @@ pub(super) struct Lines {
 }
 
 impl Lines {
-    /// So many lines for the seed.
-    pub(super) fn random(alloc: Global, seed: u64, events: u64) -> Result<String, Fail> {
+    /// So many lines, those of the number.
+    pub(super) fn random(alloc: Global, number: u64, events: u64) -> Result<String, Fail> {
         let mut lines = Lines {
             alloc,
-            dice: Dice::new(seed),
+            dice: Dice::new(number),
             text: String::new(alloc),
             published: 0,
             joined: 0,

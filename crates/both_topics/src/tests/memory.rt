@@ -63,9 +63,9 @@ impl Pair {
 #[test]
 fn a_refusal_changes_nothing(rt: HostRuntime) -> Result<(), Fail> {
     let size = LedgerSize::new(3).unwrap();
-    for seed in 0..LISTS {
+    for number in 0..LISTS {
         let mut pair = Pair::new(rt.alloc(), size)?;
-        let lines = Lines::random(rt.alloc(), seed, EVENTS)?;
+        let lines = Lines::random(rt.alloc(), number, EVENTS)?;
         for line in lines.as_bytes().lines(rt.alloc()) {
             pair.answer(&rt, line?.as_bytes());
         }
