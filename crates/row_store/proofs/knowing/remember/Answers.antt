@@ -24,6 +24,15 @@ loop-write-preserved g c =
           (subst (All (λ (kept : KeptTopic). Stands kept db)) (sym pushed) (All-push (λ (kept : KeptTopic). Stands kept db) c.loop-write.known.items write.snapshot before.0 popped.1), popped.0);
     }
 
+pub new-requires-clause-topic : goal.new-requires-clause-topic
+new-requires-clause-topic g c =
+    let write = c.in-Some.write in
+    let items : c.loop-write.writes.items ≡ c.pop.new.self.items ++ write ∷ [] = search rules in
+    (All-pop IsNamed c.loop-write.writes.items c.pop.new.self.items (Some write) items c.loop-write.invariant.named).1
+
+pub returns-in_default-pop : goal.returns-in_default-pop
+returns-in_default-pop g c = λ db olds news. (c.loop-write.invariant.stands db olds news).0
+
 pub returns-in_default-push : goal.returns-in_default-push
 returns-in_default-push g c = λ db olds news.
     let same : c.push.new.self.items ≡ c.loop-write.known.items = search rules in
