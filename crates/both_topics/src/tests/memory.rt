@@ -39,7 +39,9 @@ struct Pair {
 
 impl Pair {
     fn new(alloc: Global, size: LedgerSize) -> Result<Self, Fail> {
-        let name = TopicName::from_text(alloc, "persistent://public/default/t")?.unwrap();
+        let Some(name) = TopicName::from_text(alloc, "persistent://public/default/t")? else {
+            return Err(Fail::new("no topic's name"));
+        };
         Ok(Pair {
             alloc,
             plain: PlainTopic::new(alloc, name.clone()?, size),

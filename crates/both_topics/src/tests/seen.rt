@@ -4,7 +4,7 @@ use std::process::Abort;
 
 const KINDS: usize = 19;
 
-/// The words with which replies begin.
+/// The words with which replies begin, none of them the beginning of another.
 const WORDS: [&str; KINDS] = [
     "producer",
     "published",
@@ -41,12 +41,8 @@ impl Seen {
     }
 
     fn note(&mut self, reply: &str) {
-        let word = match reply.split_once(" ") {
-            Some((word, _)) => word,
-            None => reply,
-        };
         for place in 0..KINDS {
-            if WORDS[place] == word {
+            if reply.starts_with(WORDS[place]) {
                 self.words[place] = true;
             }
         }
