@@ -1,15 +1,11 @@
 -- What a table of the report times.
 use Rattle.std.specs.Prelude.{ℕ, max}
-use Rattle.bench.specs.declared.table.TheConstants.{CALLS_A_KEY, CALLS_A_PAYLOAD, CALLS_A_TOPIC}
+use Rattle.bench.specs.declared.table.TheConstants.{CALLS_A_KEY, CALLS_A_PAYLOAD}
 use Rattle.bench.specs.declared.table.Table.{Table}
-use Rattle.bench.specs.declared.table.Table.TheVariants.{Slots, Keys, Payloads, Messages, Pending, Members, Subscriptions}
+use Rattle.bench.specs.declared.table.Table.TheVariants.{Slots, Keys, Payloads}
 
--- how many calls a case makes at a size: one for each slot, and a fixed number of each key, payload or topic
+-- how many calls a case makes at a size: one for each slot, and a fixed number of each key or payload
 abbrev pub calls_of : Table → ℕ → ℕ
 calls_of Slots size = max size 1
 calls_of Keys size = CALLS_A_KEY
 calls_of Payloads size = CALLS_A_PAYLOAD
-calls_of Messages size = CALLS_A_TOPIC
-calls_of Pending size = CALLS_A_TOPIC
-calls_of Members size = CALLS_A_TOPIC
-calls_of Subscriptions size = CALLS_A_TOPIC

@@ -18,11 +18,11 @@ use topic_shared::{Cell, LineLimit, SeatCount};
 /// After so many calls the journal begins anew.
 const LINES: u64 = 64;
 
-pub(crate) fn wrong() -> io::Error {
+fn wrong() -> io::Error {
     io::ErrorKind::InvalidInput.into()
 }
 
-pub(crate) fn topic_name(alloc: Global) -> io::Result<TopicName> {
+fn topic(alloc: Global) -> io::Result<TopicName> {
     let name = TopicName::from_text(alloc, "persistent://public/default/t")?;
     name.ok_or(wrong())
 }
@@ -41,7 +41,7 @@ trait Callee: Sized + Drop {
 impl Callee for PlainTopic {
     fn fresh(alloc: Global) -> io::Result<Self> {
         let size = LedgerSize::new(50_000).ok_or(wrong())?;
-        Ok(PlainTopic::new(alloc, topic_name(alloc)?, size))
+        Ok(PlainTopic::new(alloc, topic(alloc)?, size))
     }
 
     fn ask(&mut self, event: Event) -> io::Result<Reply> {
@@ -56,7 +56,7 @@ impl Callee for Cell<PlainTopic> {
         let size = LedgerSize::new(50_000).ok_or(wrong())?;
         let limit = LineLimit::new(1_000).ok_or(wrong())?;
         let seats = SeatCount::new(1).ok_or(wrong())?;
-        let base = PlainTopic::new(alloc, topic_name(alloc)?, size);
+        let base = PlainTopic::new(alloc, topic(alloc)?, size);
         match Cell::new(alloc, base, limit, seats) {
             Ok(cell) => Ok(cell),
             Err(_) => Err(io::ErrorKind::OutOfMemory.into()),
@@ -128,7 +128,7 @@ impl<C: Callee> Scene<C> {
             ack_timeout: Millis::new(0).ok_or(wrong())?,
             nack_delay: Millis::new(0).ok_or(wrong())?,
             max_redeliver: RedeliverLimit::new(0).ok_or(wrong())?,
-            dead_topic: topic_name(alloc)?,
+            dead_topic: topic(alloc)?,
             initial: Initial::Earliest,
         })
     }

@@ -15,7 +15,6 @@ mod report;
 mod table;
 mod texts;
 mod timing;
-mod topics;
 mod turns;
 
 use mode::Mode;
@@ -32,35 +31,34 @@ fn asked(rt: &HostRuntime) -> Option<Mode> {
     Mode::of(words.as_slice())
 }
 
-/// The report's part for a table, under its head.
-fn part(rt: &HostRuntime, mode: Mode, table: Table) -> io::Result<Report<'_>> {
-    let report = Report { rt, mode, table };
-    report.head()?;
-    Ok(report)
-}
-
-/// The cases of the fast topic.
-fn topic_cases(rt: &HostRuntime, mode: Mode) -> io::Result<()> {
-    topics::by_messages(&part(rt, mode, Table::Messages)?)?;
-    topics::by_pending(&part(rt, mode, Table::Pending)?)?;
-    topics::by_members(&part(rt, mode, Table::Members)?)?;
-    topics::by_subscriptions(&part(rt, mode, Table::Subscriptions)?)
-}
-
 /// The cases of each crate.
 fn cases(rt: &HostRuntime, mode: Mode) -> io::Result<()> {
-    let slots = part(rt, mode, Table::Slots)?;
+    let slots = Report {
+        rt,
+        mode,
+        table: Table::Slots,
+    };
+    slots.head()?;
     pending::cases(&slots)?;
     dead::cases(&slots)?;
     dedup::cases(&slots)?;
     entries::cases(&slots)?;
-    let keys = part(rt, mode, Table::Keys)?;
+    let keys = Report {
+        rt,
+        mode,
+        table: Table::Keys,
+    };
+    keys.head()?;
     murmur::cases(&keys)?;
-    let payloads = part(rt, mode, Table::Payloads)?;
+    let payloads = Report {
+        rt,
+        mode,
+        table: Table::Payloads,
+    };
+    payloads.head()?;
     texts::cases(&payloads)?;
     turns::cases(&payloads)?;
-    calls::cases(&payloads)?;
-    topic_cases(rt, mode)
+    calls::cases(&payloads)
 }
 
 /// Runs the cases, and answers the status to end with.

@@ -57,9 +57,7 @@ impl Report<'_> {
     {
         print!(self.rt; "{name:<32}")?;
         for size in self.table.sizes() {
-            let calls = self.table.calls(*size);
-            let rounds = self.table.rounds(*size);
-            let tenths = tenths(self.rt, *size, calls, rounds, case)?;
+            let tenths = tenths(self.rt, *size, self.table.calls(*size), case)?;
             let nanos = tenths / 10;
             let tenth = tenths % 10;
             print!(self.rt; "{nanos:>8}.{tenth}")?;

@@ -1,5 +1,4 @@
 // The tables of the report.
-use crate::timing::rounds;
 
 /// A table: a row a case, and a column a size.
 #[derive(Clone, Copy)]
@@ -10,14 +9,6 @@ pub(crate) enum Table {
     Keys,
     /// By how many bytes a payload has: a case makes `CALLS_A_PAYLOAD` calls.
     Payloads,
-    /// By how many messages a topic has: a case of a topic makes `CALLS_A_TOPIC` calls.
-    Messages,
-    /// By how many of them are pending at one consumer.
-    Pending,
-    /// By how many members a subscription has.
-    Members,
-    /// By how many subscriptions a topic has.
-    Subscriptions,
 }
 
 /// How many calls a case of keys makes.
@@ -25,9 +16,6 @@ pub(crate) const CALLS_A_KEY: u64 = 1_000_000;
 
 /// How many calls a case of payloads makes.
 pub(crate) const CALLS_A_PAYLOAD: u64 = 6_400;
-
-/// How many calls a case of a topic makes.
-pub(crate) const CALLS_A_TOPIC: u64 = 10_000;
 
 impl Table {
     ghost use Rattle.std.specs.Prelude.{◌≡◌, ◌<◌};
@@ -38,10 +26,6 @@ impl Table {
         match self {
             Table::Slots => "slots",
             Table::Keys | Table::Payloads => "bytes",
-            Table::Messages => "messages",
-            Table::Pending => "pending",
-            Table::Members => "members",
-            Table::Subscriptions => "subscriptions",
         }
     }
 
@@ -51,8 +35,6 @@ impl Table {
             Table::Slots => 1_000,
             Table::Keys => 8,
             Table::Payloads => 100,
-            Table::Messages | Table::Pending => 1_000,
-            Table::Members | Table::Subscriptions => 1,
         }
     }
 
@@ -62,9 +44,6 @@ impl Table {
             Table::Slots => &[1_000, 10_000, 100_000, 1_000_000],
             Table::Keys => &[8, 32, 1_024],
             Table::Payloads => &[100, 1_024],
-            Table::Messages => &[1_000, 10_000, 100_000, 1_000_000],
-            Table::Pending => &[1_000, 10_000, 100_000],
-            Table::Members | Table::Subscriptions => &[1, 64],
         }
     }
 
@@ -77,19 +56,6 @@ impl Table {
             Table::Slots => size.max(1),
             Table::Keys => CALLS_A_KEY,
             Table::Payloads => CALLS_A_PAYLOAD,
-            Table::Messages | Table::Pending | Table::Members | Table::Subscriptions => {
-                CALLS_A_TOPIC
-            }
-        }
-    }
-
-    /// How often a case is run when it is timed: a large topic takes long to make.
-    pub(crate) fn rounds(self, size: u64) -> u64
-        ensures { 0 < result }
-    {
-        match self {
-            Table::Messages | Table::Pending | Table::Members | Table::Subscriptions => 3,
-            Table::Slots | Table::Keys | Table::Payloads => rounds(self.calls(size)),
         }
     }
 }

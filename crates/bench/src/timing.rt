@@ -17,8 +17,8 @@ pub(crate) type Case = fn(&HostRuntime, u64) -> io::Result<Run>;
 /// How many calls are timed at least.
 const CALLS: u64 = 1_000_000;
 
-/// How often a case of so many calls is run, so that enough are timed.
-pub(crate) fn rounds(calls: u64) -> u64
+/// How often a case of so many calls is run.
+fn rounds(calls: u64) -> u64
     requires { 0 < calls }
     ensures some { 0 < result }
     ensures enough { CALLS < (result + 1) * calls }
@@ -27,17 +27,11 @@ pub(crate) fn rounds(calls: u64) -> u64
 }
 
 /// Tenths of a nanosecond that each of the calls of a case takes.
-pub(crate) fn tenths(
-    rt: &HostRuntime,
-    size: u64,
-    calls: u64,
-    rounds: u64,
-    case: Case,
-) -> io::Result<u128>
+pub(crate) fn tenths(rt: &HostRuntime, size: u64, calls: u64, case: Case) -> io::Result<u128>
     requires callable { IsAlwaysCallable case }
     requires some { 0 < calls }
-    requires often { 0 < rounds }
 {
+    let rounds = rounds(calls);
     let mut time = Duration::ZERO;
     for _ in 0..rounds {
         time = time.saturating_add(case(rt, size)?.time);
