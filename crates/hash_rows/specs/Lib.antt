@@ -1,0 +1,3 @@
+-- What the contracts of a hash's row cite.
+pub mod Ranks
+pub mod Rows
