@@ -1,10 +1,22 @@
 // Where a share stands.
 ghost use Rattle.std.specs.Prelude.{◌≡◌, ◌==◌};
-ghost use Rattle.std.specs.List.{position};
-ghost use Rattle.delivery_machine.specs.Shares.{owner_of, most_hashes, is_share_of};
+ghost use Rattle.std.specs.List.{find, position};
+ghost use Rattle.delivery_machine.specs.Shares.{has_hash, owner_of, most_hashes, is_share_of};
 
 use crate::block::has_hash;
 use position_core::{Block, ConsumerNumber};
+
+pub(crate) fn share_at(shares: &[Block], hash: u16) -> Option<Block>
+    ensures { result ≡ find (has_hash hash) shares.now }
+{
+    let hash = u32::from(hash);
+    for index in 0..shares.len() {
+        if has_hash(shares[index], hash) {
+            return Some(shares[index]);
+        }
+    }
+    None
+}
 
 pub(crate) fn owner_of(shares: &[Block], hash: u16) -> Option<u64>
     ensures { result ≡ owner_of shares.now hash }

@@ -1,6 +1,7 @@
 // Who gets which hashes, as consumers come and go.
 ghost use Rattle.std.specs.Prelude.{◌≡◌, [], OnOk, OnErr, IfNone};
-ghost use Rattle.delivery_machine.specs.Shares.{owner_of, shared_out, given_back};
+ghost use Rattle.std.specs.List.{find};
+ghost use Rattle.delivery_machine.specs.Shares.{has_hash, owner_of, shared_out, given_back};
 ghost use Rattle.delivery_machine.specs.Shares.{SplitAllHashes};
 
 use crate::{places, row};
@@ -64,5 +65,14 @@ impl SplitTable {
         ensures split { SplitAllHashes self.now }
     {
         places::owner_of(&self.shares, hash)
+    }
+
+    /// The share that the hash is in.
+    pub fn share_at(&self, hash: u16) -> Option<Block>
+        ensures value { result ≡ find (has_hash hash) self.now }
+        ensures whole { IfNone result (self.now ≡ []) }
+        ensures split { SplitAllHashes self.now }
+    {
+        places::share_at(&self.shares, hash)
     }
 }
