@@ -1,11 +1,12 @@
-// Which hash may be served, and the first message that waits for that.
+// Which hash may be served, and the first message that waits for that, by going over the log.
 ghost use Rattle.std.specs.Prelude.{◌≡◌, IfSome, IfNone};
 ghost use Rattle.std.specs.List.{find};
 ghost use Rattle.std.specs.Option.{option_map};
 ghost use Rattle.position_core.specs.declared.kind.Kind.TheVariants.{KeyShared};
 ghost use Rattle.delivery_machine.specs.Words.{is_draining, is_member, members_of, NoneEligible};
 ghost use Rattle.dispatch_core.specs.Offers.{seen_of, IsGoodOffer};
-ghost use Rattle.dispatch_keyed.specs.Hashes.{hash_at, drains_at, IsFreeFor, NoneFree};
+ghost use Rattle.hash_rows.specs.Hashes.{hash_at};
+ghost use Rattle.dispatch_keyed.specs.Hashes.{drains_at, IsRoomyOwner, HasNoRoomyOwner, IsFreeFor, NoneFree, NoneFreeBefore};
 
 use dispatch_core::{Offer, Seen, View};
 use hash_ranges::SplitTable;
@@ -13,7 +14,7 @@ use murmur_core::sticky_hash;
 use position_core::{ConsumerNumber, LogIndex};
 
 /// The hash of the key of the message at the index.
-fn hash_at<V: View>(view: &V, index: LogIndex) -> u16
+pub(crate) fn hash_at<V: View>(view: &V, index: LogIndex) -> u16
     ensures { result ≡ hash_at (V.state view.now) index }
 {
     sticky_hash(view.key(index))
@@ -24,6 +25,17 @@ fn member_of<V: View>(view: &V, consumer: ConsumerNumber) -> Option<Seen>
     ensures { result ≡ option_map (seen_of (V.state view.now) (V.subscription view.now)) (find (is_member consumer) (members_of (V.state view.now) (V.subscription view.now).name)) }
 {
     view.members().find(|seen| seen.consumer == consumer)
+}
+
+/// The owner of the hash, if it has room.
+pub(crate) fn roomy_owner<V: View>(view: &V, shares: &SplitTable, hash: u16) -> Option<u64>
+    requires { shares.now ≡ (V.subscription view.now).shares }
+    ensures some { IfSome result (IsRoomyOwner (V.state view.now) (V.subscription view.now) hash) }
+    ensures none { IfNone result (HasNoRoomyOwner (V.state view.now) (V.subscription view.now) hash) }
+{
+    let owner = shares.owner(hash)?;
+    let seen = member_of(view, owner)?;
+    if seen.room { Some(owner) } else { None }
 }
 
 /// Whether the message at the index has the hash, and is pending at another consumer.
@@ -54,25 +66,29 @@ fn free_owner<V: View>(view: &V, shares: &SplitTable, hash: u16) -> Option<u64>
     ensures some { IfSome result (IsFreeFor (V.state view.now) (V.subscription view.now) hash) }
     ensures none { IfNone result (NoneFree (V.state view.now) (V.subscription view.now) hash) }
 {
-    let owner = shares.owner(hash)?;
-    let seen = member_of(view, owner)?;
-    if seen.room && !is_draining(view, hash, owner) {
-        Some(owner)
-    } else {
+    let owner = roomy_owner(view, shares, hash)?;
+    if is_draining(view, hash, owner) {
         None
+    } else {
+        Some(owner)
     }
 }
 
-/// The first waiting message that the owner of its hash may be sent. It is the first of its hash,
-/// since an earlier one would have been offered.
-pub(crate) fn first_free<V: View>(view: &V, shares: &SplitTable) -> Option<Offer>
+/// The first waiting message from `from` on that the owner of its hash may be sent. It is the first
+/// of its hash, since an earlier one would have been offered.
+pub(crate) fn first_free_from<V: View>(
+    view: &V,
+    shares: &SplitTable,
+    from: LogIndex,
+) -> Option<Offer>
     requires kind { (V.subscription view.now).kind ≡ KeyShared }
     requires agree { shares.now ≡ (V.subscription view.now).shares }
+    requires before { NoneFreeBefore (V.state view.now) (V.subscription view.now) from }
     ensures some { IfSome result (IsGoodOffer (V.state view.now) (V.subscription view.now)) }
     ensures none { IfNone result (NoneEligible (V.state view.now) (V.subscription view.now)) }
 {
     let visible = view.visible();
-    let mut from = 0;
+    let mut from = from;
     while from < visible {
         let index = view.next_waiting(from)?;
         if let Some(consumer) = free_owner(view, shares, hash_at(view, index)) {

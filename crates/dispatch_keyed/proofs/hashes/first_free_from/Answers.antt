@@ -1,7 +1,7 @@
 use Rattle.std.proofs.Common.{subst, arith}
 use Rattle.dispatch_keyed.specs.Hashes.{IsFreeFor}
 use Rattle.dispatch_keyed.proofs.Serving.{none_ready_past, good_offer, none_eligible}
-use Rattle.dispatch_keyed.proofs.hashes.first_free.Goals as goal
+use Rattle.dispatch_keyed.proofs.hashes.first_free_from.Goals as goal
 
 pub returns-in_err-index-clause-none : goal.returns-in_err-index-clause-none
 returns-in_err-index-clause-none g c =

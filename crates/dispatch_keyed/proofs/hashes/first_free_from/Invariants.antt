@@ -1,6 +1,6 @@
 use Rattle.std.proofs.Common.{◌-◌}
-use Rattle.dispatch_keyed.proofs.Serving.{NoneFreeBefore}
-use Rattle.dispatch_keyed.proofs.hashes.first_free.Given as goal
+use Rattle.dispatch_keyed.specs.Hashes.{NoneFreeBefore}
+use Rattle.dispatch_keyed.proofs.hashes.first_free_from.Given as goal
 
 abbrev pub invariant-loop-from : goal.invariant-loop-from
 invariant-loop-from g l = NoneFreeBefore (g.V.View.state l.view) (g.V.View.subscription l.view) l.from

@@ -1,0 +1,9 @@
+use Rattle.std.proofs.Common.{refl, ap, sym, ◌∙◌}
+use Rattle.hash_firsts.specs.Firsts.{Firsts}
+use Rattle.dispatch_keyed.proofs.Agreed.{agrees_empty}
+use Rattle.dispatch_keyed.proofs.dispatching.KeyedDispatcher.on_reset.Goals as goal
+
+pub returns-clause-ok : goal.returns-clause-ok
+returns-clause-ok g c s sub change agreed =
+    agrees_empty _ (g.V.View.state c.args._view.now) (g.V.View.subscription c.args._view.now) (change.log.kind ∙ agreed.kind) (agreed.shares ∙ sym change.shares) refl (λ i _. change.idle i)
+    c.clear.ensures.empty (ap (λ (f : Firsts). f.numbers) c.clear-2.ensures)
