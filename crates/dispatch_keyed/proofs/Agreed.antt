@@ -20,14 +20,14 @@ use Rattle.delivery_machine.specs.Words.{visible}
 use Rattle.delivery_machine.specs.Shares.{owner_of, shares_with, shared_out}
 use Rattle.dispatch_core.specs.Log.{waits_at, holder_at, key_at}
 use Rattle.dispatch_core.specs.Offers.{IsGoodOffer}
-use Rattle.dispatch_core.specs.Changes.{OnlyLineChanges, Appended, TakenBack}
+use Rattle.dispatch_core.specs.Changes.{OnlyLineChanges, Kept, Appended, TakenBack}
 use Rattle.hash_firsts.specs.Firsts.{NoneIn}
 use Rattle.hash_rows.specs.declared.row.Row.{Row}
 use Rattle.hash_rows.specs.Hashes.{hash_at}
 use Rattle.hash_rows.specs.Standing.{is_placed, waits_there, holds_there, keeper_of, AllPlacedBefore, SameKnowledge, Stands, Added}
 use Rattle.hash_rows.specs.Knowing.{Knows, IsRowOf, IsFirstOf, IsFreeRow, KeeperIsRight, WaitBefore, is_read}
-use Rattle.hash_rows.proofs.Moving.{held_read, waiting_read, row_stays, known_still, hash_of_log, hash_in_front, seen_still, unsent_behind, knows_appended}
-use Rattle.hash_rows.proofs.Changed.{knows_same, row_stands, knows_past, row_read}
+use Rattle.hash_rows.proofs.Moving.{held_read, waiting_read, row_stays, known_still, hash_of_log, hash_in_front, seen_still, unsent_behind, seen_kept, knows_kept, knows_appended}
+use Rattle.hash_rows.proofs.Changed.{knows_same, row_stands, knows_past, knows_past_all, row_read}
 use Rattle.dispatch_keyed.specs.Hashes.{IsRoomyOwner, NoneFreeBefore}
 use Rattle.dispatch_keyed.specs.Agreeing.{Agrees, IsStuck, IsNews}
 use Rattle.dispatch_keyed.specs.declared.keyed.Keyed.{Keyed}
@@ -131,6 +131,16 @@ nobody_free d s sub agreed none k _ _ m take =
 module _ (d : Keyed) (s : State) (sub : Subscription) (t : State) (new : Subscription) (agreed : Agrees d s sub) where
   log_within : length (visible s) ≤ length s.log
   log_within = omega (arith, length-take s.durable s.log)
+
+  pub agrees_kept : Kept s sub t new → Agrees d t new
+  agrees_kept change = record {
+    kind = change.kind ∙ agreed.kind;
+    shares = agreed.shares ∙ sym change.shares;
+    seen = seen_kept d.read s sub t new agreed.seen change;
+    small = agreed.small;
+    unsent = λ i read sent. (change.messages i).holder ∙ agreed.unsent i read sent;
+    hashes = λ h within. knows_kept (row_of d h) (number_of d h) h d.read s sub t new (agreed.hashes h within) change;
+  }
 
   pub agrees_appended : Appended s sub t new → Agrees d t new
   agrees_appended change = record {
@@ -328,6 +338,22 @@ agrees_past d e s sub agreed shares read sent rows numbers seen small waits hold
       known_as d e h (d.read + 1) s sub (rows h) (numbers h) read
       (knows_past (row_of d h) (number_of d h) h d.read s sub (agreed.hashes h within) (inr (waits, holder)));
 }
+
+-- none of the messages up to the index was waiting or pending
+pub agrees_past_all : (d e : Keyed) (s : State) (sub : Subscription) → Agrees d s sub → d.sent ≤ d.read → e.shares ≡ d.shares → d.read ≤ e.read → e.sent ≡ d.sent → ((h : ℕ) → row_of e h ≡ row_of d h) → ((h : ℕ) → number_of e h ≡ number_of d h) → e.read ≤ length (visible s) → e.read ≤ 2 ^ 32 - 1 → ((k : ℕ) → d.read ≤ k → k < e.read → waits_at s sub k ≡ false) → Agrees e s sub
+agrees_past_all d e s sub agreed all shares read sent rows numbers seen small none =
+    let far : d.read + (e.read - d.read) ≡ e.read = omega (arith, read) in
+    record {
+      kind = agreed.kind;
+      shares = shares ∙ agreed.shares;
+      seen = seen;
+      small = small;
+      unsent = λ i past behind. agreed.unsent i (omega (arith, past, read)) (omega (arith, behind, sent));
+      hashes = λ h within.
+          known_as d e h (d.read + (e.read - d.read)) s sub (rows h) (numbers h) (sym far)
+          (knows_past_all (row_of d h) (number_of d h) h d.read (e.read - d.read) s sub (agreed.hashes h within)
+          (λ k after below. (none k after (omega (arith, below, far)), agreed.unsent k after (omega (arith, after, all)))));
+    }
 
 -- the message was put into its row
 module _ (d e : Keyed) (made pushed : Option Row) (hash : ℕ) (wait : Bool) (holder : Option ℕ) (s : State) (sub : Subscription) (agreed : Agrees d s sub) (is : hash ≡ hash_at s d.read) (wait_is : wait ≡ waits_at s sub d.read) (holder_is : holder ≡ holder_at s sub d.read) where

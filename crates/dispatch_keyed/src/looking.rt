@@ -1,5 +1,5 @@
 // Reading the messages that came since.
-ghost use Rattle.std.specs.Prelude.{◌≡◌, ℕ, ◌+◌, ◌-◌, ◌^◌, ◌≤◌, ◌<◌, min, length, is_some, OnOk, OnErr, IfErr};
+ghost use Rattle.std.specs.Prelude.{◌≡◌, ℕ, ◌+◌, ◌-◌, ◌^◌, ◌≤◌, ◌<◌, false, min, length, is_some, OnOk, OnErr, IfErr};
 ghost use Rattle.position_core.specs.declared.fault.Fault.TheVariants.{NoMemory};
 ghost use Rattle.delivery_machine.specs.Words.{visible};
 ghost use Rattle.dispatch_core.specs.Log.{waits_at, holder_at};
@@ -24,12 +24,42 @@ impl Keyed {
     {
         let end = view.visible().min(LIMIT);
         while self.read < end {
-            match self.read_next(view) {
+            match self.read_on(view, end) {
                 Ok(()) => (),
                 Err(_) => return Err(Fault::NoMemory),
             }
         }
         Ok(())
+    }
+
+    /// Reads a message that waits or is pending, or up to the end.
+    fn read_on<V: View>(&mut self, view: &V, end: LogIndex) -> Result<(), AllocError>
+        requires before { self.old.read < end }
+        requires small { end ≤ 2 ^ 32 - 1 }
+        ensures agrees { end ≤ length (visible (V.state view.now)) → Agrees self.old (V.state view.now) (V.subscription view.now)
+            → Agrees self.new (V.state view.now) (V.subscription view.now) }
+        ensures ok { OnOk result (self.old.read < self.new.read) }
+    {
+        self.skip(view, end);
+        if self.read < end {
+            self.read_next(view)
+        } else {
+            Ok(())
+        }
+    }
+
+    /// Passes over the messages that do not wait, where none can be pending.
+    fn skip<V: View>(&mut self, view: &V, end: LogIndex)
+        requires before { self.old.read < end }
+        requires small { end ≤ 2 ^ 32 - 1 }
+        ensures agrees { end ≤ length (visible (V.state view.now)) → Agrees self.old (V.state view.now) (V.subscription view.now)
+            → Agrees self.new (V.state view.now) (V.subscription view.now) }
+        ensures on { self.old.read ≤ self.new.read }
+        ensures end { self.new.read ≤ end }
+    {
+        if self.sent <= self.read {
+            self.read = next_before(view, self.read, end);
+        }
     }
 
     /// Reads one message.
@@ -73,6 +103,20 @@ impl Keyed {
         renew(&self.rows, &self.shares, &mut self.firsts, view, hash);
         self.read = index + 1;
         Ok(())
+    }
+}
+
+/// The index of the next message that waits, or the end.
+fn next_before<V: View>(view: &V, from: LogIndex, end: LogIndex) -> LogIndex
+    requires { from ≤ end }
+    ensures on { from ≤ result }
+    ensures end { result ≤ end }
+    ensures none { end ≤ length (visible (V.state view.now)) → (k : ℕ) → from ≤ k → k < result
+        → waits_at (V.state view.now) (V.subscription view.now) k ≡ false }
+{
+    match view.next_waiting(from) {
+        Some(next) => next.min(end),
+        None => end,
     }
 }
 

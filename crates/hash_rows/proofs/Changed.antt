@@ -1,5 +1,5 @@
 -- What is known of a hash after a change of one of its messages.
-use Rattle.std.proofs.Common.{◌≡◌, ◌≢◌, ℕ, ◌+◌, ◌<◌, Bool, true, false, cond, Option, Some, None, inl, inr, refl, sym, ap, ◌∙◌, subst, arith, true≢false, ◌⊎◌}
+use Rattle.std.proofs.Common.{◌≡◌, ◌≢◌, ℕ, zero, suc, ◌+◌, ◌<◌, ◌≤◌, Bool, true, false, cond, Option, Some, None, inl, inr, refl, sym, ap, ◌∙◌, subst, arith, true≢false, ◌⊎◌}
 use Rattle.std.specs.Prelude.{◌==◌, ◌&&◌, ◌||◌, nat_lt, is_some}
 use Rattle.std.proofs.lemmas.Bool.{cases_eq, cases_lt, ne_eqb, eq-eqb, lt-ltb, le-ltb, and_parts, false_from_ne_true}
 use Rattle.delivery_machine.specs.State.{State, Subscription}
@@ -223,3 +223,11 @@ module _ (o q p : Option Row) (hash read : ℕ) (wait : Bool) (holder : Option �
 
       now_read : is_read s hash (read + 1) read ≡ true
       now_read = ap (λ (b : Bool). b && hash_at s read == hash) (lt-ltb read (read + 1) (omega arith)) ∙ eq-eqb (hash_at s read) hash is
+
+-- so many messages were neither waiting nor pending
+pub knows_past_all : (o : Option Row) (first : Option ℕ) (hash read n : ℕ) (s : State) (sub : Subscription) → Knows o first hash read s sub → ((k : ℕ) → read ≤ k → k < read + n → (waits_at s sub k ≡ false) × (holder_at s sub k ≡ None)) → Knows o first hash (read + n) s sub
+knows_past_all o first hash read zero s sub known aside = subst (λ (k : ℕ). Knows o first hash k s sub) (omega arith) known
+knows_past_all o first hash read (suc n) s sub known aside =
+    subst (λ (k : ℕ). Knows o first hash k s sub) (omega arith)
+    (knows_past o first hash (read + n) s sub (knows_past_all o first hash read n s sub known (λ k after below. aside k after (omega (arith, below))))
+    (inr (aside (read + n) (omega arith) (omega arith))))
