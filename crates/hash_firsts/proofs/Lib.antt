@@ -1,0 +1,6 @@
+pub mod Climb
+pub mod Trees
+pub mod Numbers
+pub mod Ranges
+pub mod Changes
+pub mod Views
