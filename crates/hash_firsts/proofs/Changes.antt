@@ -1,14 +1,13 @@
 -- The hashes after a change of one.
-use Rattle.std.proofs.Common.{◌≡◌, ◌≢◌, ℕ, ◌/◌, ◌%◌, ◌<◌, ◌≤◌, List, length, Bool, true, cond, inl, inr, refl, sym, ap, ◌∙◌, subst, arith, eq-eqb}
+use Rattle.std.proofs.Common.{◌≡◌, ◌≢◌, ℕ, ◌/◌, ◌%◌, ◌<◌, ◌≤◌, List, length, true, cond, inl, inr, sym, ap, ◌∙◌, subst, arith, eq-eqb}
 use Rattle.std.specs.Prelude.{◌==◌}
-use Rattle.std.specs.Ordering.{nat_cmp}
 use Rattle.std.specs.FinMap as map_of
 use Rattle.std.proofs.lemmas.Bool.{cases_eq, ne_eqb}
 use Rattle.hash_firsts.specs.declared.node.Node.{Node}
 use Rattle.hash_firsts.specs.declared.tournament.Tournament.{Tournament}
-use Rattle.hash_firsts.specs.Nodes.{nothing, none_yet, number_of, IsLeastOf}
+use Rattle.hash_firsts.specs.Nodes.{none_yet, number_of, IsLeastOf}
 use Rattle.hash_firsts.specs.Trees.{leaf_of, has_room}
-use Rattle.hash_firsts.specs.Firsts.{Firsts, leaf_in, first_at, number_at, room_in, with_number, firsts_of, AreTied}
+use Rattle.hash_firsts.specs.Firsts.{leaf_in, first_at, number_at, room_in, with_number, firsts_of, AreTied}
 use Rattle.hash_firsts.proofs.Numbers.{get_with_number, get_firsts_of, numbers_are, same_room, changed}
 
 module _ (old new : List Tournament) (hash chunk place : ℕ) (node : Node) (is_chunk : chunk ≡ hash / 256) (is_place : place ≡ hash % 256) (here : leaf_in new chunk place ≡ node) (leaves : (k : ℕ) → k ≢ place → leaf_in new chunk k ≡ leaf_in old chunk k) (others : (c k : ℕ) → c ≢ chunk → leaf_in new c k ≡ leaf_in old c k) where

@@ -1,5 +1,4 @@
 pub mod Climb
-pub mod Trees
 pub mod Numbers
 pub mod Ranges
 pub mod Changes

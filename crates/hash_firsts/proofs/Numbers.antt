@@ -1,20 +1,20 @@
 -- The numbers and the room of hashes, as a map and a set.
-use Rattle.std.proofs.Common.{◌≡◌, ◌≢◌, ℕ, zero, suc, ◌*◌, ◌/◌, ◌%◌, ◌<◌, ◌≤◌, Bool, true, false, cond, List, [], length, inl, inr, Option, Some, None, refl, sym, ap, ◌∙◌, subst, arith, eq-eqb}
+use Rattle.std.proofs.Common.{◌≡◌, ◌≢◌, ℕ, zero, suc, ◌*◌, ◌/◌, ◌%◌, ◌<◌, ◌≤◌, Bool, true, false, cond, List, length, inl, inr, Option, Some, None, refl, sym, ap, ◌∙◌, arith, eq-eqb}
 use Rattle.std.specs.Prelude.{◌==◌, ◌||◌, nat_lt}
 use Rattle.std.specs.List.{slice_get}
 use Rattle.std.specs.Option.{option_map_or}
-use Rattle.std.specs.Ordering.{nat_cmp, eq_by_cmp}
+use Rattle.std.specs.Ordering.{nat_cmp}
 use Rattle.std.specs.Cmp.{nat_cmp_total, unsigned_tied}
 use Rattle.std.specs.FinMap as map_of
 use Rattle.std.specs.FinSet as set
-use Rattle.std.proofs.lemmas.Bool.{cases_eq, cases_lt, ne_eqb, lt-ltb, le-ltb, ltb-true, ltb-false}
+use Rattle.std.proofs.lemmas.Bool.{cases_eq, cases_lt, ne_eqb, lt-ltb, le-ltb, ltb-true}
 use Rattle.std.proofs.lemmas.Option.{slice_get_past, same_Some}
 use Rattle.std.proofs.lemmas.Map.Lookups.{exact_unsigned}
 use Rattle.hash_firsts.specs.declared.node.Node.{Node}
 use Rattle.hash_firsts.specs.declared.tournament.Tournament.{Tournament}
 use Rattle.hash_firsts.specs.Nodes.{nothing, none_yet, number_of}
 use Rattle.hash_firsts.specs.Trees.{leaf_of, has_room}
-use Rattle.hash_firsts.specs.Firsts.{Firsts, first_at, number_at, room_at, room_in, with_number, numbers_below, hashes_below, firsts_of}
+use Rattle.hash_firsts.specs.Firsts.{Firsts, number_at, room_at, room_in, with_number, numbers_below, hashes_below, firsts_of}
 
 -- the number that a map has at a hash after a change at another or at the same
 pub get_with_number : (m : map_of.FinMap nat_cmp ℕ) (k : ℕ) (o : Option ℕ) (q : ℕ) → map_of.get (with_number m k o) q ≡ cond (q == k) o (map_of.get m q)

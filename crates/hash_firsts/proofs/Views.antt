@@ -1,6 +1,6 @@
 -- What the calls change, as their callers see it.
-use Rattle.std.proofs.Common.{◌≡◌, ◌≢◌, ℕ, ◌/◌, ◌%◌, ◌+◌, ◌<◌, ◌≤◌, List, [], length, Bool, true, false, cond, Option, Some, None, Result, Ok, Err, inl, inr, refl, sym, ap, ◌∙◌, subst, arith, vec_len}
-use Rattle.std.specs.Prelude.{OnOk, OnErr, nat_lt}
+use Rattle.std.proofs.Common.{◌≡◌, ℕ, ◌/◌, ◌%◌, ◌+◌, ◌<◌, ◌≤◌, List, [], length, Bool, true, false, cond, Option, Some, None, Result, Ok, Err, inl, inr, refl, sym, ap, ◌∙◌, subst, arith, vec_len}
+use Rattle.std.specs.Prelude.{OnOk, OnErr}
 use Rattle.std.specs.List.{slice_get}
 use Rattle.std.specs.Option.{option_map_or}
 use Rattle.std.specs.Ordering.{nat_cmp}
@@ -15,7 +15,7 @@ use Rattle.hash_firsts.specs.declared.node.Node.{Node}
 use Rattle.hash_firsts.specs.declared.tournament.Tournament.{Tournament}
 use Rattle.hash_firsts.specs.Nodes.{nothing, none_yet, number_of}
 use Rattle.hash_firsts.specs.Trees.{leaf_of, has_room}
-use Rattle.hash_firsts.specs.Firsts.{Firsts, leaf_in, room_in, number_at, room_at, with_number, numbers_below, hashes_below, firsts_of, AreTied}
+use Rattle.hash_firsts.specs.Firsts.{Firsts, leaf_in, room_in, numbers_below, hashes_below, firsts_of, AreTied}
 use Rattle.hash_firsts.proofs.Numbers.{get_with_number, get_firsts_of, room_of_firsts, numbers_are, same_numbers, same_room, changed, placed, number_none}
 
 pub then_ok : {X E P Q : Type 0} (r : Result X E) → (P → Q) → OnOk r P → OnOk r Q

@@ -1,4 +1,4 @@
-use Rattle.std.proofs.Common.{length, ◌-◌, ◌≡◌, ℕ, ◌<◌, ◌≤◌}
+use Rattle.std.proofs.Common.{length, ◌-◌, ◌≡◌, ℕ, ◌<◌}
 use Rattle.hash_firsts.specs.Nodes.{nothing}
 use Rattle.hash_firsts.specs.Firsts.{leaf_in, room_in}
 use Rattle.hash_firsts.proofs.chunks.clear.Given as goal
