@@ -14,10 +14,6 @@ right_by : (a b : Node) (t : Bool) → nat_lt b.number a.number ≡ t → (cond 
 right_by a b true e = omega arith
 right_by a b false e = ltb-false b.number a.number e
 
-above_by : (x : ℕ) (a b : Node) (t : Bool) → x ≤ a.number → x ≤ b.number → x ≤ (cond t b a).number
-above_by x a b true p q = q
-above_by x a b false p q = p
-
 one_by : (P : Node → Type 0) (a b : Node) (t : Bool) → P a → P b → P (cond t b a)
 one_by P a b true p q = q
 one_by P a b false p q = p
@@ -27,9 +23,6 @@ better_left a b = left_by a b (nat_lt b.number a.number) refl
 
 pub better_right : (a b : Node) → (better a b).number ≤ b.number
 better_right a b = right_by a b (nat_lt b.number a.number) refl
-
-pub better_above : (x : ℕ) (a b : Node) → x ≤ a.number → x ≤ b.number → x ≤ (better a b).number
-better_above x a b p q = above_by x a b (nat_lt b.number a.number) p q
 
 -- what holds of both holds of the better
 pub better_one : (P : Node → Type 0) (a b : Node) → P a → P b → P (better a b)
@@ -44,13 +37,6 @@ pub record IsClimb (f : ℕ → Node) (from end left right : ℕ) (least : Node)
   pub below : (x : ℕ) → x ≤ least.number → ((k : ℕ) → left ≤ k → k < right → x ≤ (f k).number) → (k : ℕ) → from ≤ k → k < end → x ≤ (f k).number
   pub found : IsInside f from end least
   pub inside : (k : ℕ) → left ≤ k → k < right → IsInside f from end (f k)
-
-pub climb_begins : (f : ℕ → Node) (from end : ℕ) → IsClimb f from end from end nothing
-climb_begins f from end = record {
-  below = λ x _ h. h;
-  found = λ h. absurd (omega arith);
-  inside = λ k p q _. (k, p, q, refl);
-}
 
 -- a node that counts
 counted_below : (x : ℕ) (b : Bool) (n e : Node) → e ≡ cond b n nothing → b ≡ true → x ≤ e.number → x ≤ n.number

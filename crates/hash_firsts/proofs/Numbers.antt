@@ -129,6 +129,3 @@ number_none node h = ap (λ b. cond b (Some node.number) None) (le-ltb node.numb
 -- the numbers changed, and the room did not
 pub changed : (old new : List Tournament) (m : map_of.FinMap nat_cmp ℕ) → (firsts_of new).numbers ≡ m → (firsts_of new).room ≡ (firsts_of old).room → firsts_of new ≡ record { numbers = m; room = (firsts_of old).room }
 changed old new m numbers room = placed _ m _ _ numbers room
-
-pub same_firsts : (old new : List Tournament) → ((q : ℕ) → number_at new q ≡ number_at old q) → ((c : ℕ) → room_in new c ≡ room_in old c) → firsts_of new ≡ firsts_of old
-same_firsts old new numbers room = placed _ _ _ _ (same_numbers old new numbers) (same_room old new room)

@@ -6,17 +6,11 @@ use Rattle.std.proofs.Math.Nat.{min-le_left, min-eq_left, min-eq_right}
 use Rattle.std.proofs.lemmas.Bool.{cases_lt, lt-ltb, ltb-true, ltb-false}
 use Rattle.hash_firsts.specs.declared.node.Node.{Node}
 use Rattle.hash_firsts.specs.declared.tournament.Tournament.{Tournament}
-use Rattle.hash_firsts.specs.Nodes.{nothing, none_yet, better, number_of, found_of, IsLeastOf}
+use Rattle.hash_firsts.specs.Nodes.{none_yet, better, number_of, found_of, IsLeastOf}
 use Rattle.hash_firsts.specs.Trees.{leaf_of}
 use Rattle.hash_firsts.specs.Firsts.{leaf_in, first_at, number_at, firsts_of, IsLeastIn, NoneIn, AreTied}
 use Rattle.hash_firsts.proofs.Climb.{better_left, better_right, better_one, IsInside}
 use Rattle.hash_firsts.proofs.Numbers.{get_firsts_of, no_number, number_some, number_none}
-
-pub least_of_none : (f : ℕ → Node) (from end : ℕ) → ((k : ℕ) → f k ≡ nothing) → IsLeastOf f from end nothing
-least_of_none f from end none = record {
-  below = λ k _ _. subst (λ (n : Node). none_yet ≤ n.number) (sym (none k)) (omega arith);
-  found = λ less. absurd (omega arith);
-}
 
 -- the better of the least of two ranges is the least of both
 pub joined : (f : ℕ → Node) (from between end : ℕ) (a b : Node) → from ≤ between → between ≤ end → IsLeastOf f from between a → IsLeastOf f between end b → IsLeastOf f from end (better a b)

@@ -1,6 +1,6 @@
 -- A consumer joins: with one end more, the first of the largest shares is halved.
-use Rattle.std.proofs.Common.{◌≡◌, ℕ, ◌+◌, ◌-◌, ◌<◌, ◌≤◌, Bool, true, false, cond, eqb, List, [], ◌∷◌, Option, Some, None, inl, inr, refl, sym, ap, ◌∙◌, subst, arith}
-use Rattle.std.specs.Prelude.{nat_le, max, ◌==◌}
+use Rattle.std.proofs.Common.{◌≡◌, ℕ, ◌+◌, ◌-◌, ◌<◌, ◌≤◌, true, cond, eqb, List, [], ◌∷◌, Option, Some, None, inl, inr, refl, sym, ap, ◌∙◌, subst, arith}
+use Rattle.std.specs.Prelude.{nat_le, ◌==◌}
 use Rattle.std.specs.List.{find}
 use Rattle.std.specs.Ordering.{nat_cmp, match_ordering}
 use Rattle.std.specs.BTreeMap.{insert_entry}
@@ -8,7 +8,7 @@ use Rattle.std.specs.declared.cmp.Ordering.{Ordering}
 use Rattle.std.specs.declared.cmp.Ordering.TheVariants.{Less, Equal, Greater}
 use Rattle.std.proofs.lemmas.Bool.{cases_lt, lt-ltb, le-ltb, le-leb, lt-leb, ne_eqb, eq-eqb}
 use Rattle.position_core.specs.declared.block.Block.{Block}
-use Rattle.delivery_machine.specs.Shares.{half, lower_half, upper_half, halving, most_hashes, shared_out, all_hashes}
+use Rattle.delivery_machine.specs.Shares.{half, lower_half, upper_half, halving, most_hashes}
 use Rattle.hash_ranges.specs.Ends.{share_between, shares_from, shares_of, larger, largest_with, largest_of, Rise, SplitFrom, SplitAll, IsEndToJoin}
 use Rattle.hash_ranges.proofs.Shares.{split_after, split_rise, ends_within, find_cases, nothing_found, found_within}
 
@@ -79,9 +79,9 @@ rise_inserted from [] end consumer rise low high = absurd (omega arith)
 rise_inserted from (e ∷ es) end consumer rise low high = elim (cases_lt end e.0) [
   | inl before ↦ subst (Rise from) (sym (inserted e es end consumer Less (cmp_less end e.0 before))) (low, (before, rise.1))
   | inr after ↦ elim (cases_lt e.0 end) [
-      | inl past ↦ subst (Rise from) (sym (inserted e es end consumer Greater (cmp_greater end e.0 past))) (rise.0, rise_inserted e.0 es end consumer rise.1 past high)
-      | inr same ↦ subst (Rise from) (sym (inserted e es end consumer Equal (cmp_equal end e.0 (omega arith)))) (rise.0, rise.1)
-    ]
+    | inl past ↦ subst (Rise from) (sym (inserted e es end consumer Greater (cmp_greater end e.0 past))) (rise.0, rise_inserted e.0 es end consumer rise.1 past high)
+    | inr same ↦ subst (Rise from) (sym (inserted e es end consumer Equal (cmp_equal end e.0 (omega arith)))) (rise.0, rise.1)
+  ]
 ]
 
 halved_first : (size consumer from : ℕ) (e : ℕ × ℕ) (es : List (ℕ × ℕ)) → from < e.0 → 1 < e.0 - from → eqb (e.0 - from) size ≡ true → shares_from from (insert_entry nat_cmp (e ∷ es) (from + half (e.0 - from)) consumer) ≡ halving size consumer (shares_from from (e ∷ es))
@@ -132,7 +132,7 @@ joins_half (e ∷ es) share split is two = record {
     within = found_within (λ b. eqb b.size most) 0 (e ∷ es) share split first
 
 pub joins_all : (es : List (ℕ × ℕ)) → None ≡ largest_of (shares_of es) → IsEndToJoin es 65536
-joins_all [] is = record { joins = λ consumer. refl; splits = λ consumer. (omega arith, refl); }
+joins_all [] is = record { joins = λ consumer. refl; splits = λ consumer. (omega arith, refl) }
 joins_all (e ∷ es) is = absurd (some_largest (share_between 0 e.0 e.1) (shares_from e.0 es) (sym is))
 
 -- the bounds of a sum

@@ -1,6 +1,6 @@
 -- A consumer leaves: without its end, the share beside its own has its hashes.
-use Rattle.std.proofs.Common.{◌≡◌, ◌≢◌, ℕ, ◌+◌, ◌-◌, ◌<◌, ◌≤◌, Bool, true, false, cond, eqb, List, [], ◌∷◌, length, Option, Some, None, ◌⊎◌, inl, inr, refl, sym, ap, ◌∙◌, subst, arith}
-use Rattle.std.specs.Prelude.{◌&&◌, ◌==◌}
+use Rattle.std.proofs.Common.{◌≡◌, ◌≢◌, ℕ, ◌+◌, ◌-◌, ◌<◌, ◌≤◌, Bool, true, false, cond, eqb, List, [], ◌∷◌, length, Option, Some, None, inl, inr, refl, sym, ap, ◌∙◌, subst, arith}
+use Rattle.std.specs.Prelude.{◌&&◌}
 use Rattle.std.specs.List.{find}
 use Rattle.std.specs.Ordering.{nat_cmp}
 use Rattle.std.specs.Cmp.{unsigned_tied}
@@ -216,17 +216,17 @@ module _ (consumer : ℕ) where
   one_before_takes from (e ∷ f ∷ es) b w split is last there = elim (find_cases (is_share_of consumer) (share_between from e.0 e.1) b (shares_from e.0 (f ∷ es)) is) [
     | inl here ↦ absurd (not_first from e (f ∷ es) b w split here.1 there)
     | inr later ↦ elim (find_cases (is_share_of consumer) (share_between e.0 f.0 f.1) b (shares_from f.0 es) later.1) [
-        | inl next ↦ before_last from e f es b w split later.0 next.0 next.1 last there
-        | inr further ↦
-            let within = found_within (is_share_of consumer) f.0 es b (split_after e.0 f es split.1) further.1 in
-            let ends = ends_within e.0 f es split.1 in
-            let beyond : b.from ≢ e.0 = λ h. absurd (omega (arith, within.0, ends.0, h)) in
-            let below : 65536 ≢ e.0 = λ h. absurd (omega (arith, ends.0, ends.1, h)) in
-            ap (λ xs. shares_from from (set_value (is_at (nat_cmp 65536)) xs w)) (removed_later b.from e (f ∷ es) beyond)
-            ∙ ap (shares_from from) (set_later 65536 e (remove_entry (is_at (nat_cmp b.from)) (f ∷ es)) w below)
-            ∙ ap (λ bs. share_between from e.0 e.1 ∷ bs) (one_before_takes e.0 (f ∷ es) b w split.1 later.1 last (sym (found_later b.from e (f ∷ es) beyond) ∙ there))
-            ∙ sym (leaver_later (share_between from e.0 e.1) (share_between e.0 f.0 f.1) (shares_from f.0 es) later.0 (ap (λ t. t && eqb (length (shares_from f.0 es)) 0) further.0))
-      ]
+      | inl next ↦ before_last from e f es b w split later.0 next.0 next.1 last there
+      | inr further ↦
+          let within = found_within (is_share_of consumer) f.0 es b (split_after e.0 f es split.1) further.1 in
+          let ends = ends_within e.0 f es split.1 in
+          let beyond : b.from ≢ e.0 = λ h. absurd (omega (arith, within.0, ends.0, h)) in
+          let below : 65536 ≢ e.0 = λ h. absurd (omega (arith, ends.0, ends.1, h)) in
+          ap (λ xs. shares_from from (set_value (is_at (nat_cmp 65536)) xs w)) (removed_later b.from e (f ∷ es) beyond)
+          ∙ ap (shares_from from) (set_later 65536 e (remove_entry (is_at (nat_cmp b.from)) (f ∷ es)) w below)
+          ∙ ap (λ bs. share_between from e.0 e.1 ∷ bs) (one_before_takes e.0 (f ∷ es) b w split.1 later.1 last (sym (found_later b.from e (f ∷ es) beyond) ∙ there))
+          ∙ sym (leaver_later (share_between from e.0 e.1) (share_between e.0 f.0 f.1) (shares_from f.0 es) later.0 (ap (λ t. t && eqb (length (shares_from f.0 es)) 0) further.0))
+    ]
   ]
 
   -- no end is where the share begins, so it is the first
@@ -238,11 +238,11 @@ module _ (consumer : ℕ) where
   is_first from e (f ∷ es) b split is none = elim (find_cases (is_share_of consumer) (share_between from e.0 e.1) b (shares_from e.0 (f ∷ es)) is) [
     | inl here ↦ here
     | inr later ↦ elim (cases_eq b.from e.0) [
-        | inl same ↦ absurd (none_some (lookup (is_at (nat_cmp b.from)) (e ∷ f ∷ es)) none (found_here b.from e (f ∷ es) same))
-        | inr other ↦
-            let next = is_first e.0 f es b split.1 later.1 (sym (found_later b.from e (f ∷ es) other) ∙ none) in
-            absurd (other (sym (ap (λ (s : Block). s.from) next.1)))
-      ]
+      | inl same ↦ absurd (none_some (lookup (is_at (nat_cmp b.from)) (e ∷ f ∷ es)) none (found_here b.from e (f ∷ es) same))
+      | inr other ↦
+          let next = is_first e.0 f es b split.1 later.1 (sym (found_later b.from e (f ∷ es) other) ∙ none) in
+          absurd (other (sym (ap (λ (s : Block). s.from) next.1)))
+    ]
   ]
     where
       none_some : (o : Option ℕ) → o ≡ None → o ≡ Some e.1 → ⊥

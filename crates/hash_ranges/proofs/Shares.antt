@@ -1,7 +1,7 @@
 -- What is read of the shares by their ends.
-use Rattle.std.proofs.Common.{◌≡◌, ℕ, ◌+◌, ◌-◌, ◌<◌, ◌≤◌, Bool, true, false, cond, List, [], ◌∷◌, Option, Some, None, ◌⊎◌, inl, inr, refl, sym, ap, ◌∙◌, subst, arith}
-use Rattle.std.specs.Prelude.{◌&&◌, nat_le, nat_lt, not}
-use Rattle.std.specs.List.{find, filter}
+use Rattle.std.proofs.Common.{◌≡◌, ℕ, ◌+◌, ◌-◌, ◌<◌, ◌≤◌, Bool, true, false, cond, List, [], ◌∷◌, Option, Some, ◌⊎◌, inl, inr, refl, sym, ap, ◌∙◌, subst, arith}
+use Rattle.std.specs.Prelude.{◌&&◌, nat_lt, not}
+use Rattle.std.specs.List.{find}
 use Rattle.std.specs.Option.{option_map}
 use Rattle.std.specs.Ordering.{nat_cmp, is_le}
 use Rattle.std.specs.BTreeMap.Range.{entries_between}
@@ -11,7 +11,7 @@ use Rattle.std.proofs.lemmas.Grind.{common_steps}
 use Rattle.std.proofs.lemmas.Option.{same_Some}
 use Rattle.position_core.specs.declared.block.Block.{Block}
 use Rattle.delivery_machine.specs.Shares.{has_hash, owner_of, IsRow, SplitAllHashes}
-use Rattle.hash_ranges.specs.Ends.{share_between, shares_from, shares_of, larger, largest_with, largest_of, Rise, SplitFrom, SplitAll}
+use Rattle.hash_ranges.specs.Ends.{share_between, shares_from, shares_of, largest_with, largest_of, Rise, SplitFrom, SplitAll}
 
 pub split_after : (from : ℕ) (e : ℕ × ℕ) (es : List (ℕ × ℕ)) → SplitFrom from (e ∷ es) → SplitFrom e.0 es
 split_after from e [] split = tt
@@ -122,31 +122,7 @@ pub record IsSought (p : Block → Bool) (all : List (ℕ × ℕ)) (from : ℕ) 
   pub split : SplitFrom from left
   pub same : find p (shares_from from left) ≡ find p (shares_of all)
 
-pub sought_on : (p : Block → Bool) (all : List (ℕ × ℕ)) (from : ℕ) (left rest : List (ℕ × ℕ)) (e : ℕ × ℕ) → IsSought p all from left → left ≡ e ∷ rest → p (share_between from e.0 e.1) ≡ false → IsSought p all e.0 rest
-sought_on p all from left rest e is step other = record {
-  split = split_after from e rest (subst (SplitFrom from) step is.split);
-  same = sym (ap (λ t. cond t (Some (share_between from e.0 e.1)) (find p (shares_from e.0 rest))) other) ∙ ap (λ es. find p (shares_from from es)) (sym step) ∙ is.same;
-}
-
-pub sought_here : (p : Block → Bool) (all : List (ℕ × ℕ)) (from : ℕ) (left rest : List (ℕ × ℕ)) (e : ℕ × ℕ) → IsSought p all from left → left ≡ e ∷ rest → p (share_between from e.0 e.1) ≡ true → Some (share_between from e.0 e.1) ≡ find p (shares_of all)
-sought_here p all from left rest e is step here = sym (ap (λ t. cond t (Some (share_between from e.0 e.1)) (find p (shares_from e.0 rest))) here) ∙ ap (λ es. find p (shares_from from es)) (sym step) ∙ is.same
-
-pub sought_in_vain : (p : Block → Bool) (all : List (ℕ × ℕ)) (from : ℕ) (left : List (ℕ × ℕ)) → IsSought p all from left → left ≡ [] → None ≡ find p (shares_of all)
-sought_in_vain p all from left is step = ap (λ es. find p (shares_from from es)) (sym step) ∙ is.same
-
 -- the largest of the one that was found and of those that are left
 pub record IsLargest (all : List (ℕ × ℕ)) (from : ℕ) (left : List (ℕ × ℕ)) (largest : Option Block) : Type 0 where
   pub split : SplitFrom from left
   pub same : largest_with largest (shares_from from left) ≡ largest_of (shares_of all)
-
-pub largest_on : (all : List (ℕ × ℕ)) (from : ℕ) (left rest : List (ℕ × ℕ)) (e : ℕ × ℕ) (largest : Option Block) (b : Block) → IsLargest all from left largest → left ≡ e ∷ rest → b ≡ larger largest (share_between from e.0 e.1) → IsLargest all e.0 rest (Some b)
-largest_on all from left rest e largest b is step made = record {
-  split = split_after from e rest (subst (SplitFrom from) step is.split);
-  same = ap (λ (x : Block). largest_with (Some x) (shares_from e.0 rest)) made ∙ ap (λ es. largest_with largest (shares_from from es)) (sym step) ∙ is.same;
-}
-
-pub largest_ends : (all : List (ℕ × ℕ)) (from : ℕ) (left : List (ℕ × ℕ)) (largest : Option Block) → IsLargest all from left largest → left ≡ [] → largest ≡ largest_of (shares_of all)
-largest_ends all from left largest is step = ap (λ es. largest_with largest (shares_from from es)) (sym step) ∙ is.same
-
-pub next_above : (from : ℕ) (left rest : List (ℕ × ℕ)) (e : ℕ × ℕ) → SplitFrom from left → left ≡ e ∷ rest → from ≤ e.0
-next_above from left rest e split step = let is = ends_within from e rest (subst (SplitFrom from) step split) in omega (arith, is.0)

@@ -1,4 +1,4 @@
-use Rattle.std.proofs.Common.{◌∙◌, sym, ap, arith, subst, ◌<◌}
+use Rattle.std.proofs.Common.{◌∙◌, sym, ap, arith}
 use Rattle.delivery_machine.specs.Shares.{owner_of}
 use Rattle.hash_ranges.specs.Ends.{shares_of}
 use Rattle.hash_ranges.proofs.Shares.{owner_found, nobody_owns}

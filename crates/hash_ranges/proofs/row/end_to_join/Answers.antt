@@ -1,4 +1,4 @@
-use Rattle.std.proofs.Common.{ap, arith}
+use Rattle.std.proofs.Common.{arith}
 use Rattle.hash_ranges.proofs.Joins.{joins_half, joins_all, half_fits}
 use Rattle.hash_ranges.proofs.row.end_to_join.Goals as goal
 
