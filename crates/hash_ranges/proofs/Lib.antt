@@ -1,3 +1,3 @@
-pub mod SharesSplit
-pub mod Halves
-pub mod Returns
+pub mod Shares
+pub mod Joins
+pub mod Leaves

@@ -1,10 +1,12 @@
 //! Which consumer of a Key_Shared subscription has which hashes.
 #![tactic(auto)]
 
-mod block;
-mod places;
+mod ends;
 mod row;
+mod share;
 mod split_table;
+#[cfg(test)]
+mod tests;
 
 pub use position_core::Block;
 pub use split_table::SplitTable;
