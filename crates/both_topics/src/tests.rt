@@ -14,11 +14,11 @@ use std::process::Abort;
 use std::test::Fail;
 use topic_core::TopicCore;
 
-/// How many lists.
-const LISTS: u64 = 2_000;
+/// How many lists a test has: a test may take a minute.
+const LISTS: u64 = 500;
 
 /// How many events a list has.
-const EVENTS: u64 = 80;
+const EVENTS: u64 = 30;
 
 /// A ledger has so few messages that a list fills several.
 const IN_A_LEDGER: u32 = 3;
@@ -50,16 +50,35 @@ fn replies<R: Abort + AllocGlobal>(
     Ok(fast)
 }
 
-/// 2,000 lists: every reply is the same, and replies of every kind come.
-#[test]
-fn random_lists(rt: HostRuntime) -> Result<(), Fail> {
+/// So many lists from the number on: every reply is the same, and replies of every kind come.
+fn answer_alike<R: Abort + AllocGlobal>(rt: &R, first: u64) -> Result<(), Fail> {
     let size = LedgerSize::new(IN_A_LEDGER).unwrap();
     let mut seen = Seen::new();
     for number in 0..LISTS {
-        let lines = Lines::random(rt.alloc(), number, EVENTS)?;
-        let replies = replies(&rt, size, lines.as_bytes())?;
-        seen.note_all(&rt, replies.as_slice());
+        let lines = Lines::random(rt.alloc(), first.saturating_add(number), EVENTS)?;
+        let replies = replies(rt, size, lines.as_bytes())?;
+        seen.note_all(rt, replies.as_slice());
     }
     assert!(rt; seen.is_all(), "{:?}", seen);
     Ok(())
+}
+
+#[test]
+fn random_lists(rt: HostRuntime) -> Result<(), Fail> {
+    answer_alike(&rt, 0)
+}
+
+#[test]
+fn more_random_lists(rt: HostRuntime) -> Result<(), Fail> {
+    answer_alike(&rt, 500)
+}
+
+#[test]
+fn further_random_lists(rt: HostRuntime) -> Result<(), Fail> {
+    answer_alike(&rt, 1_000)
+}
+
+#[test]
+fn last_random_lists(rt: HostRuntime) -> Result<(), Fail> {
+    answer_alike(&rt, 1_500)
 }

@@ -57,8 +57,8 @@ impl Lines {
             18..=37 => self.send(),
             38..=49 => self.join_or_leave(),
             50..=67 => self.answer(),
-            68..=77 => self.turn_clock(),
-            78..=80 => self.wear_out(),
+            68..=73 => self.turn_clock(),
+            74..=80 => self.wear_out(),
             81..=91 => self.go_elsewhere(),
             _ => self.connect_or_restart(),
         }
