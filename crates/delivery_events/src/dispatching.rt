@@ -21,6 +21,17 @@ use std::alloc::AllocError;
 use topic_parts::Parts;
 use topic_served::Served;
 
+/// The dispatcher at the place reads the messages that came since its last offer.
+fn look(served: &mut Served, place: usize) -> Result<(), Fault>
+    requires bound { IsBound served.old }
+    requires within { place < length served.old.parts.subscriptions.items }
+    ensures parts { served.new.parts ≡ served.old.parts }
+    ensures bound { IsBound served.new }
+{
+    let view = served.parts.at(place);
+    served.dispatchers[place].look(&view)
+}
+
 /// A message and a member of the subscription at the place that it may be sent to.
 fn offer(served: &Served, place: usize) -> Option<Offer>
     requires bound { IsBound served.now }
@@ -100,15 +111,13 @@ fn send(
     }
 }
 
-/// Sends a message of the subscription to a member, where one may be sent.
-pub fn dispatch(served: &mut Served, name: &SubscriptionName, now: Moment) -> Reply
-    requires { IsSettled served.old }
+/// Sends the message that is offered, if one may be sent.
+fn send_next(served: &mut Served, name: &SubscriptionName, place: usize, now: Moment) -> Reply
+    requires settled { IsSettled served.old }
+    requires place { Some place ≡ place_in (is_placed name.now) served.old.parts.subscriptions.items }
     ensures answers { Answers (state_in served.old) (Dispatch name.now now) result (state_in served.new) }
     ensures bound { IsBound served.new }
 {
-    let Some(place) = served.parts.place_of(name) else {
-        return Reply::Refused(Fault::NoSuchSubscription);
-    };
     let Some(offer) = offer(served, place) else {
         return Reply::Idle;
     };
@@ -124,6 +133,21 @@ pub fn dispatch(served: &mut Served, name: &SubscriptionName, now: Moment) -> Re
             position,
             count,
         },
+        Err(_) => Reply::Refused(Fault::NoMemory),
+    }
+}
+
+/// Sends a message of the subscription to a member, where one may be sent.
+pub fn dispatch(served: &mut Served, name: &SubscriptionName, now: Moment) -> Reply
+    requires { IsSettled served.old }
+    ensures answers { Answers (state_in served.old) (Dispatch name.now now) result (state_in served.new) }
+    ensures bound { IsBound served.new }
+{
+    let Some(place) = served.parts.place_of(name) else {
+        return Reply::Refused(Fault::NoSuchSubscription);
+    };
+    match look(served, place) {
+        Ok(()) => send_next(served, name, place, now),
         Err(_) => Reply::Refused(Fault::NoMemory),
     }
 }

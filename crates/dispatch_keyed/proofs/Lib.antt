@@ -1,3 +1,11 @@
+pub mod Agreed
+pub mod Blocks
+pub mod Draining
 pub mod Finding
+pub mod Firsts
 pub mod Owners
+pub mod Owning
+pub mod Renewed
 pub mod Serving
+pub mod Shares
+pub mod Standing

@@ -1,5 +1,5 @@
 -- The owner of a hash, as the members and the log are gone through.
-use Rattle.std.proofs.Common.{◌≡◌, ℕ, ◌+◌, ◌<◌, ◌≤◌, ◌∙◌, Bool, true, false, Option, Some, None, take, get_or, length, refl, sym, ap, arith, inl, inr}
+use Rattle.std.proofs.Common.{◌≡◌, ℕ, ◌+◌, ◌<◌, ◌≤◌, ◌∙◌, Bool, true, false, List, Option, Some, None, take, get_or, length, refl, sym, ap, arith, inl, inr, true≢false}
 use Rattle.std.specs.Prelude.{◌==◌, ◌&&◌, ◌||◌, not}
 use Rattle.std.specs.List.{find, list_any}
 use Rattle.std.specs.Option.{option_map, option_map_or, option_and_then}
@@ -9,6 +9,7 @@ use Rattle.std.proofs.lemmas.Bool.{eqb-true}
 use Rattle.std.proofs.lemmas.List.{get_or-take, length-take}
 use Rattle.std.proofs.lemmas.List.Folds.{list_any_more, list_any_at}
 use Rattle.std.proofs.lemmas.Option.{slice_get_cases, slice_get-get_or, same_Some, none-some}
+use Rattle.position_core.specs.declared.block.Block.{Block}
 use Rattle.position_core.specs.declared.message.Entry.{Entry}
 use Rattle.position_core.specs.declared.held.Held.{Held}
 use Rattle.murmur_core.specs.Sticky.{sticky_hash}
@@ -18,7 +19,8 @@ use Rattle.delivery_machine.specs.Words.{is_at, is_member, members_of, owner_at,
 use Rattle.dispatch_core.specs.Log.{key_at, holder_at, holder_of}
 use Rattle.dispatch_core.specs.Offers.{seen_of}
 use Rattle.dispatch_core.specs.declared.view.Seen.{Seen}
-use Rattle.dispatch_keyed.specs.Hashes.{hash_at, drains_at, IsFreeFor, NoneFree}
+use Rattle.hash_rows.specs.Hashes.{hash_at}
+use Rattle.dispatch_keyed.specs.Hashes.{drains_at, IsRoomyOwner, HasNoRoomyOwner, IsFreeFor, NoneFree}
 use Rattle.dispatch_keyed.proofs.Finding.{find-filter}
 use Rattle.delivery_machine.proofs.Firsts.{found_somewhere}
 
@@ -86,30 +88,55 @@ number_of_found : (s : State) (sub : Subscription) (owner : ℕ) (m : Member) �
 number_of_found s sub owner m found =
     eqb-true m.number owner (found_somewhere (is_member owner) (members_of s sub.name) m found).3
 
--- the owner has room, and the hash does not drain
-pub free_for : (s : State) (sub : Subscription) (hash owner : ℕ) (seen : Seen) → Some owner ≡ owner_of sub.shares hash → Some seen ≡ option_map (seen_of s sub) (find (is_member owner) (members_of s sub.name)) → seen.room ≡ true → is_draining s sub hash owner ≡ false → IsFreeFor s sub hash owner
-free_for s sub hash owner seen owned there room still = by_case (find (is_member owner) (members_of s sub.name)) refl there
+pub roomy : (s : State) (sub : Subscription) (hash owner : ℕ) (seen : Seen) → Some owner ≡ owner_of sub.shares hash → Some seen ≡ option_map (seen_of s sub) (find (is_member owner) (members_of s sub.name)) → seen.room ≡ true → IsRoomyOwner s sub hash owner
+roomy s sub hash owner seen owned there room = by_case (find (is_member owner) (members_of s sub.name)) refl there
   where
-    by_case : (o : Option Member) → find (is_member owner) (members_of s sub.name) ≡ o → Some seen ≡ option_map (seen_of s sub) o → IsFreeFor s sub hash owner
+    by_case : (o : Option Member) → find (is_member owner) (members_of s sub.name) ≡ o → Some seen ≡ option_map (seen_of s sub) o → IsRoomyOwner s sub hash owner
     by_case None found e = absurd (none-some seen (sym e))
-    by_case (Some m) found e =
-        let number = number_of_found s sub owner m found in (
-          m,
-          number,
-          record {
-            owner = owner_is s sub hash owner owned ∙ found;
-            room = ap (λ (x : Seen). x.room) (sym (same_Some _ _ e)) ∙ room;
-            still = ap (is_draining s sub hash) number ∙ still;
-          },
-        )
+    by_case (Some m) found e = (
+      m,
+      number_of_found s sub owner m found,
+      owner_is s sub hash owner owned ∙ found,
+      ap (λ (x : Seen). x.room) (sym (same_Some _ _ e)) ∙ room,
+      sym owned,
+    )
 
-pub owner_is_away : (s : State) (sub : Subscription) (hash owner : ℕ) → Some owner ≡ owner_of sub.shares hash → None ≡ option_map (seen_of s sub) (find (is_member owner) (members_of s sub.name)) → NoneFree s sub hash
-owner_is_away s sub hash owner owned away m take =
-    none-some (seen_of s sub m) (away ∙ ap (option_map (seen_of s sub)) (sym (owner_is s sub hash owner owned) ∙ take.owner))
+pub owner_is_away : (s : State) (sub : Subscription) (hash owner : ℕ) → Some owner ≡ owner_of sub.shares hash → None ≡ option_map (seen_of s sub) (find (is_member owner) (members_of s sub.name)) → HasNoRoomyOwner s sub hash
+owner_is_away s sub hash owner owned away m is _ =
+    none-some (seen_of s sub m) (away ∙ ap (option_map (seen_of s sub)) (sym (owner_is s sub hash owner owned) ∙ is))
 
--- the owner has no room, or the hash drains
-pub owner_must_wait : (s : State) (sub : Subscription) (hash owner : ℕ) (seen : Seen) → Some owner ≡ owner_of sub.shares hash → Some seen ≡ option_map (seen_of s sub) (find (is_member owner) (members_of s sub.name)) → (seen.room ≡ true → is_draining s sub hash owner ≡ false → ⊥) → NoneFree s sub hash
-owner_must_wait s sub hash owner seen owned there waits m take =
-    let found : find (is_member owner) (members_of s sub.name) ≡ Some m = sym (owner_is s sub hash owner owned) ∙ take.owner in
-    let is : seen ≡ seen_of s sub m = same_Some _ _ (there ∙ ap (option_map (seen_of s sub)) found) in
-    waits (ap (λ (x : Seen). x.room) is ∙ take.room) (ap (is_draining s sub hash) (sym (number_of_found s sub owner m found)) ∙ take.still)
+pub owner_is_full : (s : State) (sub : Subscription) (hash owner : ℕ) (seen : Seen) → Some owner ≡ owner_of sub.shares hash → Some seen ≡ option_map (seen_of s sub) (find (is_member owner) (members_of s sub.name)) → seen.room ≡ false → HasNoRoomyOwner s sub hash
+owner_is_full s sub hash owner seen owned there full m is room =
+    let found : find (is_member owner) (members_of s sub.name) ≡ Some m = sym (owner_is s sub hash owner owned) ∙ is in
+    let same : seen ≡ seen_of s sub m = same_Some _ _ (there ∙ ap (option_map (seen_of s sub)) found) in
+    true≢false (sym room ∙ sym (ap (λ (x : Seen). x.room) same) ∙ full)
+
+-- the owner with room, of a hash that does not drain
+pub free_for : (s : State) (sub : Subscription) (hash owner : ℕ) → IsRoomyOwner s sub hash owner → is_draining s sub hash owner ≡ false → IsFreeFor s sub hash owner
+free_for s sub hash owner at not_draining =
+    (at.0, at.1, record { owner = at.2; room = at.3; still = ap (is_draining s sub hash) at.1 ∙ not_draining })
+
+pub not_roomy : (s : State) (sub : Subscription) (hash : ℕ) → HasNoRoomyOwner s sub hash → NoneFree s sub hash
+not_roomy s sub hash none m take = none m take.owner take.room
+
+pub not_still : (s : State) (sub : Subscription) (hash owner : ℕ) → IsRoomyOwner s sub hash owner → is_draining s sub hash owner ≡ true → NoneFree s sub hash
+not_still s sub hash owner at draining m take =
+    let same : at.0 ≡ m = same_Some _ _ (sym at.2 ∙ take.owner) in
+    true≢false (sym draining ∙ ap (is_draining s sub hash) (sym at.1 ∙ ap (λ (x : Member). x.number) same) ∙ take.still)
+
+-- a hash that somebody owns has a number in its share
+pub owner_number : (s : State) (sub : Subscription) (hash : ℕ) (m : Member) → owner_at s sub hash ≡ Some m → owner_of sub.shares hash ≡ Some m.number
+owner_number s sub hash m is = by (owner_of sub.shares hash) refl is
+  where
+    by : (o : Option ℕ) → owner_of sub.shares hash ≡ o → option_and_then (λ (number : ℕ). find (λ m. is_at sub.name m && is_member number m) s.members) o ≡ Some m → owner_of sub.shares hash ≡ Some m.number
+    by None _ never = absurd (none-some m never)
+    by (Some number) owned found =
+        owned ∙ ap Some (sym (number_of_found s sub number m (sym (find-filter (is_at sub.name) (is_member number) s.members) ∙ found)))
+
+-- of the hashes of one consumer all have an owner with room, or none
+pub full_alike : (s : State) (sub : Subscription) (bs : List Block) (h k consumer : ℕ) → bs ≡ sub.shares → owner_of bs h ≡ Some consumer → owner_of bs k ≡ Some consumer → HasNoRoomyOwner s sub h → HasNoRoomyOwner s sub k
+full_alike s sub bs h k consumer same at_h at_k none m is room =
+    none m (ap (option_and_then (λ (number : ℕ). find (λ m. is_at sub.name m && is_member number m) s.members)) (at_sub h at_h ∙ sym (at_sub k at_k)) ∙ is) room
+  where
+    at_sub : (j : ℕ) → owner_of bs j ≡ Some consumer → owner_of sub.shares j ≡ Some consumer
+    at_sub j at = sym (ap (λ (xs : List Block). owner_of xs j) same) ∙ at

@@ -8,20 +8,17 @@ use Rattle.std.proofs.lemmas.Option.{slice_get_cases}
 use Rattle.position_core.specs.declared.kind.Kind.{Kind}
 use Rattle.position_core.specs.declared.kind.Kind.TheVariants.{KeyShared}
 use Rattle.position_core.specs.declared.message.Entry.{Entry}
-use Rattle.delivery_machine.specs.State.{State, Subscription, Member}
+use Rattle.delivery_machine.specs.State.{State, Subscription}
 use Rattle.delivery_machine.specs.Words.{is_waiting, hash_of, waits_with_hash, visible, ChoosesBy, IsNextOfItsHash, NoneEligible}
 use Rattle.dispatch_core.specs.Log.{IsReadyAt, IsNextReady, NoneReady}
 use Rattle.dispatch_core.specs.Offers.{IsGoodOffer}
 use Rattle.dispatch_core.proofs.Ready.{waits_at-visible}
-use Rattle.dispatch_keyed.specs.Hashes.{hash_at, MayTake, IsFreeFor, NoneFree}
+use Rattle.hash_rows.specs.Hashes.{hash_at}
+use Rattle.dispatch_keyed.specs.Hashes.{MayTake, IsFreeFor, NoneFreeBefore}
 use Rattle.delivery_machine.proofs.Firsts.{found_somewhere}
 use Rattle.dispatch_keyed.proofs.Owners.{hash_at-visible}
 
 -- ---- as the waiting messages are gone through
-
--- of the hashes of the first messages that wait, none may be served
-abbrev pub NoneFreeBefore : State → Subscription → ℕ → Type 0
-NoneFreeBefore s sub from = (k : ℕ) → k < from → IsReadyAt s sub k → NoneFree s sub (hash_at s k)
 
 pub none_ready_past : (s : State) (sub : Subscription) (from : ℕ) → length (visible s) ≤ from → NoneReady s sub from
 none_ready_past s sub from past k after ready = omega (arith, ready.seen)
@@ -29,28 +26,27 @@ none_ready_past s sub from past k after ready = omega (arith, ready.seen)
 -- ---- eligible pairs
 
 -- no earlier message of its hash waits
-first_of_hash : (s : State) (sub : Subscription) (from i : ℕ) (e : Entry) (m : Member) → IsNextReady s sub from i → NoneFreeBefore s sub from → i < length (visible s) → get_or (visible s) i e ≡ e → MayTake s sub (hash_of e) m → find (waits_with_hash sub (hash_of e)) (visible s) ≡ Some e
-first_of_hash s sub from i e m next none seen there take =
+abbrev pub IsFirstOfItsHash : State → Subscription → ℕ → Type 0
+IsFirstOfItsHash s sub i = IsReadyAt s sub i × ((k : ℕ) → k < i → IsReadyAt s sub k → hash_at s k ≡ hash_at s i → ⊥)
+
+first_of_hash : (s : State) (sub : Subscription) (i : ℕ) (e : Entry) → IsFirstOfItsHash s sub i → i < length (visible s) → get_or (visible s) i e ≡ e → find (waits_with_hash sub (hash_of e)) (visible s) ≡ Some e
+first_of_hash s sub i e first seen there =
     found_at (find (waits_with_hash sub (hash_of e))) (waits_with_hash sub (hash_of e)) Some None refl (λ _ _. refl) (visible s) i e seen
     (λ k below. false_from_ne_true _ (λ passes. not_before k below (omega arith) (and_parts (is_waiting sub (get_or (visible s) k e)) (hash_of (get_or (visible s) k e) == hash_of e) passes)))
     (ap (waits_with_hash sub (hash_of e)) there ∙ and_from (is_waiting sub e) (hash_of e == hash_of e) waits (eq-eqb (hash_of e) (hash_of e) refl))
     ∙ ap Some there
   where
     waits : is_waiting sub e ≡ true
-    waits = ap (is_waiting sub) (sym there) ∙ sym (waits_at-visible s sub i e seen) ∙ next.ready.waits
+    waits = ap (is_waiting sub) (sym there) ∙ sym (waits_at-visible s sub i e seen) ∙ first.0.waits
 
     not_before : (k : ℕ) → k < i → k < length (visible s) → (is_waiting sub (get_or (visible s) k e) ≡ true) × ((hash_of (get_or (visible s) k e) == hash_of e) ≡ true) → ⊥
     not_before k below within passes =
-        let ready : IsReadyAt s sub k = record { seen = within; waits = waits_at-visible s sub k e within ∙ passes.0 } in
-        let same : hash_of e ≡ hash_at s k = sym (hash_at-visible s k e within ∙ eqb-true _ _ passes.1) in
-        elim (cases_lt k from) [
-          | inl earlier ↦ none k earlier ready m (subst (λ (h : ℕ). MayTake s sub h m) same take)
-          | inr later ↦ omega (arith, next.least k later ready)
-        ]
+        first.1 k below (record { seen = within; waits = waits_at-visible s sub k e within ∙ passes.0 })
+        (hash_at-visible s k e within ∙ eqb-true _ _ passes.1 ∙ sym (hash_at-visible s i e seen ∙ ap hash_of there))
 
--- the next message that waits may be sent to the owner of its hash
-pub good_offer : (s : State) (sub : Subscription) (from i consumer : ℕ) → sub.kind ≡ KeyShared → IsNextReady s sub from i → NoneFreeBefore s sub from → IsFreeFor s sub (hash_at s i) consumer → IsGoodOffer s sub (record { index = i; consumer = consumer })
-good_offer s sub from i consumer kind next none free =
+-- the first of its hash may be sent to the owner
+pub good_first : (s : State) (sub : Subscription) (i consumer : ℕ) → sub.kind ≡ KeyShared → IsFirstOfItsHash s sub i → IsFreeFor s sub (hash_at s i) consumer → IsGoodOffer s sub (record { index = i; consumer = consumer })
+good_first s sub i consumer kind first free =
     elim (slice_get_cases (visible s) i).1 [
       | inl at ↦
           let take : MayTake s sub (hash_of at.0) free.0 =
@@ -61,10 +57,20 @@ good_offer s sub from i consumer kind next none free =
             number = free.1;
             eligible = (
               take.room,
-              subst (λ (k : Kind). ChoosesBy k s sub at.0 free.0) (sym kind) (first_of_hash s sub from i at.0 free.0 next none at.1 at.3 take, take.owner, take.still),
+              subst (λ (k : Kind). ChoosesBy k s sub at.0 free.0) (sym kind) (first_of_hash s sub i at.0 first at.1 at.3, take.owner, take.still),
             );
           }
-      | inr past ↦ absurd (omega (arith, past.0, next.ready.seen))
+      | inr past ↦ absurd (omega (arith, past.0, first.0.seen))
+    ]
+
+-- the next message that waits, where none of the earlier ones may be sent
+pub good_offer : (s : State) (sub : Subscription) (from i consumer : ℕ) → sub.kind ≡ KeyShared → IsNextReady s sub from i → NoneFreeBefore s sub from → IsFreeFor s sub (hash_at s i) consumer → IsGoodOffer s sub (record { index = i; consumer = consumer })
+good_offer s sub from i consumer kind next none free = good_first s sub i consumer kind (next.ready, earlier) free
+  where
+    earlier : (k : ℕ) → k < i → IsReadyAt s sub k → hash_at s k ≡ hash_at s i → ⊥
+    earlier k below ready same = elim (cases_lt k from) [
+      | inl sooner ↦ none k sooner ready free.0 (subst (λ (h : ℕ). MayTake s sub h free.0) (sym same) free.2)
+      | inr later ↦ omega (arith, below, next.least k later ready)
     ]
 
 -- no message waits any more

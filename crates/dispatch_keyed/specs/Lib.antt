@@ -1,1 +1,4 @@
 pub mod Hashes
+pub mod Owning
+pub mod Agreeing
+pub mod Resharing

@@ -1,7 +1,15 @@
 //! The dispatcher of Key_Shared subscriptions: the messages of one hash to one member at a time.
 #![tactic(auto)]
 
+mod changing;
+mod dispatching;
 mod hashes;
 mod keyed;
+mod looking;
+mod offering;
+mod renewing;
+mod resharing;
+mod rows;
+mod seats;
 
 pub use keyed::Keyed;

@@ -4,6 +4,7 @@ use Rattle.delivery_machine.specs.State.{State, Subscription}
 use Rattle.dispatch_core.specs.Changes.{Kept, Appended, TakenBack}
 use Rattle.waiting_places.proofs.Telling.{tells-kept, tells-appended, tells-taken_back}
 use Rattle.dispatch_single.proofs.Agreeing.{agrees-with}
+use Rattle.dispatch_keyed.proofs.Agreed.{agrees_kept, agrees_appended, agrees_taken_back}
 use Rattle.dispatchers.specs.declared.dispatch.Dispatch.{Dispatch}
 use Rattle.dispatchers.specs.declared.dispatch.Dispatch.TheVariants.{InOrder, InTurn, ByKey}
 use Rattle.dispatchers.specs.Agreeing.{agrees}
@@ -16,7 +17,7 @@ module _ (s : State) (sub : Subscription) (t : State) (new : Subscription) where
     waiting = tells-kept d.waiting s sub t new agreed.waiting change;
     line = agreed.line ∙ sym change.line;
   }
-  agrees-kept (ByKey d) change agreed = (change.kind ∙ agreed.0, agreed.1 ∙ sym change.shares)
+  agrees-kept (ByKey d) change agreed = agrees_kept d s sub t new agreed change
 
   -- none keeps anything of a message that nobody has seen
   pub agrees-appended : (d : Dispatch) → Appended s sub t new → agrees d s sub → agrees d t new
@@ -26,7 +27,7 @@ module _ (s : State) (sub : Subscription) (t : State) (new : Subscription) where
     waiting = tells-appended d.waiting s sub t new agreed.waiting change;
     line = agreed.line ∙ sym change.line;
   }
-  agrees-appended (ByKey d) change agreed = (change.kind ∙ agreed.0, agreed.1 ∙ sym change.shares)
+  agrees-appended (ByKey d) change agreed = agrees_appended d s sub t new agreed change
 
   pub agrees-taken_back : (d : Dispatch) → TakenBack s sub t new → agrees d s sub → agrees d t new
   agrees-taken_back (InOrder d) change agreed = agrees-with d s sub agreed t new d.waiting (sym change.appended.kind) (sym change.appended.line) (tells-taken_back d.waiting s sub t new agreed.waiting change)
@@ -35,4 +36,4 @@ module _ (s : State) (sub : Subscription) (t : State) (new : Subscription) where
     waiting = tells-taken_back d.waiting s sub t new agreed.waiting change;
     line = agreed.line ∙ change.appended.line;
   }
-  agrees-taken_back (ByKey d) change agreed = (sym change.appended.kind ∙ agreed.0, agreed.1 ∙ change.appended.shares)
+  agrees-taken_back (ByKey d) change agreed = agrees_taken_back d s sub t new agreed change

@@ -16,3 +16,4 @@ pub mod Leaving
 pub mod Chaining
 pub mod Opening
 pub mod Offered
+pub mod Then

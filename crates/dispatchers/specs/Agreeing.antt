@@ -1,9 +1,8 @@
 -- When a dispatcher agrees with the topic.
 use Rattle.delivery_machine.specs.State.{State, Subscription}
-use Rattle.position_core.specs.declared.kind.Kind.TheVariants.{KeyShared}
-use Rattle.std.specs.Prelude.{◌≡◌}
 use Rattle.dispatch_single.specs.InOrder as in_order
 use Rattle.dispatch_shared.specs.Turn as in_turn
+use Rattle.dispatch_keyed.specs.Agreeing as by_key
 use Rattle.dispatchers.specs.declared.dispatch.Dispatch.{Dispatch}
 use Rattle.dispatchers.specs.declared.dispatch.Dispatch.TheVariants.{InOrder, InTurn, ByKey}
 
@@ -11,4 +10,4 @@ use Rattle.dispatchers.specs.declared.dispatch.Dispatch.TheVariants.{InOrder, In
 abbrev pub agrees : Dispatch → State → Subscription → Type 0
 agrees (InOrder d) s sub = in_order.Agrees d s sub
 agrees (InTurn d) s sub = in_turn.Agrees d s sub
-agrees (ByKey d) s sub = (sub.kind ≡ KeyShared) × (d ≡ sub.shares)
+agrees (ByKey d) s sub = by_key.Agrees d s sub

@@ -49,6 +49,18 @@ impl Dispatch {
         }
     }
 
+    /// Reads the messages that came since the last offer, where the kind keeps tables of them. Where
+    /// there is no memory it has read some of them.
+    pub fn look<V: View>(&mut self, view: &V) -> Result<(), Fault>
+        ensures agrees { agrees self.old (V.state view.now) (V.subscription view.now) → agrees self.new (V.state view.now) (V.subscription view.now) }
+        ensures err { IfErr result (λ fault. fault ≡ NoMemory) }
+    {
+        match self {
+            Dispatch::InOrder(_) | Dispatch::InTurn(_) => Ok(()),
+            Dispatch::ByKey(d) => d.look(view),
+        }
+    }
+
     /// A message and a member that it may be sent to. None where there is no such pair.
     pub fn offer<V: View>(&self, view: &V) -> Option<Offer>
         requires { agrees self.now (V.state view.now) (V.subscription view.now) }

@@ -18,6 +18,11 @@ shares_from from (e ∷ es) = share_between from e.0 e.1 ∷ shares_from e.0 es
 abbrev pub shares_of : List (ℕ × ConsumerNumber) → List Block
 shares_of ends = shares_from 0 ends
 
+-- where the share of the hash begins: at the last end that is not behind it, or at `from`
+abbrev pub begin_from : ℕ → ℕ → List (ℕ × ConsumerNumber) → ℕ
+begin_from from hash [] = from
+begin_from from hash (e ∷ es) = if nat_le e.0 hash then begin_from e.0 hash es else from
+
 -- the ends rise above `from`, and the last is 65,536
 abbrev pub Rise : ℕ → List (ℕ × ConsumerNumber) → Type 0
 Rise from [] = from ≡ 65536

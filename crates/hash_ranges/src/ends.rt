@@ -1,8 +1,8 @@
 // The shares, by where they end: each begins where the one before it ends.
 ghost use Rattle.std.specs.Prelude.{◌≡◌, [], ◌∷◌, IfSome, IfNone};
 ghost use Rattle.std.specs.List.{find};
-ghost use Rattle.delivery_machine.specs.Shares.{owner_of, is_share_of};
-ghost use Rattle.hash_ranges.specs.Ends.{shares_of, largest_of, SplitAll};
+ghost use Rattle.delivery_machine.specs.Shares.{has_hash, owner_of, is_share_of};
+ghost use Rattle.hash_ranges.specs.Ends.{begin_from, shares_of, largest_of, SplitAll};
 
 use crate::share::{larger, share_between};
 use position_core::{Block, ConsumerNumber};
@@ -48,6 +48,31 @@ pub(crate) fn share_of(
         from = end;
     }
     None
+}
+
+/// Where the share of the hash begins.
+fn begin_of(ends: &BTreeMap<u32, ConsumerNumber>, hash: u16) -> u32
+    requires { SplitAll ends.now.entries }
+    ensures { result ≡ begin_from 0 hash ends.now.entries }
+{
+    match ends.range(..=u32::from(hash)).next_back() {
+        Some((end, _)) => *end,
+        None => 0,
+    }
+}
+
+/// The share that the hash is in: from the last end that is not behind the hash to the first that is.
+pub(crate) fn share_at(ends: &BTreeMap<u32, ConsumerNumber>, hash: u16) -> Option<Block>
+    requires { SplitAll ends.now.entries }
+    ensures value { result ≡ find (has_hash hash) (shares_of ends.now.entries) }
+    ensures whole { IfNone result (shares_of ends.now.entries ≡ []) }
+{
+    let from = begin_of(ends, hash);
+    let behind = u32::from(hash) + 1;
+    match ends.range(behind..).next() {
+        Some((end, consumer)) => Some(share_between(from, *end, *consumer)),
+        None => None,
+    }
 }
 
 /// The first of the largest shares. Goes over the ends.

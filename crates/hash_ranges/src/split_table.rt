@@ -1,7 +1,7 @@
 // Who gets which hashes, as consumers come and go.
 ghost use Rattle.std.specs.Prelude.{◌≡◌, [], OnOk, OnErr, IfNone};
 ghost use Rattle.std.specs.List.{find};
-ghost use Rattle.delivery_machine.specs.Shares.{is_share_of, owner_of, shared_out, given_back, SplitAllHashes};
+ghost use Rattle.delivery_machine.specs.Shares.{has_hash, is_share_of, owner_of, shared_out, given_back, SplitAllHashes};
 
 use crate::{ends, row};
 use position_core::{Block, ConsumerNumber};
@@ -74,5 +74,14 @@ impl SplitTable {
         ensures { result ≡ find (is_share_of consumer) self.now }
     {
         ends::share_of(&self.ends, consumer)
+    }
+
+    /// The share that the hash is in: there is one as long as any consumer is there.
+    pub fn share_at(&self, hash: u16) -> Option<Block>
+        ensures value { result ≡ find (has_hash hash) self.now }
+        ensures whole { IfNone result (self.now ≡ []) }
+        ensures split { SplitAllHashes self.now }
+    {
+        ends::share_at(&self.ends, hash)
     }
 }

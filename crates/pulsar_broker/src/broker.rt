@@ -5,7 +5,6 @@ use crate::arguments::Asked;
 use broker_dir::{Directory, Open, Terms};
 use kept_rows::{Note, Notes};
 use marks::{Naming, Unnamed};
-use plain_topic::PlainTopic;
 use position_core::LedgerSize;
 use row_store::Keeper;
 use sqlite::{Alter, Connection};
@@ -16,6 +15,7 @@ use std::net::{Net, TcpListener, TcpStream};
 use std::rt::Clock;
 use std::sync::{Arc, Wait};
 use std::thread::Threads;
+use topic_core::TopicCore;
 use topic_shared::{LineLimit, SeatCount};
 use worker_pool::{Ended, Limits, Place, serve};
 
@@ -82,7 +82,7 @@ fn serve_named<
         return Fate::CannotServe;
     };
     let directory = Directory::open(alloc, keeper, terms);
-    let place: Place<PlainTopic, S, J, Open> = Place::new(directory, Open);
+    let place: Place<TopicCore, S, J, Open> = Place::new(directory, Open);
     let Ok(place) = Arc::new(alloc, place) else {
         return Fate::CannotServe;
     };

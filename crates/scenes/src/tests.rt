@@ -15,3 +15,4 @@ mod subscription;
 mod tables;
 mod topic;
 mod view;
+mod view_calls;

@@ -14,14 +14,14 @@ const COUNT: u64 = 1_000;
 
 /// A view over lists that counts what it is asked, and the messages that it goes over.
 #[derive(Drop)]
-struct CountedView<'a> {
+pub(super) struct CountedView<'a> {
     list: ListView<'a>,
-    calls: Cell<u64>,
-    passed: Cell<u64>,
+    pub(super) calls: Cell<u64>,
+    pub(super) passed: Cell<u64>,
 }
 
 impl<'a> CountedView<'a> {
-    fn new(list: ListView<'a>) -> Self {
+    pub(super) fn new(list: ListView<'a>) -> Self {
         CountedView {
             list,
             calls: Cell::new(0),
@@ -59,7 +59,8 @@ impl View for CountedView<'_> {
 
     fn next_waiting(&self, from: LogIndex) -> Option<LogIndex> {
         let next = self.list.next_waiting(from);
-        self.count(next.unwrap_or(COUNT).saturating_sub(from));
+        let passed = next.unwrap_or(self.list.visible()).saturating_sub(from);
+        self.count(passed);
         next
     }
 
@@ -74,17 +75,28 @@ impl View for CountedView<'_> {
     }
 }
 
-/// All messages but the last are sent to the one member, and the dispatcher is told of each.
-fn sent<R: Abort + AllocGlobal, D: Dispatcher>(rt: &R, kind: Kind, dispatcher: &mut D) -> Topic {
-    let mut topic = Topic::long(rt, kind, COUNT);
-    let done = dispatcher.on_join(&topic.view(), 1);
-    done.expect(rt, "no memory");
-    for index in 0..COUNT - 1 {
+/// So many messages are sent to the first member, and the dispatcher is told of each.
+pub(super) fn send_first<R: Abort, D: Dispatcher>(
+    rt: &R,
+    begun: Topic,
+    dispatcher: &mut D,
+    count: u64,
+) -> Topic {
+    let mut topic = begun;
+    for index in 0..count {
         topic = topic.hold(rt, index, 1);
         let done = dispatcher.on_sent(&topic.view(), index, 1);
         done.expect(rt, "no memory");
     }
     topic
+}
+
+/// All messages but the last are sent to the one member.
+fn sent<R: Abort + AllocGlobal, D: Dispatcher>(rt: &R, kind: Kind, dispatcher: &mut D) -> Topic {
+    let topic = Topic::long(rt, kind, COUNT);
+    let done = dispatcher.on_join(&topic.view(), 1);
+    done.expect(rt, "no memory");
+    send_first(rt, topic, dispatcher, COUNT - 1)
 }
 
 fn expect_little<R: Abort>(rt: &R, view: &CountedView<'_>, offer: Option<Offer>) {

@@ -4,24 +4,21 @@
 // The first consumer has all hashes. A further one takes the lower half of the largest share: the
 // second has those below 32,768 then, the third those below 16,384, and the fourth those from 32,768
 // to 49,151.
-ghost use Rattle.std.specs.Prelude.{◌≡◌};
-ghost use Rattle.position_core.specs.declared.kind.Kind.TheVariants.{KeyShared};
-
 use super::scene::{Change, Scene, Stage, play};
 use super::subscription::Only;
 use super::topic::Topic;
-use dispatch_core::{Dispatcher, Offer};
+use crate::ListView;
+use dispatch_core::{Dispatcher, Offer, View};
 use dispatch_keyed::Keyed;
 use position_core::Kind;
 use std::process::Abort;
 
-/// The topic and the dispatcher, which agree.
+/// The topic and its dispatcher, which is told of each change but one, and has looked at what is
+/// visible.
 #[derive(Drop)]
 struct KeyedStage {
     topic: Topic,
     dispatcher: Keyed,
-    ghost key_shared: { topic.only.subscription.kind ≡ KeyShared },
-    ghost agreed: { dispatcher ≡ topic.only.subscription.shares },
 }
 
 impl KeyedStage {
@@ -32,68 +29,67 @@ impl KeyedStage {
         KeyedStage { topic, dispatcher }
     }
 
-    fn join<R: Abort + AllocGlobal>(self, rt: &R, consumer: u64, window: u32) -> Self {
+    /// As it is when the change is made.
+    fn before<R: Abort + AllocGlobal>(self, rt: &R, change: Change) -> Self {
+        match change {
+            Change::Left(consumer) => self.release(rt, consumer),
+            _ => self,
+        }
+    }
+
+    /// What is pending at the consumer waits again.
+    fn release<R: Abort + AllocGlobal>(self, rt: &R, consumer: u64) -> Self {
         let KeyedStage {
-            topic,
+            mut topic,
             mut dispatcher,
         } = self;
-        let topic = topic.join(rt, consumer, window);
-        let done = dispatcher.on_join(&topic.view(), consumer);
-        done.expect(rt, "no memory");
-        KeyedStage { topic, dispatcher }
-    }
-
-    fn leave(self, consumer: u64) -> Self {
-        let KeyedStage {
-            topic,
-            mut dispatcher,
-        } = self;
-        let topic = topic.leave(consumer);
-        dispatcher.on_leave(&topic.view(), consumer);
-        KeyedStage { topic, dispatcher }
-    }
-
-    fn send<R: Abort>(self, rt: &R, offer: Option<Offer>) -> Self {
-        let KeyedStage { topic, dispatcher } = self;
-        let topic = topic.send(rt, offer);
-        KeyedStage { topic, dispatcher }
-    }
-
-    fn hold<R: Abort>(self, rt: &R, index: u64, consumer: u64) -> Self {
-        let KeyedStage { topic, dispatcher } = self;
-        let topic = topic.hold(rt, index, consumer);
-        KeyedStage { topic, dispatcher }
-    }
-
-    fn acknowledge<R: Abort>(self, rt: &R, index: u64) -> Self {
-        let KeyedStage { topic, dispatcher } = self;
-        let topic = topic.acknowledge(rt, index);
-        KeyedStage { topic, dispatcher }
-    }
-
-    fn permit<R: Abort>(self, rt: &R, consumer: u64, number: u32) -> Self {
-        let KeyedStage { topic, dispatcher } = self;
-        let topic = topic.permit(rt, consumer, number);
+        for index in 0..topic.view().length() {
+            if topic.view().holder(index) == Some(consumer) {
+                topic = topic.release(rt, index);
+                dispatcher.on_released(&topic.view(), index);
+            }
+        }
         KeyedStage { topic, dispatcher }
     }
 }
 
-/// The dispatcher keeps only shares, so it is told of joining and leaving alone.
+/// Tells of a change that was made.
+fn tell<R: Abort>(
+    rt: &R,
+    dispatcher: &mut Keyed,
+    view: &ListView<'_>,
+    change: Change,
+    offer: Option<Offer>,
+) {
+    let done = match change {
+        Change::Joined(consumer, _) => dispatcher.on_join(view, consumer),
+        Change::Left(consumer) => Ok(dispatcher.on_leave(view, consumer)),
+        Change::Sent => {
+            let Offer { index, consumer } = offer.expect(rt, "nothing is offered");
+            dispatcher.on_sent(view, index, consumer)
+        }
+        Change::Held(index, consumer) => dispatcher.on_sent(view, index, consumer),
+        Change::Acknowledged(index) => Ok(dispatcher.on_gone(view, index)),
+        Change::Begun | Change::SentUntold | Change::Permitted(_, _) => Ok(()),
+    };
+    done.expect(rt, "no memory");
+}
+
 impl Stage for KeyedStage {
     fn offer(&self) -> Option<Offer> {
         self.dispatcher.offer(&self.topic.view())
     }
 
     fn make<R: Abort + AllocGlobal>(self, rt: &R, change: Change, offer: Option<Offer>) -> Self {
-        match change {
-            Change::Begun => self,
-            Change::Joined(consumer, window) => self.join(rt, consumer, window),
-            Change::Left(consumer) => self.leave(consumer),
-            Change::Sent | Change::SentUntold => self.send(rt, offer),
-            Change::Held(index, consumer) => self.hold(rt, index, consumer),
-            Change::Acknowledged(index) => self.acknowledge(rt, index),
-            Change::Permitted(consumer, number) => self.permit(rt, consumer, number),
-        }
+        let KeyedStage {
+            topic,
+            mut dispatcher,
+        } = self.before(rt, change);
+        let topic = topic.make(rt, change, offer);
+        let view = topic.view();
+        tell(rt, &mut dispatcher, &view, change, offer);
+        dispatcher.look(&view).expect(rt, "no memory");
+        KeyedStage { topic, dispatcher }
     }
 }
 

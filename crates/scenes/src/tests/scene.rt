@@ -14,7 +14,7 @@ pub(super) enum Change {
     Sent,
     /// So, and the dispatcher is not told.
     SentUntold,
-    /// The message of the index is pending at the consumer, and the dispatcher is not told.
+    /// The message of the index is pending at the consumer. Only the dispatcher of Key_Shared is told.
     Held(u64, u64),
     /// The message of the index is acknowledged.
     Acknowledged(u64),

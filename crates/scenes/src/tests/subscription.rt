@@ -84,6 +84,14 @@ impl Only {
         Only { subscription }
     }
 
+    /// With the message, which is pending, waiting again.
+    pub(super) fn releasing<R: Abort + AllocGlobal>(self, rt: &R, index: u64) -> Self {
+        let Only { mut subscription } = self;
+        let done = subscription.redeliver(rt.alloc(), &[position_at(index)]);
+        done.expect(rt, "no memory");
+        Only { subscription }
+    }
+
     /// With the message acknowledged.
     pub(super) fn acknowledging<R: Abort>(self, rt: &R, index: u64) -> Self
         ensures { (result.subscription.kind ≡ self.subscription.kind) × (result.subscription.shares ≡ self.subscription.shares) }

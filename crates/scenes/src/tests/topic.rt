@@ -45,19 +45,32 @@ impl Topic {
             let message = message_at(rt, position_at(index), None);
             log.push(message).expect(rt, "no memory");
         }
-        let mut members = Vec::new(rt.alloc());
-        let member = new_member(rt, 1, 0, Takes::Pushed(100_000));
-        members.push(member).expect(rt, "no memory");
+        Topic::of(rt, kind, log).join(rt, 1, 100_000)
+    }
+
+    /// A topic of these messages, which are all visible, and of nobody.
+    pub(super) fn of<R: Abort + AllocGlobal>(rt: &R, kind: Kind, log: Vec<Message>) -> Self
+        ensures begun { (result.only.subscription.kind ≡ kind) × (result.only.subscription.shares ≡ []) }
+        ensures nobody { result.members.items ≡ [] }
+    {
         Topic {
             durable: log.len(),
             log,
-            members,
+            members: Vec::new(rt.alloc()),
             only: Only::new(rt, kind),
         }
     }
 
+    /// So that so many messages are visible.
+    pub(super) fn shown(self, durable: usize) -> Self
+        ensures { (result.only ≡ self.only) × (result.members.items ≡ self.members.items) }
+    {
+        Topic { durable, ..self }
+    }
+
     pub(super) fn view(&self) -> ListView<'_>
-        ensures { result.subscription.now ≡ self.now.only.subscription }
+        ensures subscription { result.subscription.now ≡ self.now.only.subscription }
+        ensures members { result.members.now ≡ self.now.members.items }
     {
         ListView {
             log: self.log.as_slice(),
@@ -115,6 +128,12 @@ impl Topic {
             only,
             ..self
         }
+    }
+
+    /// The message, which is pending, waits again.
+    pub(super) fn release<R: Abort + AllocGlobal>(self, rt: &R, index: u64) -> Self {
+        let only = self.only.releasing(rt, index);
+        Topic { only, ..self }
     }
 
     pub(super) fn acknowledge<R: Abort>(self, rt: &R, index: u64) -> Self

@@ -1,12 +1,12 @@
 // What the tests ask of a topic, and the events that say it.
 use delivery_machine::{Event, Flow, Initial, Kind};
-use plain_topic::PlainTopic;
 use position_core::{
     Base, Body, Content, LedgerSize, Level, Millis, Moment, Name, Payload, ProducerName,
     Properties, RedeliverLimit, SubscriptionName, TopicName, WindowSize,
 };
 use std::process::Abort;
 use std::sync::ArcStr;
+use topic_core::TopicCore;
 
 /// What a caller asks for; its name is its producer's and its subscription's.
 #[derive(Clone, Copy)]

@@ -4,7 +4,6 @@ ghost use Rattle.delivery_machine.specs.State.{fresh};
 
 use super::asks::{Ask, event_of, name, size};
 use delivery_machine::{Deliveries, Event, Reply};
-use plain_topic::PlainTopic;
 use std::alloc::AllocError;
 use std::marker::Brand;
 use std::process::Abort;
@@ -13,6 +12,7 @@ use std::sync::ledger::Blank;
 use std::test::Fail;
 use std::thread;
 use std::thread::Threads;
+use topic_core::TopicCore;
 use topic_shared::{Journal, LineLimit, Opening, Receipt, Seat, SeatCount, SharedTopic};
 
 const THREADS: u32 = 8;
@@ -45,7 +45,7 @@ impl<L: Opening> Worked<L> {
     fn call<R: Wait + Abort + AllocGlobal>(
         &mut self,
         rt: &R,
-        topic: &SharedTopic<PlainTopic, L>,
+        topic: &SharedTopic<TopicCore, L>,
         ask: Ask,
     ) -> bool {
         let event = event_of(rt, self.who, ask);
@@ -92,7 +92,7 @@ fn own(copies: &Deliveries, who: &str) -> usize {
 
 fn work<L: Opening, R: Wait + Abort + AllocGlobal>(
     rt: &R,
-    topic: &SharedTopic<PlainTopic, L>,
+    topic: &SharedTopic<TopicCore, L>,
     which: usize,
 ) -> Worked<L> {
     let mut done = Worked {
@@ -132,7 +132,7 @@ trait Job {
     fn go<R: Wait + Abort + AllocGlobal>(&self, rt: &R, which: usize) -> Self::Out;
 }
 
-impl<L: Opening + Send + Sync> Job for SharedTopic<PlainTopic, L> {
+impl<L: Opening + Send + Sync> Job for SharedTopic<TopicCore, L> {
     type Out = Worked<L>;
 
     fn go<R: Wait + Abort + AllocGlobal>(&self, rt: &R, which: usize) -> Worked<L> {
@@ -179,7 +179,7 @@ fn check<R: Abort + AllocGlobal>(rt: &R, journal: &Journal, who: &str, call: Ans
 
 fn run<L: Opening + Send + Sync, R: Threads + Wait + Abort + AllocGlobal + Sync>(
     rt: &R,
-    base: PlainTopic,
+    base: TopicCore,
     blank: Blank,
     seats: SeatCount,
 ) -> Result<(), Fail>
@@ -188,8 +188,8 @@ fn run<L: Opening + Send + Sync, R: Threads + Wait + Abort + AllocGlobal + Sync>
     requires nobody { (base.producers ≡ []) × (base.members ≡ []) }
 {
     let limit = LineLimit::new(100_000).expect(rt, "a limit");
-    let topic = SharedTopic::<PlainTopic, L>::open(rt.alloc(), base, blank, limit, seats)?;
-    let works = by_all::<SharedTopic<PlainTopic, L>, R>(rt, &topic)?;
+    let topic = SharedTopic::<TopicCore, L>::open(rt.alloc(), base, blank, limit, seats)?;
+    let works = by_all::<SharedTopic<TopicCore, L>, R>(rt, &topic)?;
     let mut handed = Vec::new(rt.alloc());
     let mut lists = Vec::new(rt.alloc());
     for work in works {
@@ -214,6 +214,6 @@ fn run<L: Opening + Send + Sync, R: Threads + Wait + Abort + AllocGlobal + Sync>
 #[test]
 fn receipts(rt: HostRuntime) -> Result<(), Fail> {
     let seats = SeatCount::new(THREADS).expect(&rt, "seats");
-    let base = PlainTopic::new(rt.alloc(), name(&rt), size(&rt));
+    let base = TopicCore::new(rt.alloc(), name(&rt), size(&rt));
     run::<Brand, HostRuntime>(&rt, base, Blank::new(u64::from(THREADS)), seats)
 }

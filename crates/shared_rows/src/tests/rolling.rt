@@ -1,13 +1,13 @@
 // Threads at one cell, of which some begin the journal anew between the others' calls.
 use super::asks::{Ask, event_of, name, size};
 use delivery_machine::Reply;
-use plain_topic::PlainTopic;
 use std::alloc::AllocError;
 use std::process::Abort;
 use std::sync::{Mutex, Wait};
 use std::test::Fail;
 use std::thread;
 use std::thread::Threads;
+use topic_core::TopicCore;
 use topic_shared::{Cell, LineLimit, SeatCount};
 
 static NAMES: [&str; 4] = ["a", "b", "c", "d"];
@@ -32,7 +32,7 @@ fn length_in(reply: &Reply) -> u64 {
 
 fn asked<R: Wait + Abort + AllocGlobal>(
     rt: &R,
-    cell: &Mutex<Cell<PlainTopic>>,
+    cell: &Mutex<Cell<TopicCore>>,
     who: &str,
     ask: Ask,
 ) -> Reply {
@@ -46,7 +46,7 @@ trait Job {
     fn go<R: Wait + Abort + AllocGlobal>(&self, rt: &R, which: usize) -> u64;
 }
 
-impl Job for Mutex<Cell<PlainTopic>> {
+impl Job for Mutex<Cell<TopicCore>> {
     /// Publishes, and begins the journal anew now and then.
     fn go<R: Wait + Abort + AllocGlobal>(&self, rt: &R, which: usize) -> u64 {
         let who = NAMES[which % 4];
@@ -73,7 +73,7 @@ fn by_four<X: Job + Sync, R: Threads + Wait + Abort + AllocGlobal + Sync>(
 fn rolls_leave_room_for_all(rt: HostRuntime) -> Result<(), Fail> {
     let limit = LineLimit::new(64).expect(&rt, "a limit");
     let seats = SeatCount::new(4).expect(&rt, "seats");
-    let topic = PlainTopic::new(rt.alloc(), name(&rt), size(&rt));
+    let topic = TopicCore::new(rt.alloc(), name(&rt), size(&rt));
     let cell = Mutex::new(Cell::new(rt.alloc(), topic, limit, seats)?);
     let producers = by_four(&rt, &cell)?;
     for producer in producers {

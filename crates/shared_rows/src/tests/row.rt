@@ -1,9 +1,9 @@
 // A journal of eight lines, which is full after five: one is the topic's own, and two are kept for ends.
 use super::asks::{Ask, event_of, name, size};
 use delivery_machine::{Reply, Saved};
-use plain_topic::PlainTopic;
 use position_core::Fault;
 use std::process::Abort;
+use topic_core::TopicCore;
 use topic_shared::{Cell, LineLimit, SeatCount};
 
 #[derive(Clone, Copy, PartialEq, Eq)]
@@ -26,7 +26,7 @@ fn what_came(reply: &Reply) -> Came {
     }
 }
 
-fn asked<R: Abort + AllocGlobal>(rt: &R, cell: &mut Cell<PlainTopic>, ask: Ask) -> Came {
+fn asked<R: Abort + AllocGlobal>(rt: &R, cell: &mut Cell<TopicCore>, ask: Ask) -> Came {
     match cell.call(1, event_of(rt, "p", ask)) {
         Ok(receipt) => what_came(&receipt.reply),
         Err(Fault::JournalFull) => Came::Full,
@@ -34,10 +34,10 @@ fn asked<R: Abort + AllocGlobal>(rt: &R, cell: &mut Cell<PlainTopic>, ask: Ask) 
     }
 }
 
-fn new_cell<R: Abort + AllocGlobal>(rt: &R, limit: u32) -> Cell<PlainTopic> {
+fn new_cell<R: Abort + AllocGlobal>(rt: &R, limit: u32) -> Cell<TopicCore> {
     let limit = LineLimit::new(limit).expect(rt, "no limit");
     let seats = SeatCount::new(1).expect(rt, "no seats");
-    let topic = PlainTopic::new(rt.alloc(), name(rt), size(rt));
+    let topic = TopicCore::new(rt.alloc(), name(rt), size(rt));
     Cell::new(rt.alloc(), topic, limit, seats).expect(rt, "no memory")
 }
 
@@ -49,7 +49,7 @@ fn publishing(sequence: i64) -> Ask {
 }
 
 /// A cell with a producer, a consumer and three messages.
-fn with_three<R: Abort + AllocGlobal>(rt: &R) -> Cell<PlainTopic> {
+fn with_three<R: Abort + AllocGlobal>(rt: &R) -> Cell<TopicCore> {
     let mut cell = new_cell(rt, 8);
     assert!(rt; asked(rt, &mut cell, Ask::Connect) == Came::Added(1));
     assert!(rt; asked(rt, &mut cell, Ask::Join) == Came::Joined(1));

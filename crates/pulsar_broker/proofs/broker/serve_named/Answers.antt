@@ -1,9 +1,9 @@
 use mir.Syntax.{of_param}
 use denote.Param.{param}
 use denote.Param.Send.{Quiet-if}
-use Rattle.plain_topic.specs.contracts.plain.PlainTopic as Plain
-use Rattle.plain_topic.specs.contracts.plain.PlainTopicTopic.TheImpl as PlainTopic
-use Rattle.plain_topic.proofs.plain.PlainTopic.TheSendSync.{the_send as plain_send}
+use Rattle.topic_core.specs.contracts.topic.TopicCore as Core
+use Rattle.topic_core.specs.contracts.topic.TopicCoreTopic.TheImpl as TopicCore
+use Rattle.topic_core.proofs.topic.TopicCore.TheSendSync.{the_send as core_send}
 use Rattle.broker_dir.specs.contracts.gate.Open as Open
 use Rattle.broker_dir.proofs.gate.Open.TheSendSync.{the_send as open_send, the_sync as open_sync}
 use Rattle.worker_pool.proofs.Crosses.{Place-send, Place-sync}
@@ -12,7 +12,7 @@ use Rattle.pulsar_broker.proofs.broker.serve_named.Goals as goal
 -- nothing is left behind in any field
 pub serve-requires-send-X : goal.serve-requires-send-X
 serve-requires-send-X g c κs within =
-    let place = Place-send Plain.the_row (param 1 g.row.S) (param 2 g.row.J) Open.the_row PlainTopic.ghosts g.S.Store g.J.Naming plain_send c.type_bounds.send-S open_send in
+    let place = Place-send Core.the_row (param 1 g.row.S) (param 2 g.row.J) Open.the_row TopicCore.ghosts g.S.Store g.J.Naming core_send c.type_bounds.send-S open_send in
     record {
       owned = place.owned;
       leaving = λ k. Quiet-if (k (of_param 1)) _ _ (λ x w. ((tt, (tt, (tt, (tt, ((tt, (tt, ((tt, (tt, tt)), tt))), ((tt, tt), tt)))))), tt)) (λ x w. tt);
@@ -20,5 +20,5 @@ serve-requires-send-X g c κs within =
 
 pub serve-requires-sync-X : goal.serve-requires-sync-X
 serve-requires-sync-X g c κs within =
-    let place = Place-sync Plain.the_row (param 1 g.row.S) (param 2 g.row.J) Open.the_row PlainTopic.ghosts g.S.Store g.J.Naming plain_send c.type_bounds.send-S open_sync in
+    let place = Place-sync Core.the_row (param 1 g.row.S) (param 2 g.row.J) Open.the_row TopicCore.ghosts g.S.Store g.J.Naming core_send c.type_bounds.send-S open_sync in
     record { shared = place.shared }

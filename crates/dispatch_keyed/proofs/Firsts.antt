@@ -1,0 +1,104 @@
+-- The first messages of hashes, from their rows.
+use Rattle.std.proofs.Common.{◌≡◌, ◌≢◌, ℕ, ◌<◌, Bool, true, cond, Option, Some, None, refl, sym, ap, ◌∙◌, subst, true≢false}
+use Rattle.std.specs.Cmp.{nat_cmp_total, unsigned_tied}
+use Rattle.std.specs.FinMap as map_of
+use Rattle.std.proofs.lemmas.Bool.{ne_eqb, eq-eqb}
+use Rattle.std.proofs.lemmas.Option.{same_Some, none-some}
+use Rattle.place_bits.specs.Places.{IsNext, NoneFrom}
+use Rattle.delivery_machine.specs.State.{State, Subscription}
+use Rattle.hash_firsts.specs.Firsts.{Firsts}
+use Rattle.hash_rows.specs.declared.row.Row.{Row}
+use Rattle.hash_rows.specs.Rows.{waits_in, AreAllAt, KeepsAll}
+use Rattle.hash_rows.specs.Standing.{waits_there, holds_there, keeper_of}
+use Rattle.hash_rows.specs.Knowing.{IsFirstOf, AreHeldBy, KeeperIsRight, WaitBefore}
+
+-- ---- of one row
+
+pub keeps_all : (row : Row) (s : State) (sub : Subscription) → KeeperIsRight (Some row) s sub → KeepsAll row s sub
+unfolding keeper_of holds_there
+keeps_all row s sub right = right
+
+all_at : (row : Row) (s : State) (sub : Subscription) (c : ℕ) → AreHeldBy (Some row) s sub c → AreAllAt row s sub c
+unfolding holds_there
+all_at row s sub c all = all
+
+held_by : (row : Row) (s : State) (sub : Subscription) (c : ℕ) → AreAllAt row s sub c → AreHeldBy (Some row) s sub c
+unfolding holds_there
+held_by row s sub c all = all
+
+none_is : (x : ℕ) → None ≡ Some x → ⊥
+none_is x e = none-some x e
+
+module _ (row : Row) (owner : ℕ) (s : State) (sub : Subscription) where
+  pub not_free : (AreAllAt row s sub owner → ⊥) → IsFirstOf (Some row) None (Some owner) s sub
+  not_free elsewhere = record {
+    some = λ n is. absurd (none_is n is);
+    none = λ _ free. absurd (elsewhere (subst (λ (c : ℕ). AreAllAt row s sub c) (sym (same_Some owner free.0 free.1)) (all_at row s sub free.0 free.2)));
+  }
+
+  pub first_there : (first : ℕ) → AreAllAt row s sub owner → IsNext (waits_in row) 0 first → IsFirstOf (Some row) (Some first) (Some owner) s sub
+  unfolding waits_there
+  first_there first all next = record {
+    some = λ n is. (subst (λ (k : ℕ). IsNext (waits_in row) 0 k) (same_Some first n is) next, (owner, refl, held_by row s sub owner all));
+    none = λ is _. absurd (none_is first (sym is));
+  }
+
+  pub none_there : NoneFrom (waits_in row) 0 → IsFirstOf (Some row) None (Some owner) s sub
+  unfolding waits_there
+  none_there none = record {
+    some = λ n is. absurd (none_is n is);
+    none = λ _ _. none;
+  }
+
+  pub not_beyond : (first limit : ℕ) → WaitBefore (Some row) limit → IsNext (waits_in row) 0 first → first < limit
+  unfolding waits_there
+  not_beyond first limit before next = before first next.is_in
+
+-- ---- of a hash
+
+nothing_first : (owner : Option ℕ) (s : State) (sub : Subscription) → IsFirstOf None None owner s sub
+unfolding waits_there
+nothing_first owner s sub = record { some = λ n is. absurd (none_is n is); none = λ _ _ _ _. refl }
+
+nothing_waits : (n : ℕ) → waits_there None n ≡ true → ⊥
+unfolding waits_there
+nothing_waits n waits = true≢false (sym waits)
+
+pub rowless : (o : Option Row) (owner : Option ℕ) (s : State) (sub : Subscription) → o ≡ None → IsFirstOf o None owner s sub
+rowless (Some row) owner s sub none = absurd (none-some row (sym none))
+rowless None owner s sub _ = nothing_first owner s sub
+
+pub ownerless : (o : Option Row) (owner : Option ℕ) (s : State) (sub : Subscription) → owner ≡ None → IsFirstOf o None owner s sub
+ownerless o owner s sub none = record {
+  some = λ n is. absurd (none_is n is);
+  none = λ _ free. absurd (none_is free.0 (sym none ∙ free.1));
+}
+
+-- no row, no first
+pub no_first : (o : Option Row) (first owner : Option ℕ) (s : State) (sub : Subscription) → o ≡ None → IsFirstOf o first owner s sub → first ≡ None
+no_first o None owner s sub none is = refl
+no_first None (Some n) owner s sub none is = absurd (nothing_waits n (is.some n refl).0.is_in)
+no_first (Some row) (Some n) owner s sub none is = absurd (none-some row (sym none))
+
+-- ---- the numbers that are kept
+
+module _ (old new : Firsts) (k : ℕ) where
+  pub put_others : (v : ℕ) → new ≡ record old { numbers = map_of.insert old.numbers k v } → (h : ℕ) → h ≢ k → map_of.get new.numbers h ≡ map_of.get old.numbers h
+  put_others v is h other =
+      ap (λ (f : Firsts). map_of.get f.numbers h) is ∙ map_of.get-insert nat_cmp_total old.numbers k v h
+      ∙ ap (λ (b : Bool). cond b (Some v) (map_of.get old.numbers h)) (unsigned_tied h k ∙ ne_eqb h k other)
+
+  pub put_here : (v : ℕ) → new ≡ record old { numbers = map_of.insert old.numbers k v } → map_of.get new.numbers k ≡ Some v
+  put_here v is =
+      ap (λ (f : Firsts). map_of.get f.numbers k) is ∙ map_of.get-insert nat_cmp_total old.numbers k v k
+      ∙ ap (λ (b : Bool). cond b (Some v) (map_of.get old.numbers k)) (unsigned_tied k k ∙ eq-eqb k k refl)
+
+  pub take_others : new ≡ record old { numbers = map_of.remove old.numbers k } → (h : ℕ) → h ≢ k → map_of.get new.numbers h ≡ map_of.get old.numbers h
+  take_others is h other =
+      ap (λ (f : Firsts). map_of.get f.numbers h) is ∙ map_of.get-remove nat_cmp_total old.numbers k h
+      ∙ ap (λ (b : Bool). cond b None (map_of.get old.numbers h)) (unsigned_tied h k ∙ ne_eqb h k other)
+
+  pub take_here : new ≡ record old { numbers = map_of.remove old.numbers k } → map_of.get new.numbers k ≡ None
+  take_here is =
+      ap (λ (f : Firsts). map_of.get f.numbers k) is ∙ map_of.get-remove nat_cmp_total old.numbers k k
+      ∙ ap (λ (b : Bool). cond b None (map_of.get old.numbers k)) (unsigned_tied k k ∙ eq-eqb k k refl)

@@ -1,9 +1,0 @@
-use Rattle.std.proofs.Common.{◌-◌}
-use Rattle.dispatch_keyed.proofs.Serving.{NoneFreeBefore}
-use Rattle.dispatch_keyed.proofs.hashes.first_free.Given as goal
-
-abbrev pub invariant-loop-from : goal.invariant-loop-from
-invariant-loop-from g l = NoneFreeBefore (g.V.View.state l.view) (g.V.View.subscription l.view) l.from
-
-abbrev pub decreases-loop-from : goal.decreases-loop-from
-decreases-loop-from g l = l.visible - l.from

@@ -1,0 +1,12 @@
+use Rattle.std.proofs.Common.{refl, get_or}
+use Rattle.std.proofs.lemmas.Option.{slice_get-get_or}
+use Rattle.dispatchers.proofs.telling.tell_gone.Goals as goal
+
+pub returns : goal.returns
+returns g c = record {
+  old = get_or c.args.dispatchers.now c.args.place c.index-dispatchers-place.result;
+  told = c.on_gone.new.self;
+  was = slice_get-get_or c.args.dispatchers.now c.args.place c.index-dispatchers-place.result c.requires;
+  is = refl;
+  agreeing = c.on_gone.ensures;
+}

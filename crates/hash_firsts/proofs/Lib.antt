@@ -1,0 +1,5 @@
+pub mod Climb
+pub mod Numbers
+pub mod Ranges
+pub mod Changes
+pub mod Views

@@ -1,0 +1,24 @@
+// The row of one hash.
+ghost use Rattle.std.specs.Prelude.{◌≤◌, vec_len};
+ghost use Rattle.hash_rows.specs.Ranks.{Rises, AreRanksOf};
+
+use place_bits::PlaceBits;
+use position_core::{ConsumerNumber, LogIndex};
+
+/// The messages of one hash, in the order of the log. Each call takes the logarithm of their number.
+/// Only `push` takes memory.
+#[derive(Drop)]
+pub struct Row {
+    pub(crate) places: Vec<LogIndex>,
+    /// The ranks, among the places, of those that wait.
+    pub(crate) waiting: PlaceBits,
+    /// The ranks of those that are pending.
+    pub(crate) held: PlaceBits,
+    /// The consumer at which all that are pending are, where it is known that they are at one.
+    pub(crate) keeper: Option<ConsumerNumber>,
+    ghost rises: { Rises places.items },
+    ghost waiting_room: { vec_len places ≤ waiting.room },
+    ghost held_room: { vec_len places ≤ held.room },
+    ghost waiting_ranks: { AreRanksOf places.items waiting.places },
+    ghost held_ranks: { AreRanksOf places.items held.places },
+}
