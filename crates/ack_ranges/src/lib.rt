@@ -7,8 +7,6 @@ mod joining;
 mod lookup;
 mod ranges;
 mod swallowing;
-#[cfg(test)]
-mod tests;
 
 pub use ack_set::AckSet;
 pub use ranges::Ranges;

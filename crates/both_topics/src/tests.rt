@@ -1,4 +1,5 @@
 // The plain topic and the fast one, over random lists of events.
+mod calls;
 mod dice;
 mod lists;
 mod memory;

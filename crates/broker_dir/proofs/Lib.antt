@@ -1,3 +1,2 @@
--- Lemmas on what a topic opens with.
-pub mod Restarting
+-- A lemma on the list of open topics.
 pub mod Listed

@@ -7,7 +7,6 @@ use crate::attached::{Attached, Seated};
 use crate::board::Board;
 use crate::gate::Gate;
 use crate::inside::Inside;
-use crate::opening::{Terms, open_cell};
 use crate::table::{MOST_OPEN, Table};
 use crate::topic::Shared;
 use delivery_machine::{Fault, Opened, TopicName};
@@ -19,6 +18,7 @@ use sqlite::Alter;
 use std::alloc::Global;
 use std::sync::atomic::{AtomicBool, Ordering};
 use std::sync::{Arc, Mutex, Wait};
+use topic_opening::{Terms, open_cell};
 
 /// The topics of a broker: the open ones by name, and the keeper of all. Its locks are taken in this order: directory,
 /// keeper, topic.

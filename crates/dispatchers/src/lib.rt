@@ -4,8 +4,6 @@
 mod beginning;
 mod dispatch;
 mod telling;
-#[cfg(test)]
-mod tests;
 
 pub use beginning::{begin_again, begin_at};
 pub use dispatch::Dispatch;

@@ -4,8 +4,6 @@
 mod chunks;
 mod hash_firsts;
 mod node;
-#[cfg(test)]
-mod tests;
 mod tournament;
 
 pub use hash_firsts::HashFirsts;

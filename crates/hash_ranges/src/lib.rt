@@ -5,8 +5,6 @@ mod ends;
 mod row;
 mod share;
 mod split_table;
-#[cfg(test)]
-mod tests;
 
 pub use position_core::Block;
 pub use split_table::SplitTable;

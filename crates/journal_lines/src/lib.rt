@@ -4,7 +4,5 @@
 mod call;
 mod line;
 mod short;
-#[cfg(test)]
-mod tests;
 
 pub use line::{Draft, Line};

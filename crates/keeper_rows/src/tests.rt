@@ -4,6 +4,7 @@ mod breaks;
 mod broken;
 mod confirming;
 mod failing;
+mod reading;
 mod restarts;
 mod rounds;
 mod same;

@@ -4,8 +4,6 @@
 mod layer;
 mod place_bits;
 mod summed;
-#[cfg(test)]
-mod tests;
 mod top;
 mod words;
 

@@ -15,8 +15,6 @@ mod saving;
 mod seeking;
 mod statistics;
 mod taking_over;
-#[cfg(test)]
-mod tests;
 mod ticking;
 
 pub use plain::PlainTopic;

@@ -8,8 +8,6 @@ mod entry_rows;
 mod kept_subs;
 mod snapshot;
 mod sub_rows;
-#[cfg(test)]
-mod tests;
 mod topic_row;
 
 pub use snapshot::snapshot_in;

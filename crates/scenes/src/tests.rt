@@ -13,6 +13,7 @@ mod scene;
 mod shared;
 mod subscription;
 mod tables;
+mod told;
 mod topic;
 mod view;
 mod view_calls;

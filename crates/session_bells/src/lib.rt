@@ -9,8 +9,6 @@ mod bells;
 mod line;
 mod resident;
 mod resting;
-#[cfg(test)]
-mod tests;
 
 pub use asked::Asked;
 pub use bell::Bell;

@@ -1,5 +1,5 @@
 // The happy path of each call, over the ends of words.
-use crate::PlaceBits;
+use place_bits::PlaceBits;
 
 #[test]
 fn places_are_found_in_order(rt: HostRuntime) {

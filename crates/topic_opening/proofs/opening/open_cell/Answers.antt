@@ -1,6 +1,6 @@
 use Rattle.std.proofs.Common.{ap}
-use Rattle.broker_dir.proofs.Restarting.{opens_loaded}
-use Rattle.broker_dir.proofs.opening.open_cell.Goals as goal
+use Rattle.topic_opening.proofs.Restarting.{opens_loaded}
+use Rattle.topic_opening.proofs.opening.open_cell.Goals as goal
 
 pub returns-in-Ok-Some-clause-opens : goal.returns-in-Ok-Some-clause-opens
 returns-in-Ok-Some-clause-opens g c = λ clean.

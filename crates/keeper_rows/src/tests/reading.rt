@@ -1,11 +1,15 @@
-// That a snapshot is read back from its rows, up to the greatest numbers, and that other rows are refused.
-use crate::snapshot::snapshot_in;
+// That a snapshot is read back from its rows, up to the greatest numbers, with which a topic goes on, and that other
+// rows are refused.
 use ack_ranges::AckSet;
-use delivery_machine::{DeadLetter, KeptSubscription, Snapshot};
-use position_core::{Kind, Position, TopicName};
+use delivery_machine::{DeadLetter, KeptSubscription, Opened, Reply, Snapshot, Topic};
+use plain_topic::PlainTopic;
+use position_core::{Fault, Kind, Position, TopicName};
+use replay_lines::{Line, read_line};
 use row_forms::RawRows;
+use row_reading::snapshot_in;
 use sqlite::{Alter, Connection, Error, Row};
 use std::alloc::Global;
+use std::process::Abort;
 use std::test::Fail;
 
 const NONE: &str = "SELECT 1 LIMIT 0";
@@ -136,6 +140,69 @@ fn other_rows_are_refused(rt: HostRuntime) -> Result<(), Fail> {
         }
         let found = loaded(rt.alloc(), texts)?;
         assert!(rt; found.is_none(), "at {text}");
+    }
+    Ok(())
+}
+
+/// The topic's two messages are live, and one ordinal is left.
+const LAST_ORDINAL: [&str; 5] = [
+    "SELECT 1000, 0, 4611686018427387903",
+    "SELECT 0, 0, 0, 'p', 0, 10, 0, '', '{}', x'' UNION ALL SELECT 1, 0, 1, 'p', 1, 11, 0, '', '{}', x''",
+    NONE,
+    NONE,
+    NONE,
+];
+
+/// A topic that goes on from what these queries show.
+fn restarted<R: Abort + AllocGlobal>(rt: &R, texts: [&str; 5]) -> Result<PlainTopic, Fail> {
+    let kept = loaded(rt.alloc(), texts)?.expect(rt, "refused");
+    Ok(PlainTopic::restart(rt.alloc(), &kept).expect(rt, "no memory"))
+}
+
+/// What the topic answers to the line.
+fn answer(alloc: Global, topic: &mut PlainTopic, line: &str) -> Result<Reply, Fail> {
+    let Some(name) = TopicName::from_text(alloc, "persistent://t/n/x")? else {
+        return Err(Fail::new("no topic's name"));
+    };
+    match read_line(alloc, &name, line.as_bytes()) {
+        Ok(Line::Event(event)) => Ok(topic.apply(&event)),
+        _ => Err(Fail::new("no event")),
+    }
+}
+
+#[test]
+fn a_duplicate_is_told_before_a_full_log(rt: HostRuntime) -> Result<(), Fail> {
+    let alloc = rt.alloc();
+    let mut topic = restarted(&rt, GREATEST)?;
+    answer(alloc, &mut topic, "producer p -")?;
+    answer(alloc, &mut topic, "producer q -")?;
+    let known = answer(alloc, &mut topic, "publish 1 7 - aGk= 1000")?;
+    assert!(rt; matches!(known, Reply::Duplicate { length: 1 }));
+    let new = answer(alloc, &mut topic, "publish 2 7 - aGk= 1000")?;
+    assert!(rt; matches!(new, Reply::Refused(Fault::TopicFull)));
+    Ok(())
+}
+
+/// The ordinal under which the message dies, if it does: it is sent, refused, and due.
+fn death(alloc: Global, topic: &mut PlainTopic, nack: &str) -> Result<Option<u64>, Fail> {
+    answer(alloc, topic, "dispatch s 1000")?;
+    answer(alloc, topic, nack)?;
+    match answer(alloc, topic, "tick s 60000")? {
+        Reply::Died { ordinal, .. } => Ok(Some(ordinal)),
+        _ => Ok(None),
+    }
+}
+
+#[test]
+fn the_last_ordinal_is_given_once(rt: HostRuntime) -> Result<(), Fail> {
+    let mut topic = restarted(&rt, LAST_ORDINAL)?;
+    let subscribed = "subscribe s Shared 0 push:10 0 50000 1 - Earliest";
+    answer(rt.alloc(), &mut topic, subscribed)?;
+    let (first, second) = ("nack 1 CAAQAA== 1000", "nack 1 CAAQAQ== 1000");
+    assert_eq!(rt; death(rt.alloc(), &mut topic, first)?, None);
+    assert_eq!(rt; death(rt.alloc(), &mut topic, first)?, Some((1 << 62) - 1));
+    for _ in 0..3 {
+        assert_eq!(rt; death(rt.alloc(), &mut topic, second)?, None);
     }
     Ok(())
 }

@@ -2,11 +2,11 @@
 ghost use Rattle.std.specs.Prelude.{◌<◌, length};
 ghost use Rattle.dispatchers.specs.Bare.{bare, only};
 
-use crate::{
+use dispatch_core::{Seen, View};
+use dispatchers::{
     Dispatch, begin_again, begin_at, offer_at, tell_gone, tell_joined, tell_left, tell_released,
     tell_reset, tell_sent,
 };
-use dispatch_core::{Seen, View};
 use position_core::{Fault, Kind, LogIndex};
 use std::process::Abort;
 

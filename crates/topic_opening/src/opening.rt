@@ -8,7 +8,7 @@ ghost use Rattle.delivery_machine.specs.Places.{snapshot_in};
 ghost use Rattle.sqlite.specs.State.{HasCleanDisk, Survives};
 ghost use Rattle.sqlite.specs.Held.{state};
 ghost use Rattle.row_forms.specs.Standing.{HasNone};
-ghost use Rattle.broker_dir.specs.Opening.{Opens, opened};
+ghost use Rattle.topic_opening.specs.Opening.{Opens, opened};
 
 use delivery_machine::{Fault, Opened, TopicName};
 use marks::Naming;

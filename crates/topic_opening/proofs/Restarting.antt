@@ -8,8 +8,8 @@ use Rattle.delivery_machine.specs.Places.{KeptTopic, snapshot_in}
 use Rattle.kept_rows.specs.Noted.{Noted}
 use Rattle.stored_cell.specs.Held.{Held}
 use Rattle.row_forms.specs.Standing.{Stands}
-use Rattle.broker_dir.specs.declared.opening.Terms.{Terms}
-use Rattle.broker_dir.specs.Opening.{GoesOn, Opens, opened}
+use Rattle.topic_opening.specs.declared.opening.Terms.{Terms}
+use Rattle.topic_opening.specs.Opening.{GoesOn, Opens, opened}
 
 going_on : (name : TopicName) (terms : Terms) (db : Trees) (cell : Held) (kept : KeptTopic) (stored : Noted) → stored.kept ≡ kept → kept.name ≡ name → Stands kept db → cell ≡ opened (restarted (snapshot_in kept)) terms (Some stored) → GoesOn name terms db cell
 going_on name terms db cell kept stored is its stands e = record {

@@ -1,6 +1,6 @@
 // Lines are found by what was asked and answered.
-use crate::Draft;
 use delivery_machine::{Base, Event, Reply};
+use journal_lines::Draft;
 use std::test::*;
 
 fn from_first() -> Base {

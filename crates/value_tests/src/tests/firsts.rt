@@ -1,5 +1,5 @@
 // The happy path of each call, over the ends of chunks.
-use crate::HashFirsts;
+use hash_firsts::HashFirsts;
 use std::process::Abort;
 
 fn put(rt: &impl Abort, firsts: &mut HashFirsts, hash: u16, number: u16) {

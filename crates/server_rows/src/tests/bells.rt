@@ -1,6 +1,6 @@
 // Who is rung.
-use crate::{Asked, Bell, Bells, Rest};
 use delivery_machine::{ConsumerNumber, Position, Reply, SubscriptionName};
+use session_bells::{Asked, Bell, Bells, Rest};
 use std::process::Abort;
 use std::sync::atomic::{AtomicU64, Ordering};
 use std::sync::{Arc, Wait};

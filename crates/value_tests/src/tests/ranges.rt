@@ -1,5 +1,5 @@
 // The happy path of each call, and what a set refuses that is read back.
-use crate::AckSet;
+use ack_ranges::AckSet;
 
 fn has_ranges(set: &AckSet, want: &[(u64, u64)]) -> bool {
     let mut left = want.iter();

@@ -1,5 +1,5 @@
 // The happy path of each call: three consumers, as they come and go.
-use crate::{Block, SplitTable};
+use hash_ranges::{Block, SplitTable};
 
 fn block(from: u32, size: u32, consumer: u64) -> Option<Block> {
     Some(Block {

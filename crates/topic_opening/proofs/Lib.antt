@@ -1,0 +1,2 @@
+-- A lemma on what a topic opens with.
+pub mod Restarting

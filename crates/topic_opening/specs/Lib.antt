@@ -1,0 +1,2 @@
+-- What a topic opens with.
+pub mod Opening
