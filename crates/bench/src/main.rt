@@ -5,12 +5,8 @@
 ghost use Rattle.std.specs.Prelude.{◌≡◌, ◌↔◌, IsNone};
 
 mod calls;
-mod dead;
-mod dedup;
-mod entries;
 mod mode;
 mod murmur;
-mod pending;
 mod report;
 mod table;
 mod texts;
@@ -33,16 +29,6 @@ fn asked(rt: &HostRuntime) -> Option<Mode> {
 
 /// The cases of each crate.
 fn cases(rt: &HostRuntime, mode: Mode) -> io::Result<()> {
-    let slots = Report {
-        rt,
-        mode,
-        table: Table::Slots,
-    };
-    slots.head()?;
-    pending::cases(&slots)?;
-    dead::cases(&slots)?;
-    dedup::cases(&slots)?;
-    entries::cases(&slots)?;
     let keys = Report {
         rt,
         mode,

@@ -21,8 +21,8 @@ impl Report<'_> {
     }
 
     fn columns(&self) -> io::Result<()> {
-        let unit = self.table.name();
-        print!(self.rt; "nanoseconds a call, by {unit:<9}")?;
+        let head = "nanoseconds a call, by bytes";
+        print!(self.rt; "{head:<32}")?;
         for size in self.table.sizes() {
             print!(self.rt; "{size:>10}")?;
         }
@@ -57,7 +57,7 @@ impl Report<'_> {
     {
         print!(self.rt; "{name:<32}")?;
         for size in self.table.sizes() {
-            let tenths = tenths(self.rt, *size, self.table.calls(*size), case)?;
+            let tenths = tenths(self.rt, *size, self.table.calls(), case)?;
             let nanos = tenths / 10;
             let tenth = tenths % 10;
             print!(self.rt; "{nanos:>8}.{tenth}")?;
