@@ -6,7 +6,8 @@ usage: growth.py PROGRAM [-turns N] [-only WORD] [-most N] [-times N]
 PROGRAM is a built topic_replay. Each case makes a topic by lines, and then asks the same few events again and
 again. What a turn costs is the program's processor time over these lines, less that over as many lines of the
 same words that are refused at once (nobody has the number, nothing has the name): so reading and writing lines
-does not count. Each case has topics of its own, several turns of them, and the median is printed.
+does not count, and 0 is no more than a refusal. Each case has topics of its own, several of them, and the median is
+printed.
 """
 import argparse
 import base64
@@ -64,9 +65,13 @@ class Replay:
     def rest(self):
         """Waits until the program waits for more lines, and answers the processor time that it has used."""
         before = -1
-        while before != (before := self.cpu()):
+        while not self.sleeps() or before != (before := self.cpu()):
             time.sleep(0.002)
         return before
+
+    def sleeps(self):
+        with open(f"/proc/{self.process.pid}/stat") as file:
+            return file.read().rsplit(")", 1)[1].split()[0] == "S"
 
     def ask(self, lines):
         text = lines.encode()
@@ -115,10 +120,13 @@ class Topic:
         lines = ["producer p -\n"]
         for number in range(1, subscriptions):
             lines.append(self.subscribe(f"s{number:02}", "push:1", "Shared"))
-        crowd = [self.subscribe("s", "pull" if self.keys else "push:1")] * (members - 1)
+        all_have_room = self.kind != "Shared"
+        crowd = [self.subscribe("s", "pull" if all_have_room else "push:1")] * (members - 1)
         lines += crowd + [self.subscribe("s", "pull")]
-        self.joined = self.consumer = subscriptions - 1 + members
-        first = subscriptions if self.keys else self.joined
+        self.joined = subscriptions - 1 + members
+        # who is asked: of a Failover subscription the active member
+        self.consumer = subscriptions if self.kind == "Failover" else self.joined
+        first = subscriptions if all_have_room else self.joined
         lines += [f"permit {number} 2000000000\n" for number in range(first, self.joined + 1)]
         lines += [self.publish() for _ in range(messages)]
         lines.append("stored\n")
@@ -126,7 +134,7 @@ class Topic:
         if halved:
             lines += [f"ack {self.consumer} {position(index)}\n" for index in range(1, messages, 2)]
         self.waiting = iter(range(0, messages, 2) if halved else range(messages))
-        if not self.keys:
+        if not all_have_room:
             # each member gets one, so that all but the last are full
             lines += ["dispatch s 1000\n"] * (members - 1)
             for _ in range(members - 1):
@@ -140,10 +148,7 @@ class Topic:
 
     def next_waiting(self):
         """The index of the message that is sent next."""
-        index = next(self.waiting, None)
-        if index is None:
-            index = max(self.count - 1, 0)
-        return index
+        return next(self.waiting)
 
     def measure(self, turn, times):
         """The nanoseconds of a turn, of so many."""
@@ -154,7 +159,9 @@ class Topic:
         cost = self.replay.cost(asked)
         if self.replay.refused:
             sys.exit(f"{self.replay.refused} lines were refused, or found nothing to send: {asked[:400]}")
-        return (cost - self.replay.cost(refused)) / times
+        cost -= self.replay.cost(refused)
+        self.replay.refused = 0
+        return cost / times
 
 
 # ---- what is asked in a turn, by whom
@@ -165,10 +172,10 @@ def publishes(topic, step, consumer, producer, name):
 
 
 def cycle(topic, step, consumer, producer, name):
-    """A message is published, stored, and one is sent, collected and acknowledged."""
+    """A message is published, and the first of the backlog is sent, collected and acknowledged."""
     line = topic.publish(producer)
     index = topic.next_waiting() if consumer != NOBODY else 0
-    return line + f"stored\ndispatch {name} 1000\ncollect {consumer}\nack {consumer} {position(index)}\n"
+    return line + f"dispatch {name} 1000\ncollect {consumer}\nack {consumer} {position(index)}\n"
 
 
 def sends(topic, step, consumer, producer, name):
@@ -246,7 +253,7 @@ def resubscribes(topic, step, consumer, producer, name):
 
 MESSAGES = [
     ("publish", publishes, {}),
-    ("publish, store, send, collect, acknowledge", cycle, {}),
+    ("publish, send, collect, acknowledge", cycle, {}),
     ("send", sends, {}),
     ("acknowledge: two ranges become one", acknowledges, {}),
     ("acknowledge: a range apart", acknowledges_apart, {"halved": False}),
@@ -264,7 +271,7 @@ MESSAGES = [
 ]
 
 PENDING = [
-    ("publish, store, send, collect, acknowledge", cycle, {}),
+    ("publish, send, collect, acknowledge", cycle, {}),
     ("give back, fall due, send again", gives_back, {}),
     ("tick, with nothing due", ticks, {}),
     ("statistics", counts, {}),
@@ -272,7 +279,7 @@ PENDING = [
 
 CROWD = [
     ("publish", publishes, {}),
-    ("publish, store, send, collect, acknowledge", cycle, {}),
+    ("publish, send, collect, acknowledge", cycle, {}),
     ("give back, fall due, send again", gives_back, {"pending": 100}),
     ("statistics", counts, {}),
     ("a member leaves, another joins", rejoins, {}),
@@ -280,7 +287,7 @@ CROWD = [
 
 KEYED = [
     ("publish", publishes, {}),
-    ("publish, store, send, collect, acknowledge", cycle, {}),
+    ("publish, send, collect, acknowledge", cycle, {}),
     ("a member leaves, another joins", rejoins, {}),
 ]
 
@@ -291,15 +298,15 @@ TABLES = [
     ("members of a Shared subscription, all full but one", [1, 64], lambda n: {"messages": 20_000, "members": n}, CROWD),
     ("members of a Failover subscription", [1, 64], lambda n: {"messages": 20_000, "members": n, "kind": "Failover"}, KEYED),
     ("subscriptions", [1, 64], lambda n: {"messages": 20_000, "subscriptions": n}, CROWD),
-    ("keys in Key_Shared, two members", [1, 100, 10_000, 100_000], lambda n: {"messages": 200_000, "members": 2, "kind": "Key_Shared", "keys": n}, KEYED),
-    ("members in Key_Shared, 10,000 keys", [1, 64], lambda n: {"messages": 200_000, "members": n, "kind": "Key_Shared", "keys": 10_000}, KEYED),
+    ("keys in Key_Shared, two members", [1, 100, 10_000, 100_000], lambda n: {"messages": 200_000, "pending": 1, "members": 2, "kind": "Key_Shared", "keys": n}, KEYED),
+    ("members in Key_Shared, 10,000 keys", [1, 64], lambda n: {"messages": 200_000, "pending": 1, "members": n, "kind": "Key_Shared", "keys": 10_000}, KEYED),
 ]
 
 
 def times_of(turn, made):
     """How many turns are measured: fewer where they use up what there is."""
-    if turn in (sends, acknowledges, acknowledges_apart, acknowledges_up_to):
-        return min(made["messages"] // 2 - 200, 5_000)
+    if turn in (cycle, sends, acknowledges, acknowledges_apart, acknowledges_up_to):
+        return min(made["messages"] // 2 - 100, 5_000)
     if turn in (seeks, seeks_by_time, skips, counts, rejoins, resubscribes):
         return 300
     return 2_000 if made["messages"] > 2_000 else 1_000
@@ -333,8 +340,9 @@ def main():
         print("|---|" + "---:|" * (len(sizes) + 1))
         for title, turn, more in cases:
             row = [cell(asked, turn, {**made_with(size), **more}) for size in sizes]
-            growth = row[-1] / max(row[0], 1)
-            print(f"| {title} | {' | '.join(f'{it:,.0f}' for it in row)} | {growth:.2f} |", flush=True)
+            row = [max(it, 0) for it in row]
+            growth = f"{row[-1] / row[0]:.2f}" if row[0] >= 100 else ""
+            print(f"| {title} | {' | '.join(f'{it:,.0f}' for it in row)} | {growth} |", flush=True)
 
 
 main()
