@@ -4,7 +4,6 @@ mod breaks;
 mod broken;
 mod confirming;
 mod failing;
-mod reading;
 mod restarts;
 mod rounds;
 mod same;

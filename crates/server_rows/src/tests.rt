@@ -1,5 +1,4 @@
 // The server over a database in memory.
 mod attaching;
-mod bells;
 mod letters;
 mod world;

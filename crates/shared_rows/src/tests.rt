@@ -1,6 +1,5 @@
 // What the proofs do not see: that calls with memory succeed, and that threads are answered.
 mod asks;
 mod receipts;
-mod ringing;
 mod rolling;
 mod row;

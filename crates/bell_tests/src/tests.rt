@@ -1,0 +1,3 @@
+// Bells, one event after another and by threads.
+mod bells;
+mod ringing;

@@ -1,0 +1,2 @@
+// Rows that are read, and rows that are none.
+mod reading;
