@@ -294,7 +294,7 @@ KEYED = [
 # A table: what grows, the columns, and what a topic of a column is made with.
 TABLES = [
     ("messages, every second one acknowledged", SIZES, lambda n: {"messages": n}, MESSAGES),
-    ("pending messages", SIZES, lambda n: {"messages": 2 * n + 20_000, "pending": n}, PENDING),
+    ("pending messages", [1_000, 10_000, 100_000, 400_000], lambda n: {"messages": 2 * n + 20_000, "pending": n}, PENDING),
     ("members of a Shared subscription, all full but one", [1, 64], lambda n: {"messages": 20_000, "members": n}, CROWD),
     ("members of a Failover subscription", [1, 64], lambda n: {"messages": 20_000, "members": n, "kind": "Failover"}, KEYED),
     ("subscriptions", [1, 64], lambda n: {"messages": 20_000, "subscriptions": n}, CROWD),
@@ -304,12 +304,12 @@ TABLES = [
 
 
 def times_of(turn, made):
-    """How many turns are measured: fewer where they use up what there is."""
-    if turn in (cycle, sends, acknowledges, acknowledges_apart, acknowledges_up_to):
+    """How many turns are measured: fewer where they use up what there is, or take long."""
+    if turn in (cycle, sends, acknowledges, acknowledges_apart, acknowledges_up_to, skips):
         return min(made["messages"] // 2 - 100, 5_000)
-    if turn in (seeks, seeks_by_time, skips, counts, rejoins, resubscribes):
-        return 300
-    return 2_000 if made["messages"] > 2_000 else 1_000
+    if turn is rejoins and "keys" in made:
+        return 100
+    return 2_000
 
 
 def cell(asked, turn, made):
