@@ -22,6 +22,27 @@ deadnext s -> nodead
 }
 
 #[test]
+fn who_died_and_what_was_acknowledged_stay_so(rt: HostRuntime) {
+    let rows = "subscribe s Shared 0 push:10 0 60000 1 - Earliest -> consumer 1
+dispatch s 1000 -> sent 1 CAAQAA== 0
+dispatch s 1000 -> sent 1 CAAQAQ== 0
+dispatch s 1000 -> sent 1 CAAQAg== 0
+ack 1 CAAQAQ== -> done
+nack 1 CAAQAA== 0 -> done
+tick s 60000 -> released CAAQAA==
+dispatch s 60000 -> sent 1 CAAQAA== 1
+nack 1 CAAQAA== 0 -> done
+tick s 60000 -> died CAAQAA== 0
+stored -> durable 3
+restart -> restarted 1
+stats s -> stats Shared 0 - 1 1 0 1
+producer p - -> producer 1 p 2
+publish 1 3 - aGk= 1000 -> published CAEQAA== 4
+";
+    check_rows(&rt, &[THREE, rows]);
+}
+
+#[test]
 fn statistics_after_a_restart(rt: HostRuntime) {
     let rows = "subscribe s Exclusive 0 push:1000 0 60000 0 - Earliest -> consumer 1
 dispatch s 1000 -> sent 1 CAAQAA== 0
