@@ -71,13 +71,16 @@ impl<T: Opened + Drop, S: Alter, J: Naming, B: Bell + Drop> Directory<T, S, J, B
         source: &Arc<Shared<T, J, B>>,
         subscription: &SubscriptionName,
     ) -> Option<Courier<T, J, B>> {
-        let route = Route::new(self.alloc, &source.name, subscription).ok()??;
-        Some(Courier {
-            route,
-            hand: Hand::Empty,
-            source: Arc::try_clone(source).ok()?,
-            target: None,
-        })
+        let route = Route::new(self.alloc, &source.name, subscription);
+        match (route, Arc::try_clone(source)) {
+            (Ok(Some(route)), Ok(source)) => Some(Courier {
+                route,
+                hand: Hand::Empty,
+                source,
+                target: None,
+            }),
+            _ => None,
+        }
     }
 
     /// One event of one who sits at the topic for it alone. `awaits` where the courier is to be sent again once more of

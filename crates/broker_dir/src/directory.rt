@@ -150,13 +150,14 @@ impl<T: Opened + Drop, S: Alter, J: Naming, B: Bell + Drop> Directory<T, S, J, B
         let Ok(text) = topic_text(self.alloc, name) else {
             return Err(Fault::NoMemory);
         };
-        let mut table = self.table.lock(rt);
-        if let Some(topic) = table.find(text.as_str()) {
-            return clone_of(topic);
-        }
-        match self.open_in(rt, &mut *table, text, name, true, None) {
-            Ok((topic, _)) => Ok(topic),
-            Err(fault) => Err(fault),
+        let mut guard = self.table.lock(rt);
+        let table = &mut *guard;
+        match table.find(text.as_str()) {
+            Some(topic) => clone_of(topic),
+            None => match self.open_in(rt, table, text, name, true, None) {
+                Ok((topic, _)) => Ok(topic),
+                Err(fault) => Err(fault),
+            },
         }
     }
 

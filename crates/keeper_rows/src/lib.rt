@@ -1,4 +1,5 @@
-//! Worked rounds of topics over a database in memory: what is stored, loaded and refused.
+//! Worked rounds of topics over a database in memory: what is stored, loaded and refused; and how a snapshot is
+//! read from its rows.
 #![tactic(auto)]
 
 #[cfg(test)]

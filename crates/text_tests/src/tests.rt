@@ -10,7 +10,7 @@ mod publishes;
 mod routes;
 mod statistics;
 
-use position_core::{Content, Fault};
+use position_core::{Content, Fault, Position, Properties};
 use std::process::Abort;
 use wire_json::{PublishReading, SendError, error_text, read_publish};
 
@@ -39,6 +39,25 @@ fn repeated<R: Abort + AllocGlobal>(rt: &R, part: &str, count: usize) -> String 
     out
 }
 
+fn number<R: Abort + AllocGlobal>(rt: &R, number: u64) -> String {
+    format!(in rt.alloc(); "{number}").expect(rt, "no memory")
+}
+
+/// A refusal by its number.
+fn refusal<R: Abort + AllocGlobal>(rt: &R, fault: Fault) -> String {
+    joined(rt, &["F", number(rt, u64::from(fault.number())).as_str()])
+}
+
+fn position<R: Abort + AllocGlobal>(rt: &R, at: Position) -> String {
+    let ledger = number(rt, at.ledger);
+    joined(rt, &[ledger.as_str(), ":", number(rt, at.entry).as_str()])
+}
+
+/// What is said of a text is what is wanted.
+fn expect<R: Abort>(rt: &R, said: &str, want: &str, at: &str) {
+    assert!(rt; said == want, "at {at}: {said}");
+}
+
 /// What a text says.
 fn read<R: Abort + AllocGlobal>(rt: &R, text: &[u8]) -> PublishReading {
     read_publish(rt.alloc(), text).expect(rt, "no memory")
@@ -52,21 +71,42 @@ fn fault<R: Abort + AllocGlobal>(rt: &R, text: &[u8]) -> Option<Fault> {
     }
 }
 
-/// What a content is: its key, its payload and its properties, with `-` for none.
-fn shown<R: Abort + AllocGlobal>(rt: &R, context: Option<&str>, content: &Content) -> String {
-    let key = match &content.key {
+fn push_property<R: Abort>(rt: &R, out: &mut String, name: &str, value: &str) {
+    push(rt, out, " ");
+    push(rt, out, name);
+    push(rt, out, "=");
+    push(rt, out, value);
+}
+
+fn push_properties<R: Abort>(rt: &R, out: &mut String, properties: &Properties) {
+    for (name, value) in properties.as_map().iter() {
+        push_property(rt, out, name.as_str(), value.as_str());
+    }
+}
+
+fn key(content: &Content) -> &str {
+    match &content.key {
         Some(key) => key.as_str(),
         None => "-",
-    };
-    let payload = std::str::from_utf8(content.payload.as_slice()).expect(rt, "no text");
-    let parts = [context.unwrap_or("-"), " ", key, " '", payload, "'"];
-    let mut out = joined(rt, &parts);
-    for (name, value) in content.properties.as_map().iter() {
-        push(rt, &mut out, " ");
-        push(rt, &mut out, name.as_str());
-        push(rt, &mut out, "=");
-        push(rt, &mut out, value.as_str());
     }
+}
+
+fn payload<'a, R: Abort>(rt: &R, content: &'a Content) -> &'a str {
+    std::str::from_utf8(content.payload.as_slice()).expect(rt, "no text")
+}
+
+/// What a content is: its key, its payload and its properties, with `-` for none.
+fn shown<R: Abort + AllocGlobal>(rt: &R, context: Option<&str>, content: &Content) -> String {
+    let parts = [
+        context.unwrap_or("-"),
+        " ",
+        key(content),
+        " '",
+        payload(rt, content),
+        "'",
+    ];
+    let mut out = joined(rt, &parts);
+    push_properties(rt, &mut out, &content.properties);
     out
 }
 
@@ -92,7 +132,7 @@ fn answer<R: Abort + AllocGlobal>(rt: &R, text: &str) -> String {
 }
 
 fn check_answer<R: Abort + AllocGlobal>(rt: &R, text: &str, want: &str) {
-    assert!(rt; answer(rt, text).as_str() == want, "at {text}");
+    expect(rt, answer(rt, text).as_str(), want, text);
 }
 
 /// Texts, each with what it says or is answered.
@@ -100,6 +140,11 @@ fn check_answers<R: Abort + AllocGlobal>(rt: &R, table: &[(&str, &str)]) {
     for (text, want) in table {
         check_answer(rt, text, want);
     }
+}
+
+fn check_value<R: Abort + AllocGlobal>(rt: &R, text: &[&str; 2], value: &str, want: &str) {
+    let text = joined(rt, &[text[0], value, text[1]]);
+    check_answer(rt, text.as_str(), want);
 }
 
 /// Values of a field, each with what its text says.
@@ -110,16 +155,14 @@ fn check_values<R: Abort + AllocGlobal>(
     table: &[(&str, &str)],
 ) {
     for (value, want) in table {
-        let text = joined(rt, &[text[0], value, text[1]]);
         let want = joined(rt, &[said[0], want, said[1]]);
-        check_answer(rt, text.as_str(), want.as_str());
+        check_value(rt, text, value, want.as_str());
     }
 }
 
 /// Values of a field that are refused.
 fn check_refusals<R: Abort + AllocGlobal>(rt: &R, text: &[&str; 2], want: &str, values: &[&str]) {
     for value in values {
-        let text = joined(rt, &[text[0], value, text[1]]);
-        check_answer(rt, text.as_str(), want);
+        check_value(rt, text, value, want);
     }
 }

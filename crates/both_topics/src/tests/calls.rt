@@ -1,46 +1,47 @@
 // Calls that no line makes: a run, storing what a snapshot had, and copies of what was not collected.
-use delivery_machine::{Event, Reply, Topic, run};
+use delivery_machine::{Delivery, Event, Reply, Topic, run};
 use plain_topic::PlainTopic;
 use position_core::{LedgerSize, Position, TopicName};
 use replay_lines::{Line, read_line};
-use std::alloc::Global;
 use std::io::BufRead;
 use std::process::Abort;
-use std::test::Fail;
 use topic_core::TopicCore;
 
-fn topic_name(alloc: Global) -> Result<TopicName, Fail> {
-    match TopicName::from_text(alloc, "persistent://public/default/t")? {
-        Some(name) => Ok(name),
-        None => Err(Fail::new("no topic's name")),
+pub(super) fn topic_name<R: Abort + AllocGlobal>(rt: &R) -> TopicName {
+    let name = TopicName::from_text(rt.alloc(), "persistent://public/default/t");
+    name.expect(rt, "no memory").expect(rt, "no name")
+}
+
+fn plain_topic<R: Abort + AllocGlobal>(rt: &R) -> PlainTopic {
+    let size = LedgerSize::new(3).expect(rt, "no size");
+    PlainTopic::new(rt.alloc(), topic_name(rt), size)
+}
+
+fn fast_topic<R: Abort + AllocGlobal>(rt: &R) -> TopicCore {
+    let size = LedgerSize::new(3).expect(rt, "no size");
+    TopicCore::new(rt.alloc(), topic_name(rt), size)
+}
+
+fn event_in<R: AllocGlobal>(rt: &R, name: &TopicName, line: &str) -> Option<Event> {
+    match read_line(rt.alloc(), name, line.as_bytes()) {
+        Ok(Line::Event(event)) => Some(event),
+        _ => None,
     }
-}
-
-fn plain_topic(alloc: Global) -> Result<PlainTopic, Fail> {
-    let size = LedgerSize::new(3).unwrap();
-    Ok(PlainTopic::new(alloc, topic_name(alloc)?, size))
-}
-
-fn fast_topic(alloc: Global) -> Result<TopicCore, Fail> {
-    let size = LedgerSize::new(3).unwrap();
-    Ok(TopicCore::new(alloc, topic_name(alloc)?, size))
 }
 
 /// The event that the line stands for.
-fn event_of(alloc: Global, line: &[u8]) -> Result<Event, Fail> {
-    match read_line(alloc, &topic_name(alloc)?, line) {
-        Ok(Line::Event(event)) => Ok(event),
-        _ => Err(Fail::new("no event")),
-    }
+fn event_of<R: Abort + AllocGlobal>(rt: &R, line: &str) -> Event {
+    event_in(rt, &topic_name(rt), line).expect(rt, "no event")
 }
 
 /// The events that the lines stand for.
-fn events_of(alloc: Global, lines: &str) -> Result<Vec<Event>, Fail> {
-    let mut events = Vec::new(alloc);
-    for line in lines.as_bytes().lines(alloc) {
-        events.push(event_of(alloc, line?.as_bytes())?)?;
+fn events_of<R: Abort + AllocGlobal>(rt: &R, lines: &str) -> Vec<Event> {
+    let mut events = Vec::new(rt.alloc());
+    for line in lines.as_bytes().lines(rt.alloc()) {
+        let event = event_of(rt, line.expect(rt, "no text").as_str());
+        events.push(event).expect(rt, "no memory");
     }
-    Ok(events)
+    events
 }
 
 /// Tells the topic of the events, whatever it answers.
@@ -63,27 +64,28 @@ dispatch s 1000
 
 const AGAIN: &str = "producer p -\npublish 1 0 - aGk= 1000\npublish 1 0 - aGk= 1000\nstored\n";
 
-fn is_answered_in_turn<T: Topic>(alloc: Global, topic: &mut T) -> Result<bool, Fail> {
-    let events = events_of(alloc, AGAIN)?;
-    let Ok(replies) = run(alloc, topic, events.as_slice()) else {
-        return Ok(false);
-    };
-    Ok(matches!(
-        replies.as_slice(),
+fn are_in_turn(replies: &[Reply]) -> bool {
+    matches!(
+        replies,
         [
             Reply::ProducerAdded { .. },
             Reply::Published { length: 1, .. },
             Reply::Duplicate { length: 1 },
             Reply::Durable(1),
         ]
-    ))
+    )
+}
+
+fn check_in_turn<R: Abort + AllocGlobal, T: Topic>(rt: &R, topic: &mut T) {
+    let events = events_of(rt, AGAIN);
+    let replies = run(rt.alloc(), topic, events.as_slice());
+    assert!(rt; are_in_turn(replies.ok().expect(rt, "no memory").as_slice()));
 }
 
 #[test]
-fn each_event_of_a_run_is_answered(rt: HostRuntime) -> Result<(), Fail> {
-    assert!(rt; is_answered_in_turn(rt.alloc(), &mut plain_topic(rt.alloc())?)?);
-    assert!(rt; is_answered_in_turn(rt.alloc(), &mut fast_topic(rt.alloc())?)?);
-    Ok(())
+fn each_event_of_a_run_is_answered(rt: HostRuntime) {
+    check_in_turn(&rt, &mut plain_topic(&rt));
+    check_in_turn(&rt, &mut fast_topic(&rt));
 }
 
 /// How many messages are durable once so many are stored.
@@ -94,51 +96,57 @@ fn durable_after<T: Topic>(topic: &mut T, length: u64) -> Option<u64> {
     }
 }
 
-fn stores_so_many<R: Abort, T: Topic>(rt: &R, alloc: Global, topic: &mut T) -> Result<(), Fail> {
-    tell(topic, events_of(alloc, UNSTORED)?.as_slice());
-    for (asked, durable) in [(1, 1), (0, 1), (7, 2)] {
-        assert_eq!(rt; durable_after(topic, asked), Some(durable));
-    }
-    Ok(())
+fn check_durable<R: Abort, T: Topic>(rt: &R, topic: &mut T, length: u64, want: u64) {
+    assert!(rt; durable_after(topic, length) == Some(want));
+}
+
+fn check_stores<R: Abort + AllocGlobal, T: Topic>(rt: &R, topic: &mut T) {
+    tell(topic, events_of(rt, UNSTORED).as_slice());
+    check_durable(rt, topic, 1, 1);
+    check_durable(rt, topic, 0, 1);
+    check_durable(rt, topic, 7, 2);
 }
 
 #[test]
-fn so_many_messages_are_stored_and_no_fewer(rt: HostRuntime) -> Result<(), Fail> {
-    stores_so_many(&rt, rt.alloc(), &mut plain_topic(rt.alloc())?)?;
-    stores_so_many(&rt, rt.alloc(), &mut fast_topic(rt.alloc())?)
+fn so_many_messages_are_stored_and_no_fewer(rt: HostRuntime) {
+    check_stores(&rt, &mut plain_topic(&rt));
+    check_stores(&rt, &mut fast_topic(&rt));
 }
 
-/// The positions of the copies that the consumer was sent and has not collected: one at most.
-fn copy_at<T: Topic>(topic: &T, consumer: u64) -> Result<Option<Position>, Fail> {
-    let Ok(copies) = topic.out_copy(consumer) else {
-        return Err(Fail::new("no memory"));
-    };
-    match copies.as_slice() {
-        [] => Ok(None),
-        [copy] => Ok(Some(copy.message.position())),
-        _ => Err(Fail::new("more than one copy")),
+const FIRST: Position = Position {
+    ledger: 0,
+    entry: 0,
+};
+
+/// Whether the only copy is that of the first message.
+fn are_of_first(copies: &[Delivery]) -> bool {
+    match copies {
+        [copy] => copy.message.position() == FIRST,
+        _ => false,
     }
 }
 
-fn copies_until_collected<R: Abort, T: Topic>(
-    rt: &R,
-    alloc: Global,
-    topic: &mut T,
-) -> Result<(), Fail> {
-    let first = Position {
-        ledger: 0,
-        entry: 0,
-    };
-    tell(topic, events_of(alloc, SENT)?.as_slice());
-    assert_eq!(rt; copy_at(topic, 1)?, Some(first));
-    assert_eq!(rt; copy_at(topic, 2)?, None);
+/// The consumer was sent the first message and has not collected it.
+fn check_sent<R: Abort, T: Topic>(rt: &R, topic: &T) {
+    let copies = topic.out_copy(1).ok().expect(rt, "no memory");
+    assert!(rt; are_of_first(copies.as_slice()));
+}
+
+fn check_nothing<R: Abort, T: Topic>(rt: &R, topic: &T, consumer: u64) {
+    let copies = topic.out_copy(consumer).ok().expect(rt, "no memory");
+    assert!(rt; copies.as_slice().is_empty());
+}
+
+fn check_copies<R: Abort + AllocGlobal, T: Topic>(rt: &R, topic: &mut T) {
+    tell(topic, events_of(rt, SENT).as_slice());
+    check_sent(rt, topic);
+    check_nothing(rt, topic, 2);
     tell(topic, &[Event::Collect { consumer: 1 }]);
-    assert_eq!(rt; copy_at(topic, 1)?, None);
-    Ok(())
+    check_nothing(rt, topic, 1);
 }
 
 #[test]
-fn out_copies_are_what_was_not_collected(rt: HostRuntime) -> Result<(), Fail> {
-    copies_until_collected(&rt, rt.alloc(), &mut plain_topic(rt.alloc())?)?;
-    copies_until_collected(&rt, rt.alloc(), &mut fast_topic(rt.alloc())?)
+fn out_copies_are_what_was_not_collected(rt: HostRuntime) {
+    check_copies(&rt, &mut plain_topic(&rt));
+    check_copies(&rt, &mut fast_topic(&rt));
 }

@@ -1,6 +1,4 @@
 // Numbers that look random, and are the same each time.
-use std::test::Fail;
-
 #[derive(Drop)]
 pub(super) struct Dice {
     state: u64,

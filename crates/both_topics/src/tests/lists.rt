@@ -1,13 +1,19 @@
 // Lists of events, as lines, that look random.
 use super::dice::Dice;
 use position_core::Position;
-use std::alloc::Global;
-use std::test::Fail;
+use std::process::Abort;
+
+/// A word of a line.
+#[derive(Clone, Copy)]
+enum Word<'a> {
+    Text(&'a str),
+    Number(u64),
+    Id(Position),
+}
 
 /// Lines, and what was asked for by them so far.
 #[derive(Drop)]
 pub(super) struct Lines {
-    alloc: Global,
     dice: Dice,
     text: String,
     published: u64,
@@ -17,50 +23,79 @@ pub(super) struct Lines {
 
 impl Lines {
     /// So many lines, those of the number.
-    pub(super) fn random(alloc: Global, number: u64, events: u64) -> Result<String, Fail> {
+    pub(super) fn random<R: Abort + AllocGlobal>(rt: &R, number: u64, events: u64) -> String {
         let mut lines = Lines {
-            alloc,
             dice: Dice::new(number),
-            text: String::new(alloc),
+            text: String::new(rt.alloc()),
             published: 0,
             joined: 0,
             now: 1_000,
         };
         for _ in 0..events {
-            lines.next()?;
+            lines.next(rt);
         }
-        Ok(lines.text)
+        lines.text
     }
 
-    fn add(&mut self, line: &str) -> Result<(), Fail> {
-        self.text.push_str(line)?;
-        self.text.push_str("\n")?;
-        Ok(())
+    fn push<R: Abort>(&mut self, rt: &R, part: &str) {
+        self.text.push_str(part).expect(rt, "no memory");
+    }
+
+    fn push_number<R: Abort + AllocGlobal>(&mut self, rt: &R, number: u64) {
+        let number = format!(in rt.alloc(); "{number}").expect(rt, "no memory");
+        self.push(rt, number.as_str());
+    }
+
+    fn push_word<R: Abort + AllocGlobal>(&mut self, rt: &R, word: Word<'_>) {
+        match word {
+            Word::Text(text) => self.push(rt, text),
+            Word::Number(number) => self.push_number(rt, number),
+            Word::Id(id) => id.append_text(&mut self.text).expect(rt, "no memory"),
+        }
+    }
+
+    fn add<R: Abort + AllocGlobal>(&mut self, rt: &R, words: &[Word<'_>]) {
+        let mut gap = "";
+        for word in words {
+            self.push(rt, gap);
+            self.push_word(rt, *word);
+            gap = " ";
+        }
+        self.push(rt, "\n");
+    }
+
+    fn add_text<R: Abort + AllocGlobal>(&mut self, rt: &R, line: &str) {
+        self.add(rt, &[Word::Text(line)]);
     }
 
     /// The line, and so many times more.
-    fn repeat(&mut self, line: &str, times: u64) -> Result<(), Fail> {
+    fn repeat<R: Abort + AllocGlobal>(&mut self, rt: &R, words: &[Word<'_>], times: u64) {
         for _ in 0..times {
-            self.add(line)?;
+            self.add(rt, words);
         }
-        self.add(line)
+        self.add(rt, words);
     }
 
-    /// One more event. The clock goes on, and at times back.
-    fn next(&mut self) -> Result<(), Fail> {
-        self.now = match self.dice.roll(16) {
+    /// The clock goes on, and at times back.
+    fn next_moment(&mut self) -> u64 {
+        match self.dice.roll(16) {
             0 => self.now.saturating_sub(700),
             _ => self.now.saturating_add(self.dice.roll(300)),
-        };
+        }
+    }
+
+    /// One more event.
+    fn next<R: Abort + AllocGlobal>(&mut self, rt: &R) {
+        self.now = self.next_moment();
         match self.dice.roll(100) {
-            0..=17 => self.publish(),
-            18..=37 => self.send(),
-            38..=49 => self.join_or_leave(),
-            50..=67 => self.answer(),
-            68..=73 => self.turn_clock(),
-            74..=80 => self.wear_out(),
-            81..=91 => self.go_elsewhere(),
-            _ => self.connect_or_restart(),
+            0..=17 => self.publish(rt),
+            18..=37 => self.send(rt),
+            38..=49 => self.join_or_leave(rt),
+            50..=67 => self.answer(rt),
+            68..=73 => self.turn_clock(rt),
+            74..=80 => self.wear_out(rt),
+            81..=91 => self.go_elsewhere(rt),
+            _ => self.connect_or_restart(rt),
         }
     }
 
@@ -81,72 +116,91 @@ impl Lines {
         self.joined.saturating_sub(back)
     }
 
-    /// The id of a message that may be there.
-    fn id(&mut self) -> Result<String, Fail> {
+    /// A message that may be there.
+    fn message(&mut self) -> Position {
         let ledgers = (self.published / 3).saturating_add(2);
-        let position = Position {
+        Position {
             ledger: self.dice.roll(ledgers),
             entry: self.dice.roll(3),
-        };
-        Ok(position.to_text(self.alloc)?)
+        }
     }
 
-    fn connect_or_restart(&mut self) -> Result<(), Fail> {
-        let line = match self.dice.roll(16) {
-            0..=3 => "producer p -",
-            4..=6 => "producer - -",
-            7 => "producer q 1",
-            8 => "producer p 5",
-            9 => "drop 1",
-            10 => "drop 2",
-            11..=12 => "progress",
-            13..=14 => "stored",
-            _ => return self.restart(),
-        };
-        self.add(line)
+    fn connect_or_restart<R: Abort + AllocGlobal>(&mut self, rt: &R) {
+        match self.dice.roll(16) {
+            0..=3 => self.add_text(rt, "producer p -"),
+            4..=6 => self.add_text(rt, "producer - -"),
+            7 => self.add_text(rt, "producer q 1"),
+            8 => self.add_text(rt, "producer p 5"),
+            9 => self.add_text(rt, "drop 1"),
+            10 => self.add_text(rt, "drop 2"),
+            11..=12 => self.add_text(rt, "progress"),
+            13..=14 => self.add_text(rt, "stored"),
+            _ => self.restart(rt),
+        }
     }
 
-    fn restart(&mut self) -> Result<(), Fail> {
+    fn restart<R: Abort + AllocGlobal>(&mut self, rt: &R) {
         self.joined = 0;
-        self.add("restart")?;
-        self.add("producer p -")
+        self.add_text(rt, "restart");
+        self.add_text(rt, "producer p -");
     }
 
-    fn publish(&mut self) -> Result<(), Fail> {
-        let producer = match self.dice.roll(8) {
+    fn producer(&mut self) -> u64 {
+        match self.dice.roll(8) {
             0 => 2,
             _ => 1,
-        };
-        let key = match self.dice.roll(6) {
+        }
+    }
+
+    fn key(&mut self) -> &'static str {
+        match self.dice.roll(6) {
             0 => "-",
             1 => "a",
             2 => "b",
             3 => "c",
             4 => "d",
             _ => "e",
-        };
+        }
+    }
+
+    fn sequence(&mut self) -> u64 {
         let back = match self.dice.roll(8) {
             0 => self.dice.roll(4),
             _ => 0,
         };
-        let sequence = self.published.saturating_sub(back);
+        self.published.saturating_sub(back)
+    }
+
+    fn publish<R: Abort + AllocGlobal>(&mut self, rt: &R) {
+        let producer = self.producer();
+        let key = self.key();
+        let sequence = self.sequence();
         self.published = self.published.saturating_add(1);
-        let now = self.now;
-        let line = format!(in self.alloc; "publish {producer} {sequence} {key} aGk= {now}")?;
-        self.add(line.as_str())?;
-        match self.dice.roll(4) {
-            0 => Ok(()),
-            _ => self.add("stored"),
+        let words = [
+            Word::Text("publish"),
+            Word::Number(producer),
+            Word::Number(sequence),
+            Word::Text(key),
+            Word::Text("aGk="),
+            Word::Number(self.now),
+        ];
+        self.add(rt, &words);
+        if self.dice.roll(4) != 0 {
+            self.add_text(rt, "stored");
         }
     }
 
-    fn join_or_leave(&mut self) -> Result<(), Fail> {
+    fn join_or_leave<R: Abort + AllocGlobal>(&mut self, rt: &R) {
         if self.dice.roll(4) == 0 {
-            let consumer = self.consumer();
-            let line = format!(in self.alloc; "leave {consumer}")?;
-            return self.add(line.as_str());
+            self.leave(rt);
+        } else {
+            self.join(rt);
         }
-        self.join()
+    }
+
+    fn leave<R: Abort + AllocGlobal>(&mut self, rt: &R) {
+        let consumer = self.consumer();
+        self.add(rt, &[Word::Text("leave"), Word::Number(consumer)]);
     }
 
     /// A kind: mostly that by which the subscription is named.
@@ -178,125 +232,156 @@ impl Lines {
         }
     }
 
-    fn join(&mut self) -> Result<(), Fail> {
+    fn initial(&mut self) -> &'static str {
+        match self.dice.roll(4) {
+            0 => "Latest",
+            _ => "Earliest",
+        }
+    }
+
+    fn join<R: Abort + AllocGlobal>(&mut self, rt: &R) {
         let subscription = self.subscription();
         let kind = self.kind(subscription);
         let level = self.dice.roll(3);
         let flow = self.flow();
-        let timeout = self.dice.roll(4).saturating_mul(200);
-        let delay = self.dice.roll(2).saturating_mul(300);
-        let max = self.dice.roll(3);
-        let initial = match self.dice.roll(4) {
-            0 => "Latest",
-            _ => "Earliest",
-        };
+        let words = [
+            Word::Text("subscribe"),
+            Word::Text(subscription),
+            Word::Text(kind),
+            Word::Number(level),
+            Word::Text(flow),
+            Word::Number(self.dice.roll(4).saturating_mul(200)),
+            Word::Number(self.dice.roll(2).saturating_mul(300)),
+            Word::Number(self.dice.roll(3)),
+            Word::Text("-"),
+            Word::Text(self.initial()),
+        ];
         self.joined = self.joined.saturating_add(1);
-        let line = format!(in self.alloc;
-            "subscribe {subscription} {kind} {level} {flow} {timeout} {delay} {max} - {initial}"
-        )?;
-        self.add(line.as_str())?;
+        self.add(rt, &words);
         if flow == "pull" {
-            let consumer = self.joined;
-            let line = format!(in self.alloc; "permit {consumer} 5")?;
-            return self.add(line.as_str());
+            self.permit(rt, self.joined, 5);
         }
-        Ok(())
+    }
+
+    fn permit<R: Abort + AllocGlobal>(&mut self, rt: &R, consumer: u64, number: u64) {
+        let words = [
+            Word::Text("permit"),
+            Word::Number(consumer),
+            Word::Number(number),
+        ];
+        self.add(rt, &words);
     }
 
     /// Sends up to three messages.
-    fn send(&mut self) -> Result<(), Fail> {
-        let subscription = self.subscription();
-        let now = self.now;
-        let line = format!(in self.alloc; "dispatch {subscription} {now}")?;
+    fn send<R: Abort + AllocGlobal>(&mut self, rt: &R) {
+        let words = [
+            Word::Text("dispatch"),
+            Word::Text(self.subscription()),
+            Word::Number(self.now),
+        ];
         let times = self.dice.roll(3);
-        self.repeat(line.as_str(), times)
+        self.repeat(rt, &words, times);
     }
 
     /// The consumers who joined last say what they did with a message, or ask for more: mostly one of them has it.
-    fn answer(&mut self) -> Result<(), Fail> {
-        let id = self.id()?;
+    fn answer<R: Abort + AllocGlobal>(&mut self, rt: &R) {
+        let id = self.message();
         let choice = self.dice.roll(12);
         for back in 0..4 {
-            let consumer = self.joined.saturating_sub(back);
-            self.answer_as(choice, consumer, id.as_str())?;
+            self.answer_as(rt, choice, self.joined.saturating_sub(back), id);
         }
-        Ok(())
     }
 
-    fn answer_as(&mut self, choice: u64, consumer: u64, id: &str) -> Result<(), Fail> {
-        let now = self.now;
-        let line = match choice {
-            0..=3 => format!(in self.alloc; "ack {consumer} {id}")?,
-            4 => format!(in self.alloc; "ackupto {consumer} {id}")?,
-            5..=9 => format!(in self.alloc; "nack {consumer} {id} {now}")?,
-            10 => format!(in self.alloc; "collect {consumer}")?,
-            _ => format!(in self.alloc; "permit {consumer} 3")?,
-        };
-        self.add(line.as_str())
+    fn answer_as<R: Abort + AllocGlobal>(
+        &mut self,
+        rt: &R,
+        choice: u64,
+        consumer: u64,
+        id: Position,
+    ) {
+        let of = Word::Number(consumer);
+        match choice {
+            0..=3 => self.add(rt, &[Word::Text("ack"), of, Word::Id(id)]),
+            4 => self.add(rt, &[Word::Text("ackupto"), of, Word::Id(id)]),
+            5..=9 => self.give_back_as(rt, consumer, id),
+            10 => self.add(rt, &[Word::Text("collect"), of]),
+            _ => self.permit(rt, consumer, 3),
+        }
+    }
+
+    fn give_back_as<R: Abort + AllocGlobal>(&mut self, rt: &R, consumer: u64, id: Position) {
+        let words = [
+            Word::Text("nack"),
+            Word::Number(consumer),
+            Word::Id(id),
+            Word::Number(self.now),
+        ];
+        self.add(rt, &words);
     }
 
     /// What is due comes again, or dies; then a dead letter may be moved.
-    fn turn_clock(&mut self) -> Result<(), Fail> {
+    fn turn_clock<R: Abort + AllocGlobal>(&mut self, rt: &R) {
         let subscription = self.subscription();
-        let now = self.now;
-        let line = format!(in self.alloc; "tick {subscription} {now}")?;
+        let tick = [
+            Word::Text("tick"),
+            Word::Text(subscription),
+            Word::Number(self.now),
+        ];
         let times = self.dice.roll(4);
-        self.repeat(line.as_str(), times)?;
-        match self.dice.roll(2) {
-            0 => self.move_letter(subscription),
-            _ => Ok(()),
+        self.repeat(rt, &tick, times);
+        if self.dice.roll(2) == 0 {
+            self.move_letter(rt, subscription);
         }
     }
 
     /// One message is sent and given back until it dies, where it comes first.
-    fn wear_out(&mut self) -> Result<(), Fail> {
+    fn wear_out<R: Abort + AllocGlobal>(&mut self, rt: &R) {
         let subscription = self.subscription();
-        let id = self.id()?;
+        let id = self.message();
         self.now = self.now.saturating_add(1_000);
-        let now = self.now;
-        let tick = format!(in self.alloc; "tick {subscription} {now}")?;
-        let dispatch = format!(in self.alloc; "dispatch {subscription} {now}")?;
         for _ in 0..3 {
-            self.add(dispatch.as_str())?;
-            self.give_back(id.as_str())?;
-            self.repeat(tick.as_str(), 2)?;
+            self.wear(rt, subscription, id);
         }
-        self.move_letter(subscription)
+        self.move_letter(rt, subscription);
+    }
+
+    fn wear<R: Abort + AllocGlobal>(&mut self, rt: &R, subscription: &str, id: Position) {
+        let of = Word::Text(subscription);
+        let now = Word::Number(self.now);
+        self.add(rt, &[Word::Text("dispatch"), of, now]);
+        self.give_back(rt, id);
+        self.repeat(rt, &[Word::Text("tick"), of, now], 2);
     }
 
     /// Those who joined last give the message back: mostly one of them has it.
-    fn give_back(&mut self, id: &str) -> Result<(), Fail> {
+    fn give_back<R: Abort + AllocGlobal>(&mut self, rt: &R, id: Position) {
         for back in 0..4 {
-            let consumer = self.joined.saturating_sub(back);
-            self.answer_as(5, consumer, id)?;
+            self.give_back_as(rt, self.joined.saturating_sub(back), id);
         }
-        Ok(())
     }
 
-    fn move_letter(&mut self, subscription: &str) -> Result<(), Fail> {
-        self.add("stored")?;
-        let line = format!(in self.alloc; "deadnext {subscription}")?;
-        self.add(line.as_str())?;
+    fn move_letter<R: Abort + AllocGlobal>(&mut self, rt: &R, subscription: &str) {
+        let of = Word::Text(subscription);
+        self.add_text(rt, "stored");
+        self.add(rt, &[Word::Text("deadnext"), of]);
         let ordinal = self.dice.roll(3);
-        let line = format!(in self.alloc; "deaddone {subscription} {ordinal}")?;
-        self.add(line.as_str())
+        self.add(rt, &[Word::Text("deaddone"), of, Word::Number(ordinal)]);
     }
 
     /// A subscription goes on elsewhere, is looked at, or goes.
-    fn go_elsewhere(&mut self) -> Result<(), Fail> {
-        let subscription = self.subscription();
-        let id = self.id()?;
+    fn go_elsewhere<R: Abort + AllocGlobal>(&mut self, rt: &R) {
+        let of = Word::Text(self.subscription());
+        let id = self.message();
         let time = self.now.saturating_sub(self.dice.roll(2_000));
         let count = self.dice.roll(3);
-        let line = match self.dice.roll(16) {
-            0 => format!(in self.alloc; "seek {subscription} earliest")?,
-            1 => format!(in self.alloc; "seek {subscription} latest")?,
-            2..=3 => format!(in self.alloc; "seek {subscription} {id}")?,
-            4..=5 => format!(in self.alloc; "seektime {subscription} {time}")?,
-            6..=7 => format!(in self.alloc; "skip {subscription} {count}")?,
-            8 => format!(in self.alloc; "dropsub {subscription}")?,
-            _ => format!(in self.alloc; "stats {subscription}")?,
-        };
-        self.add(line.as_str())
+        match self.dice.roll(16) {
+            0 => self.add(rt, &[Word::Text("seek"), of, Word::Text("earliest")]),
+            1 => self.add(rt, &[Word::Text("seek"), of, Word::Text("latest")]),
+            2..=3 => self.add(rt, &[Word::Text("seek"), of, Word::Id(id)]),
+            4..=5 => self.add(rt, &[Word::Text("seektime"), of, Word::Number(time)]),
+            6..=7 => self.add(rt, &[Word::Text("skip"), of, Word::Number(count)]),
+            8 => self.add(rt, &[Word::Text("dropsub"), of]),
+            _ => self.add(rt, &[Word::Text("stats"), of]),
+        }
     }
 }

@@ -1,4 +1,5 @@
 // Events over both topics, where memory may be refused at any allocation.
+use super::calls::topic_name;
 use super::lists::Lines;
 use delivery_machine::{Event, Reply, Topic};
 use plain_topic::PlainTopic;
@@ -7,7 +8,6 @@ use replay_lines::{Line, read_line};
 use std::alloc::Global;
 use std::io::BufRead;
 use std::process::Abort;
-use std::test::Fail;
 use topic_core::TopicCore;
 
 /// How many lists, and of how many events.
@@ -38,24 +38,33 @@ struct Pair {
 }
 
 impl Pair {
-    fn new(alloc: Global, size: LedgerSize) -> Result<Self, Fail> {
-        let Some(name) = TopicName::from_text(alloc, "persistent://public/default/t")? else {
-            return Err(Fail::new("no topic's name"));
-        };
-        Ok(Pair {
-            alloc,
-            plain: PlainTopic::new(alloc, name.clone()?, size),
-            fast: TopicCore::new(alloc, name.clone()?, size),
+    fn new<R: Abort + AllocGlobal>(rt: &R, size: LedgerSize) -> Self {
+        let name = topic_name(rt);
+        Pair {
+            alloc: rt.alloc(),
+            plain: PlainTopic::new(rt.alloc(), topic_name(rt), size),
+            fast: TopicCore::new(rt.alloc(), topic_name(rt), size),
             name,
-        })
+        }
     }
 
-    /// Both answer the line alike, where it stands for an event.
-    fn answer<R: Abort>(&mut self, rt: &R, line: &[u8]) {
-        if let Ok(Line::Event(event)) = read_line(self.alloc, &self.name, line) {
-            let plainly = ask(&mut self.plain, &event);
-            let fastly = ask(&mut self.fast, &event);
-            assert!(rt; fastly.is(&plainly), "{:?}", line);
+    /// Both answer the event alike.
+    fn ask<R: Abort>(&mut self, rt: &R, event: &Event, line: &str) {
+        let plainly = ask(&mut self.plain, event);
+        let fastly = ask(&mut self.fast, event);
+        assert!(rt; fastly.is(&plainly), "{line}");
+    }
+
+    /// So they answer the line, where it stands for an event.
+    fn answer<R: Abort>(&mut self, rt: &R, line: &str) {
+        if let Ok(Line::Event(event)) = read_line(self.alloc, &self.name, line.as_bytes()) {
+            self.ask(rt, &event, line);
+        }
+    }
+
+    fn answer_each<R: Abort + AllocGlobal>(&mut self, rt: &R, lines: &str) {
+        for line in lines.as_bytes().lines(rt.alloc()) {
+            self.answer(rt, line.expect(rt, "no memory").as_str());
         }
     }
 }
@@ -63,14 +72,11 @@ impl Pair {
 /// With ample memory both answer alike. Run with each allocation refused in turn (`bench/memory`), this shows
 /// that a refusal for want of memory leaves a topic as it was.
 #[test]
-fn a_refusal_changes_nothing(rt: HostRuntime) -> Result<(), Fail> {
-    let size = LedgerSize::new(3).unwrap();
+fn a_refusal_changes_nothing(rt: HostRuntime) {
+    let size = LedgerSize::new(3).expect(&rt, "no size");
     for number in 0..LISTS {
-        let mut pair = Pair::new(rt.alloc(), size)?;
-        let lines = Lines::random(rt.alloc(), number, EVENTS)?;
-        for line in lines.as_bytes().lines(rt.alloc()) {
-            pair.answer(&rt, line?.as_bytes());
-        }
+        let mut pair = Pair::new(&rt, size);
+        let lines = Lines::random(&rt, number, EVENTS);
+        pair.answer_each(&rt, lines.as_str());
     }
-    Ok(())
 }

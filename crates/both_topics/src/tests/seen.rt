@@ -28,7 +28,7 @@ const WORDS: [&str; KINDS] = [
 ];
 
 /// For each of the words, whether a reply began with it.
-#[derive(Debug, Drop)]
+#[derive(Drop)]
 pub(super) struct Seen {
     words: [bool; KINDS],
 }
@@ -50,13 +50,14 @@ impl Seen {
 
     pub(super) fn note_all<R: Abort + AllocGlobal>(&mut self, rt: &R, replies: &[u8]) {
         for reply in replies.lines(rt.alloc()) {
-            let reply = reply.expect(rt, "no text");
-            self.note(reply.as_str());
+            self.note(reply.expect(rt, "no text").as_str());
         }
     }
 
-    /// Whether each of the words came.
-    pub(super) fn is_all(&self) -> bool {
-        self.words.iter().all(|seen| *seen)
+    /// Each of the words came.
+    pub(super) fn check_all<R: Abort>(&self, rt: &R) {
+        for place in 0..KINDS {
+            assert!(rt; self.words[place], "{}", WORDS[place]);
+        }
     }
 }

@@ -1,8 +1,8 @@
 // Names, keys, properties and payloads of every kind.
 use super::world::{
-    Lone, Rows, Scene, asked, fresh, round, snapshot_of, stands, topic_name, with_keeper,
+    Lone, Rows, Scene, check_stands, fresh, is_taken, round, topic_name, with_keeper,
 };
-use delivery_machine::{Event, Initial, Reply};
+use delivery_machine::{Event, Initial};
 use marks::Naming;
 use position_core::{
     Base, Body, Content, Flow, Key, Kind, Level, Millis, Moment, Payload, ProducerName, Properties,
@@ -41,36 +41,23 @@ fn shared<R: Abort + AllocGlobal>(rt: &R, text: &str) -> ArcStr {
     ArcStr::from_str(rt.alloc(), text).expect(rt, "no memory")
 }
 
-/// Each text is the value of a property, whose name is the text with more.
+/// The text is the value of a property, whose name is the text with more.
+fn insert<R: Abort + AllocGlobal>(rt: &R, pairs: &mut BTreeMap<String, String>, value: &str) {
+    let mut name = text(rt, value);
+    name.push_str("=").expect(rt, "no memory");
+    let put: Result<_, _> = pairs.insert(name, text(rt, value));
+    put.expect(rt, "no memory");
+}
+
 fn properties<R: Abort + AllocGlobal>(rt: &R, texts: &[&str]) -> Properties {
     let mut pairs = BTreeMap::new(rt.alloc());
     for value in texts {
-        let mut name = text(rt, value);
-        name.push_str("=").expect(rt, "no memory");
-        let _ = pairs
-            .insert(name, text(rt, value))
-            .ok()
-            .expect(rt, "no memory");
+        insert(rt, &mut pairs, value);
     }
     Properties::new(pairs).expect(rt, "no properties")
 }
 
-fn publishing<R: Abort + AllocGlobal>(
-    rt: &R,
-    sequence: i64,
-    key: Option<&str>,
-    texts: &[&str],
-    payload: Vec<u8>,
-) -> Event {
-    let key = match key {
-        Some(key) => Key::new(shared(rt, key)),
-        None => None,
-    };
-    let content = Content {
-        key,
-        properties: properties(rt, texts),
-        payload: Payload::new(payload).expect(rt, "no payload"),
-    };
+fn publishing<R: Abort + AllocGlobal>(rt: &R, sequence: i64, content: Content) -> Event {
     Event::Publish {
         producer: 1,
         sequence,
@@ -86,10 +73,14 @@ fn connecting<R: Abort + AllocGlobal>(rt: &R) -> Event {
     }
 }
 
-fn joining<R: Abort + AllocGlobal>(rt: &R, topic: TopicName) -> Event {
+fn subscription<R: Abort + AllocGlobal>(rt: &R) -> SubscriptionName {
     let name = SubscriptionName::from_text(rt.alloc(), SUBSCRIPTION);
+    name.expect(rt, "no memory").expect(rt, "no name")
+}
+
+fn joining<R: Abort + AllocGlobal>(rt: &R, topic: TopicName) -> Event {
     Event::Subscribe {
-        subscription: name.expect(rt, "no memory").expect(rt, "no name"),
+        subscription: subscription(rt),
         kind: Kind::Shared,
         level: Level::new(0).expect(rt, "no level"),
         flow: Flow::Window(WindowSize::new(10).expect(rt, "no window")),
@@ -101,9 +92,56 @@ fn joining<R: Abort + AllocGlobal>(rt: &R, topic: TopicName) -> Event {
     }
 }
 
-/// Whether the reply is no refusal.
-fn is_taken<J: Naming, R: Abort>(rt: &R, cell: &mut Lone<J>, event: Event) -> bool {
-    !matches!(asked(rt, cell, event), Reply::Refused(_))
+fn connect<J: Naming, R: Abort + AllocGlobal>(rt: &R, cell: &mut Lone<J>) {
+    assert!(rt; is_taken(rt, cell, connecting(rt)));
+}
+
+fn join<J: Naming, R: Abort + AllocGlobal>(rt: &R, cell: &mut Lone<J>) {
+    let other = topic_name(rt, "persistent://a/b/c'\"%");
+    assert!(rt; is_taken(rt, cell, joining(rt, other)));
+}
+
+fn publish<J: Naming, R: Abort + AllocGlobal>(
+    rt: &R,
+    cell: &mut Lone<J>,
+    sequence: i64,
+    content: Content,
+) {
+    assert!(rt;
+        is_taken(rt, cell, publishing(rt, sequence, content)),
+        "{sequence}"
+    );
+}
+
+/// The text is the key, the payload and a property.
+fn content_of<R: Abort + AllocGlobal>(rt: &R, text: &str) -> Content {
+    let payload = text.as_bytes().to_vec(rt.alloc()).expect(rt, "no memory");
+    Content {
+        key: Key::new(shared(rt, text)),
+        properties: properties(rt, &[text]),
+        payload: Payload::new(payload).expect(rt, "no payload"),
+    }
+}
+
+/// Each text is a property, and nothing else.
+fn content_with<R: Abort + AllocGlobal>(rt: &R, texts: &[&str], payload: Vec<u8>) -> Content {
+    Content {
+        key: None,
+        properties: properties(rt, texts),
+        payload: Payload::new(payload).expect(rt, "no payload"),
+    }
+}
+
+fn publish_each<J: Naming, R: Abort + AllocGlobal>(rt: &R, cell: &mut Lone<J>) {
+    let mut sequence: i64 = 0;
+    for text in TEXTS {
+        publish(rt, cell, sequence, content_of(rt, text));
+        sequence = sequence.saturating_add(1);
+    }
+}
+
+fn publish_all<J: Naming, R: Abort + AllocGlobal>(rt: &R, cell: &mut Lone<J>) {
+    publish(rt, cell, 12, content_with(rt, &TEXTS, Vec::new(rt.alloc())));
 }
 
 #[derive(Drop)]
@@ -112,21 +150,13 @@ struct EveryKind;
 impl Scene for EveryKind {
     fn play<J: Naming, R: Abort + AllocGlobal>(&self, rt: &R, mut keeper: Rows<J>) {
         let mut cell = fresh(rt, TOPIC);
-        assert!(rt; is_taken(rt, &mut cell, connecting(rt)));
-        let mut sequence: i64 = 0;
-        for text in TEXTS {
-            let payload = text.as_bytes().to_vec(rt.alloc()).expect(rt, "no memory");
-            let event = publishing(rt, sequence, Some(text), &[text], payload);
-            assert!(rt; is_taken(rt, &mut cell, event), "{text:?}");
-            sequence = sequence.saturating_add(1);
-        }
+        connect(rt, &mut cell);
+        publish_each(rt, &mut cell);
         round(rt, &mut keeper, &mut cell);
-        let event = publishing(rt, sequence, None, &TEXTS, Vec::new(rt.alloc()));
-        assert!(rt; is_taken(rt, &mut cell, event));
-        let other = topic_name(rt, "persistent://a/b/c'\"%");
-        assert!(rt; is_taken(rt, &mut cell, joining(rt, other)));
+        publish_all(rt, &mut cell);
+        join(rt, &mut cell);
         round(rt, &mut keeper, &mut cell);
-        assert!(rt; stands(rt, &mut keeper, &snapshot_of(rt, &cell)));
+        check_stands(rt, &mut keeper, &cell);
     }
 }
 
@@ -135,19 +165,22 @@ fn texts_of_every_kind(rt: HostRuntime) {
     with_keeper(&rt, &EveryKind);
 }
 
+fn most_bytes<R: Abort + AllocGlobal>(rt: &R) -> Vec<u8> {
+    let mut payload = Vec::new(rt.alloc());
+    payload.resize(1_048_576, 0xff).expect(rt, "no memory");
+    payload
+}
+
 #[derive(Drop)]
 struct Large;
 
 impl Scene for Large {
     fn play<J: Naming, R: Abort + AllocGlobal>(&self, rt: &R, mut keeper: Rows<J>) {
         let mut cell = fresh(rt, TOPIC);
-        assert!(rt; is_taken(rt, &mut cell, connecting(rt)));
-        let mut payload = Vec::new(rt.alloc());
-        payload.resize(1_048_576, 0xff).expect(rt, "no memory");
-        let event = publishing(rt, 0, None, &[], payload);
-        assert!(rt; is_taken(rt, &mut cell, event));
+        connect(rt, &mut cell);
+        publish(rt, &mut cell, 0, content_with(rt, &[], most_bytes(rt)));
         round(rt, &mut keeper, &mut cell);
-        assert!(rt; stands(rt, &mut keeper, &snapshot_of(rt, &cell)));
+        check_stands(rt, &mut keeper, &cell);
     }
 }
 

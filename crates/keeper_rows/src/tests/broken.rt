@@ -1,12 +1,11 @@
 // Rows that are no snapshot's: each breaks one rule, is refused and stays, and once mended is loaded again.
 use super::breaks::{CONTENTS, LETTERS, PLACES, RUNS, SUBSCRIPTIONS, TOPICS};
-use super::world::{
-    FOUR, Rows, Scene, T, fresh, play, round, snapshot_of, stands, topic_name, with_keeper,
-};
-use delivery_machine::Fault;
+use super::world::{FOUR, Rows, Scene, T, fresh, play_rounds, snapshot_of, stands, with_keeper};
+use delivery_machine::{Fault, Snapshot};
 use marks::Naming;
 use position_core::TopicName;
 use row_store::Keeper;
+use sqlite::{Connection, MemStore};
 use std::process::Abort;
 
 /// Two deaths, of which the first was moved, and two runs of what is acknowledged; beside them a
@@ -36,16 +35,52 @@ dispatch s 1400
 ack 1 CAAQAw==
 ";
 
+fn execute<R: Abort>(rt: &R, conn: &mut Connection<MemStore>, sql: &str) {
+    assert!(rt; conn.execute(sql, &[]).is_ok(), "{sql}");
+}
+
 /// The keeper over its database after the statement.
 fn after<J: Naming, R: Abort + AllocGlobal>(rt: &R, keeper: Rows<J>, sql: &str) -> Rows<J> {
     let (mut conn, notes) = keeper.into_parts();
-    assert!(rt; conn.execute(sql, &[]).is_ok(), "{sql}");
+    execute(rt, &mut conn, sql);
     let adopted = Keeper::adopt(rt.alloc(), conn, notes);
     adopted.ok().expect(rt, "not adopted")
 }
 
-fn is_refused<J: Naming>(keeper: &mut Rows<J>, name: &TopicName) -> bool {
-    matches!(keeper.load(name), Err(Fault::StoreFailed))
+/// The topic is played, with rounds, and this is its snapshot then.
+fn filled<J: Naming, R: Abort + AllocGlobal>(rt: &R, keeper: &mut Rows<J>) -> Snapshot {
+    let mut cell = fresh(rt, T);
+    play_rounds(rt, keeper, &mut cell, &[FOUR, PLAYED, STORED]);
+    snapshot_of(rt, &cell)
+}
+
+fn check_refused<J: Naming, R: Abort>(rt: &R, keeper: &mut Rows<J>, name: &TopicName, sql: &str) {
+    let refused = matches!(keeper.load(name), Err(Fault::StoreFailed));
+    assert!(rt; refused, "{sql}");
+}
+
+fn check_mended<J: Naming, R: Abort + AllocGlobal>(
+    rt: &R,
+    keeper: &mut Rows<J>,
+    snapshot: &Snapshot,
+    sql: &str,
+) {
+    assert!(rt; stands(rt, keeper, snapshot), "{sql}");
+}
+
+/// The keeper after a statement that breaks a rule, and one that mends it.
+fn check_break<J: Naming, R: Abort + AllocGlobal>(
+    rt: &R,
+    keeper: Rows<J>,
+    snapshot: &Snapshot,
+    wrong: &str,
+    right: &str,
+) -> Rows<J> {
+    let mut broken = after(rt, keeper, wrong);
+    check_refused(rt, &mut broken, snapshot.name(), wrong);
+    let mut mended = after(rt, broken, right);
+    check_mended(rt, &mut mended, snapshot, right);
+    mended
 }
 
 #[derive(Drop)]
@@ -55,18 +90,9 @@ struct Broken {
 
 impl Scene for Broken {
     fn play<J: Naming, R: Abort + AllocGlobal>(&self, rt: &R, mut keeper: Rows<J>) {
-        let mut cell = fresh(rt, T);
-        for part in [FOUR, PLAYED, STORED] {
-            play(rt, &mut cell, part);
-            round(rt, &mut keeper, &mut cell);
-        }
-        let snapshot = snapshot_of(rt, &cell);
-        let name = topic_name(rt, T);
+        let snapshot = filled(rt, &mut keeper);
         for (wrong, right) in self.breaks {
-            keeper = after(rt, keeper, wrong);
-            assert!(rt; is_refused(&mut keeper, &name), "{wrong}");
-            keeper = after(rt, keeper, right);
-            assert!(rt; stands(rt, &mut keeper, &snapshot), "{right}");
+            keeper = check_break(rt, keeper, &snapshot, wrong, right);
         }
     }
 }

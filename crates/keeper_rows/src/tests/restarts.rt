@@ -2,7 +2,7 @@
 ghost use Rattle.std.specs.Prelude.{◌≡◌};
 
 use super::world::{
-    FOUR, Lone, Rows, Scene, T, asked, fresh, one_cell, play, round, snapshot_of, stands,
+    FOUR, Lone, Rows, Scene, T, asked, check_stands, fresh, one_cell, play, play_rounds, round,
     topic_name, with_keeper,
 };
 use delivery_machine::{Event, Opened, Reply};
@@ -50,35 +50,45 @@ ack 1 CAAQAg==
 subscribe t Failover 0 push:10 0 60000 0 - Latest
 ";
 
+fn begin<J: Naming, R: Abort + AllocGlobal>(rt: &R, keeper: &mut Rows<J>) {
+    let mut cell = fresh(rt, T);
+    play_rounds(rt, keeper, &mut cell, &[FOUR, BEFORE]);
+}
+
+fn has_four<J: Naming, R: Abort>(rt: &R, cell: &mut Lone<J>) -> bool {
+    matches!(
+        asked(rt, cell, Event::Progress),
+        Reply::Progress {
+            durable: 4,
+            length: 4
+        }
+    )
+}
+
+fn go_on<J: Naming, R: Abort + AllocGlobal>(rt: &R, keeper: &mut Rows<J>) {
+    let mut cell = restarted(rt, keeper);
+    assert!(rt; has_four(rt, &mut cell));
+    assert!(rt; cell.stored().is_some());
+    play(rt, &mut cell, AFTER);
+    round(rt, keeper, &mut cell);
+    check_stands(rt, keeper, &cell);
+}
+
+fn go_on_again<J: Naming, R: Abort + AllocGlobal>(rt: &R, keeper: &mut Rows<J>) {
+    let mut cell = restarted(rt, keeper);
+    assert!(rt; !cell.is_by_word());
+    round(rt, keeper, &mut cell);
+    check_stands(rt, keeper, &cell);
+}
+
 #[derive(Drop)]
 struct GoesOn;
 
 impl Scene for GoesOn {
     fn play<J: Naming, R: Abort + AllocGlobal>(&self, rt: &R, mut keeper: Rows<J>) {
-        let mut cell = fresh(rt, T);
-        for part in [FOUR, BEFORE] {
-            play(rt, &mut cell, part);
-            round(rt, &mut keeper, &mut cell);
-        }
-        let mut cell = restarted(rt, &mut keeper);
-        let progress = asked(rt, &mut cell, Event::Progress);
-        assert!(rt;
-            matches!(
-                progress,
-                Reply::Progress {
-                    durable: 4,
-                    length: 4
-                }
-            )
-        );
-        assert!(rt; cell.stored().is_some());
-        play(rt, &mut cell, AFTER);
-        round(rt, &mut keeper, &mut cell);
-        assert!(rt; stands(rt, &mut keeper, &snapshot_of(rt, &cell)));
-        let mut cell = restarted(rt, &mut keeper);
-        assert!(rt; !cell.is_by_word());
-        round(rt, &mut keeper, &mut cell);
-        assert!(rt; stands(rt, &mut keeper, &snapshot_of(rt, &cell)));
+        begin(rt, &mut keeper);
+        go_on(rt, &mut keeper);
+        go_on_again(rt, &mut keeper);
     }
 }
 

@@ -1,9 +1,43 @@
 // Rounds one after the other, each by what changed since the one before.
 use super::world::{
-    FOUR, Rows, Scene, T, U, fresh, has_none, play, round, snapshot_of, stands, with_keeper,
+    FOUR, Lone, Rows, Scene, T, U, check_stands, fresh, has_none, play, play_rounds, round,
+    snapshot_of, stands, with_keeper,
 };
 use marks::Naming;
 use std::process::Abort;
+
+/// The one is stored, and then the other.
+fn store_both<J: Naming, R: Abort + AllocGlobal>(
+    rt: &R,
+    keeper: &mut Rows<J>,
+    one: &mut Lone<J>,
+    other: &mut Lone<J>,
+) {
+    play(rt, one, FOUR);
+    round(rt, keeper, one);
+    assert!(rt; has_none(rt, keeper, U));
+    play(rt, other, FOUR);
+    round(rt, keeper, other);
+}
+
+/// Both go on, and the one is stored, while the other's rows stay.
+fn store_one<J: Naming, R: Abort + AllocGlobal>(
+    rt: &R,
+    keeper: &mut Rows<J>,
+    one: &mut Lone<J>,
+    other: &mut Lone<J>,
+) {
+    let kept = snapshot_of(rt, other);
+    play(
+        rt,
+        one,
+        "publish 1 4 - aGk= 1004\nsubscribe s Shared 0 push:10 0 100 1 - Earliest\n",
+    );
+    play(rt, other, "publish 1 4 - aGk= 1004\n");
+    round(rt, keeper, one);
+    assert!(rt; stands(rt, keeper, &kept));
+    check_stands(rt, keeper, one);
+}
 
 /// Both topics are stored, and then one of them once more.
 #[derive(Drop)]
@@ -13,24 +47,11 @@ impl Scene for TwoTopics {
     fn play<J: Naming, R: Abort + AllocGlobal>(&self, rt: &R, mut keeper: Rows<J>) {
         let mut one = fresh(rt, T);
         let mut other = fresh(rt, U);
-        play(rt, &mut one, FOUR);
-        round(rt, &mut keeper, &mut one);
-        assert!(rt; has_none(rt, &mut keeper, U));
-        play(rt, &mut other, FOUR);
+        store_both(rt, &mut keeper, &mut one, &mut other);
+        store_one(rt, &mut keeper, &mut one, &mut other);
         round(rt, &mut keeper, &mut other);
-        let kept = snapshot_of(rt, &other);
-        play(
-            rt,
-            &mut one,
-            "publish 1 4 - aGk= 1004\nsubscribe s Shared 0 push:10 0 100 1 - Earliest\n",
-        );
-        play(rt, &mut other, "publish 1 4 - aGk= 1004\n");
-        round(rt, &mut keeper, &mut one);
-        assert!(rt; stands(rt, &mut keeper, &kept));
-        assert!(rt; stands(rt, &mut keeper, &snapshot_of(rt, &one)));
-        round(rt, &mut keeper, &mut other);
-        assert!(rt; stands(rt, &mut keeper, &snapshot_of(rt, &other)));
-        assert!(rt; stands(rt, &mut keeper, &snapshot_of(rt, &one)));
+        check_stands(rt, &mut keeper, &other);
+        check_stands(rt, &mut keeper, &one);
     }
 }
 
@@ -48,11 +69,8 @@ struct Parts {
 impl Scene for Parts {
     fn play<J: Naming, R: Abort + AllocGlobal>(&self, rt: &R, mut keeper: Rows<J>) {
         let mut cell = fresh(rt, T);
-        for part in self.parts {
-            play(rt, &mut cell, part);
-            round(rt, &mut keeper, &mut cell);
-        }
-        assert!(rt; stands(rt, &mut keeper, &snapshot_of(rt, &cell)));
+        play_rounds(rt, &mut keeper, &mut cell, self.parts);
+        check_stands(rt, &mut keeper, &cell);
     }
 }
 

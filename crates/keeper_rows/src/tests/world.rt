@@ -3,7 +3,7 @@ ghost use Rattle.std.specs.Prelude.{◌≡◌, []};
 
 use super::same::same;
 use delivery_machine::{Event, Reply, Saved, Snapshot};
-use kept_rows::{Note, Notes};
+use kept_rows::{Note, Notes, Part};
 use marks::{Naming, Unnamed};
 use plain_topic::PlainTopic;
 use position_core::{LedgerSize, TopicName};
@@ -74,7 +74,7 @@ pub(super) fn fresh<J: Naming, R: Abort + AllocGlobal>(rt: &R, name: &str) -> Lo
     StoredCell::fresh(one_cell(rt, topic))
 }
 
-fn event_in<R: AllocGlobal>(rt: &R, name: &TopicName, line: &str) -> Option<Event> {
+pub(super) fn event_in<R: AllocGlobal>(rt: &R, name: &TopicName, line: &str) -> Option<Event> {
     match read_line(rt.alloc(), name, line.as_bytes()) {
         Ok(Line::Event(event)) => Some(event),
         _ => None,
@@ -85,19 +85,33 @@ pub(super) fn asked<J: Naming, R: Abort>(rt: &R, cell: &mut Lone<J>, event: Even
     cell.call(1, event).expect(rt, "no answer").reply
 }
 
+/// Whether the reply is no refusal.
+pub(super) fn is_taken<J: Naming, R: Abort>(rt: &R, cell: &mut Lone<J>, event: Event) -> bool {
+    !matches!(asked(rt, cell, event), Reply::Refused(_))
+}
+
+fn play_line<J: Naming, R: Abort + AllocGlobal>(rt: &R, cell: &mut Lone<J>, line: &str) {
+    let event = event_in(rt, &topic_name(rt, T), line).expect(rt, "no event");
+    assert!(rt; is_taken(rt, cell, event), "{line}");
+}
+
 /// The topic is asked each line, and refuses none.
 pub(super) fn play<J: Naming, R: Abort + AllocGlobal>(rt: &R, cell: &mut Lone<J>, lines: &str) {
-    let name = topic_name(rt, T);
     for line in lines.as_bytes().lines(rt.alloc()) {
-        let line = line.expect(rt, "no text");
-        let event = event_in(rt, &name, line.as_str()).expect(rt, "no event");
-        let reply = asked(rt, cell, event);
-        assert!(rt; !matches!(reply, Reply::Refused(_)), "{}", line.as_str());
+        play_line(rt, cell, line.expect(rt, "no text").as_str());
     }
 }
 
 pub(super) fn snapshot_of<J: Naming, R: Abort>(rt: &R, cell: &Lone<J>) -> Snapshot {
     cell.view().expect(rt, "no memory")
+}
+
+pub(super) fn viewed<J: Naming, R: Abort>(
+    rt: &R,
+    keeper: &mut Rows<J>,
+    cell: &mut Lone<J>,
+) -> Part<J> {
+    keeper.view(cell).expect(rt, "no view")
 }
 
 /// Whether what is loaded of the topic is the snapshot.
@@ -112,17 +126,50 @@ pub(super) fn stands<J: Naming, R: Abort + AllocGlobal>(
     }
 }
 
+/// What is loaded of the topic is the topic as it is.
+pub(super) fn check_stands<J: Naming, R: Abort + AllocGlobal>(
+    rt: &R,
+    keeper: &mut Rows<J>,
+    cell: &Lone<J>,
+) {
+    assert!(rt; stands(rt, keeper, &snapshot_of(rt, cell)));
+}
+
+fn is_absent<J: Naming>(keeper: &mut Rows<J>, name: &TopicName) -> bool {
+    match &keeper.load(name) {
+        Ok(found) => found.is_none(),
+        Err(_) => false,
+    }
+}
+
 /// Whether nothing stands of the topic.
 pub(super) fn has_none<J: Naming, R: Abort + AllocGlobal>(
     rt: &R,
     keeper: &mut Rows<J>,
     name: &str,
 ) -> bool {
-    matches!(keeper.load(&topic_name(rt, name)), Ok(None))
+    is_absent(keeper, &topic_name(rt, name))
+}
+
+fn count<J: Naming, R: Abort>(rt: &R, cell: &Lone<J>) -> u64 {
+    snapshot_of(rt, cell).log().count() as u64
 }
 
 /// A round, after which all messages of the topic are durable.
 pub(super) fn round<J: Naming, R: Abort>(rt: &R, keeper: &mut Rows<J>, cell: &mut Lone<J>) {
-    let count = snapshot_of(rt, cell).log().count() as u64;
-    assert_eq!(rt; keeper.round(cell), Ok(count));
+    let count = count(rt, cell);
+    assert!(rt; keeper.round(cell) == Ok(count));
+}
+
+/// The topic is played part by part, with a round after each.
+pub(super) fn play_rounds<J: Naming, R: Abort + AllocGlobal>(
+    rt: &R,
+    keeper: &mut Rows<J>,
+    cell: &mut Lone<J>,
+    parts: &[&str],
+) {
+    for part in parts {
+        play(rt, cell, part);
+        round(rt, keeper, cell);
+    }
 }

@@ -1,5 +1,5 @@
 // How many rows a round writes.
-use super::world::{FOUR, Rows, Scene, T, fresh, play, round, with_keeper};
+use super::world::{FOUR, Lone, Rows, Scene, T, fresh, play, round, with_keeper};
 use marks::Naming;
 use row_store::Written;
 use std::process::Abort;
@@ -38,6 +38,18 @@ fn counts(written: Written) -> Counts {
     )
 }
 
+fn check_step<J: Naming, R: Abort + AllocGlobal>(
+    rt: &R,
+    keeper: &mut Rows<J>,
+    cell: &mut Lone<J>,
+    part: &str,
+    wanted: Counts,
+) {
+    play(rt, cell, part);
+    round(rt, keeper, cell);
+    assert!(rt; counts(keeper.written()) == wanted, "{part}");
+}
+
 #[derive(Drop)]
 struct Counted;
 
@@ -45,9 +57,7 @@ impl Scene for Counted {
     fn play<J: Naming, R: Abort + AllocGlobal>(&self, rt: &R, mut keeper: Rows<J>) {
         let mut cell = fresh(rt, T);
         for (part, wanted) in STEPS {
-            play(rt, &mut cell, part);
-            round(rt, &mut keeper, &mut cell);
-            assert_eq!(rt; counts(keeper.written()), wanted);
+            check_step(rt, &mut keeper, &mut cell, part, wanted);
         }
     }
 }

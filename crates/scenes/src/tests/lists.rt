@@ -7,7 +7,7 @@ use plain_lists::{
     Producer, Subscription, auto_name, drop_producer, drop_subscription, least_free, store_all,
 };
 use plain_tables::PositionSet;
-use position_core::{Base, Held, Kind, ProducerName};
+use position_core::{Base, Held, Kind, Message, ProducerName};
 use std::process::Abort;
 use std::sync::ArcStr;
 
@@ -36,11 +36,15 @@ fn free_among<R: Abort + AllocGlobal>(rt: &R, names: &[&str]) -> u64 {
     least_free(rt.alloc(), taken).expect(rt, "no memory")
 }
 
+fn check_free<R: Abort + AllocGlobal>(rt: &R, names: &[&str], want: u64) {
+    assert!(rt; free_among(rt, names) == want);
+}
+
 #[test]
 fn the_least_free_number_is_found(rt: HostRuntime) {
-    assert_eq!(rt; free_among(&rt, &[]), 0);
-    assert_eq!(rt; free_among(&rt, &["auto-1", "auto-00"]), 0);
-    assert_eq!(rt; free_among(&rt, &["auto-1", "auto-3", "auto-0"]), 2);
+    check_free(&rt, &[], 0);
+    check_free(&rt, &["auto-1", "auto-00"], 0);
+    check_free(&rt, &["auto-1", "auto-3", "auto-0"], 2);
 }
 
 /// A subscription in which the first message is pending.
@@ -68,14 +72,24 @@ fn burying<R: Abort + AllocGlobal>(rt: &R) -> Subscription {
     subscription
 }
 
+fn check_dead<R: Abort>(rt: &R, subscription: &Subscription, message: &Message) {
+    assert!(rt; !subscription.is_pending(message));
+    assert!(rt; !subscription.is_live(message));
+    assert!(rt; subscription.first_safe().is_none());
+    assert!(rt; subscription.number_of_dead() == 1);
+}
+
 #[test]
 fn a_message_dies(rt: HostRuntime) {
     let message = message_at(&rt, position_at(0), None);
-    let subscription = burying(&rt);
-    assert!(rt; !subscription.is_pending(&message));
-    assert!(rt; !subscription.is_live(&message));
+    check_dead(&rt, &burying(&rt), &message);
+}
+
+fn move_first<R: Abort>(rt: &R, subscription: &mut Subscription, message: &Message) {
+    assert!(rt; subscription.first_safe().is_some());
+    subscription.move_first().expect(rt, "no memory");
     assert!(rt; subscription.first_safe().is_none());
-    assert_eq!(rt; subscription.number_of_dead(), 1);
+    assert!(rt; subscription.is_acknowledged(message));
 }
 
 #[test]
@@ -84,26 +98,26 @@ fn a_letter_is_moved(rt: HostRuntime) {
     let mut subscriptions = vec![in rt.alloc(); burying(&rt)].expect(&rt, "no memory");
     store_all(&mut subscriptions);
     let subscription = subscriptions.first_mut().expect(&rt, "no subscription");
-    assert!(rt; subscription.first_safe().is_some());
-    subscription.move_first().expect(&rt, "no memory");
-    assert!(rt; subscription.first_safe().is_none());
-    assert!(rt; subscription.is_acknowledged(&message));
+    move_first(&rt, subscription, &message);
+}
+
+fn check_seek<R: Abort + AllocGlobal>(rt: &R, subscription: &mut Subscription, message: &Message) {
+    assert!(rt; !subscription.is_waiting(message));
+    subscription.seek(rt.alloc(), &[]).expect(rt, "no memory");
+    assert!(rt; subscription.is_waiting(message));
 }
 
 #[test]
 fn a_seek_releases_what_is_pending(rt: HostRuntime) {
     let message = message_at(&rt, position_at(0), None);
-    let mut subscription = holding(&rt);
-    assert!(rt; !subscription.is_waiting(&message));
-    subscription.seek(rt.alloc(), &[]).expect(&rt, "no memory");
-    assert!(rt; subscription.is_waiting(&message));
+    check_seek(&rt, &mut holding(&rt), &message);
 }
 
 #[test]
 fn a_subscription_goes(rt: HostRuntime) {
     let mut subscriptions = vec![in rt.alloc(); holding(&rt)].expect(&rt, "no memory");
     drop_subscription(&mut subscriptions, &name(&rt));
-    assert_eq!(rt; subscriptions.len(), 0);
+    assert!(rt; subscriptions.len() == 0);
 }
 
 #[test]
@@ -112,5 +126,5 @@ fn a_producer_goes(rt: HostRuntime) {
     let made = Producer::new(1, producer(&rt, "p"), base);
     let mut producers = vec![in rt.alloc(); made].expect(&rt, "no memory");
     assert!(rt; drop_producer(&mut producers, 1));
-    assert_eq!(rt; producers.len(), 0);
+    assert!(rt; producers.len() == 0);
 }

@@ -30,78 +30,132 @@ fn position_of(log: &EntryLog, index: usize) -> Option<Position> {
     log.get(index).map(|message| message.position())
 }
 
+fn check_at<R: Abort>(rt: &R, log: &EntryLog, index: usize, want: Option<Position>) {
+    assert!(rt; position_of(log, index) == want);
+}
+
+fn check_index<R: Abort>(rt: &R, log: &EntryLog, position: Position, want: Option<usize>) {
+    assert!(rt; log.index_of(position) == want);
+}
+
+fn check_next<R: Abort>(rt: &R, log: &EntryLog, want: Position) {
+    assert!(rt; log.next_position() == want);
+}
+
+fn check_len<R: Abort>(rt: &R, log: &EntryLog, want: usize) {
+    assert!(rt; log.len() == want);
+}
+
+/// Whether the last message is taken back.
+fn check_pop<R: Abort>(rt: &R, log: &mut EntryLog, want: bool) {
+    assert!(rt; log.pop() == want);
+}
+
+/// The message of the index, in ledgers of a thousand.
+fn check_message<R: Abort>(rt: &R, log: &EntryLog, index: usize) {
+    let position = at(index as u64 / 1000, index as u64 % 1000);
+    check_at(rt, log, index, Some(position));
+    check_index(rt, log, position, Some(index));
+}
+
+fn check_messages<R: Abort>(rt: &R, log: &EntryLog) {
+    for index in [0, 1, 999, 1000, 1023, 1024, 2047, 2048, 4095, 4096, 4999] {
+        check_message(rt, log, index);
+    }
+}
+
+fn check_beyond<R: Abort>(rt: &R, log: &EntryLog) {
+    check_at(rt, log, 5000, None);
+    check_index(rt, log, at(0, 1000), None);
+    check_index(rt, log, at(5, 0), None);
+    check_index(rt, log, at(7, 3), None);
+    check_next(rt, log, at(5, 0));
+}
+
 #[test]
 fn messages_stand_at_their_indexes(rt: HostRuntime) {
     let log = log_of(&rt, 5000, 1000);
-    assert_eq!(rt; log.len(), 5000);
+    check_len(&rt, &log, 5000);
     assert!(rt; !log.is_full());
-    for index in [0, 1, 999, 1000, 1023, 1024, 2047, 2048, 4095, 4096, 4999] {
-        let position = at(index as u64 / 1000, index as u64 % 1000);
-        assert_eq!(rt; position_of(&log, index), Some(position));
-        assert_eq!(rt; log.index_of(position), Some(index));
-    }
-    assert!(rt; position_of(&log, 5000).is_none());
-    for position in [at(0, 1000), at(5, 0), at(7, 3)] {
-        assert!(rt; log.index_of(position).is_none());
-    }
-    assert_eq!(rt; log.next_position(), at(5, 0));
+    check_messages(&rt, &log);
+    check_beyond(&rt, &log);
 }
 
 #[test]
 fn an_empty_log_has_nothing(rt: HostRuntime) {
     let mut log = log_of(&rt, 0, 1);
-    assert!(rt; log.get(0).is_none());
-    assert!(rt; log.index_of(at(0, 0)).is_none());
-    assert!(rt; !log.pop());
-    assert_eq!(rt; log.next_position(), at(0, 0));
+    check_at(&rt, &log, 0, None);
+    check_index(&rt, &log, at(0, 0), None);
+    check_pop(&rt, &mut log, false);
+    check_next(&rt, &log, at(0, 0));
+}
+
+/// The log has so many messages, and none at the next position.
+fn check_end<R: Abort>(rt: &R, log: &EntryLog, count: usize, next: Position) {
+    check_len(rt, log, count);
+    check_index(rt, log, next, None);
+    check_next(rt, log, next);
+}
+
+fn take_back<R: Abort + AllocGlobal>(rt: &R, log: &mut EntryLog, count: usize) {
+    let next = log.next_position();
+    append(rt, log);
+    check_index(rt, log, next, Some(count));
+    check_pop(rt, log, true);
+    check_end(rt, log, count, next);
+    check_pop(rt, log, false);
+    check_len(rt, log, count);
+    append(rt, log);
+    check_at(rt, log, count, Some(next));
 }
 
 /// At the seams of segments and of ledgers too, the log goes on as if the message had never come.
 #[test]
 fn the_last_message_is_taken_back(rt: HostRuntime) {
     for count in [0, 1, 511, 512, 1023, 1024, 1025, 2048] {
-        let mut log = log_of(&rt, count, 512);
-        let next = log.next_position();
-        append(&rt, &mut log);
-        assert_eq!(rt; log.index_of(next), Some(count));
-        assert!(rt; log.pop());
-        assert_eq!(rt; log.len(), count);
-        assert!(rt; log.index_of(next).is_none());
-        assert_eq!(rt; log.next_position(), next);
-        assert!(rt; !log.pop());
-        assert_eq!(rt; log.len(), count);
-        append(&rt, &mut log);
-        assert_eq!(rt; position_of(&log, count), Some(next));
+        take_back(&rt, &mut log_of(&rt, count, 512), count);
     }
+}
+
+fn roll<R: Abort + AllocGlobal>(rt: &R, log: &mut EntryLog) {
+    log.roll();
+    check_next(rt, log, at(1, 0));
+    check_pop(rt, log, false);
+    append(rt, log);
+    check_next(rt, log, at(1, 1));
+    check_pop(rt, log, true);
+    check_next(rt, log, at(1, 0));
+    check_len(rt, log, 3);
 }
 
 #[test]
 fn a_roll_begins_the_next_ledger(rt: HostRuntime) {
-    let mut log = log_of(&rt, 3, 50);
+    roll(&rt, &mut log_of(&rt, 3, 50));
+}
+
+/// One more message in this ledger, and one in the next.
+fn go_on<R: Abort + AllocGlobal>(rt: &R, log: &mut EntryLog) {
+    append(rt, log);
     log.roll();
-    assert_eq!(rt; log.next_position(), at(1, 0));
-    assert!(rt; !log.pop());
-    append(&rt, &mut log);
-    assert_eq!(rt; log.next_position(), at(1, 1));
-    assert!(rt; log.pop());
-    assert_eq!(rt; log.next_position(), at(1, 0));
-    assert_eq!(rt; log.len(), 3);
+    append(rt, log);
+}
+
+fn check_copy<R: Abort + AllocGlobal>(rt: &R, copy: &mut EntryLog) {
+    check_len(rt, copy, 3000);
+    check_next(rt, copy, at(3, 0));
+    check_at(rt, copy, 2999, Some(at(2, 999)));
+    for _ in 0..100 {
+        append(rt, copy);
+    }
 }
 
 #[test]
 fn a_copy_stays_as_it_is(rt: HostRuntime) {
     let mut log = log_of(&rt, 3000, 1000);
     let mut copy = log.copy().expect(&rt, "no memory");
-    append(&rt, &mut log);
-    log.roll();
-    append(&rt, &mut log);
-    assert_eq!(rt; copy.len(), 3000);
-    assert_eq!(rt; copy.next_position(), at(3, 0));
-    assert_eq!(rt; position_of(&copy, 2999), Some(at(2, 999)));
-    for _ in 0..100 {
-        append(&rt, &mut copy);
-    }
-    assert_eq!(rt; log.len(), 3002);
-    assert_eq!(rt; position_of(&log, 3001), Some(at(4, 0)));
-    assert_eq!(rt; position_of(&copy, 3001), Some(at(3, 1)));
+    go_on(&rt, &mut log);
+    check_copy(&rt, &mut copy);
+    check_len(&rt, &log, 3002);
+    check_at(&rt, &log, 3001, Some(at(4, 0)));
+    check_at(&rt, &copy, 3001, Some(at(3, 1)));
 }

@@ -54,6 +54,17 @@ pub(super) fn new_log<R: Abort + AllocGlobal>(rt: &R, keys: [Option<&str>; 3]) -
     log.expect(rt, "no memory")
 }
 
+fn check_key<R: Abort>(rt: &R, entry: &Entry) {
+    let key = &entry.body.content().key;
+    assert!(rt; key.as_ref().map(|key| key.as_str()) == Some("k"));
+}
+
+fn check_entry<R: Abort>(rt: &R, entry: &Entry) {
+    assert!(rt; entry.producer.as_str() == "p");
+    assert!(rt; entry.sequence == 9 && entry.time.millis() == 1_700_000_000_000);
+    check_key(rt, entry);
+}
+
 #[test]
 fn a_message_shows_its_entry(rt: HostRuntime) {
     let position = Position {
@@ -62,13 +73,6 @@ fn a_message_shows_its_entry(rt: HostRuntime) {
     };
     let message = message_at(&rt, position, Some("k"));
     let message = message.clone().expect(&rt, "no memory");
-    assert_eq!(rt; message.position(), position);
-    let entry = message.entry();
-    assert_eq!(rt; entry.producer.as_str(), "p");
-    assert_eq!(rt;
-        (entry.sequence, entry.time.millis()),
-        (9, 1_700_000_000_000)
-    );
-    let key = &entry.body.content().key;
-    assert_eq!(rt; key.as_ref().map(|key| key.as_str()), Some("k"));
+    assert!(rt; message.position() == position);
+    check_entry(&rt, message.entry());
 }

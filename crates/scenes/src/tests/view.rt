@@ -6,15 +6,18 @@ use dispatch_core::View;
 use position_core::Kind;
 use std::process::Abort;
 
+fn expect_at<R: Abort, V: View>(rt: &R, view: &V, index: u64, holder: Option<u64>) {
+    assert!(rt; view.holder(index) == holder);
+    assert!(rt; view.key(index).is_some() == (index == 1));
+}
+
 fn expect_scene<R: Abort, V: View>(rt: &R, view: &V) {
-    assert_eq!(rt; view.visible(), 2);
-    assert_eq!(rt; view.length(), 3);
-    let holders = [None, Some(4), None, None];
-    for index in 0..4 {
-        assert_eq!(rt; view.holder(index), holders[index as usize]);
-        assert_eq!(rt; view.key(index).is_some(), index == 1);
-    }
-    assert_eq!(rt; view.key(1), Some("k"));
+    assert!(rt; view.visible() == 2 && view.length() == 3);
+    expect_at(rt, view, 0, None);
+    expect_at(rt, view, 1, Some(4));
+    expect_at(rt, view, 2, None);
+    expect_at(rt, view, 3, None);
+    assert!(rt; view.key(1) == Some("k"));
 }
 
 #[test]

@@ -1,7 +1,6 @@
 // What an administrator's texts ask for.
-use super::{joined, repeated};
+use super::{expect, joined, number, position, refusal, repeated};
 use delivery_machine::Target;
-use position_core::Fault;
 use std::process::Abort;
 use wire_json::{AdminCommand, read_admin};
 
@@ -10,16 +9,8 @@ fn target<R: Abort + AllocGlobal>(rt: &R, target: Target) -> String {
     match target {
         Target::Earliest => joined(rt, &["earliest"]),
         Target::Latest => joined(rt, &["latest"]),
-        Target::At(at) => {
-            let ledger = at.ledger;
-            let entry = at.entry;
-            format!(in rt.alloc(); "{ledger}:{entry}").expect(rt, "no memory")
-        }
+        Target::At(at) => position(rt, at),
     }
-}
-
-fn number<R: Abort + AllocGlobal>(rt: &R, number: u64) -> String {
-    format!(in rt.alloc(); "{number}").expect(rt, "no memory")
 }
 
 /// What a command asks for, in short.
@@ -65,22 +56,16 @@ fn named<R: Abort + AllocGlobal>(rt: &R, command: &AdminCommand) -> String {
     }
 }
 
-fn refused<R: Abort + AllocGlobal>(rt: &R, fault: Fault) -> String {
-    let number = fault.number();
-    format!(in rt.alloc(); "F{number}").expect(rt, "no memory")
-}
-
 fn shown<R: Abort + AllocGlobal>(rt: &R, text: &[u8]) -> String {
     match &read_admin(rt.alloc(), text).expect(rt, "no memory") {
         Ok(command) => named(rt, command),
-        Err(fault) => refused(rt, *fault),
+        Err(fault) => refusal(rt, *fault),
     }
 }
 
 fn check<R: Abort + AllocGlobal>(rt: &R, table: &[(&str, &str)]) {
     for (text, want) in table {
-        let said = shown(rt, text.as_bytes());
-        assert!(rt; said.as_str() == *want, "at {text}: {said}");
+        expect(rt, shown(rt, text.as_bytes()).as_str(), want, text);
     }
 }
 

@@ -1,5 +1,5 @@
 // What a producer is answered.
-use super::joined;
+use super::{expect, joined};
 use position_core::{Fault, Position};
 use std::process::Abort;
 use wire_json::{SendError, error_text, ok_text};
@@ -7,7 +7,7 @@ use wire_json::{SendError, error_text, ok_text};
 fn check_ok<R: Abort + AllocGlobal>(rt: &R, context: Option<&str>, id: Position, want: &str) {
     let mut text = joined(rt, &["what stood before"]);
     ok_text(&mut text, context, id).expect(rt, "no memory");
-    assert!(rt; text.as_str() == want, "at {want}");
+    expect(rt, text.as_str(), want, want);
 }
 
 #[test]
@@ -68,11 +68,15 @@ fn contexts_are_escaped(rt: HostRuntime) {
     check_context(&rt, "a\"b\"\"c", "a\\\"b\\\"\\\"c");
 }
 
+fn check_error<R: Abort + AllocGlobal>(rt: &R, error: SendError, want: &str) {
+    let mut text = String::new(rt.alloc());
+    error_text(&mut text, None, error).expect(rt, "no memory");
+    expect(rt, text.as_str(), want, want);
+}
+
 fn check_errors<R: Abort + AllocGlobal>(rt: &R, table: &[(SendError, &str)]) {
     for (error, want) in table {
-        let mut text = String::new(rt.alloc());
-        error_text(&mut text, None, *error).expect(rt, "no memory");
-        assert!(rt; text.as_str() == *want, "at {want}");
+        check_error(rt, *error, want);
     }
 }
 

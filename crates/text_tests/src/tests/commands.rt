@@ -1,6 +1,6 @@
 // What a consumer's texts ask for.
-use super::{joined, repeated};
-use position_core::{Fault, Position};
+use super::{expect, joined, number, position, refusal, repeated};
+use position_core::Position;
 use std::process::Abort;
 use wire_json::{Command, read_command};
 
@@ -8,7 +8,7 @@ use wire_json::{Command, read_command};
 fn shown<R: Abort + AllocGlobal>(rt: &R, text: &[u8]) -> String {
     match &read_command(rt.alloc(), text).expect(rt, "no memory") {
         Ok(command) => named(rt, command),
-        Err(fault) => refused(rt, *fault),
+        Err(fault) => refusal(rt, *fault),
     }
 }
 
@@ -18,28 +18,20 @@ fn named<R: Abort + AllocGlobal>(rt: &R, command: &Command) -> String {
         Command::AcknowledgeUpTo(at) => of_message(rt, "upto", *at),
         Command::NegativeAcknowledge(at) => of_message(rt, "nack", *at),
         Command::Permit(permits) => {
-            let count = permits.get();
-            format!(in rt.alloc(); "permit {count}").expect(rt, "no memory")
+            let count = number(rt, u64::from(permits.get()));
+            joined(rt, &["permit ", count.as_str()])
         }
         Command::IsEndOfTopic => joined(rt, &["end?"]),
     }
 }
 
 fn of_message<R: Abort + AllocGlobal>(rt: &R, word: &str, at: Position) -> String {
-    let ledger = at.ledger;
-    let entry = at.entry;
-    format!(in rt.alloc(); "{word} {ledger}:{entry}").expect(rt, "no memory")
-}
-
-fn refused<R: Abort + AllocGlobal>(rt: &R, fault: Fault) -> String {
-    let number = fault.number();
-    format!(in rt.alloc(); "F{number}").expect(rt, "no memory")
+    joined(rt, &[word, " ", position(rt, at).as_str()])
 }
 
 fn check<R: Abort + AllocGlobal>(rt: &R, table: &[(&str, &str)]) {
     for (text, want) in table {
-        let said = shown(rt, text.as_bytes());
-        assert!(rt; said.as_str() == *want, "at {text}: {said}");
+        expect(rt, shown(rt, text.as_bytes()).as_str(), want, text);
     }
 }
 

@@ -1,5 +1,5 @@
 // What a consumer is sent.
-use super::{joined, read};
+use super::{expect, joined, read};
 use position_core::{Body, Content, Entry, Moment, Position, ProducerName};
 use std::process::Abort;
 use std::sync::ArcStr;
@@ -36,7 +36,7 @@ fn check<R: Abort + AllocGlobal>(rt: &R, text: &str, millis: u64, count: u32, wa
     let message = entry(rt, content_of(rt, text), millis);
     let mut sent = joined(rt, &["what stood before"]);
     delivery_text(&mut sent, &message, count).expect(rt, "no memory");
-    assert!(rt; sent.as_str() == want, "at {want}");
+    expect(rt, sent.as_str(), want, text);
 }
 
 #[test]

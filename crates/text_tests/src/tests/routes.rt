@@ -1,7 +1,8 @@
 // The targets of handshakes, each with the endpoint that it is, or how it is refused.
-use super::{joined, push, repeated};
+use super::{expect, joined, number, push, repeated};
+use delivery_machine::Initial;
 use endpoint_core::{ConsumerEndpoint, Endpoint, ProducerEndpoint, RouteFault, route};
-use position_core::{Flow, TopicName};
+use position_core::{Base, Flow, Kind, TopicName};
 use std::process::Abort;
 
 fn show_topic<R: Abort + AllocGlobal>(rt: &R, out: &mut String, topic: &TopicName) {
@@ -12,6 +13,11 @@ fn show_topic<R: Abort + AllocGlobal>(rt: &R, out: &mut String, topic: &TopicNam
     push(rt, out, topic.topic.as_str());
 }
 
+fn base_text<R: Abort + AllocGlobal>(rt: &R, base: Base) -> String {
+    let base = base.number();
+    format!(in rt.alloc(); "{base}").expect(rt, "no memory")
+}
+
 /// Its name and its base, with `-` for none.
 fn show_producer<R: Abort + AllocGlobal>(rt: &R, out: &mut String, producer: &ProducerEndpoint) {
     show_topic(rt, out, &producer.topic);
@@ -20,48 +26,60 @@ fn show_producer<R: Abort + AllocGlobal>(rt: &R, out: &mut String, producer: &Pr
         Some(name) => push(rt, out, name.as_str()),
         None => push(rt, out, "-"),
     }
+    push(rt, out, " ");
     match producer.base {
-        Some(base) => {
-            let base = base.number();
-            let text = format!(in rt.alloc(); " {base}").expect(rt, "no memory");
-            push(rt, out, text.as_str());
-        }
-        None => push(rt, out, " -"),
+        Some(base) => push(rt, out, base_text(rt, base).as_str()),
+        None => push(rt, out, "-"),
     }
 }
 
-fn flow_text<R: Abort + AllocGlobal>(rt: &R, flow: Flow) -> String {
+fn show_number<R: Abort + AllocGlobal>(rt: &R, out: &mut String, value: u32) {
+    push(rt, out, " ");
+    push(rt, out, number(rt, u64::from(value)).as_str());
+}
+
+fn show_flow<R: Abort + AllocGlobal>(rt: &R, out: &mut String, flow: Flow) {
     match flow {
         Flow::Window(size) => {
-            let size = size.get();
-            format!(in rt.alloc(); "window {size}").expect(rt, "no memory")
+            push(rt, out, " window");
+            show_number(rt, out, size.get());
         }
         Flow::Credit(left) => {
-            let left = left.get();
-            format!(in rt.alloc(); "credit {left}").expect(rt, "no memory")
+            push(rt, out, " credit");
+            show_number(rt, out, left.get());
         }
     }
 }
 
-/// Its subscription, kind, level, flow, timeout, delay, count of redeliveries, dead-letter topic and beginning.
+fn kind_text<R: Abort + AllocGlobal>(rt: &R, kind: Kind) -> String {
+    format!(in rt.alloc(); "{kind:?}").expect(rt, "no memory")
+}
+
+fn initial_text<R: Abort + AllocGlobal>(rt: &R, initial: Initial) -> String {
+    format!(in rt.alloc(); "{initial:?}").expect(rt, "no memory")
+}
+
+/// Its kind, level, flow, timeout, delay and count of redeliveries.
+fn show_terms<R: Abort + AllocGlobal>(rt: &R, out: &mut String, consumer: &ConsumerEndpoint) {
+    push(rt, out, kind_text(rt, consumer.kind).as_str());
+    show_number(rt, out, consumer.level.get());
+    show_flow(rt, out, consumer.flow);
+    show_number(rt, out, consumer.ack_timeout.get());
+    show_number(rt, out, consumer.nack_delay.get());
+    show_number(rt, out, consumer.max_redeliver.get());
+}
+
+/// Its subscription, terms, dead-letter topic and beginning.
 fn show_consumer<R: Abort + AllocGlobal>(rt: &R, out: &mut String, consumer: &ConsumerEndpoint) {
     show_topic(rt, out, &consumer.topic);
     push(rt, out, " ");
     push(rt, out, consumer.subscription.as_str());
-    let kind = consumer.kind;
-    let level = consumer.level.get();
-    let text = format!(in rt.alloc(); " {kind:?} {level} ").expect(rt, "no memory");
-    push(rt, out, text.as_str());
-    push(rt, out, flow_text(rt, consumer.flow).as_str());
-    let timeout = consumer.ack_timeout.get();
-    let delay = consumer.nack_delay.get();
-    let most = consumer.max_redeliver.get();
-    let text = format!(in rt.alloc(); " {timeout} {delay} {most} ").expect(rt, "no memory");
-    push(rt, out, text.as_str());
+    push(rt, out, " ");
+    show_terms(rt, out, consumer);
+    push(rt, out, " ");
     show_topic(rt, out, &consumer.dead_topic);
-    let initial = consumer.initial;
-    let text = format!(in rt.alloc(); " {initial:?}").expect(rt, "no memory");
-    push(rt, out, text.as_str());
+    push(rt, out, " ");
+    push(rt, out, initial_text(rt, consumer.initial).as_str());
 }
 
 fn show_endpoint<R: Abort + AllocGlobal>(rt: &R, out: &mut String, endpoint: &Endpoint) {
@@ -81,12 +99,25 @@ fn show_endpoint<R: Abort + AllocGlobal>(rt: &R, out: &mut String, endpoint: &En
     }
 }
 
+fn cause_text<R: Abort + AllocGlobal>(rt: &R, fault: RouteFault) -> String {
+    let cause = fault.cause;
+    format!(in rt.alloc(); "{cause:?}").expect(rt, "no memory")
+}
+
 /// The code that closes the connection, the number of the refusal, and the cause.
 fn refusal_text<R: Abort + AllocGlobal>(rt: &R, fault: RouteFault) -> String {
-    let code = fault.close_code();
-    let number = fault.fault().number();
-    let cause = fault.cause;
-    format!(in rt.alloc(); "{code} F{number} {cause:?}").expect(rt, "no memory")
+    let code = number(rt, u64::from(fault.close_code()));
+    let fault_number = number(rt, u64::from(fault.fault().number()));
+    joined(
+        rt,
+        &[
+            code.as_str(),
+            " F",
+            fault_number.as_str(),
+            " ",
+            cause_text(rt, fault).as_str(),
+        ],
+    )
 }
 
 fn answer<R: Abort + AllocGlobal>(rt: &R, target: &str) -> String {
@@ -101,8 +132,12 @@ fn answer<R: Abort + AllocGlobal>(rt: &R, target: &str) -> String {
 }
 
 fn check<R: Abort + AllocGlobal>(rt: &R, target: &str, want: &str) {
+    expect(rt, answer(rt, target).as_str(), want, target);
+}
+
+fn check_begins<R: Abort + AllocGlobal>(rt: &R, target: &str, want: &str) {
     let answer = answer(rt, target);
-    assert!(rt; answer.as_str() == want, "at {target}: {answer}");
+    assert!(rt; answer.as_str().starts_with(want), "at {answer}");
 }
 
 /// Targets, each with what it is.
@@ -112,19 +147,22 @@ fn check_targets<R: Abort + AllocGlobal>(rt: &R, table: &[(&str, &str)]) {
     }
 }
 
+fn check_end<R: Abort + AllocGlobal>(rt: &R, target: &str, end: &str, want: &str) {
+    check(rt, joined(rt, &[target, end]).as_str(), want);
+}
+
 /// Ends of a target, each with the end of what it is then.
 fn check_ends<R: Abort + AllocGlobal>(rt: &R, target: &str, begins: &str, table: &[(&str, &str)]) {
     for (end, want) in table {
-        let target = joined(rt, &[target, end]);
         let want = joined(rt, &[begins, want]);
-        check(rt, target.as_str(), want.as_str());
+        check_end(rt, target, end, want.as_str());
     }
 }
 
 /// Ends of a target that are all refused alike.
 fn check_refused<R: Abort + AllocGlobal>(rt: &R, target: &str, want: &str, ends: &[&str]) {
     for end in ends {
-        check(rt, joined(rt, &[target, end]).as_str(), want);
+        check_end(rt, target, end, want);
     }
 }
 
@@ -232,8 +270,7 @@ fn names_of_none(rt: HostRuntime) {
 fn check_length<R: Abort + AllocGlobal>(rt: &R, length: usize, end: &str, want: &str) {
     let name = repeated(rt, "n", length);
     let target = joined(rt, &["/ws/v2/consumer/persistent/a/b/", name.as_str(), end]);
-    let answer = answer(rt, target.as_str());
-    assert!(rt; answer.as_str().starts_with(want), "at {target}: {answer}");
+    check_begins(rt, target.as_str(), want);
 }
 
 #[test]
@@ -286,8 +323,7 @@ fn names_of_producers(rt: HostRuntime) {
 fn check_name<R: Abort + AllocGlobal>(rt: &R, length: usize, want: &str) {
     let name = repeated(rt, "p", length);
     let target = joined(rt, &[PRODUCER, "producerName=", name.as_str()]);
-    let answer = answer(rt, target.as_str());
-    assert!(rt; answer.as_str().starts_with(want), "at {target}: {answer}");
+    check_begins(rt, target.as_str(), want);
 }
 
 #[test]

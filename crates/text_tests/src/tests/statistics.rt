@@ -1,5 +1,5 @@
 // What an administrator is answered.
-use super::joined;
+use super::{expect, joined};
 use delivery_machine::Reply;
 use position_core::{Fault, Kind, Position};
 use std::process::Abort;
@@ -8,8 +8,8 @@ use wire_json::{admin_text, end_of_topic_text};
 fn check<R: Abort + AllocGlobal>(rt: &R, reply: Reply, want: &str) {
     let mut text = joined(rt, &["what stood before"]);
     let written = admin_text(&mut text, &reply).expect(rt, "no memory");
-    assert!(rt; written, "at {want}");
-    assert!(rt; text.as_str() == want, "at {want}: {text}");
+    assert!(rt; written);
+    expect(rt, text.as_str(), want, want);
 }
 
 #[test]

@@ -4,12 +4,16 @@ use position_core::{Body, Content, Key, Payload, Properties};
 use std::collections::BTreeMap;
 use std::process::Abort;
 
+fn check_payload<R: Abort + AllocGlobal>(rt: &R, length: usize, fits: bool) {
+    let bytes = vec![in rt.alloc(); 7; length].expect(rt, "no memory");
+    assert_eq!(rt; Payload::new(bytes).is_some(), fits, "at {length}");
+}
+
 #[test]
 fn payloads_end_at_a_mebibyte(rt: HostRuntime) {
-    for (length, fits) in [(0, true), (1_048_576, true), (1_048_577, false)] {
-        let bytes = vec![in rt.alloc(); 7; length].expect(&rt, "no memory");
-        assert_eq!(rt; Payload::new(bytes).is_some(), fits, "at {length}");
-    }
+    check_payload(&rt, 0, true);
+    check_payload(&rt, 1_048_576, true);
+    check_payload(&rt, 1_048_577, false);
 }
 
 fn many_properties<R: Abort + AllocGlobal>(rt: &R, count: u32) -> BTreeMap<String, String> {
@@ -22,12 +26,16 @@ fn many_properties<R: Abort + AllocGlobal>(rt: &R, count: u32) -> BTreeMap<Strin
     values
 }
 
+fn check_number<R: Abort + AllocGlobal>(rt: &R, count: u32, fits: bool) {
+    let properties = Properties::new(many_properties(rt, count));
+    assert_eq!(rt; properties.is_some(), fits, "at {count}");
+}
+
 #[test]
 fn properties_by_number(rt: HostRuntime) {
-    for (count, fits) in [(0, true), (64, true), (65, false)] {
-        let properties = Properties::new(many_properties(&rt, count));
-        assert_eq!(rt; properties.is_some(), fits, "at {count}");
-    }
+    check_number(&rt, 0, true);
+    check_number(&rt, 64, true);
+    check_number(&rt, 65, false);
     assert!(rt; Properties::none(rt.alloc()).as_map().is_empty());
 }
 
@@ -42,18 +50,17 @@ fn one_property<R: Abort + AllocGlobal>(
     values
 }
 
+fn check_lengths<R: Abort + AllocGlobal>(rt: &R, name: usize, value: usize, fits: bool) {
+    let values = one_property(rt, letters(rt, name), letters(rt, value));
+    assert!(rt; Properties::new(values).is_some() == fits);
+}
+
 #[test]
 fn properties_by_length(rt: HostRuntime) {
-    let table = [
-        (0, 0, true),
-        (255, 1024, true),
-        (256, 0, false),
-        (0, 1025, false),
-    ];
-    for (name, value, fits) in table {
-        let values = one_property(&rt, letters(&rt, name), letters(&rt, value));
-        assert_eq!(rt; Properties::new(values).is_some(), fits);
-    }
+    check_lengths(&rt, 0, 0, true);
+    check_lengths(&rt, 255, 1024, true);
+    check_lengths(&rt, 256, 0, false);
+    check_lengths(&rt, 0, 1025, false);
 }
 
 fn string<R: Abort + AllocGlobal>(rt: &R, text: &str) -> String {
@@ -71,12 +78,19 @@ fn hello<R: Abort + AllocGlobal>(rt: &R) -> Body {
     Body::new(rt.alloc(), content).expect(rt, "no memory")
 }
 
+fn check_text<R: Abort>(rt: &R, text: Option<&str>, want: &str) {
+    assert!(rt; text == Some(want));
+}
+
+fn check_hello<R: Abort>(rt: &R, content: &Content) {
+    check_text(rt, content.key.as_ref().map(|key| key.as_str()), "k");
+    assert!(rt; content.payload.as_slice() == b"hello".as_slice());
+    let colour = content.properties.as_map().get("colour");
+    check_text(rt, colour.map(|value| value.as_str()), "green");
+}
+
 #[test]
 fn a_body_shows_its_content(rt: HostRuntime) {
     let body = hello(&rt).clone().expect(&rt, "no memory");
-    let content = body.content();
-    assert_eq!(rt; content.key.as_ref().map(|key| key.as_str()), Some("k"));
-    assert_eq!(rt; content.payload.as_slice(), b"hello".as_slice());
-    let colour = content.properties.as_map().get("colour");
-    assert_eq!(rt; colour.map(|value| value.as_str()), Some("green"));
+    check_hello(&rt, body.content());
 }

@@ -21,29 +21,66 @@ fn next_ordinal(queue: &DeadQueue) -> Option<u64> {
     queue.next_safe().map(|letter| letter.ordinal)
 }
 
+fn check_next<R: Abort>(rt: &R, queue: &DeadQueue, want: Option<u64>) {
+    assert!(rt; next_ordinal(queue) == want);
+}
+
+fn check_count<R: Abort>(rt: &R, queue: &DeadQueue, want: usize) {
+    assert!(rt; queue.count() == want);
+}
+
+/// Whether the letter of the ordinal was the next.
+fn check_done<R: Abort>(rt: &R, queue: &mut DeadQueue, ordinal: u64, want: bool) {
+    assert!(rt; queue.done(ordinal).is_some() == want);
+}
+
+fn is_first(letter: &DeadLetter, target: &TopicName) -> bool {
+    letter.position.entry == 47 && letter.target.is(target)
+}
+
+fn check_first<R: Abort>(rt: &R, queue: &mut DeadQueue, target: &TopicName) {
+    let first = queue.done(7).expect(rt, "no letter");
+    assert!(rt; is_first(&first, target));
+}
+
+/// Letters die, and the first of them are stored.
+fn store_some<R: Abort>(rt: &R, queue: &mut DeadQueue, target: &TopicName) {
+    push(rt, queue, target, 7);
+    push(rt, queue, target, 9);
+    check_next(rt, queue, None);
+    check_done(rt, queue, 7, false);
+    queue.mark_safe();
+    push(rt, queue, target, 12);
+    check_next(rt, queue, Some(7));
+    check_done(rt, queue, 9, false);
+    check_count(rt, queue, 3);
+}
+
+fn publish_some<R: Abort>(rt: &R, queue: &mut DeadQueue) {
+    check_next(rt, queue, Some(9));
+    check_done(rt, queue, 9, true);
+    check_next(rt, queue, None);
+    check_count(rt, queue, 1);
+    queue.mark_safe();
+    check_done(rt, queue, 12, true);
+    check_count(rt, queue, 0);
+}
+
 #[test]
 fn letters_die_are_stored_and_are_published(rt: HostRuntime) {
     let target = target(&rt);
     let mut queue = DeadQueue::new(rt.alloc());
-    push(&rt, &mut queue, &target, 7);
-    push(&rt, &mut queue, &target, 9);
-    assert!(rt; next_ordinal(&queue).is_none());
-    assert!(rt; queue.done(7).is_none());
-    queue.mark_safe();
-    push(&rt, &mut queue, &target, 12);
-    assert_eq!(rt; next_ordinal(&queue), Some(7));
-    assert!(rt; queue.done(9).is_none());
-    assert_eq!(rt; queue.count(), 3);
-    let first = queue.done(7).expect(&rt, "no letter");
-    assert_eq!(rt; first.position.entry, 47);
-    assert!(rt; first.target.is(&target));
-    assert_eq!(rt; next_ordinal(&queue), Some(9));
-    assert!(rt; queue.done(9).is_some());
-    assert!(rt; next_ordinal(&queue).is_none());
-    assert_eq!(rt; queue.count(), 1);
-    queue.mark_safe();
-    assert!(rt; queue.done(12).is_some());
-    assert_eq!(rt; queue.count(), 0);
+    store_some(&rt, &mut queue, &target);
+    check_first(&rt, &mut queue, &target);
+    publish_some(&rt, &mut queue);
+}
+
+fn push_next<R: Abort>(rt: &R, queue: &mut DeadQueue, target: &TopicName, ordinal: u64) {
+    push(rt, queue, target, ordinal);
+    if ordinal % 3 == 2 {
+        queue.mark_safe();
+        check_done(rt, queue, ordinal / 3, true);
+    }
 }
 
 #[test]
@@ -51,33 +88,40 @@ fn pushes_where_there_is_memory(rt: HostRuntime) {
     let target = target(&rt);
     let mut queue = DeadQueue::new(rt.alloc());
     for ordinal in 0..3_000u64 {
-        push(&rt, &mut queue, &target, ordinal);
-        if ordinal % 3 == 2 {
-            queue.mark_safe();
-            assert!(rt; queue.done(ordinal / 3).is_some());
-        }
+        push_next(&rt, &mut queue, &target, ordinal);
     }
-    assert_eq!(rt; queue.count(), 2_000);
-    assert_eq!(rt; next_ordinal(&queue), Some(1_000));
+    check_count(&rt, &queue, 2_000);
+    check_next(&rt, &queue, Some(1_000));
+}
+
+/// Three letters die, of which two are kept.
+fn keep_two<R: Abort>(rt: &R, queue: &mut DeadQueue, target: &TopicName) {
+    push(rt, queue, target, 4);
+    push(rt, queue, target, 5);
+    push(rt, queue, target, 6);
+    queue.mark_safe_below(6);
+    queue.take_back();
+    check_count(rt, queue, 2);
+    // Both are stored now.
+    queue.take_back();
+    check_count(rt, queue, 2);
+}
+
+fn again<R: Abort + AllocGlobal>(rt: &R, queue: &DeadQueue) -> DeadQueue {
+    let letters = queue.letters(rt.alloc()).expect(rt, "no memory");
+    DeadQueue::restored(rt.alloc(), &letters).expect(rt, "no memory")
+}
+
+fn publish_both<R: Abort>(rt: &R, queue: &mut DeadQueue) {
+    check_next(rt, queue, Some(4));
+    check_done(rt, queue, 4, true);
+    check_done(rt, queue, 5, true);
+    check_count(rt, queue, 0);
 }
 
 #[test]
 fn a_queue_goes_on_from_the_letters_of_a_snapshot(rt: HostRuntime) {
-    let target = target(&rt);
     let mut queue = DeadQueue::new(rt.alloc());
-    for ordinal in 4..7u64 {
-        push(&rt, &mut queue, &target, ordinal);
-    }
-    queue.mark_safe_below(6);
-    queue.take_back();
-    assert_eq!(rt; queue.count(), 2);
-    // Both are stored now.
-    queue.take_back();
-    assert_eq!(rt; queue.count(), 2);
-    let letters = queue.letters(rt.alloc()).expect(&rt, "no memory");
-    let mut again = DeadQueue::restored(rt.alloc(), &letters).expect(&rt, "no memory");
-    assert_eq!(rt; next_ordinal(&again), Some(4));
-    assert!(rt; again.done(4).is_some());
-    assert!(rt; again.done(5).is_some());
-    assert_eq!(rt; again.count(), 0);
+    keep_two(&rt, &mut queue, &target(&rt));
+    publish_both(&rt, &mut again(&rt, &queue));
 }

@@ -1,7 +1,7 @@
 // Lines are found by what was asked and answered.
 use delivery_machine::{Base, Event, Reply};
-use journal_lines::Draft;
-use std::test::*;
+use journal_lines::{Draft, Line};
+use std::process::Abort;
 
 fn from_first() -> Base {
     match Base::new(-1) {
@@ -10,41 +10,53 @@ fn from_first() -> Base {
     }
 }
 
-#[test]
-fn a_short_line(rt: HostRuntime) -> Result<(), Fail> {
-    let draft = Draft::new(rt.alloc(), Event::Leave { consumer: 3 })?;
-    assert!(rt; draft.event().is(&Event::Leave { consumer: 3 }));
-    let line = draft.into_line(5, Reply::Done);
-    assert_eq!(rt; line.seat(), 5);
-    assert!(rt; line.is(5, &Event::Leave { consumer: 3 }, &Reply::Done));
-    assert!(rt; !line.is(4, &Event::Leave { consumer: 3 }, &Reply::Done));
-    assert!(rt; !line.is(5, &Event::Leave { consumer: 4 }, &Reply::Done));
-    assert!(rt; !line.is(5, &Event::Leave { consumer: 3 }, &Reply::Idle));
-    Ok(())
+/// Whether the line is that of the consumer's leave.
+fn is_leave(line: &Line, seat: u64, consumer: u64, reply: Reply) -> bool {
+    line.is(seat, &Event::Leave { consumer }, &reply)
+}
+
+fn check_leave<R: Abort>(rt: &R, line: &Line) {
+    assert!(rt; line.seat() == 5);
+    assert!(rt; is_leave(line, 5, 3, Reply::Done));
+    assert!(rt; !is_leave(line, 4, 3, Reply::Done));
+    assert!(rt; !is_leave(line, 5, 4, Reply::Done));
+    assert!(rt; !is_leave(line, 5, 3, Reply::Idle));
 }
 
 #[test]
-fn a_long_line(rt: HostRuntime) -> Result<(), Fail> {
+fn a_short_line(rt: HostRuntime) {
+    let draft = Draft::new(rt.alloc(), Event::Leave { consumer: 3 });
+    let draft = draft.expect(&rt, "no memory");
+    assert!(rt; draft.event().is(&Event::Leave { consumer: 3 }));
+    check_leave(&rt, &draft.into_line(5, Reply::Done));
+}
+
+fn add_producer() -> Event {
+    Event::AddProducer {
+        name: None,
+        base: from_first(),
+    }
+}
+
+fn producer_added(auto: Option<u64>) -> Reply {
+    Reply::ProducerAdded {
+        producer: 1,
+        auto,
+        last: -1,
+    }
+}
+
+fn added_line<R: Abort + AllocGlobal>(rt: &R) -> Line {
     let event = Event::AddProducer {
         name: None,
         base: from_first(),
     };
-    let reply = Reply::ProducerAdded {
-        producer: 1,
-        auto: Some(0),
-        last: -1,
-    };
-    let draft = Draft::new(rt.alloc(), event)?;
-    let line = draft.into_line(5, reply);
-    let other = Reply::ProducerAdded {
-        producer: 1,
-        auto: None,
-        last: -1,
-    };
-    let asked = Event::AddProducer {
-        name: None,
-        base: from_first(),
-    };
-    assert!(rt; !line.is(5, &asked, &other));
-    Ok(())
+    let draft = Draft::new(rt.alloc(), event).expect(rt, "no memory");
+    draft.into_line(5, producer_added(Some(0)))
+}
+
+#[test]
+fn a_long_line(rt: HostRuntime) {
+    let line = added_line(&rt);
+    assert!(rt; !line.is(5, &add_producer(), &producer_added(None)));
 }

@@ -44,6 +44,12 @@ fn call<R: Abort>(rt: &R, map: &mut PendingMap, plain: &mut Plain, number: u64, 
     }
 }
 
+fn agree(map: &PendingMap, plain: &Plain, at: Position) -> bool {
+    map.due_first() == plain.due_first()
+        && map.get(at) == plain.get(at)
+        && map.count_of(at) == plain.count_of(at)
+}
+
 #[test]
 fn answers_as_a_plain_list(rt: HostRuntime) {
     let mut map = PendingMap::new(rt.alloc());
@@ -53,24 +59,26 @@ fn answers_as_a_plain_list(rt: HostRuntime) {
         draw = draw_after(draw);
         let at = position((draw >> 40) % 23);
         call(&rt, &mut map, &mut plain, draw >> 33, at);
-        assert_eq!(rt; map.due_first(), plain.due_first(), "after {step}");
-        assert_eq!(rt; map.get(at), plain.get(at), "after {step}");
-        assert_eq!(rt; map.count_of(at), plain.count_of(at), "after {step}");
+        assert!(rt; agree(&map, &plain, at), "after {step}");
     }
+}
+
+fn put<R: Abort>(rt: &R, map: &mut PendingMap, number: u64) {
+    map.put(position(number), held(number))
+        .expect(rt, "no memory");
+    assert!(rt; map.held_by(position(number)) == Some(number % 5));
 }
 
 #[test]
 fn puts_where_there_is_memory(rt: HostRuntime) {
     let mut map = PendingMap::new(rt.alloc());
     for number in 0..5_000u64 {
-        let put = map.put(position(number), held(number));
-        put.expect(&rt, "no memory");
-        assert_eq!(rt; map.held_by(position(number)), Some(number % 5));
+        put(&rt, &mut map, number);
     }
     for number in 0..5_000u64 {
         map.remove(position(number ^ 1));
     }
-    assert_eq!(rt; map.due_first(), None);
+    assert!(rt; map.due_first() == None);
     map.clear();
-    assert_eq!(rt; map.get(position(0)), None);
+    assert!(rt; map.get(position(0)) == None);
 }

@@ -1,19 +1,34 @@
 // That a number is recorded where there is memory, and what is asked of it.
 use super::producer_name;
 use dedup_core::Sequences;
+use std::process::Abort;
+
+fn offer<R: Abort + AllocGlobal>(rt: &R, sequences: &mut Sequences, name: &str, number: i64) {
+    let offered = sequences.offer(&producer_name(rt, name), number);
+    offered.expect(rt, "no memory");
+}
+
+/// The last number of the name, where those before the base do not count.
+fn check<R: Abort + AllocGlobal>(rt: &R, sequences: &Sequences, name: &str, base: i64, want: i64) {
+    let last = sequences.last(&producer_name(rt, name), base);
+    assert!(rt; last == want);
+}
 
 #[test]
 fn each_name_has_its_last_number(rt: HostRuntime) {
-    let billing = producer_name(&rt, "billing");
-    let orders = producer_name(&rt, "orders");
     let mut sequences = Sequences::new(rt.alloc());
-    assert_eq!(rt; sequences.last(&billing, -1), -1);
-    sequences.offer(&billing, 4).expect(&rt, "no memory");
-    sequences.offer(&orders, 0).expect(&rt, "no memory");
-    sequences.offer(&billing, 9).expect(&rt, "no memory");
-    assert_eq!(rt; sequences.last(&billing, -1), 9);
-    assert_eq!(rt; sequences.last(&orders, -1), 0);
-    assert_eq!(rt; sequences.last(&producer_name(&rt, "bill"), 17), 17);
+    check(&rt, &sequences, "billing", -1, -1);
+    offer(&rt, &mut sequences, "billing", 4);
+    offer(&rt, &mut sequences, "orders", 0);
+    offer(&rt, &mut sequences, "billing", 9);
+    check(&rt, &sequences, "billing", -1, 9);
+    check(&rt, &sequences, "orders", -1, 0);
+    check(&rt, &sequences, "bill", 17, 17);
+}
+
+fn offer_of<R: Abort + AllocGlobal>(rt: &R, sequences: &mut Sequences, number: i64, round: i64) {
+    let name = format!(in rt.alloc(); "p{number}").expect(rt, "no memory");
+    offer(rt, sequences, name.as_str(), number.wrapping_add(round));
 }
 
 #[test]
@@ -21,13 +36,10 @@ fn offers_where_there_is_memory(rt: HostRuntime) {
     let mut sequences = Sequences::new(rt.alloc());
     for round in 0..3i64 {
         for number in 0..700i64 {
-            let text = format!(in rt.alloc(); "p{number}").expect(&rt, "no memory");
-            let name = producer_name(&rt, text.as_str());
-            let offered = sequences.offer(&name, number.wrapping_add(round));
-            offered.expect(&rt, "no memory");
+            offer_of(&rt, &mut sequences, number, round);
         }
     }
-    assert_eq!(rt; sequences.last(&producer_name(&rt, "p699"), -1), 701);
-    assert_eq!(rt; sequences.last(&producer_name(&rt, "p0"), -1), 2);
-    assert_eq!(rt; sequences.last(&producer_name(&rt, "p700"), -1), -1);
+    check(&rt, &sequences, "p699", -1, 701);
+    check(&rt, &sequences, "p0", -1, 2);
+    check(&rt, &sequences, "p700", -1, -1);
 }

@@ -31,52 +31,66 @@ fn quarters(first: u64, second: u64, half: u64) -> [Option<u64>; 6] {
     ]
 }
 
+/// Who owns the first quarter, the second, and the second half.
+fn check<R: Abort>(rt: &R, table: &SplitTable, first: u64, second: u64, half: u64) {
+    assert!(rt; owners(table) == quarters(first, second, half));
+}
+
+fn check_none<R: Abort>(rt: &R, table: &SplitTable) {
+    assert!(rt; owners(table) == [None; 6]);
+}
+
+fn join_three<R: Abort>(rt: &R, table: &mut SplitTable) {
+    join(rt, table, 1);
+    join(rt, table, 2);
+    join(rt, table, 3);
+}
+
+fn come_and_go<R: Abort>(rt: &R, table: &mut SplitTable) {
+    join(rt, table, 1);
+    check(rt, table, 1, 1, 1);
+    join(rt, table, 2);
+    check(rt, table, 2, 2, 1);
+    join(rt, table, 3);
+    check(rt, table, 3, 2, 1);
+    table.leave(1);
+    check(rt, table, 3, 2, 2);
+    table.leave(3);
+    check(rt, table, 2, 2, 2);
+}
+
 #[test]
 fn three_join_and_two_leave(rt: HostRuntime) {
-    let mut table = SplitTable::new(rt.alloc());
-    join(&rt, &mut table, 1);
-    assert_eq!(rt; owners(&table), quarters(1, 1, 1));
-    join(&rt, &mut table, 2);
-    assert_eq!(rt; owners(&table), quarters(2, 2, 1));
-    join(&rt, &mut table, 3);
-    assert_eq!(rt; owners(&table), quarters(3, 2, 1));
-    table.leave(1);
-    assert_eq!(rt; owners(&table), quarters(3, 2, 2));
-    table.leave(3);
-    assert_eq!(rt; owners(&table), quarters(2, 2, 2));
+    come_and_go(&rt, &mut SplitTable::new(rt.alloc()));
 }
 
 #[test]
 fn hashes_go_to_the_share_after(rt: HostRuntime) {
     let mut table = SplitTable::new(rt.alloc());
-    join(&rt, &mut table, 1);
-    join(&rt, &mut table, 2);
-    join(&rt, &mut table, 3);
+    join_three(&rt, &mut table);
     table.leave(2);
-    assert_eq!(rt; owners(&table), quarters(3, 1, 1));
+    check(&rt, &table, 3, 1, 1);
 }
 
 #[test]
 fn last_hashes_go_to_the_share_before(rt: HostRuntime) {
     let mut table = SplitTable::new(rt.alloc());
-    join(&rt, &mut table, 1);
-    join(&rt, &mut table, 2);
-    join(&rt, &mut table, 3);
+    join_three(&rt, &mut table);
     table.leave(1);
-    assert_eq!(rt; owners(&table), quarters(3, 2, 2));
+    check(&rt, &table, 3, 2, 2);
     table.leave(2);
-    assert_eq!(rt; owners(&table), quarters(3, 3, 3));
+    check(&rt, &table, 3, 3, 3);
 }
 
 #[test]
 fn who_is_not_there_leaves_nothing(rt: HostRuntime) {
     let mut table = SplitTable::new(rt.alloc());
     table.leave(1);
-    assert_eq!(rt; owners(&table), [None; 6]);
+    check_none(&rt, &table);
     join(&rt, &mut table, 1);
     join(&rt, &mut table, 2);
     table.leave(3);
-    assert_eq!(rt; owners(&table), quarters(2, 2, 1));
+    check(&rt, &table, 2, 2, 1);
 }
 
 #[test]
@@ -86,9 +100,9 @@ fn first_after_all_left_has_all(rt: HostRuntime) {
     join(&rt, &mut table, 2);
     table.leave(2);
     table.leave(1);
-    assert_eq!(rt; owners(&table), [None; 6]);
+    check_none(&rt, &table);
     join(&rt, &mut table, 3);
-    assert_eq!(rt; owners(&table), quarters(3, 3, 3));
+    check(&rt, &table, 3, 3, 3);
 }
 
 /// The consumers 0 to 63, each once where `times` is one above a multiple of 4 and `plus` is odd.
@@ -138,25 +152,62 @@ fn is_split<R: Abort + AllocGlobal>(rt: &R, table: &SplitTable, members: &[u64])
     }
 }
 
-/// Whether the hashes are split after each step.
-fn stays_split<R: Abort + AllocGlobal>(rt: &R, joining: &[u64], leaving: &[u64]) -> bool {
-    let mut table = SplitTable::new(rt.alloc());
-    let mut members = Vec::new(rt.alloc());
-    for consumer in joining {
-        join(rt, &mut table, *consumer);
-        members.push(*consumer).expect(rt, "no memory");
-        if !is_split(rt, &table, &members) {
-            return false;
+/// A table, and who joined it.
+#[derive(Drop)]
+struct Split {
+    table: SplitTable,
+    members: Vec<u64>,
+}
+
+impl Split {
+    fn new<R: AllocGlobal>(rt: &R) -> Self {
+        Split {
+            table: SplitTable::new(rt.alloc()),
+            members: Vec::new(rt.alloc()),
         }
     }
-    for consumer in leaving {
-        table.leave(*consumer);
-        members.retain(|member| *member != *consumer);
-        if !is_split(rt, &table, &members) {
-            return false;
-        }
+
+    fn join<R: Abort>(&mut self, rt: &R, consumer: u64) {
+        join(rt, &mut self.table, consumer);
+        self.members.push(consumer).expect(rt, "no memory");
     }
-    members.is_empty()
+
+    fn leave(&mut self, consumer: u64) {
+        self.table.leave(consumer);
+        self.members.retain(|member| *member != consumer);
+    }
+
+    fn is_split<R: Abort + AllocGlobal>(&self, rt: &R) -> bool {
+        is_split(rt, &self.table, &self.members)
+    }
+
+    /// Whether the hashes are split after each join.
+    fn join_each<R: Abort + AllocGlobal>(&mut self, rt: &R, joining: &[u64]) -> bool {
+        for consumer in joining {
+            self.join(rt, *consumer);
+            if !self.is_split(rt) {
+                return false;
+            }
+        }
+        true
+    }
+
+    fn leave_each<R: Abort + AllocGlobal>(&mut self, rt: &R, leaving: &[u64]) -> bool {
+        for consumer in leaving {
+            self.leave(*consumer);
+            if !self.is_split(rt) {
+                return false;
+            }
+        }
+        true
+    }
+}
+
+fn check_orders<R: Abort + AllocGlobal>(rt: &R, joining: &[u64], leaving: &[u64]) {
+    let mut split = Split::new(rt);
+    assert!(rt; split.join_each(rt, joining), "{joining:?}");
+    assert!(rt; split.leave_each(rt, leaving), "{joining:?}, {leaving:?}");
+    assert!(rt; split.members.is_empty());
 }
 
 #[test]
@@ -164,30 +215,28 @@ fn in_each_order(rt: HostRuntime) {
     let orders = orders(&rt);
     for joining in &orders {
         for leaving in &orders {
-            assert!(rt;
-                stays_split(&rt, joining, leaving),
-                "{joining:?}, {leaving:?}"
-            );
+            check_orders(&rt, joining, leaving);
         }
     }
 }
 
+/// The consumer leaves where it is there, and else joins.
+fn turn<R: Abort + AllocGlobal>(rt: &R, split: &mut Split, consumer: u64) -> bool {
+    if split.members.contains(&consumer) {
+        split.leave(consumer);
+    } else {
+        split.join(rt, consumer);
+    }
+    split.is_split(rt)
+}
+
 #[test]
 fn as_they_come_and_go(rt: HostRuntime) {
-    let mut table = SplitTable::new(rt.alloc());
-    let mut members = Vec::new(rt.alloc());
+    let mut split = Split::new(&rt);
     let mut draw = 1u64;
     for step in 0..1_000u32 {
         draw = draw_after(draw);
-        let consumer = draw >> 58;
-        if members.contains(&consumer) {
-            table.leave(consumer);
-            members.retain(|member| *member != consumer);
-        } else {
-            join(&rt, &mut table, consumer);
-            members.push(consumer).expect(&rt, "no memory");
-        }
-        assert!(rt; is_split(&rt, &table, &members), "after {step}");
+        assert!(rt; turn(&rt, &mut split, draw >> 58), "after {step}");
     }
 }
 
@@ -200,6 +249,6 @@ fn joins_where_there_is_memory(rt: HostRuntime) {
     for consumer in 1..4_096u64 {
         table.leave(consumer);
     }
-    assert_eq!(rt; table.owner(0), Some(0));
-    assert_eq!(rt; table.owner(65_535), Some(0));
+    assert!(rt; table.owner(0) == Some(0));
+    assert!(rt; table.owner(65_535) == Some(0));
 }

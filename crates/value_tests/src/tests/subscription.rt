@@ -1,7 +1,7 @@
 // A subscription of the fast topic, by places and positions, and that its calls succeed where there is memory.
 use super::{position_at, shared_text, topic_name};
 use dead_core::DeadLetter;
-use position_core::{Held, Kind, SubscriptionName};
+use position_core::{Held, Kind, Position, SubscriptionName};
 use std::process::Abort;
 use topic_subscriptions::Subscription;
 
@@ -12,27 +12,48 @@ fn subscription<R: Abort + AllocGlobal>(rt: &R) -> Subscription {
     made.expect(rt, "no memory")
 }
 
+fn letter<R: Abort + AllocGlobal>(rt: &R, place: u64) -> DeadLetter {
+    DeadLetter {
+        position: position_at(0, place),
+        target: topic_name(rt, "persistent://public/default/orders-billing-DLQ"),
+        ordinal: 9,
+    }
+}
+
 /// The message at the place dies.
 fn bury<R: Abort + AllocGlobal>(rt: &R, subscription: &mut Subscription, place: u64) {
     if subscription.next_live(place) == place && place < 9 {
-        let letter = DeadLetter {
-            position: position_at(0, place),
-            target: topic_name(rt, "persistent://public/default/orders-billing-DLQ"),
-            ordinal: 9,
-        };
-        subscription.bury(place, letter).expect(rt, "no memory");
+        subscription
+            .bury(place, letter(rt, place))
+            .expect(rt, "no memory");
     }
+}
+
+fn check_number<R: Abort>(rt: &R, subscription: &Subscription, place: u64, want: Option<u64>) {
+    assert!(rt; subscription.number_at(place) == want);
+}
+
+fn check_live<R: Abort>(rt: &R, subscription: &Subscription, from: u64, want: u64) {
+    assert!(rt; subscription.next_live(from) == want);
+}
+
+fn check_owner<R: Abort>(rt: &R, subscription: &Subscription, want: Option<u64>) {
+    assert!(rt; subscription.owner(40_000) == want);
+}
+
+fn check_end<R: Abort>(rt: &R, subscription: &Subscription, want: u64) {
+    assert!(rt; subscription.mark_delete_end() == want);
 }
 
 #[test]
 fn consumers_come_and_go(rt: HostRuntime) {
     let mut subscription = subscription(&rt);
     subscription.join(Kind::Shared, 5).expect(&rt, "no memory");
-    assert_eq!(rt; subscription.number_at(0), Some(3));
-    assert_eq!(rt; subscription.number_at(1), Some(5));
+    check_number(&rt, &subscription, 0, Some(3));
+    check_number(&rt, &subscription, 1, Some(5));
     subscription.leave(3);
-    assert_eq!(rt; subscription.number_at(0), Some(5));
-    assert_eq!(rt; subscription.number_at(1), None);
+    check_number(&rt, &subscription, 0, Some(5));
+    check_number(&rt, &subscription, 1, None);
 }
 
 #[test]
@@ -41,10 +62,24 @@ fn a_join_is_taken_back(rt: HostRuntime) {
     subscription
         .join(Kind::KeyShared, 7)
         .expect(&rt, "no memory");
-    assert_eq!(rt; subscription.owner(40_000), Some(7));
+    check_owner(&rt, &subscription, Some(7));
     subscription.undo_join(Kind::Shared, 7);
-    assert_eq!(rt; subscription.owner(40_000), None);
-    assert_eq!(rt; subscription.number_at(1), None);
+    check_owner(&rt, &subscription, None);
+    check_number(&rt, &subscription, 1, None);
+}
+
+fn check_pending<R: Abort>(rt: &R, subscription: &Subscription, at: Position) {
+    assert!(rt; subscription.pending_at(3) == 1 && subscription.pending_at(5) == 0);
+    assert!(rt; subscription.number_pending() == 1);
+    assert!(rt; subscription.holder(at) == Some(3));
+    assert!(rt; subscription.first_pending() == Some(at));
+    assert!(rt; subscription.first_pending_at(3) == Some(at));
+}
+
+fn check_waiting<R: Abort>(rt: &R, subscription: &Subscription, at: Position) {
+    assert!(rt; subscription.count_of(at) == 1);
+    assert!(rt; subscription.holder(at) == None);
+    assert!(rt; subscription.number_pending() == 0);
 }
 
 #[test]
@@ -56,61 +91,66 @@ fn a_message_is_held_and_waits_again(rt: HostRuntime) {
         due: Some(70),
     };
     subscription.hold(third, held).expect(&rt, "no memory");
-    assert_eq!(rt; subscription.pending_at(3), 1);
-    assert_eq!(rt; subscription.pending_at(5), 0);
-    assert_eq!(rt; subscription.number_pending(), 1);
-    assert_eq!(rt; subscription.holder(third), Some(3));
-    assert!(rt; subscription.first_pending() == Some(third));
-    assert!(rt; subscription.first_pending_at(3) == Some(third));
+    check_pending(&rt, &subscription, third);
     subscription.redeliver(third);
-    assert_eq!(rt; subscription.count_of(third), 1);
-    assert_eq!(rt; subscription.holder(third), None);
-    assert_eq!(rt; subscription.number_pending(), 0);
+    check_waiting(&rt, &subscription, third);
+}
+
+fn acknowledge_fifth<R: Abort>(rt: &R, subscription: &mut Subscription) {
+    subscription
+        .acknowledge(4, position_at(0, 4))
+        .expect(rt, "no memory");
+    check_live(rt, subscription, 0, 2);
+    check_live(rt, subscription, 3, 5);
 }
 
 #[test]
 fn messages_are_acknowledged_and_die(rt: HostRuntime) {
     let mut subscription = subscription(&rt);
-    assert_eq!(rt; subscription.next_live(0), 2);
+    check_live(&rt, &subscription, 0, 2);
     bury(&rt, &mut subscription, 3);
-    subscription
-        .acknowledge(4, position_at(0, 4))
-        .expect(&rt, "no memory");
-    assert_eq!(rt; subscription.next_live(0), 2);
-    assert_eq!(rt; subscription.next_live(3), 5);
-    assert_eq!(rt; subscription.number_acknowledged(), 3);
-    assert_eq!(rt; subscription.first_buried(), Some(3));
+    acknowledge_fifth(&rt, &mut subscription);
+    assert!(rt; subscription.number_acknowledged() == 3);
+    assert!(rt; subscription.first_buried() == Some(3));
+}
+
+fn seek_to_second<R: Abort + AllocGlobal>(rt: &R, subscription: &mut Subscription) {
+    let sought = subscription.seek(rt.alloc(), 1, &[3]);
+    sought.expect(rt, "no memory");
 }
 
 #[test]
 fn a_seek_leaves_who_is_dead(rt: HostRuntime) {
     let mut subscription = subscription(&rt);
     bury(&rt, &mut subscription, 3);
-    subscription
-        .seek(rt.alloc(), 1, &[3])
-        .expect(&rt, "no memory");
-    assert_eq!(rt; subscription.next_live(0), 1);
-    assert_eq!(rt; subscription.next_live(3), 4);
-    assert_eq!(rt; subscription.number_of_dead(), 1);
+    seek_to_second(&rt, &mut subscription);
+    check_live(&rt, &subscription, 0, 1);
+    check_live(&rt, &subscription, 3, 4);
+    assert!(rt; subscription.number_of_dead() == 1);
 }
 
 #[test]
 fn a_dead_message_is_moved(rt: HostRuntime) {
     let mut subscription = subscription(&rt);
     bury(&rt, &mut subscription, 2);
-    assert_eq!(rt; subscription.mark_delete_end(), 2);
+    check_end(&rt, &subscription, 2);
     subscription
         .move_first(2, position_at(0, 2))
         .expect(&rt, "no memory");
-    assert_eq!(rt; subscription.mark_delete_end(), 3);
-    assert_eq!(rt; subscription.number_of_dead(), 0);
+    check_end(&rt, &subscription, 3);
+    assert!(rt; subscription.number_of_dead() == 0);
+}
+
+/// It goes on from what is kept, with a dead message.
+fn again<R: Abort + AllocGlobal>(rt: &R, subscription: &Subscription) -> Subscription {
+    let kept = subscription.kept(rt.alloc()).expect(rt, "no memory");
+    Subscription::restored(rt.alloc(), &kept, &[3]).expect(rt, "no memory")
 }
 
 #[test]
 fn a_subscription_goes_on_from_what_is_kept(rt: HostRuntime) {
-    let kept = subscription(&rt).kept(rt.alloc()).expect(&rt, "no memory");
-    let again = Subscription::restored(rt.alloc(), &kept, &[3]).expect(&rt, "no memory");
-    assert_eq!(rt; again.mark_delete_end(), 2);
-    assert_eq!(rt; again.next_live(0), 2);
-    assert_eq!(rt; again.next_live(3), 4);
+    let again = again(&rt, &subscription(&rt));
+    check_end(&rt, &again, 2);
+    check_live(&rt, &again, 0, 2);
+    check_live(&rt, &again, 3, 4);
 }

@@ -3,13 +3,16 @@ use super::{letters, topic_name};
 use position_core::TopicName;
 use std::process::Abort;
 
+fn check_parts<R: Abort>(rt: &R, name: &TopicName) {
+    assert!(rt; name.tenant.as_str() == "public");
+    assert!(rt; name.namespace.as_str() == "b c");
+    assert!(rt; name.topic.as_str() == "ö-DLQ");
+}
+
 #[test]
 fn reads_the_three_parts(rt: HostRuntime) {
     let name = topic_name(&rt, "persistent://public/b c/ö-DLQ");
-    let copy = name.clone().expect(&rt, "no memory");
-    assert_eq!(rt; copy.tenant.as_str(), "public");
-    assert_eq!(rt; copy.namespace.as_str(), "b c");
-    assert_eq!(rt; copy.topic.as_str(), "ö-DLQ");
+    check_parts(&rt, &name.clone().expect(&rt, "no memory"));
 }
 
 fn is_topic<R: Abort + AllocGlobal>(rt: &R, text: &str) -> bool {
@@ -39,37 +42,39 @@ fn refuses_other_texts(rt: HostRuntime) {
     }
 }
 
+/// A topic's text whose parts have so many letters.
+fn text_of<R: Abort + AllocGlobal>(rt: &R, lengths: [usize; 3]) -> String {
+    let [tenant, namespace, topic] = lengths;
+    let tenant = letters(rt, tenant);
+    let namespace = letters(rt, namespace);
+    let topic = letters(rt, topic);
+    let text = format!(in rt.alloc(); "persistent://{tenant}/{namespace}/{topic}");
+    text.expect(rt, "no memory")
+}
+
+fn check_lengths<R: Abort + AllocGlobal>(rt: &R, lengths: [usize; 3], fits: bool) {
+    let text = text_of(rt, lengths);
+    assert_eq!(rt; is_topic(rt, text.as_str()), fits, "at {text}");
+}
+
 #[test]
 fn parts_have_255_bytes_at_most(rt: HostRuntime) {
-    let table = [
-        (255, 255, 255, true),
-        (256, 1, 1, false),
-        (1, 256, 1, false),
-        (1, 1, 256, false),
-    ];
-    for (tenant, namespace, topic, fits) in table {
-        let tenant = letters(&rt, tenant);
-        let namespace = letters(&rt, namespace);
-        let topic = letters(&rt, topic);
-        let text = format!(in rt.alloc(); "persistent://{tenant}/{namespace}/{topic}").expect(
-            &rt,
-            "no memory",
-        );
-        assert_eq!(rt; is_topic(&rt, text.as_str()), fits, "at {text}");
-    }
+    check_lengths(&rt, [255, 255, 255], true);
+    check_lengths(&rt, [256, 1, 1], false);
+    check_lengths(&rt, [1, 256, 1], false);
+    check_lengths(&rt, [1, 1, 256], false);
+}
+
+fn check_same<R: Abort + AllocGlobal>(rt: &R, text: &str, same: bool) {
+    let name = topic_name(rt, "persistent://a/b/c");
+    let is_same = name.is(&topic_name(rt, text));
+    assert_eq!(rt; is_same, same, "at {text}");
 }
 
 #[test]
 fn topics_differ_by_each_part(rt: HostRuntime) {
-    let table = [
-        ("persistent://a/b/c", true),
-        ("persistent://x/b/c", false),
-        ("persistent://a/x/c", false),
-        ("persistent://a/b/x", false),
-    ];
-    let name = topic_name(&rt, "persistent://a/b/c");
-    for (text, same) in table {
-        let other = topic_name(&rt, text);
-        assert_eq!(rt; name.is(&other), same, "at {text}");
-    }
+    check_same(&rt, "persistent://a/b/c", true);
+    check_same(&rt, "persistent://x/b/c", false);
+    check_same(&rt, "persistent://a/x/c", false);
+    check_same(&rt, "persistent://a/b/x", false);
 }

@@ -1,2 +1,0 @@
-// Rows that are read, and rows that are none.
-mod reading;
