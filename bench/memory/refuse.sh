@@ -1,14 +1,18 @@
 #!/bin/sh
-# Runs the tests of crates/both_topics with each allocation refused in turn, and counts the runs that end badly in another
-# way than by running out of memory: an answer that differs after an event was asked once more, or a crash.
-# Run from the repository, after the tests are built (`cd crates/both_topics && rt test`): sh bench/memory/refuse.sh [step]
+# Runs a test with each allocation refused in turn, and counts the runs that end badly in another way than by running out
+# of memory: an answer that differs after an event was asked once more, rows that are others than before, or a crash.
+# Run from the repository, after the crate's tests are built (`cd crates/NAME && rt test`):
+#   sh bench/memory/refuse.sh [step [crate test]]
+# The tests that are meant for it are both_topics's tests::memory::a_refusal_changes_nothing, which is run if none is
+# named, and keeper_trials's tests::memory::a_round_for_want_of_memory.
 set -eu
 here=$(dirname "$0")
 step=${1:-1}
-tests=$here/../../crates/both_topics/out/both_topics_tests
+crate=${2:-both_topics}
+asked=${3:-tests::memory::a_refusal_changes_nothing}
+tests=$here/../../crates/$crate/out/${crate}_tests
 shim=$(mktemp -d)/refuse.so
 cc -O2 -shared -fPIC -o "$shim" "$here/refuse.c" -ldl
-asked="tests::memory::a_refusal_changes_nothing"
 count=$(LD_PRELOAD=$shim REFUSE_COUNT=1 "$tests" "$asked" 2>&1 >/dev/null | tail -1)
 echo "$count allocations"
 bad=0 number=1
