@@ -42,10 +42,6 @@ impl Image {
             db: Vec::new(rt.alloc()),
         }
     }
-
-    pub(super) fn is(&self, other: &Image) -> bool {
-        self.log.as_slice() == other.log.as_slice() && self.db.as_slice() == other.db.as_slice()
-    }
 }
 
 fn disk<R: Abort + AllocGlobal>(rt: &R, bytes: &[u8], calls: u64) -> File {

@@ -231,6 +231,12 @@ impl<'a> Trial<'a> {
         }
     }
 
+    /// The rows tell whether a store was made; that tables were made they do not tell.
+    fn check_tells<R: Abort>(&self, rt: &R) {
+        let is_told = !is_seen(&self.before, &self.after);
+        assert!(rt; is_told == !matches!(self.work, Work::Create));
+    }
+
     /// Whether the files show what the work leaves, or where it was not done what was there before.
     fn is_right<M: Machine, R: Abort + AllocGlobal>(
         &self,
@@ -267,6 +273,7 @@ impl<'a> Trial<'a> {
 /// The disks stop at each call in turn, until the work is done before they would.
 fn check<M: Machine, R: Abort + AllocGlobal>(rt: &R, image: &Image, work: Work) {
     let trial = Trial::new::<M, R>(rt, image, work);
+    trial.check_tells(rt);
     let mut undone: u64 = 0;
     let mut done: u64 = 0;
     for calls in 0..MOST_CALLS {
