@@ -22,7 +22,7 @@ pub record IsAt (log : List Entry) (ledger used : ℕ) : Type 0 where
 -- without its last message the log has the ledger that was open
 abbrev pub WasAt : Parts → Option OpenLedger → Type 0
 WasAt p None = ⊤
-WasAt p (Some was) = (0 < length p.loose) × IsAt (front (joined p)) was.ledger was.used
+WasAt p (Some was) = (0 < length p.loose.last) × IsAt (front (joined p)) was.ledger was.used
 
 -- a log has at most 1,048,576 messages
 abbrev pub IsKept : Parts → OpenLedger → Option OpenLedger → Type 0

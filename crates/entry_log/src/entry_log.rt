@@ -78,7 +78,7 @@ impl EntryLog {
         }
     }
 
-    /// The messages, most of which the copy shares. Takes a step for each full segment.
+    /// The messages, of which the copy shares all but 32 at most.
     pub fn pieces(&self) -> Result<Pieces, AllocError>
         ensures { IfOk result (λ pieces. joined pieces ≡ self.now.log) }
     {
@@ -115,11 +115,22 @@ impl EntryLog {
         self.pieces.get(index)
     }
 
-    /// The index of the message at the position. Takes the logarithm of the log's length.
+    /// Where the message stands, if it is in the open ledger, or if all ledgers before its own are full.
+    fn likely_index(&self, at: Position) -> usize {
+        let before = if at.ledger == self.current.ledger {
+            (self.pieces.count() as u64).saturating_sub(self.current.used)
+        } else {
+            at.ledger.saturating_mul(u64::from(self.ledger_size.get()))
+        };
+        before.saturating_add(at.entry) as usize
+    }
+
+    /// The index of the message at the position. Takes constant time where no ledger before its own was left
+    /// before it was full, or where its own is open, and else the logarithm of the log's length.
     pub fn index_of(&self, at: Position) -> Option<usize>
         ensures { result ≡ index_of at self.now.log }
     {
-        self.pieces.index_of(at)
+        self.pieces.index_near(at, self.likely_index(at))
     }
 
     /// How many messages stand before the first that is not earlier than the time. Takes the logarithm of
@@ -184,7 +195,7 @@ impl EntryLog {
         self.undo = None;
     }
 
-    /// An equal log, which shares all segments of messages that are full. Takes a step for each of these.
+    /// An equal log, which shares all messages but 32 at most.
     pub fn copy(&self) -> Result<Self, AllocError>
         ensures { IfOk result (λ copy. copy ≡ self.now) }
     {

@@ -1,24 +1,11 @@
 -- Lists in pieces: how long they are, and what stands at an index.
-use Rattle.std.proofs.Common.{◌≡◌, ℕ, ◌+◌, ◌-◌, ◌*◌, ◌<◌, ◌≤◌, suc, zero, List, [], ◌∷◌, ◌++◌, length, take, Some, refl, ap, sym, ◌∙◌, append_assoc, arith, slice_set}
+use Rattle.std.proofs.Common.{◌≡◌, ℕ, ◌+◌, ◌-◌, ◌*◌, ◌<◌, ◌≤◌, suc, zero, List, [], ◌∷◌, ◌++◌, length, take, Some, None, refl, ap, sym, ◌∙◌, append_assoc, arith, slice_set}
 use Rattle.std.specs.List.{flat_map, slice_get}
 use Rattle.std.proofs.Math.ListN.{length-append}
 use Rattle.std.proofs.lemmas.Grind.{flat_map-append}
 use Rattle.position_core.specs.declared.message.Entry.{Entry}
-use Rattle.log_pieces.specs.Pieces.{Parts, joined, AreSegments}
+use Rattle.log_pieces.specs.Pieces.{front, AreEach}
 use Rattle.std.proofs.lemmas.List.{append-nil}
-
-pub length_sealed : (segments : List (List Entry)) → AreSegments segments → length (flat_map (λ s. s) segments) ≡ 1024 * length segments
-length_sealed [] are = refl
-length_sealed (s ∷ segments) are =
-    let front = length_sealed segments are.1 in
-    let whole = length-append s (flat_map (λ s. s) segments) in
-    omega (arith, are.0, front, whole)
-
-pub length_joined : (p : Parts) → AreSegments p.sealed → length (joined p) ≡ 1024 * length p.sealed + length p.loose
-length_joined p are =
-    let front = length_sealed p.sealed are in
-    let whole = length-append (flat_map (λ s. s) p.sealed) p.loose in
-    omega (arith, front, whole)
 
 get_left : (xs ys : List Entry) (i : ℕ) → i < length xs → slice_get (xs ++ ys) i ≡ slice_get xs i
 get_left [] ys i low = absurd (omega arith)
@@ -32,48 +19,78 @@ get_right (x ∷ xs) ys (suc i) high =
     let e : i - length xs ≡ suc i - length (x ∷ xs) = omega arith in
     get_right xs ys i (omega arith) ∙ ap (λ (n : ℕ). slice_get ys n) e
 
--- what stands in a segment
-pub get_sealed : (segments : List (List Entry)) (ys s : List Entry) (i j : ℕ) → AreSegments segments → slice_get segments i ≡ Some s → j < 1024 → slice_get (flat_map (λ s. s) segments ++ ys) (1024 * i + j) ≡ slice_get s j
-get_sealed [] ys s i j are at low = absurd (cc)
-get_sealed (t ∷ segments) ys s zero j are at low =
-    let rest : List Entry = flat_map (λ s. s) segments in
-    let e : 1024 * 0 + j ≡ j = omega arith in
-    let same : t ≡ s = cc in
-    ap (λ (n : ℕ). slice_get ((t ++ rest) ++ ys) n) e
-    ∙ get_left (t ++ rest) ys j (omega (arith, are.0, length-append t rest, low))
-    ∙ get_left t rest j (omega (arith, are.0, low))
-    ∙ ap (λ (u : List Entry). slice_get u j) same
-get_sealed (t ∷ segments) ys s (suc i) j are at low =
-    let rest : List Entry = flat_map (λ s. s) segments in
-    let e : (1024 * suc i + j) - length t ≡ 1024 * i + j = omega (arith, are.0) in
-    ap (λ (u : List Entry). slice_get u (1024 * suc i + j)) (append_assoc t rest ys)
-    ∙ get_right t (rest ++ ys) (1024 * suc i + j) (omega (arith, are.0))
-    ∙ ap (λ (n : ℕ). slice_get (rest ++ ys) n) e
-    ∙ get_sealed segments ys s i j are.1 at low
+pub slice_get_none : {A : Type 0} (xs : List A) (i : ℕ) → slice_get xs i ≡ None → length xs ≤ i
+slice_get_none [] i at = omega arith
+slice_get_none (x ∷ xs) zero at = absurd (cc)
+slice_get_none (x ∷ xs) (suc i) at = let rest = slice_get_none xs i at in omega (arith, rest)
 
--- what stands after the segments
-pub get_loose : (segments : List (List Entry)) (ys : List Entry) (i n : ℕ) → AreSegments segments → n ≡ 1024 * length segments → n ≤ i → slice_get (flat_map (λ s. s) segments ++ ys) i ≡ slice_get ys (i - n)
-get_loose segments ys i n are is high =
-    let front = length_sealed segments are in
-    let e : i - length (flat_map (λ s. s) segments) ≡ i - n = omega (arith, front, is) in
-    get_right (flat_map (λ s. s) segments) ys i (omega (arith, front, is)) ∙ ap (λ (n : ℕ). slice_get ys n) e
+module _ (size : ℕ) where
+  pub length_each : (segments : List (List Entry)) → AreEach size segments → length (flat_map (λ s. s) segments) ≡ size * length segments
+  length_each [] are = omega arith
+  length_each (s ∷ segments) are =
+      let front = length_each segments are.1 in
+      let whole = length-append s (flat_map (λ s. s) segments) in
+      omega (arith, are.0, front, whole)
 
-pub segments_push : (segments : List (List Entry)) (s : List Entry) → AreSegments segments → length s ≡ 1024 → AreSegments (segments ++ s ∷ [])
-segments_push [] s are is = (is, tt)
-segments_push (t ∷ segments) s are is = (are.0, segments_push segments s are.1 is)
+  -- what stands in a segment
+  pub get_within : (segments : List (List Entry)) (ys s : List Entry) (i j : ℕ) → AreEach size segments → slice_get segments i ≡ Some s → j < size → slice_get (flat_map (λ s. s) segments ++ ys) (size * i + j) ≡ slice_get s j
+  get_within [] ys s i j are at low = absurd (cc)
+  get_within (t ∷ segments) ys s zero j are at low =
+      let rest : List Entry = flat_map (λ s. s) segments in
+      let e : size * 0 + j ≡ j = omega arith in
+      let same : t ≡ s = cc in
+      ap (λ (n : ℕ). slice_get ((t ++ rest) ++ ys) n) e
+      ∙ get_left (t ++ rest) ys j (omega (arith, are.0, length-append t rest, low))
+      ∙ get_left t rest j (omega (arith, are.0, low))
+      ∙ ap (λ (u : List Entry). slice_get u j) same
+  get_within (t ∷ segments) ys s (suc i) j are at low =
+      let rest : List Entry = flat_map (λ s. s) segments in
+      let e : (size * suc i + j) - length t ≡ size * i + j = omega (arith, are.0) in
+      ap (λ (u : List Entry). slice_get u (size * suc i + j)) (append_assoc t rest ys)
+      ∙ get_right t (rest ++ ys) (size * suc i + j) (omega (arith, are.0))
+      ∙ ap (λ (n : ℕ). slice_get (rest ++ ys) n) e
+      ∙ get_within segments ys s i j are.1 at low
 
--- the loose messages may stand in a segment as well
+  -- what stands after the segments
+  pub get_after : (segments : List (List Entry)) (ys : List Entry) (i n : ℕ) → AreEach size segments → n ≡ size * length segments → n ≤ i → slice_get (flat_map (λ s. s) segments ++ ys) i ≡ slice_get ys (i - n)
+  get_after segments ys i n are is high =
+      let front = length_each segments are in
+      let e : i - length (flat_map (λ s. s) segments) ≡ i - n = omega (arith, front, is) in
+      get_right (flat_map (λ s. s) segments) ys i (omega (arith, front, is)) ∙ ap (λ (n : ℕ). slice_get ys n) e
+
+  pub each_push : (segments : List (List Entry)) (s : List Entry) → AreEach size segments → length s ≡ size → AreEach size (segments ++ s ∷ [])
+  each_push [] s are is = (is, tt)
+  each_push (t ∷ segments) s are is = (are.0, each_push segments s are.1 is)
+
+  pub each_long : (segments : List (List Entry)) (s : List Entry) (i : ℕ) → AreEach size segments → slice_get segments i ≡ Some s → length s ≡ size
+  each_long [] s i are at = absurd (cc)
+  each_long (t ∷ segments) s zero are at =
+      let same : t ≡ s = cc in
+      ap length (sym same) ∙ are.0
+  each_long (t ∷ segments) s (suc i) are at = each_long segments s i are.1 at
+
+-- messages after the segments may stand in a segment as well
 pub joined_push : (segments : List (List Entry)) (s : List Entry) (e : Entry) → flat_map (λ s. s) (segments ++ s ∷ []) ++ e ∷ [] ≡ (flat_map (λ s. s) segments ++ s) ++ e ∷ []
 joined_push segments s e =
     ap (λ (xs : List Entry). xs ++ e ∷ []) (flat_map-append (λ s. s) segments (s ∷ []) ∙ ap (λ (xs : List Entry). flat_map (λ s. s) segments ++ xs) (append-nil s))
 
-pub first_set : (xs : List Entry) (e : Entry) → length xs ≡ 1024 → slice_set (take 1 xs) 0 e ≡ e ∷ []
+pub first_set : (xs : List Entry) (e : Entry) → 0 < length xs → slice_set (take 1 xs) 0 e ≡ e ∷ []
 first_set [] e is = absurd (omega arith)
 first_set (x ∷ xs) e is = refl
 
-pub long_segment : (segments : List (List Entry)) (s : List Entry) (i : ℕ) → AreSegments segments → slice_get segments i ≡ Some s → length s ≡ 1024
-long_segment [] s i are at = absurd (cc)
-long_segment (t ∷ segments) s zero are at =
+-- the last message of all is the last of the last ones
+pub front_after : (xs ys : List Entry) → 0 < length ys → xs ++ front ys ≡ front (xs ++ ys)
+front_after [] ys some = refl
+front_after (x ∷ xs) ys some =
+    let rest = front_after xs ys some in
+    let more : length (x ∷ (xs ++ ys)) - 1 ≡ suc (length (xs ++ ys) - 1) = omega (arith, length-append xs ys) in
+    ap (λ (zs : List Entry). x ∷ zs) rest ∙ sym (ap (λ (n : ℕ). take n (x ∷ (xs ++ ys))) more)
+
+-- one segment more of the first ones
+pub further : (segments : List (List Entry)) (s : List Entry) (i : ℕ) → slice_get segments i ≡ Some s → flat_map (λ s. s) (take (suc i) segments) ≡ flat_map (λ s. s) (take i segments) ++ s
+further [] s i at = absurd (cc)
+further (t ∷ segments) s zero at =
     let same : t ≡ s = cc in
-    ap length (sym same) ∙ are.0
-long_segment (t ∷ segments) s (suc i) are at = long_segment segments s i are.1 at
+    append-nil t ∙ same
+further (t ∷ segments) s (suc i) at =
+    ap (λ (xs : List Entry). t ++ xs) (further segments s i at) ∙ sym (append_assoc t (flat_map (λ s. s) (take i segments)) s)

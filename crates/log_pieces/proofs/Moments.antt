@@ -1,5 +1,5 @@
 -- How many messages are earlier than a time, by segments.
-use Rattle.std.proofs.Common.{◌≡◌, ℕ, zero, suc, ◌+◌, ◌-◌, ◌*◌, ◌<◌, ◌≤◌, Bool, true, false, cond, List, [], ◌∷◌, ◌++◌, length, Some, None, refl, ap, sym, ◌∙◌, subst, get_or, append_assoc, Option, arith}
+use Rattle.std.proofs.Common.{drop, ◌≡◌, ℕ, zero, suc, ◌+◌, ◌-◌, ◌*◌, ◌<◌, ◌≤◌, Bool, true, false, cond, List, [], ◌∷◌, ◌++◌, length, Some, None, refl, ap, sym, ◌∙◌, subst, get_or, append_assoc, Option, arith}
 use Rattle.std.specs.Prelude.{nat_le, max, not}
 use Rattle.std.specs.List.{flat_map, position_or_len, slice_get}
 use Rattle.std.specs.List.Sorted.{IsNonDecreasingBy, IsPartitionPoint, IsPartitionedBy}
@@ -9,7 +9,7 @@ use Rattle.std.proofs.lemmas.Option.{slice_get-get_or}
 use Rattle.std.proofs.lemmas.Bool.Decides.{nat_tests}
 use Rattle.std.proofs.lemmas.List.Sums.{fold-append}
 use Rattle.position_core.specs.declared.message.Entry.{Entry}
-use Rattle.log_pieces.specs.Pieces.{AreSegments}
+use Rattle.log_pieces.specs.Pieces.{AreEach}
 use Rattle.log_pieces.specs.Times.{is_from, moment_after, moments_after}
 
 -- ---- moments
@@ -120,7 +120,7 @@ module _ (time : ℕ) where
   step : (i n a : ℕ) (s : List Entry) → length s ≡ 1024 → n ≡ i * 1024 + a → length s + n ≡ suc i * 1024 + a
   step i n a s long is = omega (arith, long, is)
 
-  in_segment : (from : ℕ) (segments : List (List Entry)) (ys s : List Entry) (i : ℕ) → AreSegments segments → from ≤ time → IsWhole (moments_after from segments) i → slice_get segments i ≡ Some s → i * 1024 + position_or_len (is_from time) s ≡ position_or_len (is_from time) (flat_map (λ s. s) segments ++ ys)
+  in_segment : (from : ℕ) (segments : List (List Entry)) (ys s : List Entry) (i : ℕ) → AreEach 1024 segments → from ≤ time → IsWhole (moments_after from segments) i → slice_get segments i ≡ Some s → i * 1024 + position_or_len (is_from time) s ≡ position_or_len (is_from time) (flat_map (λ s. s) segments ++ ys)
   in_segment from [] ys s i are low parts at = absurd (cc)
   in_segment from (t ∷ segments) ys s zero are low parts at =
       let rest : List Entry = flat_map (λ s. s) segments in
@@ -135,7 +135,7 @@ module _ (time : ℕ) where
       let whole = all_earlier from t (rest ++ ys) before in
       omega (arith, are.0, further, whole, ap (λ (u : List Entry). position_or_len (is_from time) u) (append_assoc t rest ys))
 
-  past_segments : (from : ℕ) (segments : List (List Entry)) (ys : List Entry) (i : ℕ) → AreSegments segments → from ≤ time → IsWhole (moments_after from segments) i → i ≡ length segments → i * 1024 + position_or_len (is_from time) ys ≡ position_or_len (is_from time) (flat_map (λ s. s) segments ++ ys)
+  past_segments : (from : ℕ) (segments : List (List Entry)) (ys : List Entry) (i : ℕ) → AreEach 1024 segments → from ≤ time → IsWhole (moments_after from segments) i → i ≡ length segments → i * 1024 + position_or_len (is_from time) ys ≡ position_or_len (is_from time) (flat_map (λ s. s) segments ++ ys)
   past_segments from [] ys i are low parts all = omega arith
   past_segments from (t ∷ segments) ys zero are low parts all = absurd (omega arith)
   past_segments from (t ∷ segments) ys (suc i) are low parts all =
@@ -145,11 +145,56 @@ module _ (time : ℕ) where
       let whole = all_earlier from t (rest ++ ys) before in
       omega (arith, are.0, further, whole, ap (λ (u : List Entry). position_or_len (is_from time) u) (append_assoc t rest ys))
 
-  pub earlier_in_segment : (segments : List (List Entry)) (ys s : List Entry) (i : ℕ) → AreSegments segments → IsWhole (moments_after 0 segments) i → slice_get segments i ≡ Some s → i * 1024 + position_or_len (is_from time) s ≡ position_or_len (is_from time) (flat_map (λ s. s) segments ++ ys)
+  pub earlier_in_segment : (segments : List (List Entry)) (ys s : List Entry) (i : ℕ) → AreEach 1024 segments → IsWhole (moments_after 0 segments) i → slice_get segments i ≡ Some s → i * 1024 + position_or_len (is_from time) s ≡ position_or_len (is_from time) (flat_map (λ s. s) segments ++ ys)
   earlier_in_segment segments ys s i are parts at = in_segment 0 segments ys s i are (omega arith) parts at
 
-  pub earlier_past_segments : (segments : List (List Entry)) (ys : List Entry) (i : ℕ) → AreSegments segments → IsWhole (moments_after 0 segments) i → i ≡ length segments → i * 1024 + position_or_len (is_from time) ys ≡ position_or_len (is_from time) (flat_map (λ s. s) segments ++ ys)
+  pub earlier_past_segments : (segments : List (List Entry)) (ys : List Entry) (i : ℕ) → AreEach 1024 segments → IsWhole (moments_after 0 segments) i → i ≡ length segments → i * 1024 + position_or_len (is_from time) ys ≡ position_or_len (is_from time) (flat_map (λ s. s) segments ++ ys)
   earlier_past_segments segments ys i are parts all = past_segments 0 segments ys i are (omega arith) parts all
+
+-- ---- one message after the other
+
+dropped : (log : List Entry) (e : Entry) (i : ℕ) → slice_get log i ≡ Some e → drop i log ≡ e ∷ drop (suc i) log
+dropped [] e i at = absurd (cc)
+dropped (x ∷ log) e zero at = let same : x ≡ e = cc in ap (λ (y : Entry). y ∷ log) same
+dropped (x ∷ log) e (suc i) at = dropped log e i at
+
+module _ (time : ℕ) where
+  -- those before the index are earlier
+  abbrev pub AreEarlier : List Entry → ℕ → Type 0
+  AreEarlier log i = position_or_len (is_from time) log ≡ i + position_or_len (is_from time) (drop i log)
+
+  not_from : (e : Entry) (rest : List Entry) → e.time < time → position_or_len (is_from time) (e ∷ rest) ≡ 1 + position_or_len (is_from time) rest
+  not_from e rest low =
+      let test : is_from time e ≡ false = grind (arith, nat_tests) in
+      ap (λ b. cond (not b) (1 + position_or_len (is_from time) rest) 0) test
+
+  from_it : (e : Entry) (rest : List Entry) → time ≤ e.time → position_or_len (is_from time) (e ∷ rest) ≡ 0
+  from_it e rest high =
+      let test : is_from time e ≡ true = grind (arith, nat_tests) in
+      ap (λ b. cond (not b) (1 + position_or_len (is_from time) rest) 0) test
+
+  pub one_earlier : (log : List Entry) (e : Entry) (i : ℕ) → slice_get log i ≡ Some e → AreEarlier log i → e.time < time → AreEarlier log (i + 1)
+  one_earlier log e i at are low =
+      let further = not_from e (drop (suc i) log) low in
+      let same = ap (λ (u : List Entry). position_or_len (is_from time) u) (dropped log e i at) in
+      let next : i + 1 ≡ suc i = omega arith in
+      let on = ap (λ (n : ℕ). position_or_len (is_from time) (drop n log)) next in
+      omega (arith, are, further, same, on)
+
+  pub one_later : (log : List Entry) (e : Entry) (i : ℕ) → slice_get log i ≡ Some e → AreEarlier log i → time ≤ e.time → i ≡ position_or_len (is_from time) log
+  one_later log e i at are high =
+      let none = from_it e (drop (suc i) log) high in
+      let same = ap (λ (u : List Entry). position_or_len (is_from time) u) (dropped log e i at) in
+      omega (arith, are, none, same)
+
+  nothing_after : (log : List Entry) (i : ℕ) → length log ≤ i → position_or_len (is_from time) (drop i log) ≡ 0
+  nothing_after [] zero low = refl
+  nothing_after [] (suc i) low = refl
+  nothing_after (x ∷ log) zero low = absurd (omega arith)
+  nothing_after (x ∷ log) (suc i) low = nothing_after log i (omega arith)
+
+  pub all_are_earlier : (log : List Entry) (i : ℕ) → length log ≡ i → AreEarlier log i → i ≡ position_or_len (is_from time) log
+  all_are_earlier log i all are = omega (arith, are, nothing_after log i (omega arith))
 
 -- halving serves
 pub parted : (time : ℕ) (segments : List (List Entry)) (moments : List ℕ) → moments ≡ moments_after 0 segments → IsPartitionedBy (λ m. nat_le m time) moments

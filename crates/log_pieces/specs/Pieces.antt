@@ -1,4 +1,4 @@
--- A list of messages in pieces: segments of 1,024 messages, and the others.
+-- A list of messages in pieces: segments of 1,024 messages, and the others, of which most are in runs of 32.
 use Rattle.std.specs.Prelude.{◌≡◌, ℕ, ◌-◌, ◌≤◌, Bool, List, [], ◌∷◌, ◌++◌, length, take, Option, ⊤}
 use Rattle.std.specs.List.{flat_map, position}
 use Rattle.position_core.specs.declared.position.Position.{Position}
@@ -6,23 +6,35 @@ use Rattle.position_core.specs.declared.message.Entry.{Entry}
 use Rattle.position_core.specs.Position.{same_position}
 use Rattle.log_pieces.specs.Times.{moments_after}
 
+-- the messages that are in no segment
+pub record Last : Type 0 where
+  pub runs : List (List Entry)
+  pub last : List Entry
+
+abbrev pub loosely : Last → List Entry
+loosely l = flat_map (λ s. s) l.runs ++ l.last
+
 pub record Parts : Type 0 where
   pub sealed : List (List Entry)
-  pub loose : List Entry
+  pub loose : Last
 
 abbrev pub joined : Parts → List Entry
-joined p = flat_map (λ s. s) p.sealed ++ p.loose
+joined p = flat_map (λ s. s) p.sealed ++ loosely p.loose
 
--- each has 1,024 messages
-abbrev pub AreSegments : List (List Entry) → Type 0
-AreSegments [] = ⊤
-AreSegments (segment ∷ segments) = (length segment ≡ 1024) × AreSegments segments
+-- each has so many messages
+abbrev pub AreEach : ℕ → List (List Entry) → Type 0
+AreEach size [] = ⊤
+AreEach size (segment ∷ segments) = (length segment ≡ size) × AreEach size segments
+
+pub record AreLast (l : Last) : Type 0 where
+  pub runs : AreEach 32 l.runs
+  pub few : length l.runs ≤ 31
+  pub rest : length l.last ≤ 32
 
 -- beside each segment stands the first moment after it and all before it
 pub record ArePieces (p : Parts) (after : List ℕ) : Type 0 where
-  pub segments : AreSegments p.sealed
+  pub segments : AreEach 1024 p.sealed
   pub few : length p.sealed ≤ 1024
-  pub rest : length p.loose ≤ 1024
   pub moments : after ≡ moments_after 0 p.sealed
 
 -- without its last message

@@ -4,11 +4,12 @@ ghost use Rattle.std.specs.List.{flat_map, position_or_len};
 ghost use Rattle.std.specs.Option.{option_copied};
 ghost use Rattle.std.specs.List.Sorted.{IsPartitionPoint, IsStrictlySortedBy};
 ghost use Rattle.position_core.specs.Position.{position_cmp};
-ghost use Rattle.log_pieces.specs.Pieces.{front, index_of, joined};
+ghost use Rattle.log_pieces.specs.Pieces.{front, index_of, joined, loosely};
 ghost use Rattle.log_pieces.specs.Times.{moment_after, moments_after};
 
-use crate::segment::{Segment, message_at};
-use crate::{search, times};
+use crate::loose::Loose;
+use crate::search;
+use crate::segments::Segments;
 use position_core::{Message, Moment, Position};
 use std::alloc::{AllocError, Global};
 use std::marker::Model;
@@ -16,11 +17,12 @@ use std::marker::Model;
 /// How many messages a segment has.
 const SEGMENT: usize = 1024;
 
-/// Messages of which all but the last ones stand in segments. A clone shares the segments.
+/// Messages of which all but the last ones stand in segments. A clone shares them, and takes a step for each
+/// of 32 messages at most, but that it copies the moments.
 #[derive(Drop)]
 pub struct Pieces {
-    sealed: Vec<Segment>,
-    loose: Vec<Message>,
+    sealed: Segments,
+    loose: Loose,
     /// For each segment, the first moment after the times of all messages up to its end.
     moments: Vec<u64>,
 }
@@ -30,9 +32,9 @@ impl Model for Pieces {
 
     ghost Value = { Parts };
 
-    ghost view = { λ p. record { sealed = p.sealed.items; loose = p.loose.items } };
+    ghost view = { λ p. record { sealed = p.sealed; loose = p.loose } };
 
-    ghost invariant = { λ p. ArePieces (record { sealed = p.sealed.items; loose = p.loose.items }) p.moments.items };
+    ghost invariant = { λ p. ArePieces (record { sealed = p.sealed; loose = p.loose }) p.moments.items };
 }
 
 impl Pieces {
@@ -40,8 +42,8 @@ impl Pieces {
         ensures { joined result ≡ [] }
     {
         Pieces {
-            sealed: Vec::new(alloc),
-            loose: Vec::new(alloc),
+            sealed: Segments::none(),
+            loose: Loose::new(alloc),
             moments: Vec::new(alloc),
         }
     }
@@ -65,9 +67,12 @@ impl Pieces {
     {
         let sealed = self.sealed_count();
         if index < sealed {
-            self.sealed[index / SEGMENT].get(index % SEGMENT)
+            match self.sealed.get(index / SEGMENT) {
+                Some(segment) => segment.get(index % SEGMENT),
+                None => None,
+            }
         } else {
-            message_at(&self.loose, index - sealed)
+            self.loose.get(index - sealed)
         }
     }
 
@@ -77,7 +82,15 @@ impl Pieces {
         requires { IsStrictlySortedBy position_cmp (map (λ e. e.position) (joined self.now)) }
         ensures { result ≡ index_of at (joined self.now) }
     {
-        search::index_of(self, at)
+        search::by_halving(self, at)
+    }
+
+    /// The same, in constant time where it is the likely one.
+    pub fn index_near(&self, at: Position, likely: usize) -> Option<usize>
+        requires { IsStrictlySortedBy position_cmp (map (λ e. e.position) (joined self.now)) }
+        ensures { result ≡ index_of at (joined self.now) }
+    {
+        search::index_near(self, at, likely)
     }
 
     /// The first moment after the times of all messages in segments.
@@ -107,46 +120,45 @@ impl Pieces {
     {
         let whole = self.earlier_segments(time);
         let before = whole * SEGMENT;
-        if whole < self.sealed.len() {
-            before + self.sealed[whole].count_earlier(time)
-        } else {
-            before + times::count_earlier(&self.loose, time)
+        match self.sealed.get(whole) {
+            Some(segment) => before + segment.count_earlier(time),
+            None => before + self.loose.count_earlier(time),
         }
     }
 
     /// Puts the message after those that are sealed with it.
     fn seal(&mut self, alloc: Global, message: Message) -> Result<(), AllocError>
-        requires full { length self.old.loose ≡ 1024 }
+        requires full { length (loosely self.old.loose) ≡ 1024 }
+        requires last { 0 < length self.old.loose.last }
         requires room { length self.old.sealed < 1024 }
-        ensures ok { OnOk result ((joined self.new ≡ joined self.old ++ message ∷ []) × (self.new.loose ≡ message ∷ [])) }
+        ensures ok { OnOk result ((joined self.new ≡ joined self.old ++ message ∷ []) × (self.new.loose.last ≡ message ∷ [])) }
         ensures err { OnErr result (self.new ≡ self.old) }
     {
-        let moment = times::moment_after(self.last_moment(), &self.loose);
-        let segment = Segment::of(alloc, &self.loose)?;
-        self.moments.reserve(1)?;
-        self.sealed.push(segment)?;
-        self.moments.push_reserved(moment);
-        self.loose.truncate(1);
-        self.loose[0] = message;
+        let segment = self.loose.segment(alloc)?;
+        let moment = segment.moment_after(self.last_moment());
+        let sealed = self.sealed.with(alloc, segment)?;
+        self.moments.push(moment)?;
+        self.sealed = sealed;
+        self.loose.begin(message);
         Ok(())
     }
 
     pub fn push(&mut self, alloc: Global, message: Message) -> Result<(), AllocError>
         requires { length (joined self.old) < 1048576 }
         ensures ok { OnOk result (joined self.new ≡ joined self.old ++ message ∷ []) }
-        ensures some { OnOk result (0 < length self.new.loose) }
+        ensures some { OnOk result (0 < length self.new.loose.last) }
         ensures err { OnErr result (self.new ≡ self.old) }
     {
         if self.loose.len() == SEGMENT {
             return self.seal(alloc, message);
         }
-        self.loose.push(message)?;
+        self.loose.push(alloc, message)?;
         Ok(())
     }
 
     /// Takes the last message out.
     pub fn pop(&mut self)
-        requires { 0 < length self.old.loose }
+        requires { 0 < length self.old.loose.last }
         ensures { joined self.new ≡ front (joined self.old) }
     {
         self.loose.pop();

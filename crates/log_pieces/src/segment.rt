@@ -2,7 +2,7 @@
 ghost use Rattle.std.specs.Prelude.{◌≡◌, ◌≤◌, IfOk, length, slice_get};
 ghost use Rattle.std.specs.List.{position_or_len};
 ghost use Rattle.std.specs.Option.{option_copied};
-ghost use Rattle.log_pieces.specs.Times.{is_from};
+ghost use Rattle.log_pieces.specs.Times.{is_from, moment_after};
 
 use crate::times;
 use position_core::{Message, Moment};
@@ -38,19 +38,38 @@ impl Model for Segment {
 }
 
 impl Segment {
+    pub(crate) fn new(alloc: Global, messages: Vec<Message>) -> Result<Self, AllocError>
+        ensures { IfOk result (λ segment. segment ≡ messages.items) }
+    {
+        Ok(Segment {
+            messages: Arc::new(alloc, messages)?,
+        })
+    }
+
     /// Shares the messages.
     pub(crate) fn of(alloc: Global, messages: &Vec<Message>) -> Result<Self, AllocError>
         ensures { IfOk result (λ segment. segment ≡ messages.now.items) }
     {
-        Ok(Segment {
-            messages: Arc::new(alloc, shared(messages)?)?,
-        })
+        Segment::new(alloc, shared(messages)?)
     }
 
     pub(crate) fn get(&self, place: usize) -> Option<&Message>
         ensures { option_copied result ≡ slice_get self.now place }
     {
         message_at(&self.messages, place)
+    }
+
+    pub(crate) fn messages(&self) -> &[Message]
+        ensures { result.now ≡ self.now }
+    {
+        &self.messages
+    }
+
+    /// The first moment after the times of all messages, which is not before the given one.
+    pub(crate) fn moment_after(&self, from: u64) -> u64
+        ensures { result ≡ moment_after from self.now }
+    {
+        times::moment_after(from, &self.messages)
     }
 
     /// How many messages stand before the first that is not earlier than the time.

@@ -59,7 +59,9 @@ fn check_message<R: Abort>(rt: &R, log: &EntryLog, index: usize) {
 }
 
 fn check_messages<R: Abort>(rt: &R, log: &EntryLog) {
-    for index in [0, 1, 999, 1000, 1023, 1024, 2047, 2048, 4095, 4096, 4999] {
+    for index in [
+        0, 1, 31, 32, 999, 1000, 1023, 1024, 2047, 2048, 4095, 4096, 4863, 4864, 4991, 4992, 4999,
+    ] {
         check_message(rt, log, index);
     }
 }
@@ -109,10 +111,12 @@ fn take_back<R: Abort + AllocGlobal>(rt: &R, log: &mut EntryLog, count: usize) {
     check_at(rt, log, count, Some(next));
 }
 
-/// At the seams of segments and of ledgers too, the log goes on as if the message had never come.
+/// At the seams of runs, of segments and of ledgers too, the log goes on as if the message had never come.
 #[test]
 fn the_last_message_is_taken_back(rt: HostRuntime) {
-    for count in [0, 1, 511, 512, 1023, 1024, 1025, 2048] {
+    for count in [
+        0, 1, 31, 32, 33, 511, 512, 992, 1023, 1024, 1025, 1056, 2048,
+    ] {
         take_back(&rt, &mut log_of(&rt, count, 512), count);
     }
 }
@@ -131,6 +135,25 @@ fn roll<R: Abort + AllocGlobal>(rt: &R, log: &mut EntryLog) {
 #[test]
 fn a_roll_begins_the_next_ledger(rt: HostRuntime) {
     roll(&rt, &mut log_of(&rt, 3, 50));
+}
+
+/// Ledgers that were left before they were full: three messages in the first, two in the second.
+fn check_left<R: Abort>(rt: &R, log: &EntryLog) {
+    check_index(rt, log, at(0, 2), Some(2));
+    check_index(rt, log, at(0, 3), None);
+    check_index(rt, log, at(1, 1), Some(4));
+    check_index(rt, log, at(2, 0), Some(5));
+    check_index(rt, log, at(2, 1), None);
+    check_index(rt, log, at(u64::MAX, u64::MAX), None);
+}
+
+#[test]
+fn an_index_is_found_past_a_ledger_that_was_left(rt: HostRuntime) {
+    let mut log = log_of(&rt, 3, 50);
+    log.roll();
+    append(&rt, &mut log);
+    go_on(&rt, &mut log);
+    check_left(&rt, &log);
 }
 
 /// One more message in this ledger, and one in the next.

@@ -9,7 +9,7 @@ use Rattle.log_pieces.proofs.pieces.Pieces.earlier_segments.Goals as goal
 
 pub returns-clause-parts : goal.returns-clause-parts
 returns-clause-parts c =
-    let p : Parts = record { sealed = c.self.inside.sealed.items; loose = c.self.inside.loose.items } in
+    let p : Parts = record { sealed = c.self.inside.sealed; loose = c.self.inside.loose } in
     let e : p ≡ c.args.self.now = c.self.view_is in
     let are : c.deref.result.now ≡ moments_after 0 c.args.self.now.sealed = c.deref.ensures.value ∙ c.self.invariant.moments ∙ ap (λ (q : Parts). moments_after 0 q.sealed) e in
     subst (λ (ms : List ℕ). IsPartitionPoint (λ moment. nat_le moment c.args.time ≡ true) (λ moment. nat_le moment c.args.time ≡ false) ms c.partition_point.result) are
@@ -17,7 +17,7 @@ returns-clause-parts c =
 
 pub returns-clause-within : goal.returns-clause-within
 returns-clause-within c =
-    let p : Parts = record { sealed = c.self.inside.sealed.items; loose = c.self.inside.loose.items } in
+    let p : Parts = record { sealed = c.self.inside.sealed; loose = c.self.inside.loose } in
     let e : p ≡ c.args.self.now = c.self.view_is in
     let are : c.deref.result.now ≡ moments_after 0 c.args.self.now.sealed = c.deref.ensures.value ∙ c.self.invariant.moments ∙ ap (λ (q : Parts). moments_after 0 q.sealed) e in
     omega (arith, ap (λ (ms : List ℕ). length ms) are, length_moments 0 c.args.self.now.sealed, c.partition_point.ensures.bound)
@@ -25,4 +25,4 @@ returns-clause-within c =
 pub returns-clause-few : goal.returns-clause-few
 returns-clause-few c =
     let few = c.self.invariant.few in
-    omega (arith, ap (λ (ms : List ℕ). length ms) (c.deref.ensures.value ∙ c.self.invariant.moments), length_moments 0 c.self.inside.sealed.items, c.partition_point.ensures.bound, few)
+    omega (arith, ap (λ (ms : List ℕ). length ms) (c.deref.ensures.value ∙ c.self.invariant.moments), length_moments 0 c.self.inside.sealed, c.partition_point.ensures.bound, few)

@@ -1,36 +1,36 @@
-use Rattle.std.proofs.Common.{◌≡◌, ◌+◌, ◌-◌, List, ◌*◌, ◌/◌, ◌%◌, ◌<◌, ℕ, length, Some, sym, ◌∙◌, ap, refl, arith}
+use Rattle.std.proofs.Common.{◌≡◌, ◌+◌, ◌*◌, ◌/◌, ◌%◌, ◌≤◌, ℕ, length, sym, ◌∙◌, ap, arith}
 use Rattle.std.specs.List.{slice_get}
-use Rattle.std.proofs.lemmas.Option.{slice_get_read}
-use Rattle.position_core.specs.declared.message.Entry.{Entry}
-use Rattle.log_pieces.specs.Pieces.{Parts, joined}
-use Rattle.log_pieces.proofs.Joined.{get_sealed, get_loose}
+use Rattle.log_pieces.specs.Pieces.{Parts, joined, loosely}
+use Rattle.log_pieces.proofs.Joined.{get_within, get_after, slice_get_none}
 use Rattle.log_pieces.proofs.pieces.Pieces.get.Goals as goal
 
-pub returns-then-index-sealed : goal.returns-then-index-sealed
-returns-then-index-sealed c =
-    let p : Parts = record { sealed = c.self.inside.sealed.items; loose = c.self.inside.loose.items } in
+pub returns-in-Some : goal.returns-in-Some
+returns-in-Some c =
+    let p : Parts = record { sealed = c.self.inside.sealed; loose = c.self.inside.loose } in
     let e : p ≡ c.args.self.now = c.self.view_is in
     let index = c.args.index in
-    let i : ℕ = index / 1024 in
-    let j : ℕ = index % 1024 in
-    let same : length p.sealed ≡ length c.args.self.now.sealed = ap (λ (q : Parts). length q.sealed) e in
-    let within : i < length p.sealed = omega (arith, same) in
-    let at : slice_get p.sealed i ≡ Some c.index.result.now = slice_get_read p.sealed (length p.sealed) i c.index.result.now refl within c.index.ensures in
-    let split : 1024 * i + j ≡ index = omega arith in
-    c.get.ensures
-    ∙ sym (get_sealed p.sealed p.loose c.index.result.now i j c.self.invariant.segments at (omega arith))
+    let split : 1024 * (index / 1024) + index % 1024 ≡ index = omega arith in
+    c.get-in-Some.ensures
+    ∙ sym (get_within 1024 p.sealed (loosely p.loose) c.in-Some.segment.now (index / 1024) (index % 1024) c.self.invariant.segments (sym c.in-Some.ensures) (omega arith))
     ∙ ap (λ (n : ℕ). slice_get (joined p) n) split
     ∙ ap (λ (q : Parts). slice_get (joined q) index) e
 
+pub returns-in-None : goal.returns-in-None
+returns-in-None c =
+    let p : Parts = record { sealed = c.self.inside.sealed; loose = c.self.inside.loose } in
+    let e : p ≡ c.args.self.now = c.self.view_is in
+    let same : length p.sealed ≡ length c.args.self.now.sealed = ap (λ (q : Parts). length q.sealed) e in
+    let past : length p.sealed ≤ c.args.index / 1024 = slice_get_none p.sealed (c.args.index / 1024) (sym c.in-None.ensures) in
+    absurd (omega (arith, same, past))
+
 pub returns-else-index-sealed : goal.returns-else-index-sealed
 returns-else-index-sealed c =
-    let p : Parts = record { sealed = c.self.inside.sealed.items; loose = c.self.inside.loose.items } in
+    let p : Parts = record { sealed = c.self.inside.sealed; loose = c.self.inside.loose } in
     let e : p ≡ c.args.self.now = c.self.view_is in
     let index = c.args.index in
     let same : length p.sealed ≡ length c.args.self.now.sealed = ap (λ (q : Parts). length q.sealed) e in
     let n = c.sealed_count-sealed.result in
     let is : n ≡ 1024 * length p.sealed = omega (arith, same) in
-    c.message_at.ensures
-    ∙ ap (λ (xs : List Entry). slice_get xs (index - n)) c.deref.ensures.value
-    ∙ sym (get_loose p.sealed p.loose index n c.self.invariant.segments is c.if-index-sealed.false)
+    c.get-else-index-sealed.ensures
+    ∙ sym (get_after 1024 p.sealed (loosely p.loose) index n c.self.invariant.segments is c.if-index-sealed.false)
     ∙ ap (λ (q : Parts). slice_get (joined q) index) e

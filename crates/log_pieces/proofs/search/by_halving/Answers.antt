@@ -5,7 +5,7 @@ use Rattle.position_core.specs.declared.position.Position.{Position}
 use Rattle.position_core.specs.Position.{position_cmp}
 use Rattle.log_pieces.specs.Pieces.{joined}
 use Rattle.log_pieces.proofs.Searching.{steps_up, steps_down, nowhere, found}
-use Rattle.log_pieces.proofs.search.index_of.Goals as goal
+use Rattle.log_pieces.proofs.search.by_halving.Goals as goal
 
 pub loop-low-preserved-in-Less : goal.loop-low-preserved-in-Less
 loop-low-preserved-in-Less c =
