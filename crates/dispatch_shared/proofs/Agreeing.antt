@@ -1,5 +1,5 @@
 -- The line of seats after somebody joined or left.
-use Rattle.std.proofs.Common.{◌≡◌, ℕ, ◌+◌, ◌<◌, Bool, true, false, not, cond, List, [], ◌∷◌, ◌++◌, map, length, Option, Some, None, Result, Ok, Err, refl, sym, ap, ◌∙◌, subst, arith}
+use Rattle.std.proofs.Common.{◌≡◌, ℕ, Bool, true, false, not, cond, List, [], ◌∷◌, ◌++◌, map, length, Some, None, Result, Ok, Err, refl, sym, ap, ◌∙◌}
 use Rattle.std.specs.Prelude.{◌==◌, slice_get, OnOk}
 use Rattle.std.specs.List.{filter}
 use Rattle.std.proofs.lemmas.List.{map-append, length-map}
@@ -12,7 +12,7 @@ use Rattle.dispatch_core.specs.Changes.{Joined, Left}
 use Rattle.dispatch_core.specs.declared.view.Seen.{Seen}
 use Rattle.waiting_places.specs.Waiting.{Waiting}
 use Rattle.waiting_places.proofs.Telling.{tells-line}
-use Rattle.dispatch_shared.specs.Turn.{Turns, Agrees, pair_of}
+use Rattle.dispatch_shared.specs.Turn.{Agrees, pair_of}
 use Rattle.dispatch_shared.specs.Seats.{seat_pair}
 use Rattle.dispatch_shared.specs.declared.seat.Seat.{Seat}
 use Rattle.dispatch_shared.proofs.Goes.{stands_at}

@@ -1,20 +1,19 @@
 -- The one that goes first, of two, of all, and of those gone through so far.
-use Rattle.std.proofs.Common.{◌≡◌, ℕ, zero, suc, ◌+◌, ◌<◌, List, [], ◌∷◌, ◌++◌, map, take, Bool, true, false, cond, Option, Some, None, get_or, length, inl, inr, refl, sym, ap, ◌∙◌, subst, arith}
+use Rattle.std.proofs.Common.{◌≡◌, ℕ, ◌+◌, ◌<◌, List, [], ◌∷◌, ◌++◌, map, take, Bool, true, false, cond, Option, Some, None, length, inl, inr, refl, sym, ap, ◌∙◌, subst, arith}
 use Rattle.std.specs.Prelude.{slice_get}
-use Rattle.std.specs.List.{filter, All, Contains}
+use Rattle.std.specs.List.{filter}
 use Rattle.std.specs.Option.{option_map}
-use Rattle.std.proofs.lemmas.Bool.{cases_eq}
-use Rattle.std.proofs.lemmas.List.{append-nil, take_more, take_all, length-map, get_or-map}
-use Rattle.std.proofs.lemmas.List.Elements.{All-push, All-weaker, All-filter, Contains-push, Contains-append_left, Contains-append_right, filter-append}
+use Rattle.std.proofs.lemmas.List.{append-nil, take_more, take_all, length-map}
+use Rattle.std.proofs.lemmas.List.Elements.{All-push, All-weaker, Contains-push, Contains-append_left, filter-append}
 use Rattle.std.proofs.lemmas.Bool.Decides.{nat_tests}
-use Rattle.std.proofs.lemmas.Option.{slice_get-map, slice_get_cases, slice_get_within, slice_get-get_or, get_or_from_slice_get, same_Some, none-some}
+use Rattle.std.proofs.lemmas.Option.{slice_get-map, slice_get_cases, slice_get-get_or, same_Some, none-some}
 use Rattle.delivery_machine.specs.State.{State, Subscription, Member}
 use Rattle.delivery_machine.specs.Words.{members_of}
 use Rattle.dispatch_core.specs.Log.{line_of}
 use Rattle.dispatch_core.specs.Offers.{seen_of, seen_at, seen_members}
 use Rattle.dispatch_core.specs.declared.view.Seen.{Seen}
 use Rattle.dispatch_shared.specs.Turn.{pair_of, goes_first, goes_before, roomy, roomy_among, IsFirst}
-use Rattle.dispatch_shared.specs.Seats.{seat_pair, IsFirstAt}
+use Rattle.dispatch_shared.specs.Seats.{seat_pair}
 use Rattle.dispatch_shared.specs.declared.seat.Seat.{Seat}
 
 -- ---- of two
@@ -126,75 +125,3 @@ unfolding line_of
 all_gone_through last s sub n best all is =
     subst (λ (ms : List Seen). IsFirst last (filter (λ seen. seen.room) ms) best)
     (take_all n (seen_members s sub) (omega (arith, all, as_many (members_of s sub.name), length-map (members_of s sub.name) (seen_of s sub)))) is
-
--- ---- the first of all
-
-contains-filter : {A : Type 0} (p : A → Bool) (xs : List A) (x : A) (k : ℕ) → k < length xs → get_or xs k x ≡ x → p x ≡ true → Contains (filter p xs) x
-contains-filter p [] x k within is passes = absurd (omega (arith, within))
-contains-filter p (y ∷ ys) x zero within is passes =
-    subst (λ (b : Bool). Contains (cond b (y ∷ filter p ys) (filter p ys)) x) (sym (ap p is ∙ passes)) (0, omega arith, is)
-contains-filter {A} p (y ∷ ys) x (suc k) within is passes = by (p y) (contains-filter p ys x k (omega (arith, within)) is passes)
-  where
-    by : (b : Bool) → Contains (filter p ys) x → Contains (cond b (y ∷ filter p ys) (filter p ys)) x
-    by true later = Contains-append_right (y ∷ []) (filter p ys) x later
-    by false later = later
-
-pairs_of : (s : State) (sub : Subscription) (ms : List Member) → map pair_of (map (seen_of s sub) ms) ≡ map pair ms
-pairs_of s sub [] = refl
-pairs_of s sub (m ∷ ms) = ap (λ (ps : List (ℕ × ℕ)). pair m ∷ ps) (pairs_of s sub ms)
-
-seen_pairs : (s : State) (sub : Subscription) → map pair_of (seen_members s sub) ≡ line_of s sub
-unfolding line_of
-seen_pairs s sub = pairs_of s sub (members_of s sub.name)
-
-pub first_of_all : (last : ℕ) (s : State) (sub : Subscription) (seats : List Seat) (place : ℕ) (seen : Seen) → map seat_pair seats ≡ line_of s sub → IsFirstAt last seats (length seats) place → Some seen ≡ seen_at s sub place → seen.room ≡ true → IsFirst last (roomy s sub) (Some seen)
-first_of_all last s sub seats place seen same first shown room =
-    let all : List Seen = seen_members s sub in
-    let pairs : map pair_of all ≡ map seat_pair seats = seen_pairs s sub ∙ sym same in
-    let many : length all ≡ length seats = sym (length-map all pair_of) ∙ ap length pairs ∙ length-map seats seat_pair in
-    let at : slice_get all place ≡ Some seen = slice_get-map (seen_of s sub) (members_of s sub.name) place ∙ sym shown in
-    let within : place < length all = slice_get_within all place seen at in
-    let seat : Seat = record { consumer = 0; level = 0 } in
-    let pair_at : (k : ℕ) (d : Seen) → k < length all → pair_of (get_or all k d) ≡ seat_pair (get_or seats k seat) =
-    λ k d below.
-    sym (get_or-map pair_of all k d (seat_pair seat) below)
-    ∙ ap (λ (ps : List (ℕ × ℕ)). get_or ps k (seat_pair seat)) pairs
-    ∙ get_or-map seat_pair seats k seat (seat_pair seat) (omega (arith, below, many)) in
-    let here : get_or all place seen ≡ seen = get_or_from_slice_get all place seen seen at in (
-      contains-filter (λ (m : Seen). m.room) all seen place within here room,
-      All-filter (λ (m : Seen). m.room) (λ other. goes_first last (pair_of other) (pair_of seen) ≡ false) all (λ k d below.
-          ap (λ (p : ℕ × ℕ). goes_first last p (pair_of seen)) (pair_at k d below)
-          ∙ ap (λ (p : ℕ × ℕ). goes_first last (seat_pair (get_or seats k seat)) p) (ap pair_of (sym here) ∙ pair_at place seen within)
-          ∙ first.first k seat (omega (arith, below, many))),
-    )
-
--- ---- seats gone through
-
-read : (seats : List Seat) (k : ℕ) (a d : Seat) → k < length seats → a ≡ get_or seats k a → a ≡ get_or seats k d
-read seats k a d within at = at ∙ same_Some _ _ (sym (slice_get-get_or seats k a within) ∙ slice_get-get_or seats k d within)
-
-module _ (last : ℕ) (seats : List Seat) (first next : ℕ) (is : IsFirstAt last seats next first) (within : next < length seats) where
-  pub next_is_first : (a b : Seat) → a ≡ get_or seats next a → b ≡ get_or seats first b → goes_first last (seat_pair a) (seat_pair b) ≡ true → IsFirstAt last seats (next + 1) next
-  next_is_first a b at bt before = record {
-    within = omega arith;
-    first = λ k d below.
-        let same : goes_first last (seat_pair (get_or seats next d)) (seat_pair (get_or seats first d)) ≡ true =
-        ap (λ (x : Seat). goes_first last (seat_pair x) (seat_pair (get_or seats first d))) (sym (read seats next a d within at))
-        ∙ ap (λ (x : Seat). goes_first last (seat_pair a) (seat_pair x)) (sym (read seats first b d (omega (arith, is.within, within)) bt)) ∙ before in
-        elim (cases_eq k next) [
-          | inl it ↦ ap (λ (j : ℕ). goes_first last (seat_pair (get_or seats j d)) (seat_pair (get_or seats next d))) it ∙ goes_first-same last (seat_pair (get_or seats next d))
-          | inr other ↦ still_behind last (seat_pair (get_or seats next d)) (seat_pair (get_or seats first d)) (seat_pair (get_or seats k d)) same (is.first k d (omega (arith, below, other)))
-        ];
-  }
-
-  pub first_stays : (a b : Seat) → a ≡ get_or seats next a → b ≡ get_or seats first b → goes_first last (seat_pair a) (seat_pair b) ≡ false → IsFirstAt last seats (next + 1) first
-  first_stays a b at bt behind = record {
-    within = omega (arith, is.within);
-    first = λ k d below. elim (cases_eq k next) [
-      | inl it ↦
-          ap (λ (j : ℕ). goes_first last (seat_pair (get_or seats j d)) (seat_pair (get_or seats first d))) it
-          ∙ ap (λ (x : Seat). goes_first last (seat_pair x) (seat_pair (get_or seats first d))) (sym (read seats next a d within at))
-          ∙ ap (λ (x : Seat). goes_first last (seat_pair a) (seat_pair x)) (sym (read seats first b d (omega (arith, is.within, within)) bt)) ∙ behind
-      | inr other ↦ is.first k d (omega (arith, below, other))
-    ];
-  }

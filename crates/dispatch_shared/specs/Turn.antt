@@ -1,5 +1,5 @@
 -- Members as they are seen: those with room, by level and then in turn.
-use Rattle.std.specs.Prelude.{◌≡◌, ℕ, ◌==◌, nat_lt, Bool, true, false, ◌&&◌, ◌||◌, List, [], take, Option, Some, None, if◌then◌else◌, refl}
+use Rattle.std.specs.Prelude.{◌≡◌, ℕ, ◌==◌, nat_lt, Bool, true, false, ◌&&◌, ◌||◌, List, [], take, Option, Some, None, refl}
 use Rattle.std.specs.List.{filter, All, Contains}
 use Rattle.std.specs.Coded.{Coded, code_by, coded×, coded_ℕ, coded_list}
 use Rattle.position_core.specs.declared.kind.Kind.TheVariants.{Shared}

@@ -1,7 +1,7 @@
 // A member in line, and who goes first.
-ghost use Rattle.std.specs.Prelude.{◌≡◌, ◌+◌, ◌<◌, length, IfSome};
+ghost use Rattle.std.specs.Prelude.{◌≡◌};
 ghost use Rattle.dispatch_shared.specs.Turn.{goes_first, pair_of};
-ghost use Rattle.dispatch_shared.specs.Seats.{seat_pair, IsFirstAt};
+ghost use Rattle.dispatch_shared.specs.Seats.{seat_pair};
 
 use dispatch_core::{Seen, is_sooner};
 use position_core::{ConsumerNumber, Level};
@@ -31,32 +31,4 @@ pub(crate) fn goes_first(last: u64, seat: Seat, other: Seat) -> bool
     let level = seat.level.get();
     let their_level = other.level.get();
     level < their_level || (level == their_level && is_sooner(last, seat.consumer, other.consumer))
-}
-
-/// The first place so far, or the next one, if its seat goes before that.
-fn sooner_place(seats: &[Seat], last: u64, first: usize, next: usize) -> usize
-    requires next_in { next < length seats.now }
-    requires first_in { first < next }
-    ensures first { IsFirstAt last seats.now next first → IsFirstAt last seats.now (next + 1) result }
-    ensures within { result < next + 1 }
-{
-    if goes_first(last, seats[next], seats[first]) {
-        next
-    } else {
-        first
-    }
-}
-
-/// The place of the seat that goes first, whoever has room.
-pub(crate) fn first_place(seats: &[Seat], last: u64) -> Option<usize>
-    ensures { IfSome result (IsFirstAt last seats.now (length seats.now)) }
-{
-    if seats.is_empty() {
-        return None;
-    }
-    let mut first = 0;
-    for place in 1..seats.len() {
-        first = sooner_place(seats, last, first, place);
-    }
-    Some(first)
 }

@@ -12,8 +12,8 @@ use waiting_places::WaitingPlaces;
 
 /// Offers the first waiting message to a member of the best level among those with room. Members
 /// of one level take turns, by their numbers, which the law leaves free. It keeps which messages
-/// wait, and the members' seats in line, so an offer goes over the seats, and asks the view of the
-/// messages once at most, and of one member where the first in turn has room.
+/// wait, and the members' seats in line, so an offer goes over the seats once, and asks the view of the
+/// messages once at most, and of those members alone that go before the best so far.
 #[derive(Drop)]
 pub struct Shared {
     waiting: WaitingPlaces,

@@ -5,7 +5,7 @@ ghost use Rattle.dispatch_core.specs.Offers.{seen_at};
 ghost use Rattle.dispatch_shared.specs.Turn.{roomy, roomy_among, goes_before, IsFirst};
 ghost use Rattle.dispatch_shared.specs.Seats.{seat_pair};
 
-use crate::seat::{Seat, first_place, goes_first};
+use crate::seat::{Seat, goes_first};
 use dispatch_core::{Seen, View};
 
 /// The member at the place, if it has room.
@@ -52,8 +52,10 @@ fn better<V: View>(
     }
 }
 
-/// Of the members with room, the one that goes first.
-fn first_with_room<V: View>(view: &V, seats: &[Seat], last: u64) -> Option<Seen>
+/// Of the members with room, one of the best level: the one with the least number above that last
+/// served, else with the least number. The seats are theirs, in line. Each is compared once, and the
+/// view is asked of those alone that go before the best so far.
+pub(crate) fn next_in_turn<V: View>(view: &V, seats: &[Seat], last: u64) -> Option<Seen>
     ensures { map seat_pair seats.now ≡ line_of (V.state view.now) (V.subscription view.now)
         → IsFirst last (roomy (V.state view.now) (V.subscription view.now)) result }
 {
@@ -62,19 +64,4 @@ fn first_with_room<V: View>(view: &V, seats: &[Seat], last: u64) -> Option<Seen>
         best = better(view, last, place, seats[place], best);
     }
     best
-}
-
-/// Of the members with room, one of the best level: the one with the least number above that last
-/// served, else with the least number. The seats are theirs, in line. Where the first of all has
-/// room, the view is asked for no other.
-pub(crate) fn next_in_turn<V: View>(view: &V, seats: &[Seat], last: u64) -> Option<Seen>
-    ensures { map seat_pair seats.now ≡ line_of (V.state view.now) (V.subscription view.now)
-        → IsFirst last (roomy (V.state view.now) (V.subscription view.now)) result }
-{
-    if let Some(place) = first_place(seats, last) {
-        if let Some(seen) = with_room(view, place) {
-            return Some(seen);
-        }
-    }
-    first_with_room(view, seats, last)
 }

@@ -13,8 +13,10 @@ use Rattle.std.proofs.lemmas.List.Sums.{sum_by-cons}
 use Rattle.std.proofs.lemmas.Map.Lookups.{CmpEqualImpliesEq, exact_pairs, exact_unsigned}
 use Rattle.position_core.specs.Position.{position_cmp, positions_total, exact_positions}
 use Rattle.position_core.specs.declared.position.Position.{Position}
+use Rattle.delivery_machine.proofs.Deciding.{number_is}
 use Rattle.pending_core.specs.declared.seats.Seat.{Seat}
-use Rattle.pending_core.specs.Seats.{seat_cmp, seat_of, seats_at, number_at, NumberChanges, AreCounted}
+use Rattle.pending_core.specs.Counts.{number_at, NumberChanges}
+use Rattle.pending_core.specs.Seats.{seat_cmp, seat_of, seats_at, AreCounted}
 
 pub seats_total : IsTotalOrder seat_cmp
 seats_total = then_total (on_total (λ s. s.consumer) nat_cmp_total) (on_total (λ s. s.position) positions_total)
@@ -47,25 +49,25 @@ pub same_consumer : (a b : ℕ) → is_at (nat_cmp a) b ≡ (a == b)
 same_consumer a b = unsigned_tied a b
 
 module _ (seats new : BTreeSet Seat) (numbers changed : List (ℕ × ℕ)) (s : Seat) (counted : AreCounted seats numbers) where
-  here : (other : ℕ) → is_at (nat_cmp s.consumer) other ≡ true → number_at numbers s.consumer ≡ seats_at seats other
-  here other e = ap (number_at numbers) (exact_unsigned s.consumer other ((Equal-is (nat_cmp s.consumer other)).0 e)) ∙ counted other
+  here : (other : ℕ) → (s.consumer == other) ≡ true → number_at numbers s.consumer ≡ seats_at seats other
+  here other e = ap (number_at numbers) (number_is s.consumer other e) ∙ counted other
 
   pub counted_taken : contains seat_cmp seats s ≡ false → new.keys ≡ insert_key seat_cmp seats.keys s → NumberChanges s.consumer (number_at numbers s.consumer + 1) numbers changed → AreCounted new changed
-  counted_taken free is change other = change other ∙ by_test (is_at (nat_cmp s.consumer) other) refl
+  counted_taken free is change other = change other ∙ by_test (s.consumer == other) refl
     where
-      more : (b : Bool) → is_at (nat_cmp s.consumer) other ≡ b → seats_at new other ≡ seats_at seats other + cond b 1 0
-      more b e = ap (count_by (λ x. x.consumer == other)) is ∙ count-insert_key (λ x. x.consumer == other) s seats.keys free ∙ ap (λ t. seats_at seats other + cond t 1 0) (sym (same_consumer s.consumer other) ∙ e)
+      more : (b : Bool) → (s.consumer == other) ≡ b → seats_at new other ≡ seats_at seats other + cond b 1 0
+      more b e = ap (count_by (λ x. x.consumer == other)) is ∙ count-insert_key (λ x. x.consumer == other) s seats.keys free ∙ ap (λ t. seats_at seats other + cond t 1 0) e
 
-      by_test : (b : Bool) → is_at (nat_cmp s.consumer) other ≡ b → cond b (number_at numbers s.consumer + 1) (number_at numbers other) ≡ seats_at new other
+      by_test : (b : Bool) → (s.consumer == other) ≡ b → cond b (number_at numbers s.consumer + 1) (number_at numbers other) ≡ seats_at new other
       by_test true e = let was = here other e in let now = more true e in omega arith
       by_test false e = let was = counted other in let now = more false e in omega arith
 
   pub counted_left : contains seat_cmp seats s ≡ true → new.keys ≡ remove_key (is_at (seat_cmp s)) seats.keys → NumberChanges s.consumer (number_at numbers s.consumer - 1) numbers changed → AreCounted new changed
-  counted_left taken is change other = change other ∙ by_test (is_at (nat_cmp s.consumer) other) refl
+  counted_left taken is change other = change other ∙ by_test (s.consumer == other) refl
     where
-      less : (b : Bool) → is_at (nat_cmp s.consumer) other ≡ b → seats_at new other + cond b 1 0 ≡ seats_at seats other
-      less b e = ap (λ ks. count_by (λ x. x.consumer == other) ks + cond b 1 0) is ∙ ap (λ t. count_by (λ x. x.consumer == other) (remove_key (is_at (seat_cmp s)) seats.keys) + cond t 1 0) (sym (sym (same_consumer s.consumer other) ∙ e)) ∙ count-remove_key (λ x. x.consumer == other) s seats.keys taken
+      less : (b : Bool) → (s.consumer == other) ≡ b → seats_at new other + cond b 1 0 ≡ seats_at seats other
+      less b e = ap (λ ks. count_by (λ x. x.consumer == other) ks + cond b 1 0) is ∙ ap (λ t. count_by (λ x. x.consumer == other) (remove_key (is_at (seat_cmp s)) seats.keys) + cond t 1 0) (sym e) ∙ count-remove_key (λ x. x.consumer == other) s seats.keys taken
 
-      by_test : (b : Bool) → is_at (nat_cmp s.consumer) other ≡ b → cond b (number_at numbers s.consumer - 1) (number_at numbers other) ≡ seats_at new other
+      by_test : (b : Bool) → (s.consumer == other) ≡ b → cond b (number_at numbers s.consumer - 1) (number_at numbers other) ≡ seats_at new other
       by_test true e = let was = here other e in let now = less true e in omega arith
       by_test false e = let was = counted other in let now = less false e in omega arith

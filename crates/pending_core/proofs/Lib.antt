@@ -2,6 +2,7 @@ pub mod Found
 pub mod Tied
 pub mod First
 pub mod Machine
+pub mod Numbering
 pub mod Counting
 pub mod Seating
 pub mod Matching

@@ -1,4 +1,5 @@
 pub mod Pending
 pub mod Codes
 pub mod Kept
+pub mod Counts
 pub mod Seats

@@ -2,8 +2,6 @@
 use Rattle.std.specs.Prelude.{◌≡◌, ℕ, ◌==◌, Bool, false, List, Option, Some, None, IsTrue, if◌then◌else◌}
 use Rattle.std.proofs.Common.{refl}
 use Rattle.std.specs.List.{count_by}
-use Rattle.std.specs.Option.{unwrap_or}
-use Rattle.std.specs.Map.{lookup}
 use Rattle.std.specs.Ordering.{nat_cmp, ordering_then}
 use Rattle.std.specs.Coded.{Coded, code_by, coded×, coded_ℕ, coded_list}
 use Rattle.std.specs.BTreeMap.{is_at}
@@ -16,6 +14,7 @@ use Rattle.position_core.specs.Position.{position_cmp, coded_position}
 use Rattle.position_core.specs.declared.position.Position.{Position}
 use Rattle.position_core.specs.declared.held.Held.{Held}
 use Rattle.delivery_machine.specs.Words.{is_held_by}
+use Rattle.pending_core.specs.Counts.{number_at}
 use Rattle.pending_core.specs.declared.seats.Seat.{Seat}
 
 -- by the consumers, and by the positions at each
@@ -38,14 +37,6 @@ SeatChanges seat taken old new = (other : Seat) → contains seat_cmp new other 
 -- how many seats are the consumer's
 abbrev pub seats_at : BTreeSet Seat → ConsumerNumber → ℕ
 seats_at seats consumer = count_by (λ s. s.consumer == consumer) seats.keys
-
--- the number that is kept of the consumer
-abbrev pub number_at : List (ℕ × ℕ) → ConsumerNumber → ℕ
-number_at numbers consumer = unwrap_or (lookup (is_at (nat_cmp consumer)) numbers) 0
-
--- the same numbers are kept, but for one consumer, of which now this is kept
-abbrev pub NumberChanges : ConsumerNumber → ℕ → List (ℕ × ℕ) → List (ℕ × ℕ) → Type 0
-NumberChanges consumer number old new = (other : ℕ) → number_at new other ≡ (if is_at (nat_cmp consumer) other then number else number_at old other)
 
 -- of each consumer the number of its seats is kept
 abbrev pub AreCounted : BTreeSet Seat → List (ℕ × ℕ) → Type 0

@@ -152,6 +152,13 @@ impl PendingMap {
         self.seats.count_at(consumer)
     }
 
+    /// The same at once where as many consumers before it have messages as `place` says.
+    pub fn count_near(&self, consumer: ConsumerNumber, place: usize) -> usize
+        ensures { result ≡ pending_count_at self.now consumer }
+    {
+        self.seats.count_near(consumer, place)
+    }
+
     /// A pending message: of those at the least consumer the first.
     pub fn first(&self) -> Option<Position>
         ensures { IsFirstPending self.now result }

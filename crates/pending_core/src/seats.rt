@@ -3,10 +3,10 @@ ghost use Rattle.std.specs.Prelude.{◌≡◌, false, true, length, [], OnOk, On
 ghost use Rattle.std.specs.BTreeSet as tree_set;
 ghost use Rattle.pending_core.specs.Seats.{seat_cmp, seats_at, IsFirstSeat, IsFirstSeatAt, IsFirstFrom, SeatChanges};
 
-use crate::counts::{self, Counts};
+use crate::counts::Counts;
 use position_core::{ConsumerNumber, Position};
 use std::alloc::{AllocError, Global};
-use std::collections::{BTreeMap, BTreeSet};
+use std::collections::BTreeSet;
 use std::marker::Model;
 
 /// A message at a consumer. In order of the consumers, and at each of the positions.
@@ -35,7 +35,7 @@ impl Model for Seats {
 
     ghost view = { λ s. s.seats };
 
-    ghost invariant = { λ s. IsOrdered in_order s.seats × AreCounted s.seats s.counts.entries };
+    ghost invariant = { λ s. IsOrdered in_order s.seats × AreCounted s.seats s.counts };
 }
 
 impl Seats {
@@ -44,7 +44,7 @@ impl Seats {
     {
         Seats {
             seats: BTreeSet::new(alloc),
-            counts: BTreeMap::new(alloc),
+            counts: Counts::new(alloc),
         }
     }
 
@@ -54,14 +54,14 @@ impl Seats {
         ensures ok { OnOk result (SeatChanges seat true self.old self.new) }
         ensures err { OnErr result (self.new ≡ self.old) }
     {
-        let count = counts::number(&self.counts, seat.consumer);
+        let count = self.counts.number(seat.consumer);
         let all = self.seats.len();
         prove!(count <= all);
-        counts::count_one_more(&mut self.counts, seat.consumer)?;
+        self.counts.count_one_more(seat.consumer)?;
         match self.seats.insert(seat) {
             Ok(_) => Ok(()),
             Err(failed) => {
-                counts::count_one_less(&mut self.counts, seat.consumer);
+                self.counts.count_one_less(seat.consumer);
                 Err(failed.into())
             }
         }
@@ -73,7 +73,7 @@ impl Seats {
         ensures { SeatChanges seat false self.old self.new }
     {
         self.seats.remove(&seat);
-        counts::count_one_less(&mut self.counts, seat.consumer);
+        self.counts.count_one_less(seat.consumer);
     }
 
     pub(crate) fn len(&self) -> usize
@@ -87,7 +87,15 @@ impl Seats {
         ensures number { result ≡ seats_at self.now consumer }
         ensures ordered { tree_set.IsOrdered seat_cmp self.now }
     {
-        counts::number(&self.counts, consumer)
+        self.counts.number(consumer)
+    }
+
+    /// The same at once where as many consumers before it have messages as `place` says.
+    pub(crate) fn count_near(&self, consumer: ConsumerNumber, place: usize) -> usize
+        ensures number { result ≡ seats_at self.now consumer }
+        ensures ordered { tree_set.IsOrdered seat_cmp self.now }
+    {
+        self.counts.number_near(consumer, place)
     }
 
     pub(crate) fn first(&self) -> Option<Seat>

@@ -1,5 +1,6 @@
 -- Halving the members, whose numbers rise.
 use Rattle.std.proofs.Common.{◌≡◌, ℕ, ◌+◌, ◌<◌, ◌≤◌, true, false, List, [], ◌∷◌, map, length, Option, Some, None, refl, ap, sym, ◌∙◌, subst, position, get_or, inl, inr, arith}
+use Rattle.std.specs.List.{find}
 use Rattle.std.specs.Ordering.{nat_cmp}
 use Rattle.std.specs.declared.cmp.Ordering.TheVariants.{Less, Equal, Greater}
 use Rattle.std.proofs.lemmas.Bool.{cases_lt, false≢true}
@@ -11,7 +12,7 @@ use Rattle.std.proofs.lemmas.Map.Keys.{Less-from_sorted, sorted_from_strictly_in
 use Rattle.std.proofs.Math.ListN.{get_or-map}
 use Rattle.delivery_machine.specs.State.{Member}
 use Rattle.delivery_machine.specs.Words.{is_member}
-use Rattle.delivery_machine.proofs.Places.{fails_everywhere}
+use Rattle.delivery_machine.proofs.Places.{fails_everywhere, found_there}
 use Rattle.topic_members.specs.Members.{NumbersRise}
 
 -- the numbers before the first place are less, and those from the second on are greater
@@ -142,3 +143,7 @@ found ms n middle m rising within here same = sym (by (position (is_member n) ms
       where
         e_is : i ≡ middle → position (is_member n) ms ≡ Some middle
         e_is same = e ∙ ap (λ (k : ℕ). Some k) same
+
+pub found_at : (ms : List Member) (n place : ℕ) (m : Member) → NumbersRise ms → place < length ms → m ≡ get_or ms place m → is_member n m ≡ true → Some m ≡ find (is_member n) ms
+found_at ms n place m rising within here is =
+    sym (found_there (is_member n) ms place m (found ms n place m rising within here (number_of m n is)) ∙ ap (λ (x : Member). Some x) (sym here))

@@ -7,7 +7,7 @@ ghost use Rattle.topic_members.specs.Joined.{emptied_in, those_of};
 
 use crate::changing::empty;
 use crate::member::Member;
-use crate::members::member_at;
+use crate::members::member_near;
 use position_core::ConsumerNumber;
 
 /// Leaves nothing to collect for the members of the line.
@@ -39,8 +39,9 @@ pub(crate) fn active_in(members: &[Member], line: &[ConsumerNumber]) -> Option<C
     ensures { result ≡ option_map (λ m. m.number) (active_of (those_of members.now line.now)) }
 {
     let mut best = None;
-    for number in line {
-        if let Some(member) = member_at(members, *number) {
+    for (place, number) in line.iter().enumerate() {
+        // All members before it may be in the line too.
+        if let Some(member) = member_near(members, *number, place) {
             best = Some(earlier(best, member));
         }
     }

@@ -10,7 +10,7 @@ ghost use Rattle.topic_members.specs.Members.{NumbersRise, joining, leaving_out,
 ghost use Rattle.topic_members.specs.Joined.{emptied_in, numbers_of, those_of};
 
 use crate::member::{Member, Terms};
-use crate::members::member_at;
+use crate::members::{member_at, member_near};
 use crate::{changing, line};
 use delivery_machine::{Deliveries, Delivery, Reply};
 use position_core::{ConsumerNumber, Permits, Position, SubscriptionName, TopicName};
@@ -78,6 +78,13 @@ impl Members {
         ensures { option_copied result ≡ find (is_member number) self.now.members }
     {
         member_at(&self.list, number)
+    }
+
+    /// The same at once where it stands at the place.
+    pub fn get_near(&self, number: ConsumerNumber, place: usize) -> Option<&Member>
+        ensures { option_copied result ≡ find (is_member number) self.now.members }
+    {
+        member_near(&self.list, number, place)
     }
 
     /// Makes room for one more.

@@ -38,3 +38,24 @@ pub fn member_at(members: &[Member], number: ConsumerNumber) -> Option<&Member>
         None => None,
     }
 }
+
+/// The same at once where it stands at the place.
+pub(crate) fn member_near(
+    members: &[Member],
+    number: ConsumerNumber,
+    place: usize,
+) -> Option<&Member>
+    requires { NumbersRise members.now }
+    ensures { option_copied result ≡ find (is_member number) members.now }
+{
+    match members.get(place) {
+        Some(member) => {
+            if member.is_number(number) {
+                Some(member)
+            } else {
+                member_at(members, number)
+            }
+        }
+        None => member_at(members, number),
+    }
+}

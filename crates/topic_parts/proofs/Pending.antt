@@ -13,6 +13,9 @@ use Rattle.position_core.specs.declared.position.Position.{Position}
 use Rattle.position_core.specs.declared.message.Entry.{Entry}
 use Rattle.position_core.specs.declared.held.Held.{Held}
 use Rattle.position_core.specs.Position.{position_cmp, same_position, positions_total, exact_positions}
+use Rattle.position_core.specs.Flow.{flow_has_room}
+use Rattle.position_core.specs.declared.flow.Flow.{Flow}
+use Rattle.position_core.specs.declared.flow.Flow.TheVariants.{Credit}
 use Rattle.delivery_machine.specs.Words.{is_held_by}
 use Rattle.delivery_machine.specs.WellFormed.{has_message}
 use Rattle.delivery_machine.specs.State.{Member}
@@ -148,3 +151,7 @@ seen_of_placed log ms p placed = record {
   line = placed.line;
   pending = λ q key. (let live = placed.pending q key in indexed log q live.place live.there);
 }
+
+-- with credit it does not matter how many are
+pub room_by_credit : (flow : Flow) (left : ℕ) → flow ≡ Credit left → (n k : ℕ) → flow_has_room flow n ≡ flow_has_room flow k
+room_by_credit flow left is n k = ap (λ (f : Flow). flow_has_room f n) is ∙ sym (ap (λ (f : Flow). flow_has_room f k) is)

@@ -8,7 +8,7 @@ ghost use Rattle.topic_parts.specs.Parts.{IsSeenIn, log_of};
 
 use crate::parts::Parts;
 use dispatch_core::{Seen, View};
-use position_core::{ConsumerNumber, LogIndex};
+use position_core::{ConsumerNumber, Flow, LogIndex};
 use topic_members::Member;
 use topic_subscriptions::Subscription;
 
@@ -50,11 +50,17 @@ impl At<'_> {
     ghost use Rattle.topic_subscriptions.specs.Placed.{sub_in};
     ghost use Rattle.topic_parts.specs.Parts.{log_of, state_of};
 
-    /// Whether a further message may be sent to the member.
-    fn has_room(&self, member: &Member) -> bool
+    /// Whether a further message may be sent to the member, which stands at the place in line. Only a window
+    /// asks how many are pending at it.
+    fn has_room(&self, member: &Member, place: usize) -> bool
         ensures { result ≡ has_room (state_of self.now.parts.now) (sub_in (log_of self.now.parts.now) self.now.subscription.now) member.now }
     {
-        member.has_room(self.subscription.pending_at(member.number()))
+        match member.flow() {
+            Flow::Window(_) => {
+                member.has_room(self.subscription.pending_near(member.number(), place))
+            }
+            Flow::Credit(_) => member.has_room(0),
+        }
     }
 }
 
@@ -108,11 +114,12 @@ impl View for At<'_> {
         let Some(consumer) = self.subscription.number_at(place) else {
             return None;
         };
-        match self.parts.members.get(consumer) {
+        // All members before it may be of this subscription too, with something pending at each.
+        match self.parts.members.get_near(consumer, place as usize) {
             Some(member) => Some(Seen {
                 consumer,
                 level: member.level(),
-                room: self.has_room(member),
+                room: self.has_room(member, place as usize),
             }),
             None => None,
         }

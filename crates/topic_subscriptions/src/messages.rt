@@ -79,6 +79,13 @@ impl Subscription {
         self.pending.count_at(consumer)
     }
 
+    /// The same at once where as many consumers before it have messages as `place` says.
+    pub fn pending_near(&self, consumer: ConsumerNumber, place: usize) -> usize
+        ensures { result ≡ pending_count_at self.now.pending consumer }
+    {
+        self.pending.count_near(consumer, place)
+    }
+
     /// How many messages are pending.
     pub fn number_pending(&self) -> usize
         ensures { result ≡ map_of.len self.now.pending.pending }

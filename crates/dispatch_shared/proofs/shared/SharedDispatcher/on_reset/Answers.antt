@@ -1,5 +1,4 @@
-use Rattle.std.proofs.Common.{◌∙◌, sym, map}
-use Rattle.std.specs.FinSet as set
+use Rattle.std.proofs.Common.{◌∙◌, sym}
 use Rattle.waiting_places.proofs.Telling.{tells-new}
 use Rattle.dispatch_shared.proofs.shared.SharedDispatcher.on_reset.Goals as goal
 

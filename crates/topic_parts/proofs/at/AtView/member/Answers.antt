@@ -20,17 +20,17 @@ returns-in_default-clause-few c =
     let at = c.args.self.now in
     few_in_line at.subscription.now.name at.parts.now.members.members at.subscription.now.line at.placed.line c.number_at.ensures.few
 
-pub returns-in-Some-get-clause-seen : goal.returns-in-Some-get-clause-seen
-returns-in-Some-get-clause-seen c =
+pub returns-in-Some-get_near-clause-seen : goal.returns-in-Some-get_near-clause-seen
+returns-in-Some-get_near-clause-seen c =
     let at = c.args.self.now in
     let t = at.parts.now in
     let p = at.subscription.now in
     let one = one_in_line p.name t.members.members c.args.place c.in-Some.consumer at.numbers (ap (λ (ns : List ℕ). slice_get ns c.args.place) (sym at.placed.line) ∙ sym c.number_at.ensures.value ∙ c.in-Some.is) in
-    seen_is (has_room (state_of t) (sub_in t.log.log.log p)) c.in-Some.consumer c.level.result c.has_room.result c.in-Some-get.member.now one.0 (c.in-Some-get.ensures ∙ one.3) one.2 c.level.ensures c.has_room.ensures
+    seen_is (has_room (state_of t) (sub_in t.log.log.log p)) c.in-Some.consumer c.level.result c.has_room.result c.in-Some-get_near.member.now one.0 (c.in-Some-get_near.ensures ∙ one.3) one.2 c.level.ensures c.has_room.ensures
     ∙ sym (ap (option_map (seen_of (state_of t) (sub_in t.log.log.log p))) one.1)
 
-pub returns-in-Some-get-clause-few : goal.returns-in-Some-get-clause-few
-returns-in-Some-get-clause-few c =
+pub returns-in-Some-get_near-clause-few : goal.returns-in-Some-get_near-clause-few
+returns-in-Some-get_near-clause-few c =
     let at = c.args.self.now in
     few_in_line at.subscription.now.name at.parts.now.members.members at.subscription.now.line at.placed.line c.number_at.ensures.few
 
