@@ -6,8 +6,9 @@ usage: growth.py PROGRAM [-turns N] [-only WORD] [-most N] [-times N]
 PROGRAM is a built topic_replay. Each case makes a topic by lines, and then asks the same few events again and
 again. What a turn costs is the program's processor time over these lines, less that over as many lines of the
 same words that are refused at once (nobody has the number, nothing has the name): so reading and writing lines
-does not count, and 0 is no more than a refusal. Each case has topics of its own, several of them, and the median is
-printed.
+does not count, and 0 is no more than a refusal. Where a message is collected, its copy is written out with its
+payload, which no refusal is; what that takes is measured apart, at many copies of one answer, and taken off too.
+Each case has topics of its own, several of them, and the median is printed.
 """
 import argparse
 import base64
@@ -162,6 +163,20 @@ class Topic:
         cost -= self.replay.cost(refused)
         self.replay.refused = 0
         return cost / times
+
+
+COPIES = 5_000
+
+
+def writing(program):
+    """The nanoseconds in which a copy is written out: so many are collected by one call, soon after they were sent."""
+    topic = Topic(program, messages=9 * COPIES, halved=False)
+    costs = []
+    for _ in range(9):
+        topic.replay.ask("dispatch s 1000\n" * COPIES)
+        costs.append(topic.replay.cost(f"collect {topic.consumer}\n"))
+    topic.replay.end()
+    return statistics.median(costs) / COPIES
 
 
 # ---- what is asked in a turn, by whom
@@ -319,7 +334,8 @@ def cell(asked, turn, made):
         if turn in (seeks, seeks_by_time):
             # what the first one drops is not measured
             topic.measure(turn, 2)
-        costs.append(topic.measure(turn, min(times_of(turn, made), asked.times)))
+        cost = topic.measure(turn, min(times_of(turn, made), asked.times))
+        costs.append(cost - asked.writing if turn is cycle else cost)
         topic.replay.end()
     return statistics.median(costs)
 
@@ -332,6 +348,8 @@ def main():
     words.add_argument("-times", type=int, default=1_000_000, help="no more turns than these are measured")
     words.add_argument("-most", type=int, default=1_000_000, help="no column above this")
     asked = words.parse_args()
+    asked.writing = statistics.median(writing(asked.program) for _ in range(asked.turns))
+    print(f"A copy of a message is written out in {asked.writing:,.0f} ns.")
     for what, sizes, made_with, cases in TABLES:
         sizes = [size for size in sizes if size <= asked.most]
         if asked.only not in what:
