@@ -22,7 +22,8 @@ use std::marker::Model;
 
 /// The pending messages of a subscription, by their positions, and how often each message was
 /// redelivered. A position has a slot from the first `put` until it is removed. A call takes at most
-/// the logarithm of the number of slots, but for `clear` and for a growth, and only `put` takes memory.
+/// the logarithm of the number of slots, but for `clear`, for a growth, and where a consumer gets its
+/// first message or gives up its last: that moves those of the later consumers. Only `put` takes memory.
 #[derive(Drop)]
 pub struct PendingMap {
     kept: BTreeMap<Position, Kept>,
