@@ -1,6 +1,6 @@
 -- Whom the active member is, and which pairs are eligible.
 use Rattle.std.proofs.Common.{◌≡◌, ℕ, zero, suc, ◌<◌, List, ◌∷◌, [], map, length, get_or, Some, None, Option, Bool, true, false, IsTrue, cond, refl, ap, ◌∙◌, sym, subst, arith, inl, inr}
-use Rattle.std.specs.Prelude.{IfSome, IfNone, slice_get}
+use Rattle.std.specs.Prelude.{slice_get}
 use Rattle.std.specs.Option.{option_map, option_map_or}
 use Rattle.std.proofs.lemmas.Bool.{false≢true}
 use Rattle.std.proofs.lemmas.List.{get_or-map, length-map}
@@ -15,9 +15,9 @@ use Rattle.delivery_machine.specs.Words.{active_of, has_room, members_of, visibl
 use Rattle.dispatch_core.specs.Log.{line_of, IsNextReady, NoneReady}
 use Rattle.dispatch_core.specs.Offers.{seen_of, seen_at, IsGoodOffer}
 use Rattle.dispatch_core.specs.declared.view.Seen.{Seen}
-use Rattle.dispatch_core.specs.declared.dispatcher.Offer.{Offer}
 use Rattle.dispatch_core.proofs.Ready.{first_waiting-next, first_waiting-none}
-use Rattle.dispatch_single.specs.InOrder.{comes_before, at, IsActiveAt, IsActiveIn}
+use Rattle.dispatch_single.specs.InOrder.{comes_before, IsActiveAt, IsActive}
+use Rattle.dispatch_single.specs.declared.active.Active.{Active}
 
 -- ---- the active member
 
@@ -92,40 +92,40 @@ no_members : (ms : List Member) → length ms ≡ 0 → active_of ms ≡ None
 no_members [] none = refl
 no_members (m ∷ ms) none = absurd (omega (arith, none))
 
-pub none_in_line : (s : State) (sub : Subscription) (active : Option ℕ) → IsTrue (is_in_order sub.kind) → active ≡ None → IsActiveIn (line_of s sub) (length (line_of s sub)) active → NoneEligible s sub
+pub none_in_line : (s : State) (sub : Subscription) (active : Option Active) → IsTrue (is_in_order sub.kind) → active ≡ None → IsActive (line_of s sub) active → NoneEligible s sub
 unfolding line_of
 none_in_line s sub active served is nobody =
-    let none : length (line_of s sub) ≡ 0 = subst (IsActiveIn (line_of s sub) (length (line_of s sub))) is nobody in
+    let none : length (line_of s sub) ≡ 0 = subst (IsActive (line_of s sub)) is nobody in
     none_without_active s sub served (no_members (members_of s sub.name) (omega (arith, none, length-map (members_of s sub.name) pair)))
 
 -- ---- the active member is seen
 
-module _ (s : State) (sub : Subscription) (active : Option ℕ) (place : ℕ) (served : IsTrue (is_in_order sub.kind)) (is : active ≡ Some place) (at_place : IsActiveIn (line_of s sub) (length (line_of s sub)) active) where
-  there : slice_get (members_of s sub.name) place ≡ active_of (members_of s sub.name)
+module _ (s : State) (sub : Subscription) (active : Option Active) (first : Active) (served : IsTrue (is_in_order sub.kind)) (is : active ≡ Some first) (in_line : IsActive (line_of s sub) active) where
+  there : slice_get (members_of s sub.name) first.place ≡ active_of (members_of s sub.name)
   unfolding line_of
   there =
-      let here : IsActiveAt (line_of s sub) (length (line_of s sub)) place = subst (IsActiveIn (line_of s sub) (length (line_of s sub))) is at_place in
-      active_there (members_of s sub.name) place
-      (subst (λ (n : ℕ). IsActiveAt (line_of s sub) n place) (length-map (members_of s sub.name) pair) here)
+      let here : IsActive (line_of s sub) (Some first) = subst (IsActive (line_of s sub)) is in_line in
+      active_there (members_of s sub.name) first.place
+      (subst (λ (n : ℕ). IsActiveAt (line_of s sub) n first.place) (length-map (members_of s sub.name) pair) here.0)
 
-  active_seen : (seen : Option Seen) → seen ≡ seen_at s sub place → seen ≡ option_map (seen_of s sub) (active_of (members_of s sub.name))
+  active_seen : (seen : Option Seen) → seen ≡ seen_at s sub first.place → seen ≡ option_map (seen_of s sub) (active_of (members_of s sub.name))
   active_seen seen shown = shown ∙ ap (option_map (seen_of s sub)) there
 
-  pub none_unseen : (seen : Option Seen) → seen ≡ None → seen ≡ seen_at s sub place → NoneEligible s sub
+  pub none_unseen : (seen : Option Seen) → seen ≡ None → seen ≡ seen_at s sub first.place → NoneEligible s sub
   none_unseen seen none shown = by (active_of (members_of s sub.name)) refl (active_seen seen shown)
     where
       by : (o : Option Member) → active_of (members_of s sub.name) ≡ o → seen ≡ option_map (seen_of s sub) o → NoneEligible s sub
       by None is_none same = none_without_active s sub served is_none
       by (Some m) is_some same = absurd (none-some _ (sym none ∙ same))
 
-  pub none_without_room : (seen : Seen) → Some seen ≡ seen_at s sub place → seen.room ≡ false → NoneEligible s sub
+  pub none_without_room : (seen : Seen) → Some seen ≡ seen_at s sub first.place → seen.room ≡ false → NoneEligible s sub
   none_without_room seen shown full e m eligible =
       let is_m = (next_in_order sub.kind s sub e m served eligible.1).1 in
       let same : seen ≡ seen_of s sub m = same_Some _ _ (active_seen (Some seen) shown ∙ ap (option_map (seen_of s sub)) is_m) in
       false≢true (sym full ∙ ap (λ (x : Seen). x.room) same ∙ eligible.0)
 
   -- the first waiting message may be sent to the active member, where it has room
-  pub good_offer : (i : ℕ) (seen : Seen) → Some seen ≡ seen_at s sub place → seen.room ≡ true → IsNextReady s sub 0 i → IsGoodOffer s sub (record { index = i; consumer = seen.consumer })
+  pub good_offer : (i : ℕ) (seen : Seen) → Some seen ≡ seen_at s sub first.place → seen.room ≡ true → IsNextReady s sub 0 i → IsGoodOffer s sub (record { index = i; consumer = seen.consumer })
   good_offer i seen shown room next = by (active_of (members_of s sub.name)) refl (active_seen (Some seen) shown)
     where
       by : (o : Option Member) → active_of (members_of s sub.name) ≡ o → Some seen ≡ option_map (seen_of s sub) o → IsGoodOffer s sub (record { index = i; consumer = seen.consumer })

@@ -1,3 +1,2 @@
 -- What the contracts of the dispatcher of Exclusive and Failover cite.
 pub mod InOrder
-pub mod Best

@@ -2,6 +2,7 @@
 #![tactic(auto)]
 
 mod active;
+mod line;
 mod single;
 
 pub use single::Single;

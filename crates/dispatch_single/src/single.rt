@@ -1,18 +1,18 @@
 // The dispatcher of the kinds that have one active member.
-use crate::active::active_place;
+use crate::line::Line;
 use dispatch_core::{Dispatcher, Offer, View};
 use position_core::{ConsumerNumber, Fault, LogIndex};
 use std::alloc::Global;
 use std::marker::Model;
 use waiting_places::WaitingPlaces;
 
-/// Offers the first waiting message to the active member. It keeps which messages wait, and the
-/// place of the active member in line, so an offer goes over neither the pending messages nor the
-/// members; joining and leaving go over the members.
+/// Offers the first waiting message to the active member. It keeps which messages wait, and who in
+/// line is active, so an offer goes over neither the pending messages nor the members; only where
+/// the active member leaves are the members gone over.
 #[derive(Drop)]
 pub struct Single {
     waiting: WaitingPlaces,
-    active: Option<u64>,
+    line: Line,
 }
 
 impl Model for Single {
@@ -22,7 +22,7 @@ impl Model for Single {
 
     ghost coded = { serving_code };
 
-    ghost view = { λ d. record { waiting = d.waiting; active = d.active } };
+    ghost view = { λ d. record { waiting = d.waiting; line = d.line } };
 }
 
 impl Dispatcher for Single {
@@ -38,10 +38,10 @@ impl Dispatcher for Single {
 
     ghost agrees = { Agrees };
 
-    fn begin<V: View>(alloc: Global, view: &V) -> Result<Self, Fault> {
+    fn begin<V: View>(alloc: Global, _view: &V) -> Result<Self, Fault> {
         Ok(Single {
             waiting: WaitingPlaces::new(alloc),
-            active: active_place(view),
+            line: Line::new(),
         })
     }
 
@@ -51,14 +51,15 @@ impl Dispatcher for Single {
         ensures none { Agrees self.now (V.state view.now) (V.subscription view.now)
             → IfNone result (NoneEligible (V.state view.now) (V.subscription view.now)) }
     {
-        let active = view.member(self.active?)?;
-        if !active.room {
+        let active = self.line.active?;
+        let member = view.member(active.place)?;
+        if !member.room {
             return None;
         }
         let index = self.waiting.first(view)?;
         Some(Offer {
             index,
-            consumer: active.consumer,
+            consumer: member.consumer,
         })
     }
 
@@ -69,12 +70,12 @@ impl Dispatcher for Single {
     fn undo_append<V: View>(&mut self, _view: &V) {}
 
     fn on_join<V: View>(&mut self, view: &V, _consumer: ConsumerNumber) -> Result<(), Fault> {
-        self.active = active_place(view);
+        self.line.join(view);
         Ok(())
     }
 
-    fn on_leave<V: View>(&mut self, view: &V, _consumer: ConsumerNumber) {
-        self.active = active_place(view);
+    fn on_leave<V: View>(&mut self, view: &V, consumer: ConsumerNumber) {
+        self.line.leave(view, consumer);
     }
 
     fn on_sent<V: View>(
@@ -105,15 +106,13 @@ impl Dispatcher for Single {
         Ok(())
     }
 
-    ghost use Rattle.std.specs.Prelude.{ℕ, List, length};
     ghost use Rattle.std.proofs.Common.{ap, subst, sym, ◌∙◌};
-    ghost use Rattle.dispatch_core.specs.Log.{line_of};
-    ghost use Rattle.dispatch_single.specs.InOrder.{IsActiveIn};
+    ghost use Rattle.dispatch_single.specs.InOrder.{TellsLine};
     ghost use Rattle.waiting_places.proofs.Telling.{tells-kept};
 
     ghost kept = { λ d s sub agreed t new change. record {
       kind = ap is_in_order change.kind ∙ agreed.kind;
       waiting = tells-kept d.waiting s sub t new agreed.waiting change;
-      active = subst (λ (l : List (ℕ × ℕ)). IsActiveIn l (length l) d.active) (sym change.line) agreed.active;
+      line = subst (TellsLine d.line) (sym change.line) agreed.line;
     } };
 }

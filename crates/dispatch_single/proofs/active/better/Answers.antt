@@ -6,7 +6,7 @@ use Rattle.dispatch_single.proofs.active.better.Goals as goal
 
 pub returns-then-comes_before : goal.returns-then-comes_before
 returns-then-comes_before c = λ line there was.
-    let x = pair_of c.args.next.seen in
+    let x = pair_of c.args.next in
     let so_far = rw c.in-Some.is at was in (
       next_is_better line c.args.next.place x there c.in-Some.first.place
           (ap (comes_before x) (get_or_from_slice_get line c.in-Some.first.place _ (0, 0) so_far.1) ∙ sym c.comes_before.ensures ∙ c.if-comes_before.true)
@@ -16,7 +16,7 @@ returns-then-comes_before c = λ line there was.
 
 pub returns-else-comes_before : goal.returns-else-comes_before
 returns-else-comes_before c = λ line there was.
-    let x = pair_of c.args.next.seen in
+    let x = pair_of c.args.next in
     let so_far = rw c.in-Some.is at was in (
       best_stays line c.args.next.place x there c.in-Some.first.place
           (ap (comes_before x) (get_or_from_slice_get line c.in-Some.first.place _ (0, 0) so_far.1) ∙ sym c.comes_before.ensures ∙ c.if-comes_before.false)

@@ -6,4 +6,4 @@ use Rattle.dispatch_single.proofs.single.SingleDispatcher.on_reset.Goals as goal
 pub returns-clause-ok : goal.returns-clause-ok
 returns-clause-ok g c =
     rw (← c.self.view_is, c.reset.ensures) (λ s sub change agreed.
-    agrees-with (record { waiting = c.self.inside.waiting; active = c.self.inside.active }) s sub agreed _ _ (record { read = 0; returned = set.empty }) change.log.kind change.line (tells-new _ _))
+    agrees-with (record { waiting = c.self.inside.waiting; line = c.self.inside.line }) s sub agreed _ _ (record { read = 0; returned = set.empty }) change.log.kind change.line (tells-new _ _))
