@@ -1,5 +1,5 @@
 // The rows of dead letters.
-ghost use Rattle.std.specs.Prelude.{◌≡◌, ◌+◌, ◌<◌, ◌≤◌, ◌∷◌, ◌^◌, ℕ, List, false, length, pos, IfOk, IfSome, IsTrue};
+ghost use Rattle.std.specs.Prelude.{◌≡◌, ◌+◌, ◌<◌, ◌≤◌, ◌∷◌, ◌^◌, [], ℕ, List, false, length, pos, IfOk, IfSome, IsTrue};
 ghost use Rattle.std.specs.List.{All};
 ghost use Rattle.std.specs.FinSet as set;
 ghost use Rattle.sqlite.specs.declared.types.Value.TheVariants.{Int, Text as Words};
@@ -129,6 +129,107 @@ fn is_new(numbers: &mut AckSet, number: u64) -> Result<bool, AllocError>
     }
 }
 
+/// Whether a letter with the place and the ordinal may come next: `least` is not above the ordinal, and neither
+/// number was there. Adds both.
+fn may_come(
+    least: Ordinal,
+    places: &mut AckSet,
+    place: u64,
+    ordinals: &mut AckSet,
+    ordinal: Ordinal,
+) -> Result<bool, AllocError>
+    requires place { place + 1 < 2 ^ 64 }
+    requires ordinal { ordinal + 1 < 2 ^ 64 }
+    ensures least { IfOk result (λ b. IsTrue b → least ≤ ordinal) }
+    ensures new_place { IfOk result (λ b. IsTrue b → set.contains places.old place ≡ false) }
+    ensures place { IfOk result (λ b. IsTrue b → places.new ≡ set.insert places.old place) }
+    ensures new_ordinal { IfOk result (λ b. IsTrue b → set.contains ordinals.old ordinal ≡ false) }
+    ensures ordinal { IfOk result (λ b. IsTrue b → ordinals.new ≡ set.insert ordinals.old ordinal) }
+{
+    if ordinal < least || !is_new(places, place)? {
+        Ok(false)
+    } else {
+        is_new(ordinals, ordinal)
+    }
+}
+
+/// The dead letter of the subscription that the row shows, if it may come next. Adds its place and its ordinal.
+fn next_letter(
+    alloc: Global,
+    row: &Row,
+    name: &SubscriptionName,
+    deaths: Deaths<'_>,
+    least: Ordinal,
+    places: &mut AckSet,
+    ordinals: &mut AckSet,
+) -> Result<Option<DeadLetter>, AllocError>
+    requires rising { IsRising (joined deaths.log.now) }
+    requires short { length (joined deaths.log.now) ≤ 1048576 }
+    requires last { deaths.next_ordinal ≤ 2 ^ 62 }
+    ensures shown { IfOk result (λ found. IfSome found (λ d. (topic : List ℕ) → Words topic ∷ row.now ≡ dead_row topic name.now (joined deaths.entry.log.now) d)) }
+    ensures message { IfOk result (λ found. IfSome found (λ d. IsTrue (has_message (joined deaths.entry.log.now) d.position))) }
+    ensures letter { IfOk result (λ found. IfSome found (IsLetterOf deaths.entry.topic.now deaths.entry.next_ordinal)) }
+    ensures least { IfOk result (λ found. IfSome found (λ d. least ≤ d.ordinal)) }
+    ensures new_place { IfOk result (λ found. IfSome found (λ d. set.contains places.old (place_in (joined deaths.entry.log.now) d.position) ≡ false)) }
+    ensures place { IfOk result (λ found. IfSome found (λ d. places.new ≡ set.insert places.old (place_in (joined deaths.entry.log.now) d.position))) }
+    ensures new_ordinal { IfOk result (λ found. IfSome found (λ d. set.contains ordinals.old d.ordinal ≡ false)) }
+    ensures ordinal { IfOk result (λ found. IfSome found (λ d. ordinals.new ≡ set.insert ordinals.old d.ordinal)) }
+{
+    match letter_in(alloc, row, name, deaths) {
+        Ok(Some(Placed { letter, place })) => match may_come(
+            least,
+            places,
+            place,
+            ordinals,
+            letter.ordinal,
+        ) {
+            Ok(true) => Ok(Some(letter)),
+            Ok(false) => Ok(None),
+            Err(e) => Err(e),
+        },
+        Ok(None) => Ok(None),
+        Err(e) => Err(e),
+    }
+}
+
+/// Puts those of the subscription, whose rows are the first ones, into the empty list, and gives the rows that
+/// follow. `places` takes in those of their messages, and `ordinals` theirs.
+fn put_letters<'a>(
+    alloc: Global,
+    name: &SubscriptionName,
+    rows: &'a [Row],
+    deaths: Deaths<'_>,
+    places: &mut AckSet,
+    ordinals: &mut AckSet,
+    letters: &mut Vec<DeadLetter>,
+) -> Result<Option<&'a [Row]>, AllocError>
+    requires rising { IsRising (joined deaths.log.now) }
+    requires short { length (joined deaths.log.now) ≤ 1048576 }
+    requires last { deaths.next_ordinal ≤ 2 ^ 62 }
+    requires empty { letters.old.items ≡ [] }
+    ensures rows { IfOk result (λ found. IfSome found (λ rest. BeginsWithLetters name.now (joined deaths.entry.log.now) letters.new.items rows.now rest.now)) }
+    ensures dead { IfOk result (λ found. IfSome found (λ _. AreDeadLettersOf (joined deaths.entry.log.now) letters.new.items)) }
+    ensures letters { IfOk result (λ found. IfSome found (λ _. All (IsLetterOf deaths.entry.topic.now deaths.entry.next_ordinal) letters.new.items)) }
+    ensures ordinals { IfOk result (λ found. IfSome found (λ _. OrdinalsCame letters.new.items ordinals.old ordinals.new)) }
+{
+    let mut least = 0;
+    let mut rest = rows;
+    'letters: while let Some((row, after)) = rest.split_first() {
+        if !is_text(row, 0, name.as_str()) {
+            return Ok(Some(rest));
+        }
+        match next_letter(alloc, row, name, deaths, least, places, ordinals)? {
+            Some(letter) => {
+                least = letter.ordinal + 1;
+                letters.push(letter)?;
+                rest = after;
+            }
+            None => return Ok(None),
+        }
+    }
+    Ok(Some(rest))
+}
+
 /// Those of the subscription, whose rows are the first ones, and the rows that follow. `ordinals` has those
 /// of the topic's letters so far, and takes these in. None where a message is dead twice, or an ordinal
 /// does not rise or stands in the topic already.
@@ -149,22 +250,17 @@ pub(crate) fn letters_in<'a>(
 {
     let mut letters = Vec::new(alloc);
     let mut places = AckSet::new(alloc);
-    let mut least = 0;
-    let mut rest = rows;
-    'letters: while let Some((row, after)) = rest.split_first() {
-        if !is_text(row, 0, name.as_str()) {
-            return Ok(Some((letters, rest)));
-        }
-        let Some(Placed { letter, place }) = letter_in(alloc, row, name, deaths)? else {
-            return Ok(None);
-        };
-        let ordinal = letter.ordinal;
-        if ordinal < least || !is_new(&mut places, place)? || !is_new(ordinals, ordinal)? {
-            return Ok(None);
-        }
-        letters.push(letter)?;
-        least = ordinal + 1;
-        rest = after;
+    match put_letters(
+        alloc,
+        name,
+        rows,
+        deaths,
+        &mut places,
+        ordinals,
+        &mut letters,
+    ) {
+        Ok(Some(rest)) => Ok(Some((letters, rest))),
+        Ok(None) => Ok(None),
+        Err(e) => Err(e),
     }
-    Ok(Some((letters, rest)))
 }

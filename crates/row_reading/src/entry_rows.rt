@@ -176,8 +176,8 @@ fn entry_in(alloc: Global, row: &Row, place: u64) -> Result<Option<Entry>, Alloc
 }
 
 /// Whether a message at the position may come after the last one.
-fn may_follow(last: Option<Position>, position: Position, head: Head) -> bool
-    ensures { IsTrue result → IsNext head.ledger_size head.ledger last position }
+fn may_follow(last: Option<Position>, position: Position, head: &Head) -> bool
+    ensures { IsTrue result → IsNext head.now.ledger_size head.now.ledger last position }
 {
     let is_after = match last {
         Some(last) => last < position,
@@ -187,6 +187,51 @@ fn may_follow(last: Option<Position>, position: Position, head: Head) -> bool
         && position.ledger <= head.ledger
         && position.ledger <= LAST_LEDGER
         && position.entry < u64::from(head.ledger_size.get())
+}
+
+/// The message that the row shows at this place, if it may come after the last one.
+fn next_in(
+    alloc: Global,
+    row: &Row,
+    place: u64,
+    last: Option<Position>,
+    head: &Head,
+) -> Result<Option<Message>, AllocError>
+    ensures shown { IfOk result (λ found. IfSome found (IsEntryAt place row.now)) }
+    ensures next { IfOk result (λ found. IfSome found (λ e. IsNext head.now.ledger_size head.now.ledger last e.position)) }
+{
+    match entry_in(alloc, row, place)? {
+        Some(entry) => if may_follow(last, entry.position, head) {
+            Ok(Some(Message::new(alloc, entry)?))
+        } else {
+            Ok(None)
+        },
+        None => Ok(None),
+    }
+}
+
+/// Puts the messages that the rows show into the empty log, and says whether the places have no gap.
+fn put_rows(alloc: Global, rows: &[Row], head: &Head, log: &mut Pieces) -> Result<bool, AllocError>
+    requires empty { joined log.old ≡ [] }
+    requires few { length rows.now ≤ 1048576 }
+    requires ledger { head.now.ledger ≤ 2 ^ 62 + 1 }
+    ensures rows { IfOk result (λ whole. IsTrue whole → (topic : List ℕ) → put topic rows.now ≡ entry_rows topic 0 (joined log.new)) }
+    ensures log { IfOk result (λ whole. IsTrue whole → IsWellFormedLog head.now.ledger_size head.now.ledger (joined log.new)) }
+    ensures short { IfOk result (λ whole. IsTrue whole → length (joined log.new) ≤ 1048576) }
+{
+    let mut last = None;
+    let mut place = 0u64;
+    'rows: for row in rows {
+        match next_in(alloc, row, place, last, head)? {
+            Some(message) => {
+                last = Some(message.position());
+                log.push(alloc, message)?;
+                place += 1;
+            }
+            None => return Ok(false),
+        }
+    }
+    Ok(true)
 }
 
 /// The log that the rows show, if its places have no gap.
@@ -200,21 +245,9 @@ pub(crate) fn log_in(alloc: Global, rows: &[Row], head: Head) -> Result<Option<P
         return Ok(None);
     }
     let mut log = Pieces::new(alloc);
-    let mut last = None;
-    let mut place = 0u64;
-    'rows: for row in rows {
-        let Some(entry) = entry_in(alloc, row, place)? else {
-            return Ok(None);
-        };
-        let position = entry.position;
-        if !may_follow(last, position, head) {
-            return Ok(None);
-        }
-        let Ok(()) = log.push(alloc, Message::new(alloc, entry)?) else {
-            return Err(AllocError);
-        };
-        last = Some(position);
-        place += 1;
+    match put_rows(alloc, rows, &head, &mut log) {
+        Ok(true) => Ok(Some(log)),
+        Ok(false) => Ok(None),
+        Err(e) => Err(e),
     }
-    Ok(Some(log))
 }

@@ -1,5 +1,6 @@
 // What is kept of subscriptions, from their rows, those of their runs and those of their dead letters.
 ghost use Rattle.std.specs.Prelude.{◌≡◌, ◌≤◌, ◌∷◌, ◌++◌, ◌^◌, [], ℕ, List, length, map, IfOk, IfSome, IsTrue};
+ghost use Rattle.std.specs.FinSet as set;
 ghost use Rattle.sqlite.specs.declared.types.Value.TheVariants.{Text as Words};
 ghost use Rattle.log_pieces.specs.Pieces.{joined};
 ghost use Rattle.delivery_machine.specs.WellFormed.{NamesRise};
@@ -72,6 +73,63 @@ fn is_above(subs: &[KeptSubscription], name: &SubscriptionName) -> bool
     }
 }
 
+/// Puts the subscription after the others, if its name is above theirs, and says whether it is.
+fn put_sub(subs: &mut Vec<KeptSubscription>, sub: KeptSubscription) -> Result<bool, AllocError>
+    requires { NamesRise (map (λ sub. sub.name) subs.old.items) }
+    ensures put { IfOk result (λ b. IsTrue b → subs.new.items ≡ subs.old.items ++ sub ∷ []) }
+    ensures above { IfOk result (λ b. IsTrue b → NamesRise (map (λ sub. sub.name) subs.new.items)) }
+{
+    if is_above(subs, &sub.name) {
+        subs.push(sub)?;
+        Ok(true)
+    } else {
+        Ok(false)
+    }
+}
+
+/// Whether nothing is left.
+fn is_empty(left: Left<'_>) -> bool
+    ensures acks { IsTrue result → left.entry.acks.now ≡ [] }
+    ensures deads { IsTrue result → left.entry.deads.now ≡ [] }
+{
+    left.acks.is_empty() && left.deads.is_empty()
+}
+
+/// Puts the subscriptions that the rows show into the empty list, and says whether nothing is left of the
+/// other rows. `ordinals` takes in those of their dead letters.
+fn put_subs(
+    alloc: Global,
+    rows: &[Row],
+    others: Left<'_>,
+    deaths: Deaths<'_>,
+    ordinals: &mut AckSet,
+    subs: &mut Vec<KeptSubscription>,
+) -> Result<bool, AllocError>
+    requires rising { IsRising (joined deaths.log.now) }
+    requires short { length (joined deaths.log.now) ≤ 1048576 }
+    requires last { deaths.next_ordinal ≤ 2 ^ 62 }
+    requires empty { subs.old.items ≡ [] }
+    requires no_ordinals { ordinals.old ≡ set.empty }
+    ensures rows { IfOk result (λ whole. IsTrue whole → (topic : List ℕ) → put topic rows.now ≡ sub_rows topic subs.new.items) }
+    ensures acks { IfOk result (λ whole. IsTrue whole → (topic : List ℕ) → AreAckRows topic subs.new.items (put topic others.entry.acks.now)) }
+    ensures deads { IfOk result (λ whole. IsTrue whole → (topic : List ℕ) → put topic others.entry.deads.now ≡ dead_rows topic (joined deaths.entry.log.now) subs.new.items) }
+    ensures sound { IfOk result (λ whole. IsTrue whole → AreSubsOf deaths.entry.topic.now (joined deaths.entry.log.now) deaths.entry.next_ordinal subs.new.items) }
+{
+    let mut left = others;
+    'subs: for row in rows {
+        match kept_in(alloc, row, left, deaths, ordinals)? {
+            Some((sub, after)) => {
+                if !put_sub(subs, sub)? {
+                    return Ok(false);
+                }
+                left = after;
+            }
+            None => return Ok(false),
+        }
+    }
+    Ok(is_empty(left))
+}
+
 /// The subscriptions that the rows show, if nothing is left of the rows of runs and dead letters.
 pub(crate) fn subs_in(
     alloc: Global,
@@ -89,20 +147,9 @@ pub(crate) fn subs_in(
 {
     let mut subs = Vec::new(alloc);
     let mut ordinals = AckSet::new(alloc);
-    let mut left = others;
-    'subs: for row in rows {
-        let Some((sub, after)) = kept_in(alloc, row, left, deaths, &mut ordinals)? else {
-            return Ok(None);
-        };
-        if !is_above(&subs, &sub.name) {
-            return Ok(None);
-        }
-        subs.push(sub)?;
-        left = after;
-    }
-    if left.acks.is_empty() && left.deads.is_empty() {
-        Ok(Some(subs))
-    } else {
-        Ok(None)
+    match put_subs(alloc, rows, others, deaths, &mut ordinals, &mut subs) {
+        Ok(true) => Ok(Some(subs)),
+        Ok(false) => Ok(None),
+        Err(e) => Err(e),
     }
 }

@@ -4,7 +4,7 @@ use Rattle.log_pieces.specs.Pieces.{joined}
 use Rattle.delivery_machine.specs.WellFormed.{AreDeadLettersOf}
 use Rattle.row_reading.specs.Reading.{BeginsWithLetters, IsLetterOf, OrdinalsCame}
 use Rattle.row_reading.proofs.Letters.{HavePlaces}
-use Rattle.row_reading.proofs.dead_rows.letters_in.Given as goal
+use Rattle.row_reading.proofs.dead_rows.put_letters.Given as goal
 
 abbrev pub invariant-letters : goal.invariant-letters
 invariant-letters l = record {

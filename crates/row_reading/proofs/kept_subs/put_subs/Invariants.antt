@@ -5,7 +5,7 @@ use Rattle.log_pieces.specs.Pieces.{joined}
 use Rattle.delivery_machine.specs.WellFormed.{NamesRise}
 use Rattle.row_forms.specs.Forms.{sub_rows}
 use Rattle.row_reading.specs.Reading.{BeginsWithAcks, BeginsWithDeads, IsSubOf, OrdinalsCame, put}
-use Rattle.row_reading.proofs.kept_subs.subs_in.Given as goal
+use Rattle.row_reading.proofs.kept_subs.put_subs.Given as goal
 
 abbrev pub invariant-subs : goal.invariant-subs
 invariant-subs l = record {

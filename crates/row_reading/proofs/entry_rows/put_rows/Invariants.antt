@@ -4,7 +4,7 @@ use Rattle.delivery_machine.specs.WellFormed.{IsWellFormedLog}
 use Rattle.row_forms.specs.Forms.{entry_rows}
 use Rattle.row_reading.specs.Reading.{put}
 use Rattle.row_reading.proofs.Entries.{IsAbove}
-use Rattle.row_reading.proofs.entry_rows.log_in.Given as goal
+use Rattle.row_reading.proofs.entry_rows.put_rows.Given as goal
 
 abbrev pub invariant-rows : goal.invariant-rows
 invariant-rows l = record {

@@ -1,0 +1,59 @@
+use Rattle.std.proofs.Common.{◌≡◌, ◌+◌, ◌<◌, ◌≤◌, ◌∷◌, ◌++◌, [], List, ap, sym, subst, refl, rules, ℕ, true}
+use Rattle.std.specs.List.{All}
+use Rattle.std.specs.FinSet as set
+use Rattle.std.proofs.lemmas.List.Elements.{All-nil, All-push}
+use Rattle.position_core.specs.declared.topic_name.TopicName.{TopicName}
+use Rattle.position_core.specs.declared.message.Entry.{Entry}
+use Rattle.log_pieces.specs.Pieces.{joined}
+use Rattle.delivery_machine.specs.State.{DeadLetter}
+use Rattle.delivery_machine.specs.WellFormed.{AreDeadLettersOf}
+use Rattle.delivery_machine.proofs.Letters.{none_dead}
+use Rattle.row_forms.specs.Forms.{place_in}
+use Rattle.row_reading.specs.Reading.{IsLetterOf, OrdinalsCame}
+use Rattle.row_reading.proofs.Letters.{HavePlaces, came_more, came_none, dead_more, least_more, letters_more, places_more}
+use Rattle.row_reading.proofs.dead_rows.put_letters.Goals as goal
+
+pub letters-init : goal.letters-init
+letters-init c =
+    let log : List Entry = joined c.args.deaths.log.now in
+    let own : TopicName = c.args.deaths.topic.now in
+    let next = c.args.deaths.next_ordinal in
+    let none : c.args.letters.now.items ≡ [] = c.requires.empty in
+    record {
+      rows = λ topic. rw none refl;
+      dead = subst (λ ds. AreDeadLettersOf log ds) (sym none) (none_dead log);
+      letters = subst (λ ds. All (IsLetterOf own next) ds) (sym none) (All-nil (IsLetterOf own next));
+      least = subst (λ (ds : List DeadLetter). All (λ d. d.ordinal < 0) ds) (sym none) (All-nil _);
+      places = subst (λ ds. HavePlaces log c.args.places.now ds) (sym none) (All-nil (λ d. set.contains c.args.places.now (place_in log d.position) ≡ true));
+      ordinals = subst (λ ds. OrdinalsCame ds c.args.ordinals.now c.args.ordinals.now) (sym none) (came_none c.args.ordinals.now);
+    }
+
+pub letters-preserved : goal.letters-preserved
+letters-preserved c =
+    let h = c.letters.invariant in
+    let own : TopicName = c.args.deaths.topic.now in
+    let next = c.args.deaths.next_ordinal in
+    let log : List Entry = joined c.args.deaths.log.now in
+    let was : List DeadLetter = c.letters.letters.items in
+    let d : DeadLetter = c.in-Some-2.letter in
+    let place : ℕ = place_in log d.position in
+    let came = c.in_ok-letter.ensures in
+    let shown = rw c.in-Some-2.is at came.shown in
+    let there = rw c.in-Some-2.is at came.message in
+    let letter : IsLetterOf own next d = rw c.in-Some-2.is at came.letter in
+    let above : c.letters.least ≤ d.ordinal = rw c.in-Some-2.is at came.least in
+    let new_place = rw c.in-Some-2.is at came.new_place in
+    let with_place : c.next_letter.new.places ≡ set.insert c.letters.places place = rw c.in-Some-2.is at came.place in
+    let new_ordinal = rw c.in-Some-2.is at came.new_ordinal in
+    let with_ordinal : c.next_letter.new.ordinals ≡ set.insert c.letters.ordinals d.ordinal = rw c.in-Some-2.is at came.ordinal in
+    let ordinal : c.letter.inside.ordinal ≡ d.ordinal = ap (λ (x : DeadLetter). x.ordinal) c.letter.view_is in
+    let pushed : c.push.new.self.items ≡ was ++ d ∷ [] = c.in_ok-push-in-Some-2.ensures.items in
+    let split : c.letters.rest.now ≡ c.in-Some.row.now ∷ c.in-Some.after.now = search rules in
+    record {
+      rows = λ topic. rw pushed (letters_more c.args.name.now log was d c.args.rows.now c.letters.rest.now c.in-Some.after.now c.in-Some.row.now h.rows split shown topic);
+      dead = subst (λ ds. AreDeadLettersOf log ds) (sym pushed) (dead_more log c.letters.places was d place c.letters.least h.dead h.places h.least there new_place refl above);
+      letters = subst (λ ds. All (IsLetterOf own next) ds) (sym pushed) (All-push (IsLetterOf own next) was d h.letters letter);
+      least = subst (λ n. All (λ x. x.ordinal < n + 1) c.push.new.self.items) (sym ordinal) (subst (λ (ds : List DeadLetter). All (λ x. x.ordinal < d.ordinal + 1) ds) (sym pushed) (least_more was d c.letters.least h.least above));
+      places = subst (λ ds. HavePlaces log c.next_letter.new.places ds) (sym pushed) (places_more log c.letters.places c.next_letter.new.places was d place h.places with_place refl);
+      ordinals = subst (λ ds. OrdinalsCame ds c.args.ordinals.now c.next_letter.new.ordinals) (sym pushed) (came_more was d c.args.ordinals.now c.letters.ordinals c.next_letter.new.ordinals h.ordinals new_ordinal with_ordinal);
+    }
