@@ -1,5 +1,6 @@
 // The courier at work: it moves dead letters, one at a time, with one topic's lock at a time.
 use crate::directory::Directory;
+use crate::inside::Inside;
 use crate::topic::Shared;
 use dead_courier::{Hand, Route, Side, after, next_move};
 use delivery_machine::{Event, Fault, Moment, Opened, Reply, SubscriptionName, TopicName};
@@ -129,14 +130,24 @@ impl<T: Opened + Drop, S: Alter, J: Naming, B: Bell + Drop> Directory<T, S, J, B
         event: Event,
         awaits: bool,
     ) -> Reply {
-        let answer = match side {
-            Side::Source => self.visit(rt, &courier.source, event, false),
-            Side::Target => match &courier.target {
-                Some(target) => self.visit(rt, target, event, awaits),
-                None => Err(Fault::NoSession),
-            },
+        let topic = match side {
+            Side::Source => Some(&courier.source),
+            Side::Target => courier.target.as_ref(),
         };
-        match answer {
+        match topic {
+            Some(topic) => self.reply(rt, topic, event, awaits && side == Side::Target),
+            None => Reply::Refused(Fault::NoSession),
+        }
+    }
+
+    fn reply<R: Wait>(
+        &self,
+        rt: &R,
+        topic: &Arc<Shared<T, J, B>>,
+        event: Event,
+        awaits: bool,
+    ) -> Reply {
+        match self.visit(rt, topic, event, awaits) {
             Ok(reply) => reply,
             Err(fault) => Reply::Refused(fault),
         }
@@ -168,26 +179,34 @@ impl<T: Opened + Drop, S: Alter, J: Naming, B: Bell + Drop> Directory<T, S, J, B
     }
 
     /// The courier goes as far as it can. Given back where it waits for a copy to be stored.
-    pub(crate) fn go<R: Wait>(
+    fn go<R: Wait>(
         &self,
         rt: &R,
         courier: Courier<T, J, B>,
         now: Moment,
     ) -> Option<Courier<T, J, B>> {
         let mut courier = courier;
+        if self.comes_to_wait(rt, &mut courier, now) {
+            Some(courier)
+        } else {
+            None
+        }
+    }
+
+    /// The courier goes as far as it can: whether it waits then for a copy to be stored.
+    fn comes_to_wait<R: Wait>(&self, rt: &R, courier: &mut Courier<T, J, B>, now: Moment) -> bool {
         for _ in rt.forever() {
-            match self.step(rt, &mut courier, now) {
+            match self.step(rt, courier, now) {
                 Stepped::GoesOn => {}
-                Stepped::Waits => return Some(courier),
-                Stepped::Ends => return None,
+                Stepped::Waits => return true,
+                Stepped::Ends => return false,
                 Stepped::Fails => {
-                    let mut inside = courier.source.inside.lock(rt);
-                    inside.open_grave(&courier.route.subscription);
-                    return None;
+                    come_back(rt, courier);
+                    return false;
                 }
             }
         }
-        None
+        false
     }
 
     /// Couriers are sent to the subscriptions of the topic in which letters lie, and all that are under way go on.
@@ -201,9 +220,7 @@ impl<T: Opened + Drop, S: Alter, J: Naming, B: Bell + Drop> Directory<T, S, J, B
         self.send_couriers(rt, topic, couriers);
         let under_way = mem::replace(couriers, Vec::new(self.alloc));
         for courier in under_way {
-            if let Some(courier) = self.go(rt, courier, now) {
-                let _ = couriers.push(courier);
-            }
+            put(couriers, self.go(rt, courier, now));
         }
     }
 
@@ -213,16 +230,47 @@ impl<T: Opened + Drop, S: Alter, J: Naming, B: Bell + Drop> Directory<T, S, J, B
         topic: &Arc<Shared<T, J, B>>,
         couriers: &mut Vec<Courier<T, J, B>>,
     ) {
-        let mut inside = topic.inside.lock(rt);
+        let mut guard = topic.inside.lock(rt);
+        let inside = &mut *guard;
         inside.is_sent = false;
         inside.is_awaited = false;
         for _ in 0..inside.graves.len() {
-            let Ok(Some(subscription)) = inside.take_grave() else {
-                return;
-            };
-            if let Some(courier) = self.courier_for(topic, &subscription) {
-                let _ = couriers.push(courier);
-            }
+            self.send_one(inside, topic, couriers);
         }
+    }
+
+    /// A courier is sent to the next subscription in which letters lie.
+    fn send_one(
+        &self,
+        inside: &mut Inside<T, J, B>,
+        topic: &Arc<Shared<T, J, B>>,
+        couriers: &mut Vec<Courier<T, J, B>>,
+    ) {
+        match inside.take_grave() {
+            Ok(Some(subscription)) => put(couriers, self.courier_for(topic, &subscription)),
+            Ok(None) | Err(_) => {}
+        }
+    }
+}
+
+/// The letter stays where it is, and another courier is sent for it later.
+fn come_back<T: Opened + Drop, J: Naming, B: Bell + Drop, R: Wait>(
+    rt: &R,
+    courier: &Courier<T, J, B>,
+) {
+    let mut inside = courier.source.inside.lock(rt);
+    inside.open_grave(&courier.route.subscription);
+}
+
+/// Without memory for one more, that one is gone: a later death sends another.
+fn put<T: Opened + Drop, J: Naming, B: Bell + Drop>(
+    couriers: &mut Vec<Courier<T, J, B>>,
+    courier: Option<Courier<T, J, B>>,
+) {
+    match courier {
+        Some(courier) => {
+            let _ = couriers.push(courier);
+        }
+        None => {}
     }
 }

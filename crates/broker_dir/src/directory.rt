@@ -32,6 +32,14 @@ pub struct Directory<T: Opened + Drop, S: Alter, J: Naming, B: Bell + Drop> {
     pub(crate) is_closed: AtomicBool,
 }
 
+/// A topic that was just made, the seat of the one who sits there, and whether the courier is to be sent there.
+#[derive(Drop)]
+struct Made<X> {
+    topic: Arc<X>,
+    seat: u64,
+    sends: bool,
+}
+
 impl<T: Opened + Drop, S: Alter, J: Naming, B: Bell + Drop> Directory<T, S, J, B> {
     /// Over the database of the keeper; no topic is open.
     pub fn open(alloc: Global, keeper: Keeper<S, J>, terms: Terms) -> Self {
@@ -115,30 +123,68 @@ impl<T: Opened + Drop, S: Alter, J: Naming, B: Bell + Drop> Directory<T, S, J, B
         if table.count() >= MOST_OPEN {
             return Err(Fault::TooMany);
         }
-        let mut inside = match self.load(rt, name, create) {
-            Ok(inside) => inside,
-            Err(fault) => return Err(fault),
-        };
+        match self.made(rt, name, create, bell, table.count()) {
+            Ok(made) => self.list(rt, table, text, made),
+            Err(fault) => Err(fault),
+        }
+    }
+
+    /// The topic, which is not listed yet, with one who sits there where a bell is given.
+    fn made<R: Wait>(
+        &self,
+        rt: &R,
+        name: &TopicName,
+        create: bool,
+        bell: Option<Arc<B>>,
+        open: usize,
+    ) -> Result<Made<Shared<T, J, B>>, Fault> {
+        match self.load(rt, name, create) {
+            Ok(inside) => self.seated(rt, inside, name, bell, open),
+            Err(fault) => Err(fault),
+        }
+    }
+
+    fn seated<R: Wait>(
+        &self,
+        rt: &R,
+        mut inside: Inside<T, J, B>,
+        name: &TopicName,
+        bell: Option<Arc<B>>,
+        open: usize,
+    ) -> Result<Made<Shared<T, J, B>>, Fault> {
         let sends = inside.wants_courier();
-        let seat = match seat_for(&mut inside, bell) {
-            Ok(seat) => seat,
-            Err(fault) => return Err(fault),
-        };
-        let topic = match self.share(rt, inside, name, table.count()) {
-            Ok(topic) => topic,
-            Err(fault) => return Err(fault),
-        };
-        let (listed, errand) = match (clone_of(&topic), clone_of(&topic)) {
-            (Ok(listed), Ok(errand)) => (listed, errand),
-            _ => return Err(Fault::NoMemory),
-        };
-        if !table.add(text, listed) {
-            return Err(Fault::NoMemory);
+        match seat_for(&mut inside, bell) {
+            Ok(seat) => match self.share(rt, inside, name, open) {
+                Ok(topic) => Ok(Made { topic, seat, sends }),
+                Err(fault) => Err(fault),
+            },
+            Err(fault) => Err(fault),
         }
-        if sends {
-            self.board.send(rt, errand);
+    }
+
+    /// Lists the topic, and sends the courier there where it is wanted.
+    fn list<R: Wait>(
+        &self,
+        rt: &R,
+        table: &mut Table<Arc<Shared<T, J, B>>>,
+        text: String,
+        made: Made<Shared<T, J, B>>,
+    ) -> Result<(Arc<Shared<T, J, B>>, u64), Fault>
+        ensures opened { OnOk result (names_of table.new.topics.entries ≡ with_name (names_of table.old.topics.entries) (string_bytes text)) }
+        ensures refused { OnErr result (table.new.topics.entries ≡ table.old.topics.entries) }
+    {
+        match (clone_of(&made.topic), clone_of(&made.topic)) {
+            (Ok(listed), Ok(errand)) => {
+                if !table.add(text, listed) {
+                    return Err(Fault::NoMemory);
+                }
+                if made.sends {
+                    self.board.send(rt, errand);
+                }
+                Ok((made.topic, made.seat))
+            }
+            _ => Err(Fault::NoMemory),
         }
-        Ok((topic, seat))
     }
 
     /// The open topic of the name, which is made where it is not known.
@@ -185,18 +231,24 @@ impl<T: Opened + Drop, S: Alter, J: Naming, B: Bell + Drop> Directory<T, S, J, B
         name: &TopicName,
         open: usize,
     ) -> Result<Arc<Shared<T, J, B>>, Fault> {
+        match self.name_with_room(rt, name, open) {
+            Ok(name) => shared(self.alloc, name, inside),
+            Err(fault) => Err(fault),
+        }
+    }
+
+    /// The name of a further topic, for which there is room on the board.
+    fn name_with_room<R: Wait>(
+        &self,
+        rt: &R,
+        name: &TopicName,
+        open: usize,
+    ) -> Result<TopicName, Fault> {
         if !self.board.make_room(rt, open.saturating_add(1)) {
             return Err(Fault::NoMemory);
         }
-        let Ok(name) = name.clone() else {
-            return Err(Fault::NoMemory);
-        };
-        let shared = Shared {
-            name,
-            inside: Mutex::new(inside),
-        };
-        match Arc::new(self.alloc, shared) {
-            Ok(topic) => Ok(topic),
+        match name.clone() {
+            Ok(name) => Ok(name),
             Err(_) => Err(Fault::NoMemory),
         }
     }
@@ -253,6 +305,21 @@ impl<T: Opened + Drop, S: Alter, J: Naming, B: Bell + Drop> Directory<T, S, J, B
                 inside.bells.ring_all(rt);
             }
         }
+    }
+}
+
+fn shared<T: Opened + Drop, J: Naming, B: Bell + Drop>(
+    alloc: Global,
+    name: TopicName,
+    inside: Inside<T, J, B>,
+) -> Result<Arc<Shared<T, J, B>>, Fault> {
+    let shared = Shared {
+        name,
+        inside: Mutex::new(inside),
+    };
+    match Arc::new(alloc, shared) {
+        Ok(topic) => Ok(topic),
+        Err(_) => Err(Fault::NoMemory),
     }
 }
 

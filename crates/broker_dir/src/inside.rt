@@ -1,8 +1,8 @@
 // What a topic's lock guards: the topic with what is stored of it, and the bells of those who sit at it.
-ghost use Rattle.std.specs.Prelude.{◌≡◌, ◌-◌, IfOk, set, true};
+ghost use Rattle.std.specs.Prelude.{◌≡◌, ◌-◌, ◌<◌, IfOk, set, true};
 ghost use Rattle.topic_shared.specs.Seats.{IsFree};
 
-use delivery_machine::{Event, Fault, Opened, Reply, Saved, SubscriptionName};
+use delivery_machine::{Event, Fault, KeptSubscription, Opened, Reply, Saved, SubscriptionName};
 use kept_rows::Kept;
 use marks::Naming;
 use session_bells::{Asked, Bell, Bells};
@@ -54,18 +54,32 @@ impl<T: Opened + Drop, J: Naming, B: Bell + Drop> Inside<T, J, B> {
 
     /// Over a topic that was just opened: the courier is to look at each of its subscriptions in which letters lie.
     pub(crate) fn opened(alloc: Global, cell: StoredCell<T, J>) -> Result<Self, Fault> {
-        let snapshot = match cell.view() {
-            Ok(snapshot) => snapshot,
-            Err(fault) => return Err(fault),
-        };
+        match cell.view() {
+            Ok(snapshot) => Inside::knowing(alloc, cell, snapshot.subscriptions()),
+            Err(fault) => Err(fault),
+        }
+    }
+
+    fn knowing(
+        alloc: Global,
+        cell: StoredCell<T, J>,
+        subscriptions: &[KeptSubscription],
+    ) -> Result<Self, Fault> {
         let mut inside = Inside::new(alloc, cell);
-        for subscription in snapshot.subscriptions() {
-            match inside.know_grave(&subscription.name, !subscription.dead.is_empty()) {
+        match inside.know_graves(subscriptions) {
+            Ok(()) => Ok(inside),
+            Err(fault) => Err(fault),
+        }
+    }
+
+    fn know_graves(&mut self, subscriptions: &[KeptSubscription]) -> Result<(), Fault> {
+        for subscription in subscriptions {
+            match self.know_grave(&subscription.name, !subscription.dead.is_empty()) {
                 Ok(()) => {}
                 Err(fault) => return Err(fault),
             }
         }
-        Ok(inside)
+        Ok(())
     }
 
     /// Takes a free seat, and leaves the bell there. Refused (F21) where none is free, and (F1) for want of memory.
@@ -98,26 +112,45 @@ impl<T: Opened + Drop, J: Naming, B: Bell + Drop> Inside<T, J, B> {
         asked: &Asked,
         event: Event,
     ) -> Result<Reply, Fault> {
-        if seat == 0 {
-            return Err(Fault::NoRoom);
+        match self.make_room(seat, asked) {
+            Ok(()) => self.answer_with_room(rt, seat, asked, event),
+            Err(fault) => Err(fault),
         }
-        match self.make_room(asked) {
-            Ok(()) => {}
-            Err(fault) => return Err(fault),
+    }
+
+    fn answer_with_room<R: Wait>(
+        &mut self,
+        rt: &R,
+        seat: u64,
+        asked: &Asked,
+        event: Event,
+    ) -> Result<Reply, Fault>
+        requires { 0 < seat }
+    {
+        match self.cell.call(seat, event) {
+            Ok(receipt) => {
+                self.answered(rt, seat, asked, &receipt.reply);
+                Ok(receipt.reply)
+            }
+            Err(fault) => Err(fault),
         }
-        let reply = match self.cell.call(seat, event) {
-            Ok(receipt) => receipt.reply,
-            Err(fault) => return Err(fault),
-        };
-        self.bells.answered(rt, seat, asked, &reply);
-        if let Reply::Died { .. } = &reply {
+    }
+
+    fn answered<R: Wait>(&mut self, rt: &R, seat: u64, asked: &Asked, reply: &Reply) {
+        self.bells.answered(rt, seat, asked, reply);
+        if let Reply::Died { .. } = reply {
             self.open_own_grave(seat);
         }
         self.roll_if_long();
-        Ok(reply)
     }
 
-    fn make_room(&mut self, asked: &Asked) -> Result<(), Fault> {
+    /// Room for what the one at the seat asked. Nobody sits at 0.
+    fn make_room(&mut self, seat: u64, asked: &Asked) -> Result<(), Fault>
+        ensures { IfOk result (λ _. 0 < seat) }
+    {
+        if seat == 0 {
+            return Err(Fault::NoRoom);
+        }
         let Asked::Joins(name) = asked else {
             return Ok(());
         };
@@ -184,13 +217,14 @@ impl<T: Opened + Drop, J: Naming, B: Bell + Drop> Inside<T, J, B> {
 
     /// One event of one who takes a free seat for it alone.
     pub(crate) fn visit<R: Wait>(&mut self, rt: &R, event: Event) -> Result<Reply, Fault> {
-        let seat = match self.cell.enter() {
-            Ok(seat) => seat,
-            Err(fault) => return Err(fault),
-        };
-        let answer = self.answer(rt, seat, &Asked::Nothing, event);
-        self.cell.exit(seat);
-        answer
+        match self.cell.enter() {
+            Ok(seat) => {
+                let answer = self.answer(rt, seat, &Asked::Nothing, event);
+                self.cell.exit(seat);
+                answer
+            }
+            Err(fault) => Err(fault),
+        }
     }
 
     /// The first subscription that the courier is to be sent to; it is sent there now.

@@ -29,6 +29,30 @@ struct Batch<J: Naming> {
     seen: Vec<Seen>,
 }
 
+impl<J: Naming> Batch<J> {
+    /// With room for so many topics.
+    fn for_topics(alloc: Global, count: usize) -> Result<Self, Fault> {
+        let (Ok(parts), Ok(seen)) = (
+            Vec::with_capacity(alloc, count),
+            Vec::with_capacity(alloc, count),
+        ) else {
+            return Err(Fault::NoMemory);
+        };
+        Ok(Batch { parts, seen })
+    }
+
+    fn add(&mut self, place: usize, part: Part<J>) -> Result<(), Fault> {
+        let length = part.snapshot().log().count() as u64;
+        let (Ok(()), Ok(())) = (
+            self.parts.push(part),
+            self.seen.push(Seen { place, length }),
+        ) else {
+            return Err(Fault::NoMemory);
+        };
+        Ok(())
+    }
+}
+
 /// What the thread that stores has between its tasks: the couriers that are under way.
 #[derive(Drop)]
 pub struct Errands<T: Opened + Drop, J: Naming, B: Bell + Drop> {
@@ -147,25 +171,40 @@ impl<T: Opened + Drop, S: Alter, J: Naming, B: Bell + Drop> Directory<T, S, J, B
         rt: &R,
         topics: &[Arc<Shared<T, J, B>>],
     ) -> Result<(), Fault> {
-        let (Ok(parts), Ok(seen)) = (
-            Vec::with_capacity(self.alloc, topics.len()),
-            Vec::with_capacity(self.alloc, topics.len()),
-        ) else {
-            return Err(Fault::NoMemory);
-        };
-        let mut batch = Batch { parts, seen };
+        match Batch::for_topics(self.alloc, topics.len()) {
+            Ok(batch) => self.store_batch(rt, topics, batch),
+            Err(fault) => Err(fault),
+        }
+    }
+
+    fn store_batch<R: Wait>(
+        &self,
+        rt: &R,
+        topics: &[Arc<Shared<T, J, B>>],
+        mut batch: Batch<J>,
+    ) -> Result<(), Fault> {
         let mut keeper = self.keeper.lock(rt);
         match view_all(rt, &mut *keeper, topics, &mut batch) {
-            Ok(()) => {}
-            Err(fault) => return Err(fault),
+            Ok(()) => self.store_viewed(rt, &mut *keeper, topics, batch),
+            Err(fault) => Err(fault),
         }
+    }
+
+    fn store_viewed<R: Wait>(
+        &self,
+        rt: &R,
+        keeper: &mut Keeper<S, J>,
+        topics: &[Arc<Shared<T, J, B>>],
+        batch: Batch<J>,
+    ) -> Result<(), Fault> {
         let Batch { parts, seen } = batch;
-        let kept = match keeper.store(parts) {
-            Ok(kept) => kept,
-            Err(fault) => return Err(fault),
-        };
-        self.confirm_all(rt, topics, seen.as_slice(), kept);
-        Ok(())
+        match keeper.store(parts) {
+            Ok(kept) => {
+                self.confirm_all(rt, topics, seen.as_slice(), kept);
+                Ok(())
+            }
+            Err(fault) => Err(fault),
+        }
     }
 
     fn confirm_all<R: Wait>(
@@ -202,7 +241,7 @@ impl<T: Opened + Drop, S: Alter, J: Naming, B: Bell + Drop> Directory<T, S, J, B
     }
 }
 
-/// The topics as they are, each with its lock held for no longer than that takes.
+/// The topics as they are.
 fn view_all<T: Opened + Drop, S: Alter, J: Naming, B: Bell + Drop, R: Wait>(
     rt: &R,
     keeper: &mut Keeper<S, J>,
@@ -210,19 +249,35 @@ fn view_all<T: Opened + Drop, S: Alter, J: Naming, B: Bell + Drop, R: Wait>(
     batch: &mut Batch<J>,
 ) -> Result<(), Fault> {
     for place in 0..topics.len() {
-        let mut inside = topics[place].inside.lock(rt);
-        let viewed = keeper.view(&mut inside.cell);
-        drop(inside);
-        let part = match viewed {
-            Ok(part) => part,
+        match view_one(rt, keeper, &topics[place], place, batch) {
+            Ok(()) => {}
             Err(fault) => return Err(fault),
-        };
-        let length = part.snapshot().log().count() as u64;
-        if batch.parts.push(part).is_err() || batch.seen.push(Seen { place, length }).is_err() {
-            return Err(Fault::NoMemory);
         }
     }
     Ok(())
+}
+
+fn view_one<T: Opened + Drop, S: Alter, J: Naming, B: Bell + Drop, R: Wait>(
+    rt: &R,
+    keeper: &mut Keeper<S, J>,
+    topic: &Arc<Shared<T, J, B>>,
+    place: usize,
+    batch: &mut Batch<J>,
+) -> Result<(), Fault> {
+    match viewed(rt, keeper, topic) {
+        Ok(part) => batch.add(place, part),
+        Err(fault) => Err(fault),
+    }
+}
+
+/// The topic as it is, with its lock held for no longer than that takes.
+fn viewed<T: Opened + Drop, S: Alter, J: Naming, B: Bell + Drop, R: Wait>(
+    rt: &R,
+    keeper: &mut Keeper<S, J>,
+    topic: &Arc<Shared<T, J, B>>,
+) -> Result<Part<J>, Fault> {
+    let mut inside = topic.inside.lock(rt);
+    keeper.view(&mut inside.cell)
 }
 
 /// They are stored later: with the next of their calls.

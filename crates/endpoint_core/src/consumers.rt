@@ -16,7 +16,7 @@ use position_core::{
 use std::alloc::Global;
 
 /// A consumer of the subscription: what its `Subscribe` brings.
-#[derive(Clone, Debug, Drop)]
+#[derive(Debug, Drop)]
 pub struct ConsumerEndpoint {
     pub topic: TopicName,
     pub subscription: SubscriptionName,

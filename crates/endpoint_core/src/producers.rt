@@ -12,7 +12,7 @@ use std::alloc::Global;
 
 /// A producer of the topic. Without a name it gets one of the topic's; without a base it begins where its
 /// name's last message is.
-#[derive(Clone, Debug, Drop)]
+#[derive(Debug, Drop)]
 pub struct ProducerEndpoint {
     pub topic: TopicName,
     pub name: Option<ProducerName>,

@@ -13,7 +13,7 @@ use position_core::TopicName;
 use std::alloc::Global;
 
 /// What a WebSocket is opened for.
-#[derive(Clone, Debug, Drop)]
+#[derive(Debug, Drop)]
 pub enum Endpoint {
     Producer(ProducerEndpoint),
     Consumer(ConsumerEndpoint),
@@ -21,7 +21,7 @@ pub enum Endpoint {
 }
 
 /// The administration of the topic's subscriptions.
-#[derive(Clone, Debug, Drop)]
+#[derive(Debug, Drop)]
 pub struct AdminEndpoint {
     pub topic: TopicName,
 }

@@ -63,20 +63,18 @@ pub fn read_tick(alloc: Global, words: Words<'_>) -> Result<Line, Unread>
     ensures { (this : TopicName) → Reads (Complete this Command.Tick words.entry) result }
 {
     let (subscription, now) = words.two()?;
-    Ok(Line::Event(Event::Tick {
-        subscription: read_name(alloc, subscription)?,
-        now: read_moment(now)?,
-    }))
+    let now = read_moment(now)?;
+    let subscription = read_name(alloc, subscription)?;
+    Ok(Line::Event(Event::Tick { subscription, now }))
 }
 
 pub fn read_dispatch(alloc: Global, words: Words<'_>) -> Result<Line, Unread>
     ensures { (this : TopicName) → Reads (Complete this Command.Dispatch words.entry) result }
 {
     let (subscription, now) = words.two()?;
-    Ok(Line::Event(Event::Dispatch {
-        subscription: read_name(alloc, subscription)?,
-        now: read_moment(now)?,
-    }))
+    let now = read_moment(now)?;
+    let subscription = read_name(alloc, subscription)?;
+    Ok(Line::Event(Event::Dispatch { subscription, now }))
 }
 
 pub fn read_collect(words: Words<'_>) -> Result<Line, Unread>

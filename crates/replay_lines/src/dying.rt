@@ -76,8 +76,10 @@ pub fn read_dead_done(alloc: Global, words: Words<'_>) -> Result<Line, Unread>
     ensures { (this : TopicName) → Reads (Complete this Command.DeadDone words.entry) result }
 {
     let (subscription, ordinal) = words.two()?;
+    let ordinal = read_number(ordinal)?;
+    let subscription = read_name(alloc, subscription)?;
     Ok(Line::Event(Event::DeadDone {
-        subscription: read_name(alloc, subscription)?,
-        ordinal: read_number(ordinal)?,
+        subscription,
+        ordinal,
     }))
 }

@@ -78,6 +78,12 @@ pub fn read_subscribe(alloc: Global, this: &TopicName, mut words: Words<'_>) -> 
     let (subscription, kind, level) = words.take_three()?;
     let (flow, ack_timeout, nack_delay) = words.take_three()?;
     let (max_redeliver, dead_topic, initial) = words.three()?;
+    let kind = read_kind(kind)?;
+    let level = read_bounded(level)?;
+    let flow = read_flow(flow)?;
+    let ack_timeout = read_bounded(ack_timeout)?;
+    let nack_delay = read_bounded(nack_delay)?;
+    let initial = read_initial(initial)?;
     let subscription = read_name(alloc, subscription)?;
     let (max_redeliver, dead_topic) = read_death(
         alloc,
@@ -87,14 +93,14 @@ pub fn read_subscribe(alloc: Global, this: &TopicName, mut words: Words<'_>) -> 
         dead_topic,
     )?;
     Ok(Line::Event(Event::Subscribe {
-        kind: read_kind(kind)?,
-        level: read_bounded(level)?,
-        flow: read_flow(flow)?,
-        ack_timeout: read_bounded(ack_timeout)?,
-        nack_delay: read_bounded(nack_delay)?,
-        initial: read_initial(initial)?,
         subscription,
+        kind,
+        level,
+        flow,
+        ack_timeout,
+        nack_delay,
         max_redeliver,
         dead_topic,
+        initial,
     }))
 }

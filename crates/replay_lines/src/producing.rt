@@ -17,9 +17,10 @@ pub fn read_producer(alloc: Global, words: Words<'_>) -> Result<Line, Unread>
     ensures { (this : TopicName) → Reads (Complete this Command.Producer words.entry) result }
 {
     let (name, base) = words.two()?;
+    let base = read_base(base)?;
     Ok(Line::Event(Event::AddProducer {
         name: read_producer_name(alloc, name)?,
-        base: read_base(base)?,
+        base,
     }))
 }
 
@@ -47,11 +48,14 @@ pub fn read_publish(alloc: Global, mut words: Words<'_>) -> Result<Line, Unread>
 {
     let (producer, sequence) = words.take_two()?;
     let (key, payload, now) = words.three()?;
+    let producer = read_number(producer)?;
+    let sequence = read_sequence(sequence)?;
+    let now = read_moment(now)?;
     Ok(Line::Event(Event::Publish {
-        producer: read_number(producer)?,
-        sequence: read_sequence(sequence)?,
+        producer,
+        sequence,
         body: read_body(alloc, key, payload)?,
-        now: read_moment(now)?,
+        now,
     }))
 }
 

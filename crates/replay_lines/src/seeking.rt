@@ -47,19 +47,20 @@ pub fn read_seek_time(alloc: Global, words: Words<'_>) -> Result<Line, Unread>
     ensures { (this : TopicName) → Reads (Complete this Command.SeekTime words.entry) result }
 {
     let (subscription, time) = words.two()?;
-    Ok(Line::Event(Event::SeekTime {
-        subscription: read_name(alloc, subscription)?,
-        time: read_moment(time)?,
-    }))
+    let time = read_moment(time)?;
+    let subscription = read_name(alloc, subscription)?;
+    Ok(Line::Event(Event::SeekTime { subscription, time }))
 }
 
 pub fn read_skip(alloc: Global, words: Words<'_>) -> Result<Line, Unread>
     ensures { (this : TopicName) → Reads (Complete this Command.Skip words.entry) result }
 {
     let (subscription, count) = words.two()?;
+    let count = read_bounded(count)?;
+    let subscription = read_name(alloc, subscription)?;
     Ok(Line::Event(Event::Skip {
-        subscription: read_name(alloc, subscription)?,
-        count: read_bounded(count)?,
+        subscription,
+        count,
     }))
 }
 

@@ -1,9 +1,8 @@
 -- What a cell keeps, after one line more.
-use Rattle.std.proofs.Common.{◌≡◌, ◌+◌, ◌<◌, ◌≤◌, ◌++◌, ◌∷◌, [], length, ℕ, Bool, true, false, List, map, arith, length-append, refl, sym, ap, subst, ◌∙◌, true≢false}
+use Rattle.std.proofs.Common.{◌≡◌, ◌+◌, ◌≤◌, ◌++◌, ◌∷◌, [], length, ℕ, Bool, true, false, List, map, arith, length-append, refl, sym, ap, subst, ◌∙◌, true≢false}
 use Rattle.std.specs.Prelude.{◌||◌, ◌==◌, is_some, if◌then◌else◌}
 use Rattle.std.proofs.lemmas.Grind.{common_steps}
 use Rattle.std.specs.List.{find}
-use Rattle.position_core.specs.declared.fault.Fault.{Fault}
 use Rattle.delivery_machine.specs.State.{State, Producer, Member}
 use Rattle.delivery_machine.specs.Words.{removed, is_producer, is_member}
 use Rattle.delivery_machine.specs.Snapshot.{snapshot_of}
@@ -14,7 +13,7 @@ use Rattle.delivery_machine.specs.declared.event.Event.TheVariants.{DropProducer
 use Rattle.delivery_machine.specs.declared.reply.Reply.{Reply}
 use Rattle.delivery_machine.specs.declared.reply.Reply.TheVariants.{ProducerAdded, Subscribed, Durable, Done, Refused}
 use Rattle.delivery_machine.proofs.Journaling.{producers_are, consumers_are, snapshot_stays}
-use Rattle.journal_lines.specs.Lines.{Line, line, Legal}
+use Rattle.journal_lines.specs.Lines.{line, Legal}
 use Rattle.topic_shared.specs.Attached.{is_among, detaches, asks_to_attach, attaches, needs}
 use Rattle.topic_shared.specs.Kept.{Kept, IsKept, StoresLine, spoken_for, needed_by}
 use Rattle.journal_lines.proofs.Legality.{legal_snoc}

@@ -1,5 +1,4 @@
 -- Values that may go to another thread.
-use denote.Param.{param}
 use denote.RattleType.{RattleType}
 use denote.Param.Send.{IsSend, IsSync, sendable, view_send}
 use denote.Param.SendFields.{as_row_send, as_row_sync, declared_send, declared_sync}

@@ -3,7 +3,6 @@ use Rattle.std.proofs.Common.{◌≡◌, Bool, true, false, List, refl, ap, ◌�
 use Rattle.std.specs.Prelude.{◌+◌, length, if◌then◌else◌}
 use Rattle.std.specs.List.{find}
 use Rattle.std.specs.Option.{option_map_or}
-use Rattle.position_core.specs.declared.fault.Fault.{Fault}
 use Rattle.delivery_machine.specs.State.{State, Subscription}
 use Rattle.delivery_machine.specs.State as state
 use Rattle.position_core.specs.declared.message.Entry.{Entry}

@@ -1,5 +1,5 @@
 -- Seats: which are taken, from seat 1 on.
-use Rattle.std.specs.Prelude.{◌≡◌, ℕ, ◌-◌, ◌<◌, ◌==◌, Bool, true, false, List, Some, set, slice_get, if◌then◌else◌}
+use Rattle.std.specs.Prelude.{◌≡◌, ℕ, ◌-◌, ◌<◌, ◌==◌, Bool, false, List, Some, set, slice_get, if◌then◌else◌}
 
 -- the seat is there, and nobody has it
 abbrev pub IsFree : List Bool → ℕ → Type 0

@@ -8,6 +8,8 @@ ghost use Rattle.delivery_machine.specs.Journals.{changes_snapshot, is_kept_once
 ghost use Rattle.topic_shared.specs.Attached.{is_farewell, is_no_memory};
 
 use delivery_machine::{Deliveries, Event, Fault, Reply, Topic};
+use journal_lines::Draft;
+use std::alloc::Global;
 
 fn is_no_memory(reply: &Reply) -> bool
     ensures { result ≡ is_no_memory reply.now }
@@ -32,7 +34,7 @@ fn copies_for<T: Topic>(topic: &T, event: &Event) -> Result<Option<Deliveries>, 
 
 /// What the topic answers, and the same again. Only where memory is wanting for either is there none,
 /// and the topic is then as it was. To go needs no memory.
-pub fn answer<T: Topic>(topic: &mut T, event: &Event) -> Result<(Reply, Reply), Fault>
+fn answer<T: Topic>(topic: &mut T, event: &Event) -> Result<(Reply, Reply), Fault>
     ensures step { IfOk result (λ replies. Step (T.state topic.old) event.now replies.0 (T.state topic.new)) }
     ensures twin { IfOk result (λ replies. replies.1 ≡ replies.0) }
     ensures err { OnErr result (T.state topic.new ≡ T.state topic.old) }
@@ -50,6 +52,37 @@ pub fn answer<T: Topic>(topic: &mut T, event: &Event) -> Result<(Reply, Reply), 
     match reply.twin(copies) {
         Ok(twin) => Ok((reply, twin)),
         Err(_) => Err(Fault::NoMemory),
+    }
+}
+
+/// An event as a line's draft, and what the topic answered to it, twice.
+#[derive(Drop)]
+pub struct Answered {
+    pub draft: Draft,
+    pub reply: Reply,
+    pub twin: Reply,
+}
+
+/// Answers the event, which goes into a draft first. Only where memory is wanting for that or for the
+/// answer is there none, and the topic is then as it was. To go needs no memory.
+pub fn answer_drafted<T: Topic>(
+    alloc: Global,
+    topic: &mut T,
+    event: Event,
+) -> Result<Answered, Fault>
+    ensures draft { IfOk result (λ answered. answered.draft ≡ event) }
+    ensures step { IfOk result (λ answered. Step (T.state topic.old) event answered.reply (T.state topic.new)) }
+    ensures twin { IfOk result (λ answered. answered.twin ≡ answered.reply) }
+    ensures err { OnErr result (T.state topic.new ≡ T.state topic.old) }
+    ensures fault { IfErr result (λ fault. fault ≡ NoMemory) }
+    ensures ends { is_farewell event ≡ true → IsOk result }
+{
+    let Ok(draft) = Draft::new(alloc, event) else {
+        return Err(Fault::NoMemory);
+    };
+    match answer(topic, draft.event()) {
+        Ok((reply, twin)) => Ok(Answered { draft, reply, twin }),
+        Err(fault) => Err(fault),
     }
 }
 

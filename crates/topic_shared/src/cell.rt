@@ -9,7 +9,7 @@ ghost use Rattle.journal_lines.specs.Short.{is_long, is_long_reply};
 ghost use Rattle.topic_shared.specs.Kept.{Kept, KeepsSeats, needed_by, kept_lines, spoken_for, is_end};
 ghost use Rattle.topic_shared.specs.Seats.{IsFree, without_seat};
 
-use crate::answering::{answer, marked};
+use crate::answering::{Answered, answer_drafted, marked};
 use crate::journal::Journal;
 use crate::limits::{LineLimit, SeatCount};
 use crate::receipt::Receipt;
@@ -127,25 +127,23 @@ impl<T: Topic + Drop> Cell<T> {
             Ok(()) => {}
             Err(fault) => return Err(fault),
         }
-        let draft = match Draft::new(self.alloc, event) {
-            Ok(draft) => draft,
-            Err(_) => return Err(Fault::NoMemory),
-        };
-        let (reply, twin) = match answer(&mut self.topic, draft.event()) {
-            Ok(replies) => replies,
-            Err(fault) => return Err(fault),
-        };
-        let number = self.lines.len() as u64;
-        note_producer(&mut self.producers, draft.event(), &reply);
-        note_consumer(&mut self.consumers, draft.event(), &reply);
-        self.unsaved = marked(self.unsaved, draft.event(), &reply);
-        self.settled = false;
-        write(&mut self.lines, seat, draft, reply);
-        Ok(Receipt {
-            number,
-            seat,
-            reply: twin,
-        })
+        match answer_drafted(self.alloc, &mut self.topic, event) {
+            Ok(answered) => {
+                let Answered { draft, reply, twin } = answered;
+                let number = self.lines.len() as u64;
+                note_producer(&mut self.producers, draft.event(), &reply);
+                note_consumer(&mut self.consumers, draft.event(), &reply);
+                self.unsaved = marked(self.unsaved, draft.event(), &reply);
+                self.settled = false;
+                write(&mut self.lines, seat, draft, reply);
+                Ok(Receipt {
+                    number,
+                    seat,
+                    reply: twin,
+                })
+            }
+            Err(fault) => Err(fault),
+        }
     }
 
     /// Begins the journal anew, from where the topic is. Takes no memory: the room of the lines is

@@ -68,28 +68,53 @@ impl Crew {
         })
     }
 
+    /// Room for one more worker.
+    fn make_room(&mut self) -> bool {
+        self.posts.reserve(1).is_ok() && self.threads.reserve(1).is_ok()
+    }
+
+    /// What a worker at the post begins with.
+    fn start_of(&mut self, poll: Poll, post: &Arc<Post>) -> Option<Start> {
+        match (
+            Arc::try_clone(post),
+            Arc::try_clone(&self.door),
+            self.putter.taker(),
+        ) {
+            (Ok(post), Ok(door), Some(taker)) => Some(Start {
+                poll,
+                post,
+                taker,
+                door,
+            }),
+            _ => None,
+        }
+    }
+
     /// Starts a worker. None where it could not be.
     fn hire<
         R: Threads + Wait + Net + Clock + Copy + Send + Sync + Drop + 'static,
         X: Job + Send + Sync + Drop + 'static,
     >(&mut self, rt: &R, alloc: Global, place: &Arc<X>) -> Option<()> {
-        let poll = Poll::new(rt).ok()?;
-        let waker = Waker::new(poll.registry(), WAKER).ok()?;
-        let post = Arc::new(alloc, Post::new(alloc, waker)).ok()?;
-        let start = Start {
-            poll,
-            post: Arc::try_clone(&post).ok()?,
-            taker: self.putter.taker()?,
-            door: Arc::try_clone(&self.door).ok()?,
-        };
-        self.posts.reserve(1).ok()?;
-        self.threads.reserve(1).ok()?;
-        let place = Arc::try_clone(place).ok()?;
-        let handle = *rt;
-        let thread = thread::Builder::new()
-            .stack_size(STACK)
-            .spawn(rt, move || place.work(&handle, alloc, start))
-            .ok()?;
+        if !self.make_room() {
+            return None;
+        }
+        let (poll, post) = poll_with_post(rt, alloc)?;
+        let start = self.start_of(poll, &post)?;
+        self.put_to_work(rt, alloc, place, post, start)
+    }
+
+    fn put_to_work<
+        R: Threads + Wait + Net + Clock + Copy + Send + Sync + Drop + 'static,
+        X: Job + Send + Sync + Drop + 'static,
+    >(
+        &mut self,
+        rt: &R,
+        alloc: Global,
+        place: &Arc<X>,
+        post: Arc<Post>,
+        start: Start,
+    ) -> Option<()> {
+        let thread = spawn(rt, alloc, place, start)?;
         self.posts.push(post).ok()?;
         self.threads.push(thread).ok()
     }
@@ -135,6 +160,31 @@ impl Crew {
         }
         has_worked
     }
+}
+
+/// A poll, and the post of a worker, which wakes it.
+fn poll_with_post<R: Net>(rt: &R, alloc: Global) -> Option<(Poll, Arc<Post>)> {
+    let poll = Poll::new(rt).ok()?;
+    let post = post_for(alloc, &poll)?;
+    Some((poll, post))
+}
+
+fn post_for(alloc: Global, poll: &Poll) -> Option<Arc<Post>> {
+    let waker = Waker::new(poll.registry(), WAKER).ok()?;
+    Arc::new(alloc, Post::new(alloc, waker)).ok()
+}
+
+/// A thread in which a worker works.
+fn spawn<
+    R: Threads + Wait + Net + Clock + Copy + Send + Sync + Drop + 'static,
+    X: Job + Send + Sync + Drop + 'static,
+>(rt: &R, alloc: Global, place: &Arc<X>, start: Start) -> Option<JoinHandle<bool>> {
+    let place = Arc::try_clone(place).ok()?;
+    let handle = *rt;
+    thread::Builder::new()
+        .stack_size(STACK)
+        .spawn(rt, move || place.work(&handle, alloc, start))
+        .ok()
 }
 
 impl Entrance {
@@ -265,37 +315,81 @@ fn hire_all<
     true
 }
 
+/// The thread that stores, which wakes the accepting one at its end.
+fn storing_for<
+    R: Threads + Wait + Clock + Copy + Send + Sync + Drop + 'static,
+    X: Job + Send + Sync + Drop + 'static,
+>(rt: &R, place: &Arc<X>, entrance: &Entrance) -> Option<JoinHandle<()>> {
+    let waker = Waker::new(entrance.poll.registry(), WAKER).ok()?;
+    store_beside(rt, place, waker)
+}
+
+fn serve_at<
+    R: Threads + Wait + Net + Clock + Eprint + Copy + Send + Sync + Drop + 'static,
+    X: Job + Send + Sync + Drop + 'static,
+>(
+    rt: &R,
+    alloc: Global,
+    entrance: &mut Entrance,
+    crew: Crew,
+    place: &Arc<X>,
+    limits: Limits,
+) -> Ended {
+    match storing_for(rt, place, entrance) {
+        Some(storing) => {
+            let ended = serve_by(rt, alloc, entrance, crew, place, limits);
+            place.finish(rt);
+            storing.join(rt);
+            if place.has_failed() {
+                Ended::StoreFailed
+            } else {
+                ended
+            }
+        }
+        None => Ended::Failed,
+    }
+}
+
+/// Serves connections by the crew, until all its workers have ended.
+fn serve_by<
+    R: Threads + Wait + Net + Clock + Eprint + Copy + Send + Sync + Drop + 'static,
+    X: Job + Send + Sync + Drop + 'static,
+>(
+    rt: &R,
+    alloc: Global,
+    entrance: &mut Entrance,
+    mut crew: Crew,
+    place: &Arc<X>,
+    limits: Limits,
+) -> Ended {
+    let most = limits.connections.unwrap_or(u64::MAX);
+    let has_served = hire_all(rt, alloc, place, &mut crew, limits.workers)
+        && welcome(rt, &**place, entrance, &mut crew, most);
+    let count = crew.putter.count();
+    crew.shut(rt);
+    let has_worked = crew.join(rt);
+    if has_served && has_worked {
+        Ended::Served(count)
+    } else {
+        Ended::Failed
+    }
+}
+
 /// Serves connections that come to the listener, each by one of the workers, until so many have come and ended, or the
 /// store fails. One thread accepts them, and one stores what is too much for a worker.
 pub fn serve<
     R: Threads + Wait + Net + Clock + Eprint + Copy + Send + Sync + Drop + 'static,
     X: Job + Send + Sync + Drop + 'static,
 >(rt: &R, alloc: Global, listener: std::net::TcpListener, place: Arc<X>, limits: Limits) -> Ended {
-    let (Some(mut entrance), Some(mut crew)) = (
-        Entrance::new(rt, alloc, listener),
-        Crew::new(alloc),
-    ) else {
-        return Ended::Failed;
-    };
-    let Ok(waker) = Waker::new(entrance.poll.registry(), WAKER) else {
-        return Ended::Failed;
-    };
-    let Some(storing) = store_beside(rt, &place, waker) else {
-        return Ended::Failed;
-    };
-    let most = limits.connections.unwrap_or(u64::MAX);
-    let has_served = hire_all(rt, alloc, &place, &mut crew, limits.workers)
-        && welcome(rt, &*place, &mut entrance, &mut crew, most);
-    let count = crew.putter.count();
-    crew.shut(rt);
-    let has_worked = crew.join(rt);
-    place.finish(rt);
-    storing.join(rt);
-    if place.has_failed() {
-        Ended::StoreFailed
-    } else if has_served && has_worked {
-        Ended::Served(count)
-    } else {
-        Ended::Failed
+    match (Entrance::new(rt, alloc, listener), Crew::new(alloc)) {
+        (Some(mut entrance), Some(crew)) => serve_at(
+            rt,
+            alloc,
+            &mut entrance,
+            crew,
+            &place,
+            limits,
+        ),
+        _ => Ended::Failed,
     }
 }

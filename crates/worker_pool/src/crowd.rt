@@ -31,6 +31,24 @@ pub(crate) struct Crowd<T: Opened + Drop, J: Naming> {
     made: u64,
 }
 
+/// The stream, once the poll tells of it under the token.
+fn registered(poll: &Poll, stream: TcpStream, token: usize) -> Option<TcpStream> {
+    let mut stream = stream;
+    let interest = Interest::READABLE | Interest::WRITABLE;
+    match poll
+        .registry()
+        .register(&mut stream, Token(token), interest)
+    {
+        Ok(()) => Some(stream),
+        Err(_) => None,
+    }
+}
+
+fn bell_for(alloc: Global, post: &Arc<Post>, token: usize) -> Option<Arc<Doorbell>> {
+    let post = Arc::try_clone(post).ok()?;
+    Arc::new(alloc, Doorbell::new(post, token)).ok()
+}
+
 impl<T: Opened + Drop, J: Naming> Crowd<T, J> {
     pub(crate) fn new(alloc: Global) -> Self {
         Crowd {
@@ -103,32 +121,36 @@ impl<T: Opened + Drop, J: Naming> Crowd<T, J> {
             return false;
         }
         let token = self.clients.vacant_key();
-        let mut stream = stream;
-        let interest = Interest::READABLE | Interest::WRITABLE;
-        if poll
-            .registry()
-            .register(&mut stream, Token(token), interest)
-            .is_err()
-        {
-            return false;
+        match registered(poll, stream, token) {
+            Some(stream) => self.begin(post, token, number, stream, now),
+            None => false,
         }
-        let (Ok(shaking), Ok(post)) = (Shaking::start(self.alloc, stream), Arc::try_clone(post))
-        else {
-            return false;
-        };
-        let Ok(bell) = Arc::new(self.alloc, Doorbell::new(post, token)) else {
-            return false;
-        };
-        let timer = Timer {
-            millis: now.millis().saturating_add(SHAKING),
-            token,
-            number,
-        };
-        self.timers.add(timer)
-            && self
-                .clients
-                .insert(Client::new(number, bell, shaking))
-                .is_ok()
+    }
+
+    /// Begins the handshake of a connection, for which there is room.
+    fn begin(
+        &mut self,
+        post: &Arc<Post>,
+        token: usize,
+        number: u64,
+        stream: TcpStream,
+        now: Moment,
+    ) -> bool {
+        match (
+            Shaking::start(self.alloc, stream),
+            bell_for(self.alloc, post, token),
+        ) {
+            (Ok(shaking), Some(bell)) => {
+                let client = Client::new(number, bell, shaking);
+                let timer = Timer {
+                    millis: now.millis().saturating_add(SHAKING),
+                    token,
+                    number,
+                };
+                self.timers.add(timer) && self.clients.insert(client).is_ok()
+            }
+            _ => false,
+        }
     }
 
     /// Serves those that are due, once each.

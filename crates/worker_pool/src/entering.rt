@@ -84,17 +84,42 @@ pub(crate) fn enter<T: Opened + Drop, S: Alter, J: Naming, G: Gate + Drop, R: Wa
     target: &str,
     bell: &Arc<Doorbell>,
 ) -> Option<Guest<T, J>> {
-    let endpoint = match route(alloc, target) {
-        Ok(endpoint) => endpoint,
+    match route(alloc, target) {
+        Ok(endpoint) => enter_at(rt, alloc, place, conn, endpoint, bell),
         Err(fault) => {
             turn_away(&mut conn, fault.close_code(), fault.fault());
-            return None;
+            None
         }
-    };
-    let (Some(wish), Ok(bell)) = (wish_of(&endpoint), Arc::try_clone(bell)) else {
-        turn_away(&mut conn, 4008, Fault::NoMemory);
-        return None;
-    };
+    }
+}
+
+fn enter_at<T: Opened + Drop, S: Alter, J: Naming, G: Gate + Drop, R: Wait>(
+    rt: &R,
+    alloc: Global,
+    place: &Place<T, S, J, G>,
+    mut conn: SocketConn<TcpStream>,
+    endpoint: Endpoint,
+    bell: &Arc<Doorbell>,
+) -> Option<Guest<T, J>> {
+    match (wish_of(&endpoint), Arc::try_clone(bell)) {
+        (Some(wish), Ok(bell)) => sit(rt, alloc, place, conn, endpoint, wish, bell),
+        _ => {
+            turn_away(&mut conn, 4008, Fault::NoMemory);
+            None
+        }
+    }
+}
+
+/// Takes the seat that is wished for, and begins the session there.
+fn sit<T: Opened + Drop, S: Alter, J: Naming, G: Gate + Drop, R: Wait>(
+    rt: &R,
+    alloc: Global,
+    place: &Place<T, S, J, G>,
+    mut conn: SocketConn<TcpStream>,
+    endpoint: Endpoint,
+    wish: Wish,
+    bell: Arc<Doorbell>,
+) -> Option<Guest<T, J>> {
     match place.directory.attach(rt, &wish.topic, wish.creates, bell) {
         Ok(attached) => begin(rt, alloc, place, endpoint, conn, attached),
         Err(fault) => {

@@ -5,9 +5,10 @@ use crate::place::Place;
 use broker_dir::Gate;
 use delivery_machine::{Fault, Moment, Opened};
 use marks::Naming;
+use mio::net::TcpStream;
 use session_bells::Rest;
 use session_core::{Session, TextCount, serve};
-use socket_conn::Shaken;
+use socket_conn::{Shaken, Shaking};
 use sqlite::Alter;
 use std::alloc::Global;
 use std::mem;
@@ -83,6 +84,25 @@ impl<T: Opened + Drop, J: Naming> Guest<T, J> {
         };
         !place.directory.rest(rt, &self.attached, rest)
     }
+
+    /// What a turn came to that took so many texts.
+    fn turned<S: Alter, G: Gate + Drop, R: Wait>(
+        &mut self,
+        rt: &R,
+        place: &Place<T, S, J, G>,
+        received: u32,
+    ) -> Turned {
+        let after = if self.goes_on(rt, place, received) {
+            After::Again
+        } else {
+            After::Rest
+        };
+        Turned {
+            after,
+            made: u64::from(received).max(1),
+            due: self.session.waits().due,
+        }
+    }
 }
 
 /// One turn of an open connection. Gives it back where it has not ended.
@@ -108,31 +128,37 @@ fn turn<T: Opened + Drop, S: Alter, J: Naming, G: Gate + Drop, R: Wait>(
     };
     let _ = conn.flush();
     let received = conn.take_received();
-    let Some(session) = left else {
-        place.directory.detach(rt, attached);
-        return (Turned::gone(), None);
-    };
-    if place.directory.is_closed() {
-        turn_away(&mut conn, 4008, Fault::StoreFailed);
-        place.directory.detach(rt, attached);
-        return (Turned::gone(), None);
+    match left {
+        Some(session) => {
+            let guest = Guest {
+                conn,
+                session,
+                attached,
+            };
+            stay(rt, place, guest, received)
+        }
+        None => {
+            place.directory.detach(rt, attached);
+            (Turned::gone(), None)
+        }
     }
-    let mut guest = Guest {
-        conn,
-        session,
-        attached,
-    };
-    let after = if guest.goes_on(rt, place, received) {
-        After::Again
+}
+
+/// The guest stays, unless the store has failed.
+fn stay<T: Opened + Drop, S: Alter, J: Naming, G: Gate + Drop, R: Wait>(
+    rt: &R,
+    place: &Place<T, S, J, G>,
+    mut guest: Guest<T, J>,
+    received: u32,
+) -> (Turned, Option<Guest<T, J>>) {
+    if place.directory.is_closed() {
+        turn_away(&mut guest.conn, 4008, Fault::StoreFailed);
+        place.directory.detach(rt, guest.attached);
+        (Turned::gone(), None)
     } else {
-        After::Rest
-    };
-    let turned = Turned {
-        after,
-        made: u64::from(received).max(1),
-        due: guest.session.waits().due,
-    };
-    (turned, Some(guest))
+        let turned = guest.turned(rt, place, received);
+        (turned, Some(guest))
+    }
 }
 
 impl<T: Opened + Drop, J: Naming> Client<T, J> {
@@ -146,21 +172,38 @@ impl<T: Opened + Drop, J: Naming> Client<T, J> {
     ) -> Turned {
         self.bell.hear();
         match mem::replace(&mut self.stage, Stage::Gone) {
-            Stage::Shaking(shaking) => match shaking.advance() {
-                Shaken::Waits(shaking) => {
-                    self.stage = Stage::Shaking(shaking);
-                    Turned::waits()
-                }
-                Shaken::Open(conn, target) => {
-                    match enter(rt, alloc, place, conn, target.as_str(), &self.bell) {
-                        Some(guest) => self.turn(rt, place, guest, now),
-                        None => Turned::gone(),
-                    }
-                }
-                Shaken::Failed => Turned::gone(),
-            },
+            Stage::Shaking(shaking) => self.shake(rt, alloc, place, shaking, now),
             Stage::Open(guest) => self.turn(rt, place, guest, now),
             Stage::Gone => Turned::gone(),
+        }
+    }
+
+    /// A turn of a connection that is in its handshake.
+    fn shake<S: Alter, G: Gate + Drop, R: Wait>(
+        &mut self,
+        rt: &R,
+        alloc: Global,
+        place: &Place<T, S, J, G>,
+        shaking: Shaking<TcpStream>,
+        now: Moment,
+    ) -> Turned {
+        match shaking.advance() {
+            Shaken::Waits(shaking) => {
+                self.stage = Stage::Shaking(shaking);
+                Turned::waits()
+            }
+            Shaken::Open(conn, target) => match enter(
+                rt,
+                alloc,
+                place,
+                conn,
+                target.as_str(),
+                &self.bell,
+            ) {
+                Some(guest) => self.turn(rt, place, guest, now),
+                None => Turned::gone(),
+            },
+            Shaken::Failed => Turned::gone(),
         }
     }
 

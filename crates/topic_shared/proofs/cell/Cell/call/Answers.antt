@@ -1,4 +1,4 @@
-use Rattle.std.proofs.Common.{rules, ◌≡◌, ◌+◌, ◌≤◌, ◌<◌, ℕ, length, arith, ap, length-append, sym, ◌∙◌, subst, refl, false}
+use Rattle.std.proofs.Common.{rules, ◌≡◌, ◌+◌, ◌≤◌, length, arith, ap, length-append, sym, ◌∙◌, subst, refl}
 use Rattle.delivery_machine.specs.Run.{Step}
 use Rattle.delivery_machine.specs.Journals.{producers_in, consumers_in}
 use Rattle.topic_shared.specs.Kept.{Kept, kept_lines, needed_by, spoken_for}
@@ -15,18 +15,19 @@ write-requires-clause-room g c =
 
 pub write-requires-clause-fits : goal.write-requires-clause-fits
 write-requires-clause-fits g c = λ short.
-    let is : c.event.result.now ≡ c.in-Ok-new.draft = c.event.ensures in
-    let step = subst (λ e. Step (g.T.Topic.state c.self.inside.topic) e c.in-Ok-answer.replies.0 (g.T.Topic.state c.answer.new.topic)) is c.in-Ok-answer.ensures.step in
-    long_replies (g.T.Topic.state c.self.inside.topic) c.in-Ok-new.draft c.in-Ok-answer.replies.0 (g.T.Topic.state c.answer.new.topic) step short
+    let a = c.in-Ok-answer_drafted.answered in
+    let done = c.in-Ok-answer_drafted.ensures in
+    let before = g.T.Topic.state c.self.inside.topic in
+    let after = g.T.Topic.state c.answer_drafted.new.topic in
+    long_replies before a.draft a.reply after (subst (λ e. Step before e a.reply after) (sym done.draft) done.step) short
 
-pub invariant_of-self-2 : goal.invariant_of-self-2
-invariant_of-self-2 g c =
+pub invariant_of-self-in-Ok-answer_drafted : goal.invariant_of-self-in-Ok-answer_drafted
+invariant_of-self-in-Ok-answer_drafted g c =
     let k = c.self.invariant in
-    let is : c.event.result.now ≡ c.args.event = c.event.ensures ∙ c.in-Ok-new.ensures.value in
     let room = subst (λ (k : Kept). (c.in-Some.needed ≡ needed_by k c.args.event) × (spoken_for k + c.in-Some.needed ≤ k.limit)) (sym c.self.view_is) c.in-Some.ensures.some in
     let kept = c.kept_lines-kept.ensures.value ∙ ap kept_lines (sym c.self.view_is) in
-    kept_more _ _ _ _ _ _ _ _ c.args.seat c.args.event c.in-Ok-answer.replies.0 k
-    (subst (λ e. Step (g.T.Topic.state c.self.inside.topic) e c.in-Ok-answer.replies.0 (g.T.Topic.state c.answer.new.topic)) is c.in-Ok-answer.ensures.step)
+    kept_more _ _ _ _ _ _ _ _ c.args.seat c.args.event c.in-Ok-answer_drafted.answered.reply k
+    c.in-Ok-answer_drafted.ensures.step
     refl refl refl refl refl
     (search rules)
     (search rules)
@@ -35,8 +36,8 @@ invariant_of-self-2 g c =
     (omega (arith, room.0, room.1))
     (let lines = ap length c.make_room.ensures.lines in omega (arith, room.0, kept, lines, c.in-Ok.ensures.ok, c.write.ensures.capacity))
 
-pub returns-clause-within : goal.returns-clause-within
-returns-clause-within g c =
+pub returns-in-Ok-answer_drafted-clause-within : goal.returns-in-Ok-answer_drafted-clause-within
+returns-in-Ok-answer_drafted-clause-within g c =
     let room = subst (λ (k : Kept). (c.in-Some.needed ≡ needed_by k c.args.event) × (spoken_for k + c.in-Some.needed ≤ k.limit)) (sym c.self.view_is) c.in-Some.ensures.some in
     let few = subst (λ (k : Kept). k.limit ≤ 16777216) (sym c.self.view_is) c.room_for.ensures.limit in
     let some = needs_some (producers_in (g.T.Topic.state c.self.inside.topic)) (consumers_in (g.T.Topic.state c.self.inside.topic)) c.args.event in

@@ -1,4 +1,4 @@
-use Rattle.std.proofs.Common.{rules, ◌≡◌, subst, ap, sym, ◌∙◌, refl}
+use Rattle.std.proofs.Common.{rules, ◌≡◌, subst, ◌∙◌, refl}
 use Rattle.delivery_machine.specs.declared.reply.Reply.TheVariants.{Durable}
 use Rattle.delivery_machine.specs.Run.{Step}
 use Rattle.topic_shared.proofs.Cells.{kept_stored}

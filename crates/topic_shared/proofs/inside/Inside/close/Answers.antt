@@ -1,5 +1,5 @@
-use Rattle.std.proofs.Common.{rules, arith, ap, length, sym, ◌∙◌, ◌≡◌, ◌+◌, subst}
-use Rattle.topic_shared.specs.Accounts.{Accounts, AllCounted, NoOthers, seat_lines, calls_of}
+use Rattle.std.proofs.Common.{rules, arith, length, sym, ◌∙◌, ◌≡◌, ◌+◌, subst}
+use Rattle.topic_shared.specs.Accounts.{Accounts}
 use Rattle.topic_shared.specs.Inside.{Locked}
 use Rattle.topic_shared.proofs.AllHere.{accounts}
 use Rattle.topic_shared.proofs.inside.Inside.close.Goals as goal
