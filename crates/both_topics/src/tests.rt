@@ -3,9 +3,11 @@ mod calls;
 mod dice;
 mod lists;
 mod memory;
+mod pair;
 mod seen;
 
 use lists::Lines;
+use pair::Pair;
 use plain_topic::PlainTopic;
 use position_core::LedgerSize;
 use replay_core::replay_fresh;
@@ -13,8 +15,8 @@ use seen::Seen;
 use std::process::Abort;
 use topic_core::TopicCore;
 
-/// How many lists a test has: a test may take a minute.
-const LISTS: u64 = 500;
+/// How many lists a test has.
+const LISTS: u64 = 2_000;
 
 /// How many events a list has.
 const EVENTS: u64 = 30;
@@ -47,33 +49,33 @@ fn check_list<R: Abort + AllocGlobal>(rt: &R, seen: &mut Seen, size: LedgerSize,
     seen.note_all(rt, fast.as_slice());
 }
 
-/// So many lists from the number on: every reply is the same, and replies of every kind come.
-fn check_lists<R: Abort + AllocGlobal>(rt: &R, first: u64) {
-    let size = LedgerSize::new(IN_A_LEDGER).expect(rt, "no size");
+/// So many lists: every line of the replies is the same, and replies of every kind come.
+fn check_texts<R: Abort + AllocGlobal>(rt: &R, size: LedgerSize) {
     let mut seen = Seen::new();
     for number in 0..LISTS {
-        let lines = Lines::random(rt, first.saturating_add(number), EVENTS);
+        let lines = Lines::random(rt, number, EVENTS);
         check_list(rt, &mut seen, size, lines.as_str());
     }
     seen.check_all(rt);
 }
 
 #[test]
+fn random_lines(rt: HostRuntime) {
+    let size = LedgerSize::new(IN_A_LEDGER).expect(&rt, "no size");
+    check_texts(&rt, size);
+}
+
+/// So many lists of so many events, with stores of a part among them: every reply is the same.
+fn check_events<R: Abort + AllocGlobal>(rt: &R, lists: u64, events: u64) {
+    let size = LedgerSize::new(IN_A_LEDGER).expect(rt, "no size");
+    for number in 0..lists {
+        let mut pair = Pair::new(rt, size, number);
+        let lines = Lines::random(rt, number, events);
+        pair.answer_each(rt, lines.as_str());
+    }
+}
+
+#[test]
 fn random_lists(rt: HostRuntime) {
-    check_lists(&rt, 0);
-}
-
-#[test]
-fn more_random_lists(rt: HostRuntime) {
-    check_lists(&rt, 500);
-}
-
-#[test]
-fn further_random_lists(rt: HostRuntime) {
-    check_lists(&rt, 1_000);
-}
-
-#[test]
-fn last_random_lists(rt: HostRuntime) {
-    check_lists(&rt, 1_500);
+    check_events(&rt, LISTS, EVENTS);
 }
