@@ -98,14 +98,18 @@ fn a_seat_is_taken_once(rt: HostRuntime) {
     assert_eq!(rt; cell.enter(), Ok(1));
 }
 
+fn messages_viewed<R: Abort>(rt: &R, cell: &Cell<TopicCore>) -> usize {
+    let snapshot = cell.view().expect(rt, "no memory");
+    snapshot.log().count()
+}
+
 #[test]
 fn the_last_line_is_for_what_is_stored(rt: HostRuntime) {
     let mut cell = with_three(&rt);
     assert!(rt; asked(&rt, &mut cell, Ask::Disconnect { producer: 1 }) == Came::Done);
     assert!(rt; asked(&rt, &mut cell, Ask::Leave { consumer: 1 }) == Came::Done);
     assert!(rt; cell.ready().is_ok());
-    let snapshot = cell.view().expect(&rt, "no memory");
-    assert_eq!(rt; snapshot.log().count(), 3);
+    assert_eq!(rt; messages_viewed(&rt, &cell), 3);
     assert!(rt; matches!(cell.stored(), Reply::Durable(3)));
     assert_eq!(rt; cell.lines(), 8);
     assert!(rt; cell.is_settled());
