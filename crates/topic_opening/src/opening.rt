@@ -8,9 +8,9 @@ ghost use Rattle.delivery_machine.specs.Places.{snapshot_in};
 ghost use Rattle.sqlite.specs.State.{HasCleanDisk, Survives};
 ghost use Rattle.sqlite.specs.Held.{state};
 ghost use Rattle.row_forms.specs.Standing.{HasNone};
-ghost use Rattle.topic_opening.specs.Opening.{Opens, opened};
+ghost use Rattle.topic_opening.specs.Opening.{Opens, begins, opened};
 
-use delivery_machine::{Fault, Opened, TopicName};
+use delivery_machine::{Fault, Opened, Snapshot, TopicName};
 use marks::Naming;
 use position_core::LedgerSize;
 use row_store::{Keeper, Loaded};
@@ -49,6 +49,21 @@ fn fresh_cell<T: Opened + Drop, J: Naming>(
     }
 }
 
+/// A topic that goes on from the snapshot, with nobody there.
+fn cell_from<T: Opened + Drop>(
+    alloc: Global,
+    snapshot: &Snapshot,
+    terms: Terms,
+) -> Result<Cell<T>, Fault>
+    ensures ok { IfOk result (λ cell. cell ≡ begins (restarted (snapshot_in snapshot.now)) terms) }
+    ensures err { IfErr result (λ fault. fault ≡ NoMemory) }
+{
+    match T::restart(alloc, snapshot) {
+        Ok(topic) => Cell::new(alloc, topic, terms.lines, terms.seats),
+        Err(fault) => Err(fault),
+    }
+}
+
 /// A topic that goes on from what its rows keep.
 fn restarted_cell<T: Opened + Drop, J: Naming>(
     alloc: Global,
@@ -60,11 +75,7 @@ fn restarted_cell<T: Opened + Drop, J: Naming>(
     ensures err { IfErr result (λ fault. fault ≡ NoMemory) }
 {
     let Loaded { snapshot, kept } = loaded;
-    let topic = match T::restart(alloc, &snapshot) {
-        Ok(topic) => topic,
-        Err(fault) => return Err(fault),
-    };
-    match Cell::new(alloc, topic, terms.lines, terms.seats) {
+    match cell_from(alloc, &snapshot, terms) {
         Ok(cell) => Ok(StoredCell::restarted(cell, &snapshot, kept)),
         Err(fault) => Err(fault),
     }

@@ -1,8 +1,10 @@
 // A topic's answer, twice: for the journal and for the caller. And what an answer changes.
-ghost use Rattle.std.specs.Prelude.{◌≡◌, ◌||◌, IfOk, IfErr, OnErr, IsOk, Some, true};
+ghost use Rattle.std.specs.Prelude.{◌≡◌, ◌||◌, List, IfOk, IfErr, OnErr, IsOk, Some, true, false};
 ghost use Rattle.position_core.specs.declared.fault.Fault.TheVariants.{NoMemory};
 ghost use Rattle.delivery_machine.specs.declared.event.Event.TheVariants.{Collect};
+ghost use Rattle.delivery_machine.specs.declared.delivery.Delivery.{Delivery};
 ghost use Rattle.delivery_machine.specs.Delivering.{out_of};
+ghost use Rattle.delivery_machine.specs.Dying.{is_letter};
 ghost use Rattle.delivery_machine.specs.Run.{Step};
 ghost use Rattle.delivery_machine.specs.Journals.{changes_snapshot, is_kept_once_done};
 ghost use Rattle.topic_shared.specs.Attached.{is_farewell, is_no_memory};
@@ -32,6 +34,41 @@ fn copies_for<T: Topic>(topic: &T, event: &Event) -> Result<Option<Deliveries>, 
     }
 }
 
+/// The reply, and the same again. Memory may be wanting for a letter alone.
+fn doubled(reply: Reply, copies: Option<Deliveries>) -> Result<(Reply, Reply), Fault>
+    requires copies { (handed : List Delivery) → reply ≡ Reply.Copies handed → copies ≡ Some handed }
+    ensures reply { IfOk result (λ replies. replies.0 ≡ reply) }
+    ensures twin { IfOk result (λ replies. replies.1 ≡ reply) }
+    ensures fault { IfErr result (λ fault. fault ≡ NoMemory) }
+    ensures given { is_letter reply ≡ false → IsOk result }
+{
+    match reply.twin(copies) {
+        Ok(twin) => Ok((reply, twin)),
+        Err(_) => Err(Fault::NoMemory),
+    }
+}
+
+/// What the topic answers, and the same again, with copies of what a `Collect` will answer.
+fn answer_with<T: Topic>(
+    topic: &mut T,
+    event: &Event,
+    copies: Option<Deliveries>,
+) -> Result<(Reply, Reply), Fault>
+    requires copies { (consumer : _) → event.now ≡ Collect consumer → copies ≡ Some (out_of (T.state topic.old) consumer) }
+    ensures step { IfOk result (λ replies. Step (T.state topic.old) event.now replies.0 (T.state topic.new)) }
+    ensures twin { IfOk result (λ replies. replies.1 ≡ replies.0) }
+    ensures err { OnErr result (T.state topic.new ≡ T.state topic.old) }
+    ensures fault { IfErr result (λ fault. fault ≡ NoMemory) }
+    ensures ends { is_farewell event.now ≡ true → IsOk result }
+{
+    let reply = topic.apply(event);
+    if is_no_memory(&reply) {
+        Err(Fault::NoMemory)
+    } else {
+        doubled(reply, copies)
+    }
+}
+
 /// What the topic answers, and the same again. Only where memory is wanting for either is there none,
 /// and the topic is then as it was. To go needs no memory.
 fn answer<T: Topic>(topic: &mut T, event: &Event) -> Result<(Reply, Reply), Fault>
@@ -41,17 +78,9 @@ fn answer<T: Topic>(topic: &mut T, event: &Event) -> Result<(Reply, Reply), Faul
     ensures fault { IfErr result (λ fault. fault ≡ NoMemory) }
     ensures ends { is_farewell event.now ≡ true → IsOk result }
 {
-    let copies = match copies_for(topic, event) {
-        Ok(copies) => copies,
-        Err(fault) => return Err(fault),
-    };
-    let reply = topic.apply(event);
-    if is_no_memory(&reply) {
-        return Err(Fault::NoMemory);
-    }
-    match reply.twin(copies) {
-        Ok(twin) => Ok((reply, twin)),
-        Err(_) => Err(Fault::NoMemory),
+    match copies_for(topic, event) {
+        Ok(copies) => answer_with(topic, event, copies),
+        Err(fault) => Err(fault),
     }
 }
 
@@ -77,9 +106,20 @@ pub fn answer_drafted<T: Topic>(
     ensures fault { IfErr result (λ fault. fault ≡ NoMemory) }
     ensures ends { is_farewell event ≡ true → IsOk result }
 {
-    let Ok(draft) = Draft::new(alloc, event) else {
-        return Err(Fault::NoMemory);
-    };
+    match Draft::new(alloc, event) {
+        Ok(draft) => answer_draft(topic, draft),
+        Err(_) => Err(Fault::NoMemory),
+    }
+}
+
+fn answer_draft<T: Topic>(topic: &mut T, draft: Draft) -> Result<Answered, Fault>
+    ensures draft { IfOk result (λ answered. answered.draft ≡ draft) }
+    ensures step { IfOk result (λ answered. Step (T.state topic.old) draft answered.reply (T.state topic.new)) }
+    ensures twin { IfOk result (λ answered. answered.twin ≡ answered.reply) }
+    ensures err { OnErr result (T.state topic.new ≡ T.state topic.old) }
+    ensures fault { IfErr result (λ fault. fault ≡ NoMemory) }
+    ensures ends { is_farewell draft ≡ true → IsOk result }
+{
     match answer(topic, draft.event()) {
         Ok((reply, twin)) => Ok(Answered { draft, reply, twin }),
         Err(fault) => Err(fault),
