@@ -50,44 +50,72 @@ impl<B: Bell + Drop> Bells<B> {
         Ok(())
     }
 
+    fn has_place(&mut self, place: usize) -> bool {
+        self.make_place(place).is_ok() && self.writers.reserve(self.residents.len()).is_ok()
+    }
+
+    fn set_resident(&mut self, place: usize, resident: Option<Resident<B>>) {
+        if let Some(seat) = self.residents.get_mut(place) {
+            *seat = resident;
+        }
+    }
+
     /// A session sits at the seat, and has this bell. Only want of memory is a refusal (F1).
     pub fn enter(&mut self, seat: u64, bell: Arc<B>) -> Result<(), Fault> {
         let place = place_of(seat);
-        if self.make_place(place).is_err() || self.writers.reserve(self.residents.len()).is_err() {
-            return Err(Fault::NoMemory);
+        if self.has_place(place) {
+            self.set_resident(place, Some(Resident::new(bell)));
+            Ok(())
+        } else {
+            Err(Fault::NoMemory)
         }
-        if place < self.residents.len() {
-            self.residents[place] = Some(Resident::new(bell));
-        }
-        Ok(())
     }
 
     /// The session at the seat goes. Another consumer is rung in its place.
     pub fn exit<R: Wait>(&mut self, rt: &R, seat: u64) {
         let place = place_of(seat);
-        if place >= self.residents.len() {
-            return;
-        }
-        if let Some(resident) = self.residents[place].take() {
-            self.writers.retain(|other| *other != place);
-            if let Some(line) = resident.line {
-                self.leave_line(rt, line, place);
-            }
+        let line = self.own_line(place);
+        self.writers.retain(|other| *other != place);
+        self.set_resident(place, None);
+        if let Some(line) = line {
+            self.leave_line(rt, line, place);
         }
     }
 
     fn leave_line<R: Wait>(&mut self, rt: &R, line: usize, place: usize) {
         self.consumers.retain(|(_, other)| *other != place);
-        let mut is_empty = false;
-        if let Some(Some(line)) = self.lines.get_mut(line) {
-            line.remove(place);
-            line.members = line.members.saturating_sub(1);
-            is_empty = line.members == 0;
-        }
-        if is_empty {
-            self.lines[line] = None;
+        if self.leaves_empty(line, place) {
+            self.set_line(line, None);
         } else {
             self.freshen(rt, line);
+        }
+    }
+
+    /// Takes the member out of the line. Whether nobody is left in it.
+    fn leaves_empty(&mut self, line: usize, place: usize) -> bool {
+        match self.line_mut(line) {
+            Some(line) => line.leave(place),
+            None => false,
+        }
+    }
+
+    fn set_line(&mut self, at: usize, line: Option<Line>) {
+        if let Some(place) = self.lines.get_mut(at) {
+            *place = line;
+        }
+    }
+
+    pub(crate) fn resident_mut(&mut self, place: usize) -> Option<&mut Resident<B>> {
+        match self.residents.get_mut(place) {
+            Some(Some(resident)) => Some(resident),
+            _ => None,
+        }
+    }
+
+    pub(crate) fn line_mut(&mut self, line: usize) -> Option<&mut Line> {
+        match self.lines.get_mut(line) {
+            Some(Some(line)) => Some(line),
+            _ => None,
         }
     }
 
@@ -100,40 +128,62 @@ impl<B: Bell + Drop> Bells<B> {
 
     /// The place of the subscription's line, which is made where it is not there.
     fn line_for(&mut self, name: &SubscriptionName) -> Result<usize, Fault> {
-        if let Some(line) = self.line_of(name) {
-            return Ok(line);
+        match self.line_of(name) {
+            Some(line) => Ok(line),
+            None => self.make_line(name),
         }
-        let Ok(name) = name.clone() else {
-            return Err(Fault::NoMemory);
-        };
-        let line = Line::new(self.alloc, name);
-        if let Some(free) = self.lines.iter().position(|line| line.is_none()) {
-            self.lines[free] = Some(line);
-            return Ok(free);
+    }
+
+    fn make_line(&mut self, name: &SubscriptionName) -> Result<usize, Fault> {
+        match name.clone() {
+            Ok(name) => self.add_line(Line::new(self.alloc, name)),
+            Err(_) => Err(Fault::NoMemory),
         }
+    }
+
+    fn add_line(&mut self, line: Line) -> Result<usize, Fault> {
+        match self.free_line() {
+            Some(free) => {
+                self.set_line(free, Some(line));
+                Ok(free)
+            }
+            None => self.push_line(line),
+        }
+    }
+
+    fn free_line(&self) -> Option<usize> {
+        self.lines.iter().position(|line| line.is_none())
+    }
+
+    fn push_line(&mut self, line: Line) -> Result<usize, Fault> {
+        let place = self.lines.len();
         match self.lines.push(Some(line)) {
-            Ok(()) => Ok(self.lines.len() - 1),
+            Ok(()) => Ok(place),
             Err(_) => Err(Fault::NoMemory),
         }
     }
 
     /// The room that the event may need. Only want of memory is a refusal (F1).
     pub fn prepare(&mut self, asked: &Asked) -> Result<(), Fault> {
-        let Asked::Joins(name) = asked else {
-            return Ok(());
-        };
-        let place = match self.line_for(name) {
-            Ok(place) => place,
-            Err(fault) => return Err(fault),
-        };
-        let has_room = match self.lines.get_mut(place) {
-            Some(Some(line)) => line.make_room().is_ok(),
-            _ => false,
-        };
-        if has_room && self.consumers.reserve(1).is_ok() {
+        match asked {
+            Asked::Joins(name) => self.prepare_join(name),
+            _ => Ok(()),
+        }
+    }
+
+    fn prepare_join(&mut self, name: &SubscriptionName) -> Result<(), Fault> {
+        let line = self.line_for(name)?;
+        if self.makes_room(line) && self.consumers.reserve(1).is_ok() {
             Ok(())
         } else {
             Err(Fault::NoMemory)
+        }
+    }
+
+    fn makes_room(&mut self, line: usize) -> bool {
+        match self.line_mut(line) {
+            Some(line) => line.make_room().is_ok(),
+            None => false,
         }
     }
 
@@ -155,43 +205,48 @@ impl<B: Bell + Drop> Bells<B> {
     }
 
     fn joined(&mut self, place: usize, name: &SubscriptionName, reply: &Reply) {
-        let Some(place_of_line) = self.line_of(name) else {
-            return;
-        };
-        let Reply::Subscribed { consumer } = reply else {
-            self.drop_if_empty(place_of_line);
-            return;
-        };
-        if let Some(Some(line)) = self.lines.get_mut(place_of_line) {
-            line.members = line.members.saturating_add(1);
-            line.is_fresh = true;
-        }
-        let _ = self.consumers.push((*consumer, place));
-        if let Some(Some(resident)) = self.residents.get_mut(place) {
-            resident.consumer = Some(*consumer);
-            resident.line = Some(place_of_line);
+        if let Some(line) = self.line_of(name) {
+            match reply {
+                Reply::Subscribed { consumer } => self.join_line(line, place, *consumer),
+                _ => self.drop_if_empty(line),
+            }
         }
     }
 
-    fn drop_if_empty(&mut self, place: usize) {
-        let is_empty = match self.lines.get(place) {
+    fn join_line(&mut self, line: usize, place: usize, consumer: ConsumerNumber) {
+        if let Some(line) = self.line_mut(line) {
+            line.join();
+        }
+        let _ = self.consumers.push((consumer, place));
+        if let Some(resident) = self.resident_mut(place) {
+            resident.join(consumer, line);
+        }
+    }
+
+    fn drop_if_empty(&mut self, line: usize) {
+        if self.is_empty(line) {
+            self.set_line(line, None);
+        }
+    }
+
+    fn is_empty(&self, line: usize) -> bool {
+        match self.lines.get(line) {
             Some(Some(line)) => line.members == 0,
             _ => false,
-        };
-        if is_empty {
-            self.lines[place] = None;
         }
     }
 
     fn left<R: Wait>(&mut self, rt: &R, place: usize) {
-        let mut left = None;
-        if let Some(Some(resident)) = self.residents.get_mut(place) {
-            left = resident.line.take();
-            resident.consumer = None;
-            resident.is_listed = false;
-        }
-        if let Some(line) = left {
+        if let Some(line) = self.forget_consumer(place) {
             self.leave_line(rt, line, place);
+        }
+    }
+
+    /// The one there is no consumer any more. The line that it was in.
+    fn forget_consumer(&mut self, place: usize) -> Option<usize> {
+        match self.resident_mut(place) {
+            Some(resident) => resident.leave(),
+            None => None,
         }
     }
 
@@ -212,7 +267,7 @@ impl<B: Bell + Drop> Bells<B> {
     }
 
     fn set_fresh(&mut self, line: usize, is_fresh: bool) {
-        if let Some(Some(line)) = self.lines.get_mut(line) {
+        if let Some(line) = self.line_mut(line) {
             line.is_fresh = is_fresh;
         }
     }
@@ -224,15 +279,14 @@ impl<B: Bell + Drop> Bells<B> {
     }
 
     fn dispatched<R: Wait>(&mut self, rt: &R, place: usize, reply: &Reply) {
-        let Some(line) = self.own_line(place) else {
-            return;
-        };
-        match reply {
-            Reply::Sent { consumer, .. } => {
-                self.set_fresh(line, true);
-                self.ring_consumer(rt, place, *consumer);
+        if let Some(line) = self.own_line(place) {
+            match reply {
+                Reply::Sent { consumer, .. } => {
+                    self.set_fresh(line, true);
+                    self.ring_consumer(rt, place, *consumer);
+                }
+                _ => self.set_fresh(line, false),
             }
-            _ => self.set_fresh(line, false),
         }
     }
 
@@ -263,16 +317,22 @@ impl<B: Bell + Drop> Bells<B> {
 
     /// Rings the consumer that has waited longest, where one waits.
     pub(crate) fn ring_one<R: Wait>(&mut self, rt: &R, line: usize) {
-        let first = match self.lines.get_mut(line) {
-            Some(Some(line)) => line.first(),
-            _ => None,
-        };
-        let Some(place) = first else {
-            return;
-        };
-        if let Some(Some(resident)) = self.residents.get_mut(place) {
+        if let Some(place) = self.take_first(line) {
+            self.unlist(place);
+            self.ring(rt, place);
+        }
+    }
+
+    fn take_first(&mut self, line: usize) -> Option<usize> {
+        match self.line_mut(line) {
+            Some(line) => line.first(),
+            None => None,
+        }
+    }
+
+    fn unlist(&mut self, place: usize) {
+        if let Some(resident) = self.resident_mut(place) {
             resident.is_listed = false;
         }
-        self.ring(rt, place);
     }
 }

@@ -30,6 +30,19 @@ impl Line {
             .reserve(room.saturating_sub(self.waiting.len()))
     }
 
+    /// A member more. It may be sent messages, so somebody is to look.
+    pub(crate) fn join(&mut self) {
+        self.members = self.members.saturating_add(1);
+        self.is_fresh = true;
+    }
+
+    /// A member less. Whether nobody is left.
+    pub(crate) fn leave(&mut self, place: usize) -> bool {
+        self.remove(place);
+        self.members = self.members.saturating_sub(1);
+        self.members == 0
+    }
+
     /// The member waits behind the others. There is room: each member is here once.
     pub(crate) fn add(&mut self, place: usize) {
         let _ = self.waiting.push_back(place);
@@ -39,7 +52,7 @@ impl Line {
         self.waiting.pop_front()
     }
 
-    pub(crate) fn remove(&mut self, place: usize) {
+    fn remove(&mut self, place: usize) {
         for _ in 0..self.waiting.len() {
             let Some(other) = self.waiting.pop_front() else {
                 return;

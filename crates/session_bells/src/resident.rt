@@ -25,4 +25,41 @@ impl<B: Drop> Resident<B> {
             is_listed: false,
         }
     }
+
+    pub(crate) fn join(&mut self, consumer: ConsumerNumber, line: usize) {
+        self.consumer = Some(consumer);
+        self.line = Some(line);
+    }
+
+    /// It is no consumer any more. The line that it was in.
+    pub(crate) fn leave(&mut self) -> Option<usize> {
+        self.consumer = None;
+        self.is_listed = false;
+        self.line.take()
+    }
+
+    /// It waits for this length to be stored. Whether it waited for none before.
+    pub(crate) fn wait_for(&mut self, length: u64) -> bool {
+        let is_new = self.durable.is_none();
+        self.durable = Some(length);
+        is_new
+    }
+
+    /// Whether what it waits for is stored, where so much is; it waits no more then.
+    pub(crate) fn is_stored_for(&mut self, durable: u64) -> bool {
+        match self.durable {
+            Some(length) if length > durable => false,
+            _ => {
+                self.durable = None;
+                true
+            }
+        }
+    }
+
+    /// It is in its line. Whether it was not before.
+    pub(crate) fn list(&mut self) -> bool {
+        let is_new = !self.is_listed;
+        self.is_listed = true;
+        is_new
+    }
 }

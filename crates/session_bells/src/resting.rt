@@ -34,12 +34,16 @@ impl<B: Bell + Drop> Bells<B> {
     }
 
     fn wait_for_store(&mut self, place: usize, length: u64) {
-        if let Some(Some(resident)) = self.residents.get_mut(place) {
-            let is_there = resident.durable.is_some();
-            resident.durable = Some(length);
-            if !is_there {
-                let _ = self.writers.push_back(place);
-            }
+        if self.waits_anew(place, length) {
+            let _ = self.writers.push_back(place);
+        }
+    }
+
+    /// The one there waits for this length to be stored. Whether it waited for none before.
+    fn waits_anew(&mut self, place: usize, length: u64) -> bool {
+        match self.resident_mut(place) {
+            Some(resident) => resident.wait_for(length),
+            None => false,
         }
     }
 
@@ -73,12 +77,21 @@ impl<B: Bell + Drop> Bells<B> {
     }
 
     fn wait_in_line(&mut self, line: usize, place: usize) {
-        let mut adds = false;
-        if let Some(Some(resident)) = self.residents.get_mut(place) {
-            adds = !resident.is_listed;
-            resident.is_listed = true;
+        if self.lists(place) {
+            self.add_to_line(line, place);
         }
-        if adds && let Some(Some(line)) = self.lines.get_mut(line) {
+    }
+
+    /// The one there is in its line. Whether it was not before.
+    fn lists(&mut self, place: usize) -> bool {
+        match self.resident_mut(place) {
+            Some(resident) => resident.list(),
+            None => false,
+        }
+    }
+
+    fn add_to_line(&mut self, line: usize, place: usize) {
+        if let Some(line) = self.line_mut(line) {
             line.add(place);
         }
     }
@@ -111,15 +124,9 @@ impl<B: Bell + Drop> Bells<B> {
     /// Whether what the one there waits for is stored; it waits no more then.
     fn is_stored_for(&mut self, place: usize) -> bool {
         let durable = self.durable;
-        match self.residents.get_mut(place) {
-            Some(Some(resident)) => match resident.durable {
-                Some(length) if length > durable => false,
-                _ => {
-                    resident.durable = None;
-                    true
-                }
-            },
-            _ => true,
+        match self.resident_mut(place) {
+            Some(resident) => resident.is_stored_for(durable),
+            None => true,
         }
     }
 

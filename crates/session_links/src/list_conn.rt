@@ -1,5 +1,5 @@
 // A connection over lists, for tests and trials.
-ghost use Rattle.std.specs.Prelude.{◌≡◌, IfOk, IfSome, Some, None, option_map, true};
+ghost use Rattle.std.specs.Prelude.{◌≡◌, IfOk, IfSome, Some, None, option_map, string_bytes, true};
 ghost use Rattle.session_links.specs.Links.{Tells, receipt_of, with_close, with_receipt, with_sent};
 ghost use Rattle.std.specs.Option.{option_copied};
 ghost use Rattle.session_links.specs.Lists.{exchange_of, nothing_yet};
@@ -44,37 +44,61 @@ impl Told {
         }
     }
 
+    fn and_came(self, incoming: Incoming) -> Option<Told>
+        ensures { IfSome result (λ told. exchange_of told ≡ with_receipt (receipt_of incoming) (exchange_of self)) }
+    {
+        let mut told = self;
+        match told.received.push(incoming) {
+            Ok(()) => Some(told),
+            Err(_) => None,
+        }
+    }
+
     fn and_received(self, alloc: Global, incoming: &Incoming) -> Option<Told>
         ensures { IfSome result (λ told. exchange_of told ≡ with_receipt (receipt_of incoming.now) (exchange_of self)) }
     {
-        let mut told = self;
-        let copy = copy_of(alloc, incoming).ok()?;
-        if told.received.push(copy).is_err() {
-            return None;
+        match copy_of(alloc, incoming) {
+            Ok(copy) => self.and_came(copy),
+            Err(_) => None,
         }
-        Some(told)
+    }
+
+    fn and_text(self, text: String) -> Option<Told>
+        ensures { IfSome result (λ told. exchange_of told ≡ with_sent (string_bytes text) (exchange_of self)) }
+    {
+        let mut told = self;
+        match told.sent.push(text) {
+            Ok(()) => Some(told),
+            Err(_) => None,
+        }
     }
 
     fn and_sent(self, alloc: Global, text: &str) -> Option<Told>
         ensures { IfSome result (λ told. exchange_of told ≡ with_sent text.now (exchange_of self)) }
     {
-        let mut told = self;
-        let copy = String::from_str(alloc, text).ok()?;
-        if told.sent.push(copy).is_err() {
-            return None;
+        match String::from_str(alloc, text) {
+            Ok(copy) => self.and_text(copy),
+            Err(_) => None,
         }
-        Some(told)
+    }
+
+    fn and_end(self, closed: Closed) -> Option<Told>
+        ensures { IfSome result (λ told. exchange_of told ≡ with_close closed.code (string_bytes closed.reason) (exchange_of self)) }
+    {
+        let mut told = self;
+        match told.closes.push(closed) {
+            Ok(()) => Some(told),
+            Err(_) => None,
+        }
     }
 
     fn and_closed(self, alloc: Global, code: u16, reason: &str) -> Option<Told>
         ensures { IfSome result (λ told. exchange_of told ≡ with_close code reason.now (exchange_of self)) }
     {
-        let mut told = self;
-        let reason = String::from_str(alloc, reason).ok()?;
-        if told.closes.push(Closed { code, reason }).is_err() {
-            return None;
+        match String::from_str(alloc, reason) {
+            Ok(reason) => self.and_end(Closed { code, reason }),
+            Err(_) => None,
         }
-        Some(told)
     }
 }
 

@@ -2,7 +2,7 @@
 ghost use Rattle.std.specs.Prelude.{◌≡◌, [], IfOk, IfSome, Some, None, option_map};
 ghost use Rattle.std.specs.Option.{option_copied};
 ghost use Rattle.session_links.specs.Links.{Tells, reply_of, with_call};
-ghost use Rattle.session_links.specs.Lists.{Asks, calls_of};
+ghost use Rattle.session_links.specs.Lists.{Asks, call_of, calls_of};
 
 use crate::caller::Caller;
 use delivery_machine::{Event, Fault, Reply, Topic};
@@ -32,15 +32,23 @@ fn reply_in(answer: &Result<Reply, Fault>) -> Result<Reply, AllocError>
 }
 
 impl Lines {
+    fn and_line(self, line: Line) -> Option<Lines>
+        ensures { IfSome result (λ lines. calls_of lines ≡ with_call (call_of line) (calls_of self)) }
+    {
+        let mut lines = self;
+        match lines.items.push(line) {
+            Ok(()) => Some(lines),
+            Err(_) => None,
+        }
+    }
+
     fn and_call(self, event: Event, answer: &Result<Reply, Fault>) -> Option<Lines>
         ensures { IfSome result (λ lines. calls_of lines ≡ with_call (record { event = event; reply = reply_of answer.now }) (calls_of self)) }
     {
-        let mut lines = self;
-        let reply = reply_in(answer).ok()?;
-        if lines.items.push(Line { event, reply }).is_err() {
-            return None;
+        match reply_in(answer) {
+            Ok(reply) => self.and_line(Line { event, reply }),
+            Err(_) => None,
         }
-        Some(lines)
     }
 }
 
