@@ -1,8 +1,9 @@
 // A session's connection over a WebSocket.
-ghost use Rattle.std.specs.Prelude.{◌≡◌, ◌⊎◌, IfOk, OnOk, OnErr, Ok, [], true, false, IsErr, IsTrue, ◌↔◌};
+ghost use Rattle.std.specs.Prelude.{◌≡◌, ◌⊎◌, IfOk, OnOk, OnErr, Ok, Err, [], true, false, IsErr, IsTrue, ◌↔◌};
 ghost use Rattle.session_links.specs.Links.{Tells, goes_on, receipt_of, same, with_receipt, with_sent};
 ghost use Rattle.tungstenite.specs.Content.{text as Text};
-ghost use Rattle.tungstenite.specs.Socket.{Flushed, content_of};
+ghost use Rattle.tungstenite.specs.Socket.{Flushed, Writes, content_of};
+ghost use Rattle.websocket.specs.Connection.{write_step};
 ghost use Rattle.socket_conn.specs.Talks.{Brings, ComesTo, Receives, SendsText, Takes, WouldWait};
 
 use bytes::ByteStr;
@@ -57,36 +58,43 @@ fn would_block(error: &Error) -> bool
     }
 }
 
-fn message_in(alloc: Global, message: Message) -> Came
-    ensures { ComesTo (Ok message) result }
+fn message_in(alloc: Global, message: &Message) -> Came
+    ensures { ComesTo (Ok message.now) result }
 {
-    let copy = match &message {
-        Message::Text(text) => Vec::from_slice(alloc, text.as_str().as_bytes()),
-        Message::Binary(bytes) => Vec::from_slice(alloc, bytes.as_slice()),
-        Message::Ping(_) | Message::Pong(_) => return Came::Control,
-        Message::Close(_) => return Came::Closes,
-    };
-    match copy {
-        Ok(bytes) => Came::Text(bytes),
-        Err(_) => Came::Fails,
+    match message {
+        Message::Text(text) => match Vec::from_slice(alloc, text.as_str().as_bytes()) {
+            Ok(bytes) => Came::Text(bytes),
+            Err(_) => Came::Fails,
+        },
+        Message::Binary(bytes) => match Vec::from_slice(alloc, bytes.as_slice()) {
+            Ok(bytes) => Came::Text(bytes),
+            Err(_) => Came::Fails,
+        },
+        Message::Ping(_) | Message::Pong(_) => Came::Control,
+        Message::Close(_) => Came::Closes,
     }
 }
 
-fn outcome_of(alloc: Global, read: Result<Message, Error>) -> Came
-    ensures { ComesTo read result }
+/// What a read that gave no message comes to.
+fn failure_of(error: &Error) -> Came
+    ensures { ComesTo (Err error.now) result }
+{
+    if would_block(error) {
+        return Came::Nothing;
+    }
+    match error {
+        Error::ConnectionClosed => Came::Closes,
+        Error::AlreadyClosed => Came::Closes,
+        _ => Came::Fails,
+    }
+}
+
+fn outcome_of(alloc: Global, read: &Result<Message, Error>) -> Came
+    ensures { ComesTo read.now result }
 {
     match read {
         Ok(message) => message_in(alloc, message),
-        Err(error) => {
-            if would_block(&error) {
-                return Came::Nothing;
-            }
-            match error {
-                Error::ConnectionClosed => Came::Closes,
-                Error::AlreadyClosed => Came::Closes,
-                _ => Came::Fails,
-            }
-        }
+        Err(error) => failure_of(error),
     }
 }
 
@@ -191,7 +199,7 @@ impl<S: Read + Write + Drop> SocketConn<S> {
         ensures came { Brings S.remaining self.old.socket self.new.socket result }
     {
         let read = self.socket.read();
-        outcome_of(self.alloc, read)
+        outcome_of(self.alloc, &read)
     }
 
     fn take(&mut self, what: Came) -> Result<Incoming, ConnFault>
@@ -229,6 +237,32 @@ impl<S: Read + Write + Drop> SocketConn<S> {
         ensures { IfOk result (λ message. content_of message ≡ Text text.now) }
     {
         Message::text(self.alloc, text)
+    }
+
+    /// Writes the message. What the stream does not take waits.
+    fn write(&mut self, message: Message) -> Result<(), ConnFault>
+        ensures open { self.new.is_open ≡ self.old.is_open }
+        ensures wrote { OnOk result (Writes S.contents self.old.socket self.new.socket (write_step self.old.socket.conn (content_of message))) }
+    {
+        match self.socket.write(message) {
+            Ok(()) => Ok(()),
+            Err(error) => if would_block(&error) {
+                self.is_blocked = true;
+                Ok(())
+            } else {
+                Err(ConnFault)
+            },
+        }
+    }
+
+    fn write_text(&mut self, text: &str) -> Result<(), ConnFault>
+        ensures open { self.new.is_open ≡ self.old.is_open }
+        ensures wrote { OnOk result (SendsText S.contents self.old.socket self.new.socket text.now) }
+    {
+        match self.text_of(text) {
+            Ok(message) => self.write(message),
+            Err(_) => Err(ConnFault),
+        }
     }
 
     fn frame(&self, code: u16, reason: &str) -> Option<CloseFrame> {
@@ -285,20 +319,14 @@ impl<S: Read + Write + Drop> Conn for SocketConn<S> {
             self.is_open = false;
             return Err(ConnFault);
         }
-        let Ok(message) = self.text_of(text) else {
-            self.is_open = false;
-            return Err(ConnFault);
-        };
-        self.unsent = self.unsent.saturating_add(text.len());
-        match self.socket.write(message) {
-            Ok(()) => Ok(()),
-            Err(error) => {
-                if would_block(&error) {
-                    self.is_blocked = true;
-                    return Ok(());
-                }
+        match self.write_text(text) {
+            Ok(()) => {
+                self.unsent = self.unsent.saturating_add(text.len());
+                Ok(())
+            }
+            Err(fault) => {
                 self.is_open = false;
-                Err(ConnFault)
+                Err(fault)
             }
         }
     }

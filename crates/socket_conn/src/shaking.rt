@@ -5,7 +5,9 @@ use std::alloc::{AllocError, Global};
 use std::io::{Read, Write};
 use std::sync::{Arc, OnceLock};
 use tungstenite::handshake::server::{ErrorResponse, start};
-use tungstenite::{Callback, HandshakeError, MidHandshake, ServerHandshake, WebSocketConfig};
+use tungstenite::{
+    Callback, HandshakeError, MidHandshake, NoMask, ServerHandshake, WebSocket, WebSocketConfig,
+};
 
 /// How many bytes one read asks for. Each connection keeps so many, so they decide the memory of an idle one.
 const READ_SIZE: usize = 16_384;
@@ -70,6 +72,17 @@ fn asked_for(alloc: Global, target: &OnceLock<String>) -> Result<String, AllocEr
     }
 }
 
+fn opened<S: Read + Write + Drop>(
+    alloc: Global,
+    target: &OnceLock<String>,
+    socket: WebSocket<S, NoMask>,
+) -> Shaken<S> {
+    match asked_for(alloc, target) {
+        Ok(text) => Shaken::Open(SocketConn::new(alloc, socket), text),
+        Err(_) => Shaken::Failed,
+    }
+}
+
 impl<S: Read + Write + Drop> Shaking<S> {
     /// Begins the handshake on a stream that does not block.
     pub fn start(alloc: Global, stream: S) -> Result<Shaking<S>, AllocError> {
@@ -90,10 +103,7 @@ impl<S: Read + Write + Drop> Shaking<S> {
     pub fn advance(self) -> Shaken<S> {
         let Shaking { alloc, target, mid } = self;
         match mid.handshake() {
-            Ok(socket) => match asked_for(alloc, &*target) {
-                Ok(text) => Shaken::Open(SocketConn::new(alloc, socket), text),
-                Err(_) => Shaken::Failed,
-            },
+            Ok(socket) => opened(alloc, &*target, socket),
             Err(HandshakeError::Interrupted(mid)) => Shaken::Waits(Shaking { alloc, target, mid }),
             Err(HandshakeError::Failure(_)) => Shaken::Failed,
         }
