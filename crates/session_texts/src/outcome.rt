@@ -34,21 +34,21 @@ fn refused_publish(context: Context, fault: Fault) -> Outcome
     }
 }
 
-fn publish_outcome(context: Context, reply: Reply) -> Outcome
-    ensures { result ≡ publish_outcome context reply }
+fn publish_outcome(context: Context, reply: &Reply) -> Outcome
+    ensures { result ≡ publish_outcome context reply.now }
 {
     match reply {
         Reply::Published { position, length } => Outcome::Answers(Answer::Accepted {
             context,
-            position,
-            length,
+            position: *position,
+            length: *length,
         }),
         Reply::Duplicate { length } => Outcome::Answers(Answer::Accepted {
             context,
             position: NO_MESSAGE,
-            length,
+            length: *length,
         }),
-        Reply::Refused(fault) => refused_publish(context, fault),
+        Reply::Refused(fault) => refused_publish(context, *fault),
         _ => Outcome::Passes,
     }
 }
@@ -76,14 +76,14 @@ fn command_outcome(reply: &Reply) -> Outcome
     }
 }
 
-fn admin_outcome(reply: Reply) -> Outcome
-    ensures { result ≡ admin_outcome reply }
+fn admin_outcome(reply: &Reply) -> Outcome
+    ensures { result ≡ admin_outcome reply.now }
 {
     match reply {
         Reply::Refused(Fault::JournalFull) => {
             Outcome::Closes(Close::refusing(Fault::JournalFull))
         }
-        Reply::Refused(fault) => Outcome::Answers(Answer::Administered(Reply::Refused(fault))),
+        Reply::Refused(fault) => Outcome::Answers(Answer::Administered(Reply::Refused(*fault))),
         Reply::Done => Outcome::Answers(Answer::Administered(Reply::Done)),
         Reply::Stats {
             kind,
@@ -94,21 +94,20 @@ fn admin_outcome(reply: Reply) -> Outcome
             pending,
             dead,
         } => Outcome::Answers(Answer::Administered(Reply::Stats {
-            kind,
-            members,
-            mark_delete,
-            acknowledged,
-            live,
-            pending,
-            dead,
+            kind: *kind,
+            members: *members,
+            mark_delete: *mark_delete,
+            acknowledged: *acknowledged,
+            live: *live,
+            pending: *pending,
+            dead: *dead,
         })),
         _ => Outcome::Passes,
     }
 }
 
-/// What comes of the reply to the event that a text asked for.
-pub fn outcome_of(party: &Party, context: Context, reply: Reply) -> Outcome
-    ensures { result ≡ outcome_of party.now context reply }
+fn outcome_by(party: &Party, context: Context, reply: &Reply) -> Outcome
+    ensures { result ≡ outcome_of party.now context reply.now }
 {
     match party {
         Party::Producer {
@@ -118,9 +117,16 @@ pub fn outcome_of(party: &Party, context: Context, reply: Reply) -> Outcome
         Party::Consumer {
             number: _,
             subscription: _,
-        } => command_outcome(&reply),
+        } => command_outcome(reply),
         Party::Admin => admin_outcome(reply),
     }
+}
+
+/// What comes of the reply to the event that a text asked for.
+pub fn outcome_of(party: &Party, context: Context, reply: Reply) -> Outcome
+    ensures { result ≡ outcome_of party.now context reply }
+{
+    outcome_by(party, context, &reply)
 }
 
 /// The close that a refusal of what a session asks of its own accord leads to.
