@@ -339,20 +339,12 @@ Replayed-as this old new outcome other is h = subst (λ (o : Result (Unit {0}) S
 abbrev the_name : List ℕ → List ℕ → List ℕ → TopicName
 the_name tenant namespace topic = record { tenant = tenant; namespace = namespace; topic = topic }
 
-same_parts : (a b : TopicName) → (a.tenant ≡ b.tenant) × (a.namespace ≡ b.namespace) × (a.topic ≡ b.topic) → a ≡ b
+-- names of the same parts are one
+pub same_parts : (a b : TopicName) → (a.tenant ≡ b.tenant) × (a.namespace ≡ b.namespace) × (a.topic ≡ b.topic) → a ≡ b
 same_parts a b same =
     ap (λ (x : List ℕ). the_name x a.namespace a.topic) same.0
     ∙ ap (λ (x : List ℕ). the_name b.tenant x a.topic) same.1
     ∙ ap (λ (x : List ℕ). the_name b.tenant b.namespace x) same.2
-
--- the replay of a fresh topic of the name
-pub Replayed-fresh : (name copy : TopicName) (size : ℕ) (topic : Standing) (left written : Option (List ℕ)) (outcome : Result (Unit {0}) Stop) (new : Sides)
-    → name ≡ this_topic → (copy.tenant ≡ name.tenant) × (copy.namespace ≡ name.namespace) × (copy.topic ≡ name.topic) → topic ≡ opening (fresh copy size) → IsReplay name (sides left written topic) outcome new
-    → IsReplay this_topic (sides left written (opening (fresh this_topic size))) outcome new
-Replayed-fresh name copy size topic left written outcome new name_is copy_is topic_is h =
-    let same : topic ≡ opening (fresh this_topic size) = topic_is ∙ ap (λ (n : TopicName). opening (fresh n size)) (same_parts copy name copy_is ∙ name_is) in
-    subst (λ (n : TopicName). IsReplay n (sides left written (opening (fresh this_topic size))) outcome new) name_is
-    (subst (λ (t : Standing). IsReplay name (sides left written t) outcome new) same h)
 
 -- ---- the loop over the reads
 

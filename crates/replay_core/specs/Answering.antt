@@ -4,7 +4,15 @@ use Rattle.position_core.specs.declared.topic_name.TopicName.{TopicName}
 use Rattle.replay_lines.specs.Grammar.{IsBadLine}
 use Rattle.replay_core.specs.declared.stop.Stop.{Stop}
 use Rattle.replay_core.specs.declared.stop.Stop.TheVariants.{BadLine, Read, Write, Memory}
-use Rattle.replay_core.specs.Replay.{Standing, Answer, IsAnswered, IsStepOf}
+use Rattle.replay_lines.specs.declared.reading.Line.{Line}
+use Rattle.replay_lines.specs.declared.reading.Line.TheVariants as lines
+use Rattle.replay_core.specs.Replay.{Standing, Answer, bad_id, IsAnswered, IsAnswerTo, IsRestart, IsStepOf}
+
+-- the answer to what a line stands for
+abbrev pub IsAnswerOf : Line → Answer → Type 0
+IsAnswerOf (lines.Event event) answer = IsAnswerTo event answer
+IsAnswerOf lines.Restart answer = IsRestart answer
+IsAnswerOf lines.BadId answer = answer ≡ bad_id
 
 -- the line was answered by a step from the one state to the other
 abbrev pub IsAnsweredBy : TopicName → List ℕ → Standing → Answer → Standing → Type 0

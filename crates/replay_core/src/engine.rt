@@ -1,8 +1,8 @@
 // The replay of a topic: lines in, lines out.
-ghost use Rattle.std.specs.Prelude.{◌≡◌, ◌∷◌, ◌++◌, [], OnOk, Err, string_bytes};
+ghost use Rattle.std.specs.Prelude.{◌≡◌, ◌∷◌, ◌++◌, [], OnOk, IfErr, Err, length, string_bytes};
 ghost use Rattle.replay_lines.specs.Grammar.{IsBadLine};
 ghost use Rattle.replay_core.specs.Replay.{Answer, IsAnswerTo, IsReplay, IsRestart, IsStepOf, sides, answer_text, bad_id, gone_on, no_room, replied};
-ghost use Rattle.replay_core.specs.Answering.{IsAnsweredBy, MayBeLost};
+ghost use Rattle.replay_core.specs.Answering.{IsAnswerOf, IsAnsweredBy, MayBeLost};
 ghost use Rattle.replay_core.specs.Outcomes.{bad_line_in, failed_writing};
 ghost use Rattle.replay_lines.specs.declared.words.Unread.TheVariants.{BadLine, Memory};
 
@@ -99,6 +99,40 @@ fn append_bad_id(out: &mut String) -> Result<(), AllocError>
     out.push_str("\n")
 }
 
+/// Appends what is answered to what a line stands for, with its end.
+fn append_line_answer<T: Opened + Drop>(
+    alloc: Global,
+    topic: &mut Restartable<T>,
+    said: &Line,
+    out: &mut String,
+) -> Result<(), AllocError>
+    ensures { (answer : Answer) × IsAnswerOf said.now answer × IsStepOf topic.old answer topic.new
+        × OnOk result (string_bytes out.new ≡ string_bytes out.old ++ answer_text answer) }
+{
+    match said {
+        Line::Event(event) => append_event_answer(topic, event, out),
+        Line::Restart => append_restart(alloc, topic, out),
+        Line::BadId => append_bad_id(out),
+    }
+}
+
+/// The same, where the line was read.
+fn append_said<T: Opened + Drop>(
+    alloc: Global,
+    topic: &mut Restartable<T>,
+    said: &Line,
+    out: &mut String,
+) -> Result<(), Unread>
+    ensures answered { (answer : Answer) × IsAnswerOf said.now answer × IsStepOf topic.old answer topic.new
+        × OnOk result (string_bytes out.new ≡ string_bytes out.old ++ answer_text answer) }
+    ensures err { IfErr result (λ unread. unread ≡ Memory) }
+{
+    match append_line_answer(alloc, topic, said, out) {
+        Ok(()) => Ok(()),
+        Err(_) => Err(Unread::Memory),
+    }
+}
+
 /// Appends what the line is answered, with its end.
 fn append_answer<T: Opened + Drop>(
     alloc: Global,
@@ -113,18 +147,7 @@ fn append_answer<T: Opened + Drop>(
     ensures memory { result ≡ Err Memory → MayBeLost name.now line.now topic.old topic.new }
 {
     match read_line(alloc, name, line) {
-        Ok(Line::Event(event)) => {
-            append_event_answer(topic, &event, out)?;
-            Ok(())
-        }
-        Ok(Line::Restart) => {
-            append_restart(alloc, topic, out)?;
-            Ok(())
-        }
-        Ok(Line::BadId) => {
-            append_bad_id(out)?;
-            Ok(())
-        }
+        Ok(said) => append_said(alloc, topic, &said, out),
         Err(unread) => Err(unread),
     }
 }
@@ -346,18 +369,19 @@ impl Replay {
     }
 }
 
-/// Replays the topic of the name: answers each line of the input with a line of the output.
-pub fn replay_over<T: Opened + Drop, R: Read, W: Write>(
+/// The replay, with room for a piece of the input.
+fn replay_by<T: Opened + Drop, R: Read, W: Write>(
     alloc: Global,
     name: TopicName,
     topic: &mut Restartable<T>,
     reader: &mut R,
     writer: &mut W,
+    mut piece: Vec<u8>,
 ) -> Result<(), Stop>
+    requires { length piece.items ≡ 65536 }
     ensures { IsReplay name (sides (R.remaining reader.old) (W.contents writer.old) topic.old) result
         (sides (R.remaining reader.new) (W.contents writer.new) topic.new) }
 {
-    let mut piece = vec![in alloc; 0u8; PIECE]?;
     let mut replay = Replay {
         alloc,
         name,
@@ -369,4 +393,21 @@ pub fn replay_over<T: Opened + Drop, R: Read, W: Write>(
     let outcome = replay.run(topic, reader, writer, piece.as_mut_slice());
     let outcome = replay.name_bad_line(outcome);
     replay.write_rest(outcome, writer)
+}
+
+/// Replays the topic of the name: answers each line of the input with a line of the output.
+pub fn replay_over<T: Opened + Drop, R: Read, W: Write>(
+    alloc: Global,
+    name: TopicName,
+    topic: &mut Restartable<T>,
+    reader: &mut R,
+    writer: &mut W,
+) -> Result<(), Stop>
+    ensures { IsReplay name (sides (R.remaining reader.old) (W.contents writer.old) topic.old) result
+        (sides (R.remaining reader.new) (W.contents writer.new) topic.new) }
+{
+    match vec![in alloc; 0u8; PIECE] {
+        Ok(piece) => replay_by(alloc, name, topic, reader, writer, piece),
+        Err(_) => Err(Stop::Memory),
+    }
 }

@@ -52,6 +52,52 @@ fn fresh_topic<T: Opened + Drop>(
     }
 }
 
+/// A topic of the name with nothing in it.
+fn begin<T: Opened + Drop>(
+    alloc: Global,
+    name: &TopicName,
+    ledger_size: LedgerSize,
+) -> Result<Restartable<T>, Stop>
+    ensures ok { IfOk result (λ topic. topic ≡ opening (fresh name.now ledger_size)) }
+    ensures err { IfErr result (λ stop. stop ≡ Memory) }
+{
+    match name.clone() {
+        Ok(copy) => fresh_topic::<T>(alloc, copy, ledger_size),
+        Err(_) => Err(Stop::Memory),
+    }
+}
+
+fn replay_begun<T: Opened + Drop, R: Read, W: Write>(
+    alloc: Global,
+    name: TopicName,
+    topic: Restartable<T>,
+    reader: &mut R,
+    writer: &mut W,
+) -> Result<(), Stop>
+    ensures { (last : Standing) × IsReplay name (sides (R.remaining reader.old) (W.contents writer.old) topic) result
+        (sides (R.remaining reader.new) (W.contents writer.new) last) }
+{
+    let mut topic = topic;
+    replay_over(alloc, name, &mut topic, reader, writer)
+}
+
+/// Replays a fresh topic of the name.
+fn replay_named<T: Opened + Drop, R: Read, W: Write>(
+    alloc: Global,
+    name: TopicName,
+    reader: &mut R,
+    writer: &mut W,
+    ledger_size: LedgerSize,
+) -> Result<(), Stop>
+    ensures { (last : Standing) × IsReplay name (sides (R.remaining reader.old) (W.contents writer.old) (opening (fresh name ledger_size))) result
+        (sides (R.remaining reader.new) (W.contents writer.new) last) }
+{
+    match begin::<T>(alloc, &name, ledger_size) {
+        Ok(topic) => replay_begun(alloc, name, topic, reader, writer),
+        Err(stop) => Err(stop),
+    }
+}
+
 /// Replays a fresh topic, however it is kept: answers each line of the input with a line of the output.
 pub fn replay_fresh<T: Opened + Drop, R: Read, W: Write>(
     alloc: Global,
@@ -62,12 +108,10 @@ pub fn replay_fresh<T: Opened + Drop, R: Read, W: Write>(
     ensures { (last : Standing) × IsReplay this_topic (sides (R.remaining reader.old) (W.contents writer.old) (opening (fresh this_topic ledger_size))) result
         (sides (R.remaining reader.new) (W.contents writer.new) last) }
 {
-    let name = this_topic(alloc)?;
-    let mut topic = match fresh_topic::<T>(alloc, name.clone()?, ledger_size) {
-        Ok(topic) => topic,
-        Err(stop) => return Err(stop),
-    };
-    replay_over(alloc, name, &mut topic, reader, writer)
+    match this_topic(alloc) {
+        Ok(name) => replay_named::<T, R, W>(alloc, name, reader, writer, ledger_size),
+        Err(_) => Err(Stop::Memory),
+    }
 }
 
 /// Replays a fresh topic, kept as a plain topic.
