@@ -178,21 +178,32 @@ fn waited(letter: Letter, length: u64, reply: &Reply) -> Hand
     }
 }
 
-/// The hand after the answer to its last move. A letter that could not be moved stays where it is, and is shown again.
-pub fn after(hand: Hand, reply: Reply) -> Hand
-    ensures { result ≡ after hand reply }
+/// The same of a hand that is not empty.
+fn after_held(hand: Hand, reply: &Reply) -> Hand
+    requires { hand ≡ Hand.Empty → ⊥ }
+    ensures { result ≡ after hand reply.now }
 {
     match hand {
-        Hand::Empty => shown(reply),
-        Hand::Holds(letter) => joined(letter, &reply),
-        Hand::Joined { letter, producer } => copied(letter, producer, &reply),
+        Hand::Empty => unreachable!(),
+        Hand::Holds(letter) => joined(letter, reply),
+        Hand::Joined { letter, producer } => copied(letter, producer, reply),
         Hand::Copied {
             letter,
             producer: _,
             length,
         } => Hand::Waits { letter, length },
         Hand::Leaves { producer: _ } => Hand::Empty,
-        Hand::Waits { letter, length } => waited(letter, length, &reply),
+        Hand::Waits { letter, length } => waited(letter, length, reply),
         Hand::Moved { letter: _ } => Hand::Empty,
+    }
+}
+
+/// The hand after the answer to its last move. A letter that could not be moved stays where it is, and is shown again.
+pub fn after(hand: Hand, reply: Reply) -> Hand
+    ensures { result ≡ after hand reply }
+{
+    match hand {
+        Hand::Empty => shown(reply),
+        held => after_held(held, &reply),
     }
 }

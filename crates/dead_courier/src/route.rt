@@ -1,5 +1,5 @@
 // Whose letters a courier moves.
-ghost use Rattle.std.specs.Prelude.{◌≡◌, IfOk, IfSome, string_bytes};
+ghost use Rattle.std.specs.Prelude.{◌≡◌, ◌++◌, IfOk, IfSome, OnOk, string_bytes};
 ghost use Rattle.dead_courier.specs.Moving.{courier_name};
 
 use delivery_machine::{ProducerName, SubscriptionName, TopicName};
@@ -15,6 +15,23 @@ pub struct Route {
     pub name: ProducerName,
 }
 
+fn append_name(
+    text: &mut String,
+    source: &TopicName,
+    subscription: &SubscriptionName,
+) -> Result<(), AllocError>
+    ensures { OnOk result (string_bytes text.new ≡ string_bytes text.old ++ courier_name source.now subscription.now) }
+{
+    text.push_str("dlq/")?;
+    text.push_str(source.tenant.as_str())?;
+    text.push_str("/")?;
+    text.push_str(source.namespace.as_str())?;
+    text.push_str("/")?;
+    text.push_str(source.topic.as_str())?;
+    text.push_str("/")?;
+    text.push_str(subscription.as_str())
+}
+
 fn courier_name(
     alloc: Global,
     source: &TopicName,
@@ -23,15 +40,10 @@ fn courier_name(
     ensures { IfOk result (λ text. string_bytes text ≡ courier_name source.now subscription.now) }
 {
     let mut text = String::new(alloc);
-    text.push_str("dlq/")?;
-    text.push_str(source.tenant.as_str())?;
-    text.push_str("/")?;
-    text.push_str(source.namespace.as_str())?;
-    text.push_str("/")?;
-    text.push_str(source.topic.as_str())?;
-    text.push_str("/")?;
-    text.push_str(subscription.as_str())?;
-    Ok(text)
+    match append_name(&mut text, source, subscription) {
+        Ok(()) => Ok(text),
+        Err(error) => Err(error),
+    }
 }
 
 impl Route {
