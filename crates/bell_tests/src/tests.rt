@@ -1,3 +1,4 @@
-// Bells, one event after another and by threads.
+// Bells, one event after another and by threads, and connections that are handed over.
 mod bells;
 mod ringing;
+mod takers;

@@ -4,12 +4,17 @@ use session_bells::{Asked, Bell, Bells, Rest};
 use std::process::Abort;
 use std::sync::atomic::{AtomicU64, Ordering};
 use std::sync::{Arc, Wait};
-use std::test::*;
 
 /// A bell that counts how often it was rung.
 #[derive(Drop)]
-struct Counter {
+pub(super) struct Counter {
     rings: AtomicU64,
+}
+
+impl Counter {
+    pub(super) fn rings(&self) -> u64 {
+        self.rings.load(Ordering::SeqCst)
+    }
 }
 
 impl Bell for Counter {
@@ -25,36 +30,89 @@ fn new_bell<R: Abort + AllocGlobal>(rt: &R) -> Arc<Counter> {
     Arc::new(rt.alloc(), counter).expect(rt, "no memory")
 }
 
-fn rings(counter: &Arc<Counter>) -> u64 {
-    counter.rings.load(Ordering::SeqCst)
-}
-
 fn name<R: Abort + AllocGlobal>(rt: &R) -> SubscriptionName {
     let name = SubscriptionName::from_text(rt.alloc(), "s");
     name.expect(rt, "no memory").expect(rt, "no name")
 }
 
+fn enter<R: Abort>(rt: &R, bells: &mut Bells<Counter>, seat: u64, bell: Arc<Counter>) {
+    assert!(rt; bells.enter(seat, bell).is_ok());
+}
+
 /// One with this bell sits at the seat.
-fn sit<R: Abort + AllocGlobal>(rt: &R, bells: &mut Bells<Counter>, seat: u64) -> Arc<Counter> {
+pub(super) fn sit<R: Abort + AllocGlobal>(
+    rt: &R,
+    bells: &mut Bells<Counter>,
+    seat: u64,
+) -> Arc<Counter> {
     let bell = new_bell(rt);
-    let twin = Arc::try_clone(&bell).expect(rt, "no memory");
-    assert!(rt; bells.enter(seat, twin).is_ok());
+    enter(
+        rt,
+        bells,
+        seat,
+        Arc::try_clone(&bell).expect(rt, "no memory"),
+    );
     bell
 }
 
-/// One with this bell sits at the seat as the consumer, and has found nothing to send.
+fn prepare<R: Abort>(rt: &R, bells: &mut Bells<Counter>, asked: &Asked) {
+    assert!(rt; bells.prepare(asked).is_ok());
+}
+
+/// The one at the seat joins as the consumer, and finds nothing to send.
 fn join<R: Abort + AllocGlobal + Wait>(
     rt: &R,
     bells: &mut Bells<Counter>,
     seat: u64,
     consumer: ConsumerNumber,
-) -> Arc<Counter> {
-    let bell = sit(rt, bells, seat);
+) {
     let asked = Asked::Joins(name(rt));
-    assert!(rt; bells.prepare(&asked).is_ok());
+    prepare(rt, bells, &asked);
     bells.answered(rt, seat, &asked, &Reply::Subscribed { consumer });
+    answer_idle(rt, bells, seat);
+}
+
+/// The one at the seat found nothing to send.
+fn answer_idle<R: Wait>(rt: &R, bells: &mut Bells<Counter>, seat: u64) {
     bells.answered(rt, seat, &Asked::Dispatches, &Reply::Idle);
-    bell
+}
+
+/// Bells, and those of the seats 1 and 2.
+#[derive(Drop)]
+struct Two {
+    bells: Bells<Counter>,
+    one: Arc<Counter>,
+    two: Arc<Counter>,
+}
+
+fn two_seated<R: Abort + AllocGlobal>(rt: &R) -> Two {
+    let mut bells = Bells::new(rt.alloc(), 0);
+    let one = sit(rt, &mut bells, 1);
+    let two = sit(rt, &mut bells, 2);
+    Two { bells, one, two }
+}
+
+/// The two sit there as the consumers 1 and 2.
+fn two_joined<R: Abort + AllocGlobal + Wait>(rt: &R) -> Two {
+    let mut two = two_seated(rt);
+    join(rt, &mut two.bells, 1, 1);
+    join(rt, &mut two.bells, 2, 2);
+    two
+}
+
+/// Whether the one at the seat may rest.
+fn check_rest<R: Abort + Wait>(
+    rt: &R,
+    bells: &mut Bells<Counter>,
+    seat: u64,
+    more: Rest,
+    want: bool,
+) {
+    assert!(rt; bells.rest(rt, seat, more) == want);
+}
+
+fn check_rings<R: Abort>(rt: &R, bell: &Counter, want: u64) {
+    assert_eq!(rt; bell.rings(), want);
 }
 
 const FOR_MESSAGES: Rest = Rest {
@@ -74,71 +132,76 @@ fn for_store(length: u64) -> Rest {
     }
 }
 
-#[test]
-fn a_store_rings_whoever_waits_for_it(rt: HostRuntime) -> Result<(), Fail> {
-    let mut bells = Bells::new(rt.alloc(), 0);
-    let early = sit(&rt, &mut bells, 1);
-    let late = sit(&rt, &mut bells, 2);
-    assert!(rt; bells.rest(&rt, 1, for_store(3)));
-    assert!(rt; bells.rest(&rt, 2, for_store(4)));
-    bells.stored(&rt, 3);
-    assert_eq!(rt; rings(&early), 1);
-    assert_eq!(rt; rings(&late), 0);
-    assert!(rt; !bells.rest(&rt, 1, for_store(3)));
-    bells.stored(&rt, 4);
-    assert_eq!(rt; rings(&early), 1);
-    assert_eq!(rt; rings(&late), 1);
-    Ok(())
+fn ring_all<R: Abort + Wait>(rt: &R, two: &mut Two) {
+    check_rest(rt, &mut two.bells, 1, for_store(3), true);
+    check_rest(rt, &mut two.bells, 2, for_store(4), true);
+    two.bells.stored(rt, 3);
+    check_rings(rt, &two.one, 1);
+    check_rings(rt, &two.two, 0);
+    check_rest(rt, &mut two.bells, 1, for_store(3), false);
+    two.bells.stored(rt, 4);
+    check_rings(rt, &two.one, 1);
+    check_rings(rt, &two.two, 1);
 }
 
 #[test]
-fn a_store_rings_one_consumer(rt: HostRuntime) -> Result<(), Fail> {
-    let mut bells = Bells::new(rt.alloc(), 0);
-    let one = join(&rt, &mut bells, 1, 1);
-    let two = join(&rt, &mut bells, 2, 2);
-    assert!(rt; bells.rest(&rt, 1, FOR_MESSAGES));
-    assert!(rt; bells.rest(&rt, 2, FOR_MESSAGES));
-    bells.stored(&rt, 1);
-    assert_eq!(rt; rings(&one).saturating_add(rings(&two)), 1);
+fn a_store_rings_whoever_waits_for_it(rt: HostRuntime) {
+    ring_all(&rt, &mut two_seated(&rt));
+}
+
+/// The one at the seat sent a message to the consumer.
+fn answer_sent<R: Wait>(rt: &R, bells: &mut Bells<Counter>, seat: u64, consumer: ConsumerNumber) {
     let sent = Reply::Sent {
-        consumer: 2,
+        consumer,
         position: Position {
             ledger: 0,
             entry: 0,
         },
         count: 0,
     };
-    bells.answered(&rt, 1, &Asked::Dispatches, &sent);
-    assert_eq!(rt; rings(&two), 1);
-    assert!(rt; !bells.rest(&rt, 1, FOR_MESSAGES));
-    bells.answered(&rt, 1, &Asked::Dispatches, &Reply::Idle);
-    assert!(rt; bells.rest(&rt, 1, FOR_MESSAGES));
-    Ok(())
+    bells.answered(rt, seat, &Asked::Dispatches, &sent);
+}
+
+fn ring_one<R: Abort + Wait>(rt: &R, two: &mut Two) {
+    check_rest(rt, &mut two.bells, 1, FOR_MESSAGES, true);
+    check_rest(rt, &mut two.bells, 2, FOR_MESSAGES, true);
+    two.bells.stored(rt, 1);
+    assert_eq!(rt; two.one.rings().saturating_add(two.two.rings()), 1);
+    answer_sent(rt, &mut two.bells, 1, 2);
+    check_rings(rt, &two.two, 1);
+    check_rest(rt, &mut two.bells, 1, FOR_MESSAGES, false);
+    answer_idle(rt, &mut two.bells, 1);
+    check_rest(rt, &mut two.bells, 1, FOR_MESSAGES, true);
 }
 
 #[test]
-fn a_consumer_without_room_has_an_heir(rt: HostRuntime) -> Result<(), Fail> {
-    let mut bells = Bells::new(rt.alloc(), 0);
-    let one = join(&rt, &mut bells, 1, 1);
-    let two = join(&rt, &mut bells, 2, 2);
-    assert!(rt; bells.rest(&rt, 1, FOR_MESSAGES));
-    assert!(rt; bells.rest(&rt, 2, FOR_MESSAGES));
-    bells.stored(&rt, 1);
-    assert_eq!(rt; rings(&one), 1);
-    assert!(rt; bells.rest(&rt, 1, FOR_ROOM));
-    assert_eq!(rt; rings(&two), 1);
-    Ok(())
+fn a_store_rings_one_consumer(rt: HostRuntime) {
+    ring_one(&rt, &mut two_joined(&rt));
+}
+
+fn ring_for_room<R: Abort + Wait>(rt: &R, two: &mut Two) {
+    check_rest(rt, &mut two.bells, 1, FOR_MESSAGES, true);
+    check_rest(rt, &mut two.bells, 2, FOR_MESSAGES, true);
+    two.bells.stored(rt, 1);
+    check_rings(rt, &two.one, 1);
+    check_rest(rt, &mut two.bells, 1, FOR_ROOM, true);
+    check_rings(rt, &two.two, 1);
 }
 
 #[test]
-fn one_who_goes_has_an_heir(rt: HostRuntime) -> Result<(), Fail> {
-    let mut bells = Bells::new(rt.alloc(), 0);
-    let one = join(&rt, &mut bells, 1, 1);
-    let two = join(&rt, &mut bells, 2, 2);
-    assert!(rt; bells.rest(&rt, 2, FOR_MESSAGES));
-    bells.answered(&rt, 1, &Asked::Leaves(1), &Reply::Done);
-    bells.exit(&rt, 1);
-    assert_eq!(rt; rings(&one), 0);
-    assert_eq!(rt; rings(&two), 1);
-    Ok(())
+fn a_consumer_without_room_has_an_heir(rt: HostRuntime) {
+    ring_for_room(&rt, &mut two_joined(&rt));
+}
+
+fn ring_heir<R: Abort + Wait>(rt: &R, two: &mut Two) {
+    check_rest(rt, &mut two.bells, 2, FOR_MESSAGES, true);
+    two.bells.answered(rt, 1, &Asked::Leaves(1), &Reply::Done);
+    two.bells.exit(rt, 1);
+    check_rings(rt, &two.one, 0);
+    check_rings(rt, &two.two, 1);
+}
+
+#[test]
+fn one_who_goes_has_an_heir(rt: HostRuntime) {
+    ring_heir(&rt, &mut two_joined(&rt));
 }

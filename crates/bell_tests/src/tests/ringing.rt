@@ -1,5 +1,6 @@
 // Waits of eight threads at the bells of a topic: each is rung, and none waits for a second.
-use session_bells::{Bell, Bells, Rest};
+use super::bells::{Counter, sit};
+use session_bells::{Bells, Rest};
 use std::process::Abort;
 use std::rt::Clock;
 use std::sync::atomic::{AtomicU64, Ordering};
@@ -16,24 +17,6 @@ const WAITS: u64 = 1_250;
 
 /// How long one waits at most, in milliseconds.
 const MOST: u64 = 1_000;
-
-/// A bell that counts how often it was rung.
-#[derive(Drop)]
-struct Counter {
-    rings: AtomicU64,
-}
-
-impl Counter {
-    fn rings(&self) -> u64 {
-        self.rings.load(Ordering::SeqCst)
-    }
-}
-
-impl Bell for Counter {
-    fn ring<R: Wait>(&self, _rt: &R) {
-        self.rings.fetch_add(1, Ordering::SeqCst);
-    }
-}
 
 /// The bells, and the one of each who waits; and how many of them have done.
 #[derive(Drop)]
@@ -70,12 +53,16 @@ impl Hall {
         false
     }
 
+    fn wait_once<R: Wait + Clock + Abort>(&self, rt: &R, counter: &Counter, seat: u64) {
+        let before = counter.rings();
+        assert!(rt; self.rest(rt, seat));
+        assert!(rt; self.wait(rt, counter, before));
+    }
+
     fn wait_often<R: Wait + Clock + Abort>(&self, rt: &R, which: usize) {
         let counter = self.counters.get(which).expect(rt, "no bell");
         for _ in 0..WAITS {
-            let before = counter.rings();
-            assert!(rt; self.rest(rt, which as u64 + 1));
-            assert!(rt; self.wait(rt, counter, before));
+            self.wait_once(rt, counter, which as u64 + 1);
         }
         self.done.fetch_add(1, Ordering::SeqCst);
     }
@@ -107,19 +94,22 @@ impl Hall {
     }
 }
 
+/// So many sit at the bells, each with one of these.
+fn sit_all<R: Abort + AllocGlobal>(
+    rt: &R,
+    bells: &mut Bells<Counter>,
+    counters: &mut Vec<Arc<Counter>>,
+) {
+    for seat in 1..=WAITERS as u64 {
+        counters.push(sit(rt, bells, seat)).expect(rt, "no memory");
+    }
+}
+
 /// A hall in which each of so many has a bell.
-fn open_hall<R: Wait + Abort + AllocGlobal>(rt: &R) -> Hall {
+fn open_hall<R: Abort + AllocGlobal>(rt: &R) -> Hall {
     let mut bells = Bells::new(rt.alloc(), 0);
     let mut counters = Vec::new(rt.alloc());
-    for seat in 1..=WAITERS as u64 {
-        let counter = Counter {
-            rings: AtomicU64::new(0),
-        };
-        let counter = Arc::new(rt.alloc(), counter).expect(rt, "no memory");
-        let twin = Arc::try_clone(&counter).expect(rt, "no memory");
-        assert!(rt; bells.enter(seat, twin).is_ok());
-        counters.push(counter).expect(rt, "no memory");
-    }
+    sit_all(rt, &mut bells, &mut counters);
     Hall {
         bells: Mutex::new(bells),
         counters,
