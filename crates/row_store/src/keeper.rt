@@ -73,7 +73,7 @@ impl<S: Alter, J: Naming> Keeper<S, J> {
             return Err(Fault::NoMemory);
         };
         marks_of(&parts, &mut marks);
-        let writes = match plan_all(self.alloc, &self.known, parts) {
+        let mut writes = match plan_all(self.alloc, &self.known, parts) {
             Ok(writes) => writes,
             Err(fault) => return Err(fault),
         };
@@ -93,7 +93,7 @@ impl<S: Alter, J: Naming> Keeper<S, J> {
         };
         keep_all(&rows, &marks, &mut kept);
         forget(&mut self.known, &writes);
-        remember(&mut self.known, writes, marks);
+        remember(&mut self.known, &mut writes, &mut marks);
         self.written = written;
         self.failed = false;
         Ok(kept)

@@ -26,15 +26,15 @@ pub fn forget<J: Naming>(known: &mut Vec<Known<J>>, writes: &[Write])
     known.retain(|one| !is_among(writes, one.topic()));
 }
 
-/// What was written is known under its mark, as far as there is memory for it.
+/// What was written is known under its mark, as far as there is memory for it. The lists are used up.
 pub fn remember<J: Naming>(
     known: &mut Vec<Known<J>>,
-    mut writes: Vec<Write>,
-    mut marks: Vec<Mark<Note, J>>,
+    writes: &mut Vec<Write>,
+    marks: &mut Vec<Mark<Note, J>>,
 )
-    requires named { All IsNamed writes.items }
-    requires marks { map (λ n. n.kept) marks.items ≡ map (λ (w : Write). w.snapshot) writes.items }
-    ensures { (db : Trees) → All (λ (kept : KeptTopic). Stands kept db) known.old.items → All (λ (w : Write). Stands w.snapshot db) writes.items → All (λ (kept : KeptTopic). Stands kept db) known.new.items }
+    requires named { All IsNamed writes.old.items }
+    requires marks { map (λ n. n.kept) marks.old.items ≡ map (λ (w : Write). w.snapshot) writes.old.items }
+    ensures { (db : Trees) → All (λ (kept : KeptTopic). Stands kept db) known.old.items → All (λ (w : Write). Stands w.snapshot db) writes.old.items → All (λ (kept : KeptTopic). Stands kept db) known.new.items }
 {
     while let Some(write) = writes.pop() {
         let Some(mark) = marks.pop() else {

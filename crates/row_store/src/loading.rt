@@ -69,21 +69,51 @@ impl<S: Alter, J: Naming> Keeper<S, J> {
         ensures kept { IfOk result (λ loaded. loaded.kept ≡ stored_in (state S.Store self.old.conn) snapshot) }
         ensures faults { IfErr result (λ fault. (fault ≡ NoMemory) ⊎ (fault ≡ StoreFailed)) }
     {
+        match self.proof_of(&snapshot) {
+            Ok(kept) => self.know_kept(topic, snapshot, kept),
+            Err(fault) => Err(fault),
+        }
+    }
+
+    /// The proof that the snapshot, which stands, does.
+    fn proof_of(&mut self, snapshot: &Snapshot) -> Result<Kept<J>, Fault>
+        requires stands { HasCleanDisk (state S.Store self.old.conn) → IsTrue (state S.Store self.old.conn).is_open → Stands snapshot.now (state S.Store self.old.conn).now.trees }
+        ensures same { self.new ≡ self.old }
+        ensures kept { IfOk result (λ kept. kept ≡ stored_in (state S.Store self.old.conn) snapshot.now) }
+        ensures faults { IfErr result (λ fault. fault ≡ StoreFailed) }
+    {
         prove!(self.conn.is_autocommit());
-        let Ok(copy) = snapshot.clone() else {
-            return Err(Fault::NoMemory);
-        };
-        let Some(mark) = self.notes.view(&snapshot) else {
-            return Err(Fault::StoreFailed);
-        };
-        let Some(rows) = self.notes.commit(&self.conn) else {
-            return Err(Fault::StoreFailed);
-        };
-        forget_topic(&mut self.known, snapshot.name());
-        know(&mut self.known, topic, copy, mark.again());
-        Ok(Loaded {
-            snapshot,
-            kept: Kept::new(mark, rows),
-        })
+        match self.notes.view(snapshot) {
+            Some(mark) => match self.notes.commit(&self.conn) {
+                Some(rows) => Ok(Kept::new(mark, rows)),
+                None => Err(Fault::StoreFailed),
+            },
+            None => Err(Fault::StoreFailed),
+        }
+    }
+
+    /// What is proved to stand is known from now on.
+    fn know_kept(
+        &mut self,
+        topic: String,
+        snapshot: Snapshot,
+        kept: Kept<J>,
+    ) -> Result<Loaded<J>, Fault>
+        requires topic { string_bytes topic ≡ topic_text snapshot.name }
+        requires stands { HasCleanDisk (state S.Store self.old.conn) → IsTrue (state S.Store self.old.conn).is_open → Stands snapshot (state S.Store self.old.conn).now.trees }
+        requires kept { kept ≡ stored_in (state S.Store self.old.conn) snapshot }
+        ensures same { (self.new.conn ≡ self.old.conn) × (self.new.failed ≡ self.old.failed) }
+        ensures snapshot { IfOk result (λ loaded. loaded.snapshot ≡ snapshot) }
+        ensures kept { IfOk result (λ loaded. loaded.kept ≡ kept) }
+        ensures faults { IfErr result (λ fault. fault ≡ NoMemory) }
+    {
+        match snapshot.clone() {
+            Ok(copy) => {
+                forget_topic(&mut self.known, snapshot.name());
+                know(&mut self.known, topic, copy, kept.mark());
+                Ok(Loaded { snapshot, kept })
+            }
+            Err(_) => Err(Fault::NoMemory),
+        }
     }
 }

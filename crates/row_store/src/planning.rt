@@ -49,18 +49,14 @@ fn plan_whole(alloc: Global, snapshot: Snapshot) -> Result<Write, Fault>
     ensures fits { IfOk result (λ write. (db : Trees) → Fits db write) }
     ensures err { IfErr result (λ fault. fault ≡ NoMemory) }
 {
-    let topic = match text_of(alloc, &snapshot) {
-        Ok(topic) => topic,
-        Err(fault) => return Err(fault),
-    };
-    match Change::whole(alloc, &snapshot) {
-        Ok(change) => Ok(Write {
+    match (text_of(alloc, &snapshot), Change::whole(alloc, &snapshot)) {
+        (Ok(topic), Ok(change)) => Ok(Write {
             snapshot,
             topic,
             change,
             whole: true,
         }),
-        Err(_) => Err(Fault::NoMemory),
+        _ => Err(Fault::NoMemory),
     }
 }
 
@@ -72,18 +68,14 @@ fn plan_over(alloc: Global, snapshot: Snapshot, base: &Snapshot) -> Result<Write
     ensures fits { IfOk result (λ write. (db : Trees) → Stands base.now db → Fits db write) }
     ensures err { IfErr result (λ fault. fault ≡ NoMemory) }
 {
-    let topic = match text_of(alloc, &snapshot) {
-        Ok(topic) => topic,
-        Err(fault) => return Err(fault),
-    };
-    match Change::between(alloc, base, &snapshot) {
-        Ok(change) => Ok(Write {
+    match (text_of(alloc, &snapshot), Change::between(alloc, base, &snapshot)) {
+        (Ok(topic), Ok(change)) => Ok(Write {
             snapshot,
             topic,
             change,
             whole: false,
         }),
-        Err(_) => Err(Fault::NoMemory),
+        _ => Err(Fault::NoMemory),
     }
 }
 

@@ -1,5 +1,5 @@
 // A round: a topic is viewed, stored and confirmed under one hold of its lock.
-ghost use Rattle.std.specs.Prelude.{ℕ, ◌≡◌, ◌⊎◌, ◌↔◌, Some, true, false, length, IfOk, IfErr, OnOk, OnErr, Err, IsTrue, [], ◌∷◌};
+ghost use Rattle.std.specs.Prelude.{ℕ, ◌≡◌, ◌⊎◌, ◌↔◌, Some, IfSome, true, false, length, IfOk, IfErr, OnOk, OnErr, Err, IsTrue, [], ◌∷◌};
 ghost use Rattle.position_core.specs.declared.fault.Fault.TheVariants.{NoMemory, JournalFull, StoreFailed};
 ghost use Rattle.delivery_machine.specs.Snapshot.{snapshot_of};
 ghost use Rattle.delivery_machine.specs.Places.{snapshot_in};
@@ -7,16 +7,42 @@ ghost use Rattle.delivery_machine.specs.declared.event.Event.TheVariants.{Stored
 ghost use Rattle.topic_shared.specs.Kept.{HasNoLine, StoresLine, with_promise};
 ghost use Rattle.sqlite.specs.State.{HasCleanDisk, Survives};
 ghost use Rattle.sqlite.specs.Held.{state};
-ghost use Rattle.kept_rows.specs.Noted.{Noted};
+ghost use Rattle.kept_rows.specs.Noted.{Noted, GoesOn};
 ghost use Rattle.stored_cell.specs.Held.{SameButPromise};
 ghost use Rattle.row_store.specs.Keeping.{StoresAll, StoresState, stored_in};
 
 use crate::keeper::Keeper;
-use delivery_machine::{Fault, Opened, Saved};
-use kept_rows::{Kept, Part};
-use marks::Naming;
+use delivery_machine::{Fault, Opened, Saved, Snapshot};
+use kept_rows::{Kept, Note, Part};
+use marks::{Mark, Naming};
 use sqlite::Alter;
+use std::alloc::Global;
 use stored_cell::StoredCell;
+
+/// A list of one part.
+fn alone<J: Naming>(alloc: Global, part: Part<J>) -> Result<Vec<Part<J>>, Fault>
+    ensures list { IfOk result (λ parts. parts.items ≡ part ∷ []) }
+    ensures faults { IfErr result (λ fault. fault ≡ NoMemory) }
+{
+    match Vec::with_capacity(alloc, 1) {
+        Ok(mut parts) => {
+            parts.push_reserved(part);
+            Ok(parts)
+        }
+        Err(_) => Err(Fault::NoMemory),
+    }
+}
+
+/// The one in a list of one.
+fn only<J: Naming>(mut kept: Vec<Kept<J>>) -> Kept<J>
+    requires { length kept.items ≡ 1 }
+    ensures { kept.items ≡ result ∷ [] }
+{
+    match kept.pop() {
+        Some(kept) => kept,
+        None => unreachable!(),
+    }
+}
 
 impl<S: Alter, J: Naming> Keeper<S, J> {
     /// The topic as it is, to be stored later with its lock free: `StoredCell::ready_view`, with a mark of
@@ -38,14 +64,27 @@ impl<S: Alter, J: Naming> Keeper<S, J> {
         ensures part { IfOk result (λ part. snapshot_in part ≡ snapshot_of cell.now.cell.state) }
         ensures faults { IfErr result (λ fault. (fault ≡ NoMemory) ⊎ (fault ≡ StoreFailed)) }
     {
-        let snapshot = match cell.view() {
-            Ok(snapshot) => snapshot,
-            Err(fault) => return Err(fault),
-        };
-        let Some(mark) = self.notes.view(&snapshot) else {
-            return Err(Fault::StoreFailed);
-        };
-        Ok(Part::new(snapshot, mark, cell.base()))
+        match cell.view() {
+            Ok(snapshot) => self.marked(snapshot, cell.base()),
+            Err(fault) => Err(fault),
+        }
+    }
+
+    /// The snapshot under a mark of its own.
+    fn marked(
+        &mut self,
+        snapshot: Snapshot,
+        base: Option<Mark<Note, J>>,
+    ) -> Result<Part<J>, Fault>
+        requires base { IfSome base (λ base. GoesOn base.kept snapshot) }
+        ensures keeper { self.new ≡ self.old }
+        ensures part { IfOk result (λ part. part ≡ snapshot) }
+        ensures faults { IfErr result (λ fault. fault ≡ StoreFailed) }
+    {
+        match self.notes.view(&snapshot) {
+            Some(mark) => Ok(Part::new(snapshot, mark, base)),
+            None => Err(Fault::StoreFailed),
+        }
     }
 
     /// A store of one topic.
@@ -59,18 +98,13 @@ impl<S: Alter, J: Naming> Keeper<S, J> {
         ensures stuck { result ≡ Err StoreFailed → (self.new.failed ≡ true) ⊎ (self.new ≡ self.old) }
         ensures faults { IfErr result (λ fault. (fault ≡ NoMemory) ⊎ (fault ≡ StoreFailed)) }
     {
-        let Ok(mut parts) = Vec::with_capacity(self.alloc, 1) else {
-            return Err(Fault::NoMemory);
-        };
-        parts.push_reserved(part);
-        let mut kept = match self.store(parts) {
-            Ok(kept) => kept,
-            Err(fault) => return Err(fault),
-        };
-        let Some(kept) = kept.pop() else {
-            unreachable!();
-        };
-        Ok(kept)
+        match alone(self.alloc, part) {
+            Ok(parts) => match self.store(parts) {
+                Ok(kept) => Ok(only(kept)),
+                Err(fault) => Err(fault),
+            },
+            Err(fault) => Err(fault),
+        }
     }
 
     /// Makes the topic's rows those of the topic as it is, in one transaction, leaves all others, and makes
