@@ -47,24 +47,32 @@ impl<'a, T: Opened + Drop, S: Alter, J: Naming, B: Bell + Drop, R: Wait, G: Gate
     R,
     G,
 > {
-    fn ask(&mut self, event: Event) -> Result<Reply, Fault> {
+    /// What the event waits for. Refused where the store failed.
+    fn asked(&self, event: &Event) -> Result<Asked, Fault> {
         if self.directory.is_closed() {
             return Err(Fault::StoreFailed);
         }
-        let asked = match Asked::of(&event) {
-            Ok(asked) => asked,
-            Err(fault) => return Err(fault),
-        };
+        Asked::of(event)
+    }
+
+    fn answer(&self, asked: &Asked, event: Event) -> Result<Reply, Fault> {
         let topic = &self.attached.topic;
         let mut inside = topic.inside.lock(self.rt);
         self.gate.within(&topic.name);
-        let answer = inside.answer(self.rt, self.attached.seat, &asked, event);
+        let answer = inside.answer(self.rt, self.attached.seat, asked, event);
         let tells = inside.wants_storing();
         drop(inside);
         if tells {
             self.directory.tell(self.rt, topic);
         }
         answer
+    }
+
+    fn ask(&self, event: Event) -> Result<Reply, Fault> {
+        match self.asked(&event) {
+            Ok(asked) => self.answer(&asked, event),
+            Err(fault) => Err(fault),
+        }
     }
 }
 

@@ -19,6 +19,8 @@ struct Queue<X: Drop> {
     made: u64,
     /// Somebody stores.
     is_led: bool,
+    /// Several topics were stored together, or some waited until others were stored: so more come soon.
+    is_busy: bool,
     thread_waits: bool,
     /// The thread ends once nothing waits.
     is_ending: bool,
@@ -42,8 +44,15 @@ pub(crate) enum Task<X: Drop> {
 }
 
 impl<X: Drop> Queue<X> {
-    fn is_small(&self) -> bool {
-        self.made <= SMALL
+    /// Whether a worker stores it itself: it is little, and nobody else has something to be stored meanwhile.
+    fn is_for_worker(&self) -> bool {
+        self.made <= SMALL && !self.is_busy
+    }
+
+    /// Who stored has ended.
+    fn end(&mut self) {
+        self.is_led = false;
+        self.is_busy |= !self.topics.is_empty();
     }
 
     /// The right to store, with the topics that have waited longest. None where there is no memory.
@@ -57,6 +66,7 @@ impl<X: Drop> Queue<X> {
             let _ = taken.push(topic);
         }
         self.is_led = true;
+        self.is_busy = count > 1;
         self.made = 0;
         Some(taken)
     }
@@ -100,6 +110,7 @@ impl<X: Drop> Board<X> {
                 errands: VecDeque::new(alloc),
                 made: 0,
                 is_led: false,
+                is_busy: false,
                 thread_waits: false,
                 is_ending: false,
                 is_closed: false,
@@ -148,7 +159,7 @@ impl<X: Drop> Board<X> {
             queue.made = 0;
             return None;
         }
-        if queue.is_small() {
+        if queue.is_for_worker() {
             return queue.take(self.alloc);
         }
         let wakes = queue.wakes();
@@ -159,30 +170,24 @@ impl<X: Drop> Board<X> {
         None
     }
 
-    /// A worker has stored: whether it is to ask again, since topics wait.
-    pub(crate) fn end<R: Wait>(&self, rt: &R) -> bool {
+    /// A worker has stored. What came meanwhile is the thread's, since the worker has answers to give first.
+    pub(crate) fn end<R: Wait>(&self, rt: &R) {
         let mut guard = self.queue.lock(rt);
         let queue = &mut *guard;
-        queue.is_led = false;
-        if queue.topics.is_empty() && queue.errands.is_empty() {
-            return false;
-        }
-        if queue.errands.is_empty() && queue.is_small() {
-            return true;
-        }
-        let wakes = queue.wakes();
+        queue.end();
+        let waits = !(queue.topics.is_empty() && queue.errands.is_empty());
+        let wakes = waits && queue.wakes();
         drop(guard);
         if wakes {
             self.news.notify_one();
         }
-        false
     }
 
     /// What the thread is to do next; it waits until there is something. `ends` where it has stored.
     pub(crate) fn next<R: Wait>(&self, rt: &R, ends: bool) -> Task<X> {
         let mut queue = self.queue.lock(rt);
         if ends {
-            queue.is_led = false;
+            queue.end();
         }
         for _ in rt.forever() {
             if let Some(task) = queue.task(self.alloc) {
@@ -199,7 +204,7 @@ impl<X: Drop> Board<X> {
         let mut guard = self.queue.lock(rt);
         let queue = &mut *guard;
         if ends {
-            queue.is_led = false;
+            queue.end();
         }
         queue.task(self.alloc)
     }

@@ -2,7 +2,7 @@
 use crate::directory::Directory;
 use crate::inside::Inside;
 use crate::topic::Shared;
-use dead_courier::{Hand, Route, Side, after, next_move};
+use dead_courier::{Hand, Move, Route, Side, after, next_move};
 use delivery_machine::{Event, Fault, Moment, Opened, Reply, SubscriptionName, TopicName};
 use marks::Naming;
 use session_bells::Bell;
@@ -62,6 +62,20 @@ fn outcome_of(before: Aim, now: Aim, is_done: bool) -> Stepped {
         (Aim::Ending, Aim::Looking) if is_done => Stepped::GoesOn,
         (_, Aim::Looking) => Stepped::Fails,
         _ => Stepped::GoesOn,
+    }
+}
+
+impl<T: Opened + Drop, J: Naming, B: Bell + Drop> Courier<T, J, B> {
+    /// Takes the answer. What the step came to, by what it was at before.
+    fn take(&mut self, before: Aim, reply: Reply) -> Stepped {
+        let is_done = matches!(&reply, Reply::Done | Reply::NoDead);
+        let hand = mem::replace(&mut self.hand, Hand::Empty);
+        self.hand = after(hand, reply);
+        let now = aim_of(&self.hand);
+        if now == Aim::Looking {
+            self.target = None;
+        }
+        outcome_of(before, now, is_done)
     }
 }
 
@@ -160,22 +174,28 @@ impl<T: Opened + Drop, S: Alter, J: Naming, B: Bell + Drop> Directory<T, S, J, B
         courier: &mut Courier<T, J, B>,
         now: Moment,
     ) -> Stepped {
-        if self.find_target(rt, courier).is_err() {
-            return Stepped::Fails;
+        match self.find_target(rt, courier) {
+            Ok(()) => self.make_next(rt, courier, now),
+            Err(_) => Stepped::Fails,
         }
-        let Ok(next) = next_move(&courier.route, &courier.hand, now) else {
-            return Stepped::Fails;
-        };
+    }
+
+    fn make_next<R: Wait>(
+        &self,
+        rt: &R,
+        courier: &mut Courier<T, J, B>,
+        now: Moment,
+    ) -> Stepped {
+        match next_move(&courier.route, &courier.hand, now) {
+            Ok(next) => self.make(rt, courier, next),
+            Err(_) => Stepped::Fails,
+        }
+    }
+
+    fn make<R: Wait>(&self, rt: &R, courier: &mut Courier<T, J, B>, next: Move) -> Stepped {
         let before = aim_of(&courier.hand);
         let reply = self.ask(rt, courier, next.side, next.event, before == Aim::Waiting);
-        let is_done = matches!(&reply, Reply::Done | Reply::NoDead);
-        let hand = mem::replace(&mut courier.hand, Hand::Empty);
-        courier.hand = after(hand, reply);
-        let now_aim = aim_of(&courier.hand);
-        if now_aim == Aim::Looking {
-            courier.target = None;
-        }
-        outcome_of(before, now_aim, is_done)
+        courier.take(before, reply)
     }
 
     /// The courier goes as far as it can. Given back where it waits for a copy to be stored.
@@ -267,10 +287,9 @@ fn put<T: Opened + Drop, J: Naming, B: Bell + Drop>(
     couriers: &mut Vec<Courier<T, J, B>>,
     courier: Option<Courier<T, J, B>>,
 ) {
-    match courier {
-        Some(courier) => {
-            let _ = couriers.push(courier);
-        }
-        None => {}
+    if let Some(courier) = courier
+        && couriers.reserve(1).is_ok()
+    {
+        couriers.push_reserved(courier);
     }
 }

@@ -74,14 +74,14 @@ impl<T: Opened + Drop, J: Naming, B: Bell + Drop> Errands<T, J, B> {
 }
 
 impl<T: Opened + Drop, S: Alter, J: Naming, B: Bell + Drop> Directory<T, S, J, B> {
-    /// A worker, which has made so many changes, stores what waits where that is little and nobody else does. Whether it
-    /// is to ask again, since more waits.
-    pub fn help<R: Wait>(&self, rt: &R, made: u64) -> bool {
+    /// A worker, which has made so many changes, stores what waits where that is little and nobody else stores, or has
+    /// lately. Else the thread does.
+    pub fn help<R: Wait>(&self, rt: &R, made: u64) {
         let Some(topics) = self.board.lead(rt, made) else {
-            return false;
+            return;
         };
         self.store(rt, topics.as_slice());
-        self.board.end(rt)
+        self.board.end(rt);
     }
 
     /// Stores what waits, and sends the courier of dead letters, until the store fails or all is finished. It is a

@@ -58,7 +58,11 @@ impl<T: Opened + Drop, J: Naming> Client<T, J> {
         }
     }
 
-    pub(crate) fn is_shaking(&self) -> bool {
+    /// The moment that a timer was set for has come: whether it is in its handshake still.
+    pub(crate) fn run_out(&mut self, millis: u64) -> bool {
+        if self.timer == Some(millis) {
+            self.timer = None;
+        }
         matches!(&self.stage, Stage::Shaking(_))
     }
 }

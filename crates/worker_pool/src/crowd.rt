@@ -49,6 +49,23 @@ fn bell_for(alloc: Global, post: &Arc<Post>, token: usize) -> Option<Arc<Doorbel
     Arc::new(alloc, Doorbell::new(post, token)).ok()
 }
 
+/// A client that begins its handshake.
+fn client_of<T: Opened + Drop, J: Naming>(
+    alloc: Global,
+    post: &Arc<Post>,
+    token: usize,
+    number: u64,
+    stream: TcpStream,
+) -> Option<Client<T, J>> {
+    match bell_for(alloc, post, token) {
+        Some(bell) => match Shaking::start(alloc, stream) {
+            Ok(shaking) => Some(Client::new(number, bell, shaking)),
+            Err(_) => None,
+        },
+        None => None,
+    }
+}
+
 impl<T: Opened + Drop, J: Naming> Crowd<T, J> {
     pub(crate) fn new(alloc: Global) -> Self {
         Crowd {
@@ -136,21 +153,20 @@ impl<T: Opened + Drop, J: Naming> Crowd<T, J> {
         stream: TcpStream,
         now: Moment,
     ) -> bool {
-        match (
-            Shaking::start(self.alloc, stream),
-            bell_for(self.alloc, post, token),
-        ) {
-            (Ok(shaking), Some(bell)) => {
-                let client = Client::new(number, bell, shaking);
-                let timer = Timer {
-                    millis: now.millis().saturating_add(SHAKING),
-                    token,
-                    number,
-                };
-                self.timers.add(timer) && self.clients.insert(client).is_ok()
-            }
-            _ => false,
+        match client_of(self.alloc, post, token, number, stream) {
+            Some(client) => self.put_in(client, token, now),
+            None => false,
         }
+    }
+
+    /// The client comes to the token, and is given up there where its handshake lasts too long.
+    fn put_in(&mut self, client: Client<T, J>, token: usize, now: Moment) -> bool {
+        let timer = Timer {
+            millis: now.millis().saturating_add(SHAKING),
+            token,
+            number: client.number,
+        };
+        self.timers.add(timer) && self.clients.insert(client).is_ok()
     }
 
     /// Serves those that are due, once each.
@@ -195,8 +211,7 @@ impl<T: Opened + Drop, J: Naming> Crowd<T, J> {
             After::Rest => {}
             After::Again => self.make_due(token),
             After::Gone => {
-                let _ = self.clients.try_remove(token);
-                post.leave();
+                self.remove(post, token);
                 return;
             }
         }
@@ -239,22 +254,24 @@ impl<T: Opened + Drop, J: Naming> Crowd<T, J> {
     }
 
     fn expire_one(&mut self, post: &Post, timer: Timer) {
-        let mut is_late = false;
-        if let Some(client) = self.clients.get_mut(timer.token) {
-            if client.number != timer.number {
-                return;
-            }
-            if client.timer == Some(timer.millis) {
-                client.timer = None;
-            }
-            is_late = client.is_shaking();
+        match self.run_out(timer) {
+            Some(true) => self.remove(post, timer.token),
+            Some(false) => self.make_due(timer.token),
+            None => {}
         }
-        if is_late {
-            let _ = self.clients.try_remove(timer.token);
-            post.leave();
-        } else {
-            self.make_due(timer.token);
+    }
+
+    /// Whether its handshake has lasted too long, where the connection at the token is still the one that was meant.
+    fn run_out(&mut self, timer: Timer) -> Option<bool> {
+        match self.clients.get_mut(timer.token) {
+            Some(client) if client.number == timer.number => Some(client.run_out(timer.millis)),
+            _ => None,
         }
+    }
+
+    fn remove(&mut self, post: &Post, token: usize) {
+        let _ = self.clients.try_remove(token);
+        post.leave();
     }
 
     /// All connections are given up.
@@ -268,8 +285,7 @@ impl<T: Opened + Drop, J: Naming> Crowd<T, J> {
         for token in 0..self.clients.capacity() {
             if let Some(client) = self.clients.get_mut(token) {
                 let _ = client.serve(rt, self.alloc, place, now);
-                let _ = self.clients.try_remove(token);
-                post.leave();
+                self.remove(post, token);
             }
         }
     }

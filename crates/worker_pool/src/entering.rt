@@ -7,7 +7,7 @@ use delivery_machine::{Fault, Opened, TopicName};
 use endpoint_core::{Endpoint, route};
 use marks::Naming;
 use mio::net::TcpStream;
-use session_core::open;
+use session_core::{Session, open};
 use session_links::Conn;
 use session_texts::reason;
 use socket_conn::SocketConn;
@@ -44,7 +44,55 @@ pub(crate) fn turn_away(conn: &mut SocketConn<TcpStream>, code: u16, fault: Faul
     let _ = conn.flush();
 }
 
+/// Why a seat was refused, and the code to close with.
+#[derive(Clone, Copy, Debug, PartialEq, Eq)]
+struct Refusal {
+    code: u16,
+    fault: Fault,
+}
+
+/// Takes the seat that the endpoint asks for.
+fn seat_for<T: Opened + Drop, S: Alter, J: Naming, G: Gate + Drop, R: Wait>(
+    rt: &R,
+    place: &Place<T, S, J, G>,
+    endpoint: &Endpoint,
+    bell: &Arc<Doorbell>,
+) -> Result<Attached<T, J, Doorbell>, Refusal> {
+    match (wish_of(endpoint), Arc::try_clone(bell)) {
+        (Some(wish), Ok(bell)) => {
+            match place.directory.attach(rt, &wish.topic, wish.creates, bell) {
+                Ok(attached) => Ok(attached),
+                Err(fault) => Err(Refusal {
+                    code: wish.code,
+                    fault,
+                }),
+            }
+        }
+        _ => Err(Refusal {
+            code: 4008,
+            fault: Fault::NoMemory,
+        }),
+    }
+}
+
 /// The session of the endpoint at the seat. None where the topic refuses it; the connection is closed then.
+fn session_at<T: Opened + Drop, S: Alter, J: Naming, G: Gate + Drop, R: Wait>(
+    rt: &R,
+    alloc: Global,
+    place: &Place<T, S, J, G>,
+    endpoint: Endpoint,
+    conn: &mut SocketConn<TcpStream>,
+    attached: &Attached<T, J, Doorbell>,
+) -> Option<Session> {
+    let mut caller = place.directory.caller(rt, attached, &place.gate);
+    if conn.is_open() {
+        open(alloc, endpoint, conn, &mut caller)
+    } else {
+        None
+    }
+}
+
+/// The session begins, or the seat is free again.
 fn begin<T: Opened + Drop, S: Alter, J: Naming, G: Gate + Drop, R: Wait>(
     rt: &R,
     alloc: Global,
@@ -53,15 +101,7 @@ fn begin<T: Opened + Drop, S: Alter, J: Naming, G: Gate + Drop, R: Wait>(
     mut conn: SocketConn<TcpStream>,
     attached: Attached<T, J, Doorbell>,
 ) -> Option<Guest<T, J>> {
-    let session = {
-        let mut caller = place.directory.caller(rt, &attached, &place.gate);
-        if conn.is_open() {
-            open(alloc, endpoint, &mut conn, &mut caller)
-        } else {
-            None
-        }
-    };
-    match session {
+    match session_at(rt, alloc, place, endpoint, &mut conn, &attached) {
         Some(session) => Some(Guest {
             conn,
             session,
@@ -101,29 +141,10 @@ fn enter_at<T: Opened + Drop, S: Alter, J: Naming, G: Gate + Drop, R: Wait>(
     endpoint: Endpoint,
     bell: &Arc<Doorbell>,
 ) -> Option<Guest<T, J>> {
-    match (wish_of(&endpoint), Arc::try_clone(bell)) {
-        (Some(wish), Ok(bell)) => sit(rt, alloc, place, conn, endpoint, wish, bell),
-        _ => {
-            turn_away(&mut conn, 4008, Fault::NoMemory);
-            None
-        }
-    }
-}
-
-/// Takes the seat that is wished for, and begins the session there.
-fn sit<T: Opened + Drop, S: Alter, J: Naming, G: Gate + Drop, R: Wait>(
-    rt: &R,
-    alloc: Global,
-    place: &Place<T, S, J, G>,
-    mut conn: SocketConn<TcpStream>,
-    endpoint: Endpoint,
-    wish: Wish,
-    bell: Arc<Doorbell>,
-) -> Option<Guest<T, J>> {
-    match place.directory.attach(rt, &wish.topic, wish.creates, bell) {
+    match seat_for(rt, place, &endpoint, bell) {
         Ok(attached) => begin(rt, alloc, place, endpoint, conn, attached),
-        Err(fault) => {
-            turn_away(&mut conn, wish.code, fault);
+        Err(refusal) => {
+            turn_away(&mut conn, refusal.code, refusal.fault);
             None
         }
     }

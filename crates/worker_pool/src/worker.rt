@@ -57,8 +57,6 @@ pub(crate) struct Worker<T: Opened + Drop, J: Naming> {
     rung: Vec<usize>,
     served: Vec<usize>,
     now: Moment,
-    /// Topics wait to be stored that it may store itself.
-    asks_again: bool,
 }
 
 impl<T: Opened + Drop, J: Naming> Worker<T, J> {
@@ -79,7 +77,6 @@ impl<T: Opened + Drop, J: Naming> Worker<T, J> {
             rung: Vec::new(alloc),
             served: Vec::new(alloc),
             now,
-            asks_again: false,
         })
     }
 
@@ -129,14 +126,14 @@ impl<T: Opened + Drop, J: Naming> Worker<T, J> {
     /// Stores what waits, where that is little and nobody else does.
     fn store<S: Alter, G: Gate + Drop, R: Wait>(&mut self, rt: &R, place: &Place<T, S, J, G>) {
         let made = self.crowd.take_made();
-        if made > 0 || self.asks_again {
-            self.asks_again = place.directory.help(rt, made);
+        if made > 0 {
+            place.directory.help(rt, made);
         }
     }
 
     /// How long to sleep: not at all where there is something to do.
     fn pause<R: Wait + Clock>(&mut self, rt: &R) -> Option<Duration> {
-        if self.crowd.has_due() || self.asks_again || !self.post.may_sleep(rt) {
+        if self.crowd.has_due() || !self.post.may_sleep(rt) {
             return Some(Duration::from_millis(0));
         }
         match self.crowd.wait(self.now) {
