@@ -9,6 +9,7 @@ use Rattle.delivery_machine.specs.declared.event.Initial.{Initial}
 use Rattle.delivery_machine.specs.declared.event.Initial.TheVariants.{Latest}
 use Rattle.endpoint_core.specs.declared.faults.Cause.{Cause}
 use Rattle.endpoint_core.specs.declared.consumers.ConsumerEndpoint.{ConsumerEndpoint}
+use Rattle.endpoint_core.specs.declared.consumers.Settings.{Settings}
 use Rattle.endpoint_core.specs.Faults.{and_then}
 use Rattle.endpoint_core.specs.Queries.{Parameter, said}
 use Rattle.endpoint_core.specs.Numbers.{number_up_to}
@@ -45,6 +46,21 @@ nack_delay_said query = said (codes "negativeAckRedeliveryDelay") 60000 (number_
 
 abbrev pub initial_said : List Parameter → Result Initial Cause
 initial_said query = said (codes "subscriptionInitialPosition") Latest initial_of query
+
+-- the consumer of the topic and the subscription that has these settings
+abbrev pub with_settings : TopicName → List ℕ → Settings → ConsumerEndpoint
+with_settings topic subscription s = record {
+  topic = topic;
+  subscription = subscription;
+  kind = s.kind;
+  level = s.level;
+  flow = s.flow;
+  ack_timeout = s.ack_timeout;
+  nack_delay = s.nack_delay;
+  max_redeliver = s.max_redeliver;
+  dead_topic = s.dead_topic;
+  initial = s.initial;
+}
 
 abbrev pub consumer_of : TopicName → List ℕ → List Parameter → Result ConsumerEndpoint Cause
 consumer_of topic subscription query =

@@ -1,7 +1,7 @@
 // A consumer's endpoint.
 ghost use Rattle.std.specs.Prelude.{◌≡◌};
-ghost use Rattle.endpoint_core.specs.Faults.{Gives};
-ghost use Rattle.endpoint_core.specs.Consumers.{consumer_of, flow_said, initial_said, kind_said, pulls_said, window_of, window_said};
+ghost use Rattle.endpoint_core.specs.Faults.{Gives, map_ok};
+ghost use Rattle.endpoint_core.specs.Consumers.{consumer_of, flow_said, initial_said, kind_said, pulls_said, window_of, window_said, with_settings};
 
 use crate::dead_letters::death_in;
 use crate::faults::Cause;
@@ -98,25 +98,35 @@ fn flow_said(query: &Query) -> Result<Flow, Cause>
     }
 }
 
-/// The consumer that a query describes.
-pub fn consumer_of(
+/// What a query says of a consumer.
+#[derive(Drop)]
+struct Settings {
+    kind: Kind,
+    level: Level,
+    flow: Flow,
+    ack_timeout: Millis,
+    nack_delay: Millis,
+    max_redeliver: RedeliverLimit,
+    dead_topic: TopicName,
+    initial: Initial,
+}
+
+fn settings_in(
     alloc: Global,
-    topic: TopicName,
-    subscription: SubscriptionName,
+    topic: &TopicName,
+    subscription: &SubscriptionName,
     query: &Query,
-) -> Result<ConsumerEndpoint, Cause>
-    ensures { Gives result (consumer_of topic subscription query.now) }
+) -> Result<Settings, Cause>
+    ensures { Gives (map_ok (with_settings topic.now subscription.now) result) (consumer_of topic.now subscription.now query.now) }
 {
     let kind = kind_said(query)?;
     let level = number_said(query, "priorityLevel", 0)?;
     let flow = flow_said(query)?;
     let ack_timeout = number_said(query, "ackTimeoutMillis", 0)?;
     let nack_delay = number_said(query, "negativeAckRedeliveryDelay", 60_000)?;
-    let (max_redeliver, dead_topic) = death_in(alloc, &topic, &subscription, kind, query)?;
+    let (max_redeliver, dead_topic) = death_in(alloc, topic, subscription, kind, query)?;
     let initial = initial_said(query)?;
-    Ok(ConsumerEndpoint {
-        topic,
-        subscription,
+    Ok(Settings {
         kind,
         level,
         flow,
@@ -126,4 +136,40 @@ pub fn consumer_of(
         dead_topic,
         initial,
     })
+}
+
+fn with_settings(
+    topic: TopicName,
+    subscription: SubscriptionName,
+    settings: Settings,
+) -> ConsumerEndpoint
+    ensures { result ≡ with_settings topic subscription settings }
+{
+    ConsumerEndpoint {
+        topic,
+        subscription,
+        kind: settings.kind,
+        level: settings.level,
+        flow: settings.flow,
+        ack_timeout: settings.ack_timeout,
+        nack_delay: settings.nack_delay,
+        max_redeliver: settings.max_redeliver,
+        dead_topic: settings.dead_topic,
+        initial: settings.initial,
+    }
+}
+
+/// The consumer that a query describes.
+pub fn consumer_of(
+    alloc: Global,
+    topic: TopicName,
+    subscription: SubscriptionName,
+    query: &Query,
+) -> Result<ConsumerEndpoint, Cause>
+    ensures { Gives result (consumer_of topic subscription query.now) }
+{
+    match settings_in(alloc, &topic, &subscription, query) {
+        Ok(settings) => Ok(with_settings(topic, subscription, settings)),
+        Err(cause) => Err(cause),
+    }
 }
