@@ -4,6 +4,7 @@ use Rattle.std.proofs.lemmas.List.{drop_all, nil_from_length}
 use Rattle.session_texts.specs.Unsent.{collected, answering}
 use Rattle.std.proofs.Common.{ℤ, Result, ◌&&◌, ◌==◌, nat_le, map, drop, append-nil, ◌≡◌, ℕ, ◌+◌, ◌≤◌, ◌<◌, List, [], ◌∷◌, ◌++◌, length, Bool, true, false, Option, Some, None, Ok, Err, ◌⊎◌, inl, inr, refl, sym, ap, ◌∙◌, subst, arith, option_map}
 use Rattle.std.specs.Option.{option_or}
+use Rattle.std.specs.Prelude.{IfErr, IfOk}
 use Rattle.delivery_machine.specs.declared.event.Event.{Event}
 use Rattle.delivery_machine.specs.declared.event.Event.TheVariants.{Collect, Dispatch, Progress, Tick}
 use Rattle.delivery_machine.specs.declared.reply.Reply.{Reply}
@@ -20,6 +21,12 @@ use Rattle.session_core.specs.Turns.{and_then}
 use Rattle.session_core.specs.Asking.{AllLeftMore, Asked, AsksAll, AsksAs, IsSeries, IsWhole, asked_nothing, close_after, close_of_asked, copies_in, copies_of, durable_after, leaves_more}
 use Rattle.session_core.specs.Steps.{AsksBoth, AsksCollect, AsksOne, AsksOwn, AsksProgress, AsksSeries, AsksSome, EndsAsking, EndsSeries, StopsSo, holds_nothing, may_send, wanting_memory}
 use Rattle.session_core.proofs.Telling.{tells_nothing, tells_then}
+
+-- one was asked, and what follows is by its reply
+pub asked_so : (event : Event) (c d : Option (List Call)) (reply : Reply) (result : Result Bool Stop) → Tells (with_call (record { event = event; reply = reply })) c d
+    → IfOk result (λ more. (own_close reply ≡ None) × (leaves_more reply ≡ more)) → IfErr result (λ stop. option_map Closed (own_close reply) ≡ Some stop) → AsksOne event c result d
+asked_so event c d reply (Ok more) tells ok err = (reply, tells, ok.0, ok.1)
+asked_so event c d reply (Err stop) tells ok err = inl (reply, tells, err)
 
 -- none was asked yet
 pub asked_none : (event : Event) (c : Option (List Call)) → AsksSome event 0 c c

@@ -24,7 +24,9 @@ use Rattle.session_core.specs.Held.{unsent_of}
 use Rattle.session_texts.specs.declared.party.Party.{Party}
 use Rattle.session_core.specs.Turns.{Taken, and_one, calls_of_texts}
 use Rattle.session_core.specs.Texts.{IsTakenAs, IsUnread, answer_as, answer_in, answer_to, answered, close_in, closed_by, next_after, number_after_call}
+use Rattle.session_core.specs.declared.texts.Received.{Received}
 use Rattle.session_core.specs.declared.texts.Received.TheVariants.{Nothing, Text}
+use Rattle.std.specs.Prelude.{IfErr, IfOk, Result}
 use Rattle.session_core.specs.Runs.{IsFull}
 use Rattle.session_core.specs.Steps.{EndsTexts, EndsTextsBy, KeepsCopies, Stays, TakesAll, TakesNext, TakesReply, TakesSome, TakesText, TakesTexts, holds_full, received_with, wanting_memory}
 
@@ -120,6 +122,39 @@ is_full s e =
 -- a session that is full stays as it is
 pub stays_full : (s : Session) (now : ℕ) (e : Option Exchange) (c : Option (List Call)) → holds_full s ≡ true → (is_open : Bool) → is_open ≡ true → TakesNext s now e c (Ok Nothing) s e c is_open
 stays_full s now e c full is_open o = (record { keeps = keeps_all s; next = refl; waiting = refl }, refl, o, inr (is_full s full, refl))
+
+-- a session that holds the same takes a text in the same way
+pub text_from : (s r t : Session) (now : ℕ) (text : List ℕ) (c d : Option (List Call)) (stop : Option Stop) → Stays s r → TakesText r now text c stop t d → TakesText s now text c stop t d
+text_from s r t now text c d stop stays h =
+    let party = stays.keeps.party in
+    let same_unsent : unsent_of r ≡ unsent_of s =
+    more_unsent s r [] stays.keeps (ap (map answering) stays.waiting ∙ sym (append-nil (map answering s.waiting.items))) ∙ append-nil (unsent_of s) in record {
+      taken = h.taken;
+      is_text = h.is_text;
+      as_asked = subst (λ (n : Option ℤ). IsUnread h.taken ⊎ IsTakenAs s.party h.taken (asks s.party now n text)) stays.next
+          (subst (λ (p : Party). IsUnread h.taken ⊎ IsTakenAs p h.taken (asks p now r.next text)) party h.as_asked);
+      stops = h.stops;
+      calls = h.calls;
+      keeps = record {
+        party = h.keeps.party ∙ party;
+        durable = h.keeps.durable ∙ stays.keeps.durable;
+        copies = h.keeps.copies ∙ stays.keeps.copies;
+        copies_sent = h.keeps.copies_sent ∙ stays.keeps.copies_sent;
+      };
+      next = h.next ∙ ap (λ (n : Option ℤ). number_after_call n h.taken.call) stays.next;
+      unsent = h.unsent
+          ∙ ap (λ l. l ++ answer_to r.party now r.next h.taken) same_unsent
+          ∙ ap (λ (p : Party). unsent_of s ++ answer_to p now r.next h.taken) party
+          ∙ ap (λ (n : Option ℤ). unsent_of s ++ answer_to s.party now n h.taken) stays.next;
+    }
+
+-- a text was received and taken by a session that holds the same
+pub next_text : (s r t : Session) (now : ℕ) (e f : Option Exchange) (c d : Option (List Call)) (result : Result Received Stop) (is_open : Bool) (text : List ℕ) → Stays s r
+    → IfOk result (λ what. (what ≡ Text) × TakesText r now text c None t d) → IfErr result (λ stop. TakesText r now text c (Some stop) t d)
+    → Tells (with_receipt (came text)) e f → is_open ≡ true → TakesNext s now e c result t f d is_open
+next_text s r t now e f c d (Ok Text) is_open text stays ok err tells o = (text, text_from s r t now text c d None stays ok.1, tells, o)
+next_text s r t now e f c d (Ok Nothing) is_open text stays ok err tells o = let is = ok.0 in cc
+next_text s r t now e f c d (Err stop) is_open text stays ok err tells o = inl (text, text_from s r t now text c d (Some stop) stays err, tells, o)
 
 -- a text that closes the session was taken
 pub text_stops : (s : Session) (now : ℕ) (e f : Option Exchange) (c d : Option (List Call)) (stop : Stop) (t : Session) (is_open : Bool) (text : List ℕ)

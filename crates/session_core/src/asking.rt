@@ -1,9 +1,10 @@
 // What a session asks of its own accord.
-ghost use Rattle.std.specs.Prelude.{◌≡◌, ◌&&◌, true, option_map};
+ghost use Rattle.std.specs.Prelude.{◌≡◌, ◌&&◌, IfErr, IfOk, None, Some, max, true, option_map};
 ghost use Rattle.std.specs.Result.{result_err};
 ghost use Rattle.session_texts.specs.Outcomes.{own_close};
-ghost use Rattle.session_core.specs.Asking.{leaves_more};
-ghost use Rattle.session_core.specs.Steps.{AsksBoth, AsksCollect, AsksOne, AsksOwn, AsksProgress, AsksSeries, holds_nothing, series_event};
+ghost use Rattle.session_core.specs.Asking.{copies_in, durable_in, leaves_more};
+ghost use Rattle.session_core.specs.Held.{unsent_of};
+ghost use Rattle.session_core.specs.Steps.{AsksBoth, AsksCollect, AsksOne, AsksOwn, AsksProgress, AsksSeries, KeepsState, holds_nothing, series_event};
 
 use crate::session::Session;
 use crate::stop::Stop;
@@ -38,13 +39,31 @@ fn leaves_more(reply: &Reply) -> bool
 }
 
 /// The end of the session that the reply leads to.
-fn stop_of(reply: &Reply) -> Option<Stop>
-    ensures { result ≡ option_map Stop.Closed (own_close reply.now) }
+fn end_of(reply: &Reply) -> Result<(), Stop>
+    ensures { result_err result ≡ option_map Stop.Closed (own_close reply.now) }
 {
     match own_close(reply) {
-        Some(close) => Some(Stop::Closed(close)),
-        None => None,
+        Some(close) => Err(Stop::Closed(close)),
+        None => Ok(()),
     }
+}
+
+/// Whether more may be asked after the reply, where it does not end the session.
+fn more_after(reply: &Reply) -> Result<bool, Stop>
+    ensures ok { IfOk result (λ more. (own_close reply.now ≡ None) × (leaves_more reply.now ≡ more)) }
+    ensures err { IfErr result (λ stop. option_map Stop.Closed (own_close reply.now) ≡ Some stop) }
+{
+    match own_close(reply) {
+        Some(close) => Err(Stop::Closed(close)),
+        None => Ok(leaves_more(reply)),
+    }
+}
+
+fn ask_event<K: Caller>(caller: &mut K, event: Event) -> Result<bool, Stop>
+    ensures { AsksOne event (K.calls caller.old) result (K.calls caller.new) }
+{
+    let reply = ask(caller, event);
+    more_after(&reply)
 }
 
 /// Asks for one of the series, and tells whether more may be asked.
@@ -56,13 +75,9 @@ fn ask_one<K: Caller>(
 ) -> Result<bool, Stop>
     ensures { AsksOne (series_event series subscription.now now) (K.calls caller.old) result (K.calls caller.new) }
 {
-    let Ok(name) = subscription.clone() else {
-        return Err(Stop::wants_memory());
-    };
-    let reply = ask(caller, event_of(series, name, now));
-    match stop_of(&reply) {
-        Some(stop) => Err(stop),
-        None => Ok(leaves_more(&reply)),
+    match subscription.clone() {
+        Ok(name) => ask_event(caller, event_of(series, name, now)),
+        Err(_) => Err(Stop::wants_memory()),
     }
 }
 
@@ -108,17 +123,36 @@ fn ask_both<K: Caller>(
 }
 
 impl Session {
+    /// Takes note of how much the reply says is stored.
+    fn note_durable(&mut self, reply: &Reply)
+        ensures durable { self.new.durable ≡ max self.old.durable (durable_in reply.now) }
+        ensures party { self.new.party ≡ self.old.party }
+        ensures next { self.new.next ≡ self.old.next }
+        ensures unsent { unsent_of self.new ≡ unsent_of self.old }
+    {
+        if let Reply::Progress { durable, length: _ } = reply {
+            self.durable = self.durable.max(*durable);
+        }
+    }
+
     /// Asks how much is stored.
     fn ask_progress<K: Caller>(&mut self, caller: &mut K) -> Result<(), Stop>
         ensures { AsksProgress self.old (K.calls caller.old) (result_err result) self.new (K.calls caller.new) }
     {
         let reply = ask(caller, Event::Progress);
-        if let Reply::Progress { durable, length: _ } = &reply {
-            self.durable = self.durable.max(*durable);
-        }
-        match stop_of(&reply) {
-            Some(stop) => Err(stop),
-            None => Ok(()),
+        self.note_durable(&reply);
+        end_of(&reply)
+    }
+
+    /// Takes the messages that the reply has, where it has some.
+    fn take_copies(&mut self, reply: Reply)
+        requires { holds_nothing self.old ≡ true }
+        ensures keeps { KeepsState self.old self.new }
+        ensures unsent { unsent_of self.new ≡ copies_in reply }
+    {
+        if let Reply::Copies(copies) = reply {
+            self.copies = copies;
+            self.copies_sent = 0;
         }
     }
 
@@ -127,17 +161,10 @@ impl Session {
         requires { holds_nothing self.old ≡ true }
         ensures { AsksCollect consumer self.old (K.calls caller.old) (result_err result) self.new (K.calls caller.new) }
     {
-        match ask(caller, Event::Collect { consumer }) {
-            Reply::Copies(copies) => {
-                self.copies = copies;
-                self.copies_sent = 0;
-                Ok(())
-            }
-            reply => match stop_of(&reply) {
-                Some(stop) => Err(stop),
-                None => Ok(()),
-            },
-        }
+        let reply = ask(caller, Event::Collect { consumer });
+        let end = end_of(&reply);
+        self.take_copies(reply);
+        end
     }
 
     /// Whether it may ask for more to send.

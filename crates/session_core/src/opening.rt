@@ -142,6 +142,17 @@ fn begin_by<C: Conn>(
     }
 }
 
+/// The event with which a producer's session begins.
+fn joins_producer(endpoint: ProducerEndpoint) -> Event
+    ensures { result ≡ joins_producer endpoint }
+{
+    let base = base_or_none(&endpoint.base);
+    Event::AddProducer {
+        name: endpoint.name,
+        base,
+    }
+}
+
 fn open_producer<C: Conn, K: Caller>(
     alloc: Global,
     endpoint: ProducerEndpoint,
@@ -152,15 +163,45 @@ fn open_producer<C: Conn, K: Caller>(
     ensures stays { OnSome result (C.is_open conn.new ≡ true) }
     ensures begins { OpensBy (joins_producer endpoint) 4001 (producer_party endpoint.base) (C.exchange conn.old) (K.calls caller.old) result (C.exchange conn.new) (K.calls caller.new) (C.is_open conn.new) }
 {
-    let ProducerEndpoint {
-        topic: _topic,
-        name,
-        base: given,
-    } = endpoint;
-    let base = base_or_none(&given);
-    let reply = ask(caller, Event::AddProducer { name, base });
+    let given = endpoint.base;
+    let reply = ask(caller, joins_producer(endpoint));
     let party = producer_party(&given, &reply);
     begin_by(alloc, party, no_dues(), conn, 4001, &reply)
+}
+
+/// The event with which a consumer's session begins.
+fn joins_consumer(endpoint: ConsumerEndpoint) -> Event
+    ensures { result ≡ joins_consumer endpoint }
+{
+    Event::Subscribe {
+        subscription: endpoint.subscription,
+        kind: endpoint.kind,
+        level: endpoint.level,
+        flow: endpoint.flow,
+        ack_timeout: endpoint.ack_timeout,
+        nack_delay: endpoint.nack_delay,
+        max_redeliver: endpoint.max_redeliver,
+        dead_topic: endpoint.dead_topic,
+        initial: endpoint.initial,
+    }
+}
+
+/// Begins the session of a consumer of the subscription by the reply to the event.
+fn join_consumer<C: Conn, K: Caller>(
+    alloc: Global,
+    event: Event,
+    subscription: SubscriptionName,
+    dues: Dues,
+    conn: &mut C,
+    caller: &mut K,
+) -> Option<Session>
+    requires { C.is_open conn.old ≡ true }
+    ensures stays { OnSome result (C.is_open conn.new ≡ true) }
+    ensures begins { OpensBy event 4002 (consumer_party subscription) (C.exchange conn.old) (K.calls caller.old) result (C.exchange conn.new) (K.calls caller.new) (C.is_open conn.new) }
+{
+    let reply = ask(caller, event);
+    let party = consumer_party(subscription, &reply);
+    begin_by(alloc, party, dues, conn, 4002, &reply)
 }
 
 fn open_consumer<C: Conn, K: Caller>(
@@ -173,30 +214,18 @@ fn open_consumer<C: Conn, K: Caller>(
     ensures stays { OnSome result (C.is_open conn.new ≡ true) }
     ensures begins { OpensBy (joins_consumer endpoint) 4002 (consumer_party endpoint.subscription) (C.exchange conn.old) (K.calls caller.old) result (C.exchange conn.new) (K.calls caller.new) (C.is_open conn.new) }
 {
-    let Ok(subscription) = endpoint.subscription.clone() else {
-        return refuse(conn, 4008, Fault::NoMemory);
-    };
     let dues = Dues::new(endpoint.ack_timeout, endpoint.nack_delay);
-    let event = Event::Subscribe {
-        subscription: endpoint.subscription,
-        kind: endpoint.kind,
-        level: endpoint.level,
-        flow: endpoint.flow,
-        ack_timeout: endpoint.ack_timeout,
-        nack_delay: endpoint.nack_delay,
-        max_redeliver: endpoint.max_redeliver,
-        dead_topic: endpoint.dead_topic,
-        initial: endpoint.initial,
-    };
-    let reply = ask(caller, event);
-    begin_by(
-        alloc,
-        consumer_party(subscription, &reply),
-        dues,
-        conn,
-        4002,
-        &reply,
-    )
+    match endpoint.subscription.clone() {
+        Ok(subscription) => join_consumer(
+            alloc,
+            joins_consumer(endpoint),
+            subscription,
+            dues,
+            conn,
+            caller,
+        ),
+        Err(_) => refuse(conn, 4008, Fault::NoMemory),
+    }
 }
 
 /// Opens a session at the endpoint: joins a producer or a consumer to its topic. None where the topic refuses, or memory

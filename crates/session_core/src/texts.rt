@@ -1,5 +1,5 @@
 // Taking texts.
-ghost use Rattle.std.specs.Prelude.{◌≡◌, ◌<◌, true};
+ghost use Rattle.std.specs.Prelude.{◌≡◌, ◌<◌, IfErr, IfOk, None, Some, true};
 ghost use Rattle.std.specs.Result.{result_err};
 ghost use Rattle.std.specs.VecDeque.{deque_capacity, deque_len};
 ghost use Rattle.session_core.specs.Steps.{TakesNext, TakesReply, TakesText, TakesTexts};
@@ -66,6 +66,23 @@ impl Session {
         }
     }
 
+    /// Takes a text that came.
+    fn take_came<K: Caller>(
+        &mut self,
+        caller: &mut K,
+        now: Moment,
+        text: &[u8],
+    ) -> Result<Received, Stop>
+        requires { deque_len self.old.waiting < deque_capacity self.old.waiting }
+        ensures ok { IfOk result (λ what. (what ≡ Received.Text) × TakesText self.old now text.now (K.calls caller.old) None self.new (K.calls caller.new)) }
+        ensures err { IfErr result (λ stop. TakesText self.old now text.now (K.calls caller.old) (Some stop) self.new (K.calls caller.new)) }
+    {
+        match self.take_text(caller, now, text) {
+            Ok(()) => Ok(Received::Text),
+            Err(stop) => Err(stop),
+        }
+    }
+
     /// Receives once, and takes what came.
     fn take_next<C: Conn, K: Caller>(
         &mut self,
@@ -84,10 +101,7 @@ impl Session {
         }
         match conn.receive() {
             Ok(Incoming::Nothing) => Ok(Received::Nothing),
-            Ok(Incoming::Text(text)) => match self.take_text(caller, now, text.as_slice()) {
-                Ok(()) => Ok(Received::Text),
-                Err(stop) => Err(stop),
-            },
+            Ok(Incoming::Text(text)) => self.take_came(caller, now, text.as_slice()),
             Ok(Incoming::Gone) => Err(Stop::Gone),
             Err(_) => Err(Stop::Gone),
         }
