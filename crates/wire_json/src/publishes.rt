@@ -1,8 +1,8 @@
 // What a producer's text stands for.
-ghost use Rattle.std.specs.Prelude.{◌≡◌, Some, None, Err, IfOk, option_map, string_bytes};
+ghost use Rattle.std.specs.Prelude.{◌≡◌, Some, None, Ok, Err, IfOk, option_map, string_bytes};
 ghost use Rattle.serde_json.specs.View.{view};
 ghost use Rattle.json_values.specs.Fields.{ok_as};
-ghost use Rattle.wire_json.specs.Publishes.{content_in, context_in, key_in, payload_from, payload_in, properties_in, publish_of};
+ghost use Rattle.wire_json.specs.Publishes.{content_from, content_in, context_in, key_in, payload_from, payload_in, properties_in, publish_of, reading_of};
 
 use json_values::{bytes_of, object_of, pairs_in, text_at, word};
 use position_core::{Content, Fault, Key, Payload, Properties};
@@ -93,23 +93,42 @@ fn properties_of(alloc: Global, object: &Value) -> Result<Result<Properties, Fau
     }
 }
 
-fn content_of(alloc: Global, object: &Value) -> Result<Result<Content, Fault>, AllocError>
-    ensures { IfOk result (λ said. said ≡ content_in (view object.now)) }
+fn content_with_key(
+    alloc: Global,
+    object: &Value,
+    payload: Payload,
+    key: Option<Key>,
+) -> Result<Result<Content, Fault>, AllocError>
+    ensures { IfOk result (λ said. said ≡ content_from (Ok payload) (Ok key) (properties_in (view object.now))) }
 {
-    let payload = match payload_of(alloc, object)? {
-        Ok(payload) => payload,
-        Err(fault) => return Ok(Err(fault)),
-    };
-    let key = match key_of(alloc, object)? {
-        Ok(key) => key,
-        Err(fault) => return Ok(Err(fault)),
-    };
     match properties_of(alloc, object)? {
         Ok(properties) => Ok(Ok(Content {
             key,
             properties,
             payload,
         })),
+        Err(fault) => Ok(Err(fault)),
+    }
+}
+
+fn content_with_payload(
+    alloc: Global,
+    object: &Value,
+    payload: Payload,
+) -> Result<Result<Content, Fault>, AllocError>
+    ensures { IfOk result (λ said. said ≡ content_from (Ok payload) (key_in (view object.now)) (properties_in (view object.now))) }
+{
+    match key_of(alloc, object)? {
+        Ok(key) => content_with_key(alloc, object, payload, key),
+        Err(fault) => Ok(Err(fault)),
+    }
+}
+
+fn content_of(alloc: Global, object: &Value) -> Result<Result<Content, Fault>, AllocError>
+    ensures { IfOk result (λ said. said ≡ content_in (view object.now)) }
+{
+    match payload_of(alloc, object)? {
+        Ok(payload) => content_with_payload(alloc, object, payload),
         Err(fault) => Ok(Err(fault)),
     }
 }
@@ -125,18 +144,24 @@ fn refused() -> PublishReading
     }
 }
 
+fn reading_in(alloc: Global, object: &Value) -> Result<PublishReading, AllocError>
+    ensures { IfOk result (λ said. reading_of (Some (view object.now)) ≡ record { context = option_map string_bytes said.context; content = said.content }) }
+{
+    match context_of(alloc, object)? {
+        Ok(context) => Ok(PublishReading {
+            context,
+            content: content_of(alloc, object)?,
+        }),
+        Err(_) => Ok(refused()),
+    }
+}
+
 /// Reads what a producer sent.
 pub fn read_publish(alloc: Global, text: &[u8]) -> Result<PublishReading, AllocError>
     ensures { IfOk result (λ said. publish_of text.now ≡ record { context = option_map string_bytes said.context; content = said.content }) }
 {
-    let Some(object) = object_of(alloc, text)? else {
-        return Ok(refused());
-    };
-    match context_of(alloc, &object)? {
-        Ok(context) => Ok(PublishReading {
-            context,
-            content: content_of(alloc, &object)?,
-        }),
-        Err(_) => Ok(refused()),
+    match object_of(alloc, text)? {
+        Some(object) => reading_in(alloc, &object),
+        None => Ok(refused()),
     }
 }
