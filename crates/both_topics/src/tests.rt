@@ -6,11 +6,12 @@ mod memory;
 mod pair;
 mod seen;
 
+use delivery_machine::Opened;
 use lists::Lines;
 use pair::Pair;
 use plain_topic::PlainTopic;
 use position_core::LedgerSize;
-use replay_core::replay_fresh;
+use replay_core::{Stop, replay_fresh};
 use seen::Seen;
 use std::process::Abort;
 use topic_core::TopicCore;
@@ -24,37 +25,45 @@ const EVENTS: u64 = 30;
 /// A ledger has so few messages that a list fills several.
 const IN_A_LEDGER: u32 = 3;
 
-/// What the plain topic answers to the lines.
-fn plain_replies<R: Abort + AllocGlobal>(rt: &R, size: LedgerSize, lines: &str) -> Vec<u8> {
+fn check_done<R: Abort>(rt: &R, done: Result<(), Stop>, lines: &str) {
+    assert!(rt; done == Ok(()), "{lines}");
+}
+
+/// What a topic of the type answers to the lines.
+fn replies<T: Opened + Drop, R: Abort + AllocGlobal>(
+    rt: &R,
+    size: LedgerSize,
+    lines: &str,
+) -> Vec<u8> {
     let mut out = Vec::new(rt.alloc());
     let mut input = lines.as_bytes();
-    let done = replay_fresh::<PlainTopic, &[u8], Vec<u8>>(rt.alloc(), &mut input, &mut out, size);
-    assert!(rt; done == Ok(()), "{lines}");
+    let done = replay_fresh::<T, &[u8], Vec<u8>>(rt.alloc(), &mut input, &mut out, size);
+    check_done(rt, done, lines);
     out
 }
 
-fn fast_replies<R: Abort + AllocGlobal>(rt: &R, size: LedgerSize, lines: &str) -> Vec<u8> {
-    let mut out = Vec::new(rt.alloc());
-    let mut input = lines.as_bytes();
-    let done = replay_fresh::<TopicCore, &[u8], Vec<u8>>(rt.alloc(), &mut input, &mut out, size);
-    assert!(rt; done == Ok(()), "{lines}");
-    out
+fn check_alike<R: Abort>(rt: &R, fast: &[u8], plain: &[u8], lines: &str) {
+    assert!(rt; fast == plain, "{lines}");
 }
 
 /// Both answer alike to the lines.
 fn check_list<R: Abort + AllocGlobal>(rt: &R, seen: &mut Seen, size: LedgerSize, lines: &str) {
-    let plain = plain_replies(rt, size, lines);
-    let fast = fast_replies(rt, size, lines);
-    assert!(rt; fast.as_slice() == plain.as_slice(), "{lines}");
+    let plain = replies::<PlainTopic, R>(rt, size, lines);
+    let fast = replies::<TopicCore, R>(rt, size, lines);
+    check_alike(rt, fast.as_slice(), plain.as_slice(), lines);
     seen.note_all(rt, fast.as_slice());
+}
+
+fn check_number<R: Abort + AllocGlobal>(rt: &R, seen: &mut Seen, size: LedgerSize, number: u64) {
+    let lines = Lines::random(rt, number, EVENTS);
+    check_list(rt, seen, size, lines.as_str());
 }
 
 /// So many lists: every line of the replies is the same, and replies of every kind come.
 fn check_texts<R: Abort + AllocGlobal>(rt: &R, size: LedgerSize) {
     let mut seen = Seen::new();
     for number in 0..LISTS {
-        let lines = Lines::random(rt, number, EVENTS);
-        check_list(rt, &mut seen, size, lines.as_str());
+        check_number(rt, &mut seen, size, number);
     }
     seen.check_all(rt);
 }
@@ -65,13 +74,23 @@ fn random_lines(rt: HostRuntime) {
     check_texts(&rt, size);
 }
 
-/// So many lists of so many events, with stores of a part among them: every reply is the same.
+/// Every reply to the lines is the same, with stores of a part among them.
+fn check_pair<P: Opened + Drop, F: Opened + Drop, R: Abort + AllocGlobal>(
+    rt: &R,
+    size: LedgerSize,
+    number: u64,
+    lines: &str,
+) {
+    let mut pair = Pair::<P, F>::new(rt, size, number);
+    pair.answer_each(rt, lines);
+}
+
+/// So many lists of so many events.
 fn check_events<R: Abort + AllocGlobal>(rt: &R, lists: u64, events: u64) {
     let size = LedgerSize::new(IN_A_LEDGER).expect(rt, "no size");
     for number in 0..lists {
-        let mut pair = Pair::new(rt, size, number);
         let lines = Lines::random(rt, number, events);
-        pair.answer_each(rt, lines.as_str());
+        check_pair::<PlainTopic, TopicCore, R>(rt, size, number, lines.as_str());
     }
 }
 

@@ -34,13 +34,20 @@ fn event_of<R: Abort + AllocGlobal>(rt: &R, line: &str) -> Event {
     event_in(rt, &topic_name(rt), line).expect(rt, "no event")
 }
 
+fn push_event<R: Abort + AllocGlobal>(rt: &R, events: &mut Vec<Event>, line: &str) {
+    events.push(event_of(rt, line)).expect(rt, "no memory");
+}
+
+fn push_events<R: Abort + AllocGlobal>(rt: &R, events: &mut Vec<Event>, lines: &str) {
+    for line in lines.as_bytes().lines(rt.alloc()) {
+        push_event(rt, events, line.expect(rt, "no text").as_str());
+    }
+}
+
 /// The events that the lines stand for.
 fn events_of<R: Abort + AllocGlobal>(rt: &R, lines: &str) -> Vec<Event> {
     let mut events = Vec::new(rt.alloc());
-    for line in lines.as_bytes().lines(rt.alloc()) {
-        let event = event_of(rt, line.expect(rt, "no text").as_str());
-        events.push(event).expect(rt, "no memory");
-    }
+    push_events(rt, &mut events, lines);
     events
 }
 
@@ -76,41 +83,52 @@ fn are_in_turn(replies: &[Reply]) -> bool {
     )
 }
 
-fn check_in_turn<R: Abort + AllocGlobal, T: Topic>(rt: &R, topic: &mut T) {
-    let events = events_of(rt, AGAIN);
-    let replies = run(rt.alloc(), topic, events.as_slice());
-    assert!(rt; are_in_turn(replies.ok().expect(rt, "no memory").as_slice()));
+fn check_replies<R: Abort>(rt: &R, replies: &[Reply]) {
+    assert!(rt; are_in_turn(replies));
+}
+
+fn check_run<R: Abort + AllocGlobal, T: Topic>(rt: &R, topic: &mut T, events: &[Event]) {
+    let replies = run(rt.alloc(), topic, events).ok().expect(rt, "no memory");
+    check_replies(rt, replies.as_slice());
+}
+
+fn check_in_turn<R: Abort + AllocGlobal, T: Topic + Drop>(rt: &R, mut topic: T) {
+    check_run(rt, &mut topic, events_of(rt, AGAIN).as_slice());
 }
 
 #[test]
 fn each_event_of_a_run_is_answered(rt: HostRuntime) {
-    check_in_turn(&rt, &mut plain_topic(&rt));
-    check_in_turn(&rt, &mut fast_topic(&rt));
+    check_in_turn(&rt, plain_topic(&rt));
+    check_in_turn(&rt, fast_topic(&rt));
 }
 
-/// How many messages are durable once so many are stored.
-fn durable_after<T: Topic>(topic: &mut T, length: u64) -> Option<u64> {
-    match topic.apply(&Event::StoredTo { length, ordinal: 0 }) {
-        Reply::Durable(count) => Some(count),
+fn durable_in(reply: &Reply) -> Option<u64> {
+    match reply {
+        Reply::Durable(count) => Some(*count),
         _ => None,
     }
 }
 
-fn check_durable<R: Abort, T: Topic>(rt: &R, topic: &mut T, length: u64, want: u64) {
-    assert!(rt; durable_after(topic, length) == Some(want));
+/// So many messages are stored.
+fn store_to<T: Topic>(topic: &mut T, length: u64) -> Reply {
+    topic.apply(&Event::StoredTo { length, ordinal: 0 })
 }
 
-fn check_stores<R: Abort + AllocGlobal, T: Topic>(rt: &R, topic: &mut T) {
-    tell(topic, events_of(rt, UNSTORED).as_slice());
-    check_durable(rt, topic, 1, 1);
-    check_durable(rt, topic, 0, 1);
-    check_durable(rt, topic, 7, 2);
+fn check_durable<R: Abort, T: Topic>(rt: &R, topic: &mut T, length: u64, want: u64) {
+    assert!(rt; durable_in(&store_to(topic, length)) == Some(want));
+}
+
+fn check_stores<R: Abort + AllocGlobal, T: Topic + Drop>(rt: &R, mut topic: T) {
+    tell(&mut topic, events_of(rt, UNSTORED).as_slice());
+    check_durable(rt, &mut topic, 1, 1);
+    check_durable(rt, &mut topic, 0, 1);
+    check_durable(rt, &mut topic, 7, 2);
 }
 
 #[test]
 fn so_many_messages_are_stored_and_no_fewer(rt: HostRuntime) {
-    check_stores(&rt, &mut plain_topic(&rt));
-    check_stores(&rt, &mut fast_topic(&rt));
+    check_stores(&rt, plain_topic(&rt));
+    check_stores(&rt, fast_topic(&rt));
 }
 
 const FIRST: Position = Position {
@@ -126,27 +144,39 @@ fn are_of_first(copies: &[Delivery]) -> bool {
     }
 }
 
+fn check_first<R: Abort>(rt: &R, copies: &[Delivery]) {
+    assert!(rt; are_of_first(copies));
+}
+
 /// The consumer was sent the first message and has not collected it.
 fn check_sent<R: Abort, T: Topic>(rt: &R, topic: &T) {
     let copies = topic.out_copy(1).ok().expect(rt, "no memory");
-    assert!(rt; are_of_first(copies.as_slice()));
+    check_first(rt, copies.as_slice());
+}
+
+fn check_empty<R: Abort>(rt: &R, copies: &[Delivery]) {
+    assert!(rt; copies.is_empty());
 }
 
 fn check_nothing<R: Abort, T: Topic>(rt: &R, topic: &T, consumer: u64) {
     let copies = topic.out_copy(consumer).ok().expect(rt, "no memory");
-    assert!(rt; copies.as_slice().is_empty());
+    check_empty(rt, copies.as_slice());
 }
 
-fn check_copies<R: Abort + AllocGlobal, T: Topic>(rt: &R, topic: &mut T) {
-    tell(topic, events_of(rt, SENT).as_slice());
-    check_sent(rt, topic);
-    check_nothing(rt, topic, 2);
-    tell(topic, &[Event::Collect { consumer: 1 }]);
-    check_nothing(rt, topic, 1);
+fn collect<T: Topic>(topic: &mut T) {
+    let _ = topic.apply(&Event::Collect { consumer: 1 });
+}
+
+fn check_copies<R: Abort + AllocGlobal, T: Topic + Drop>(rt: &R, mut topic: T) {
+    tell(&mut topic, events_of(rt, SENT).as_slice());
+    check_sent(rt, &topic);
+    check_nothing(rt, &topic, 2);
+    collect(&mut topic);
+    check_nothing(rt, &topic, 1);
 }
 
 #[test]
 fn out_copies_are_what_was_not_collected(rt: HostRuntime) {
-    check_copies(&rt, &mut plain_topic(&rt));
-    check_copies(&rt, &mut fast_topic(&rt));
+    check_copies(&rt, plain_topic(&rt));
+    check_copies(&rt, fast_topic(&rt));
 }

@@ -2,14 +2,12 @@
 use super::calls::topic_name;
 use super::dice::Dice;
 use delivery_machine::{Event, Opened, Reply};
-use plain_topic::PlainTopic;
 use position_core::{Fault, LedgerSize, TopicName};
 use replay_core::Restartable;
-use replay_lines::{Line, read_line};
+use replay_lines::{Line, Unread, read_line};
 use std::alloc::Global;
 use std::io::BufRead;
 use std::process::Abort;
-use topic_core::TopicCore;
 
 /// A store of a part has fewer messages than this, which may be more than there are.
 const MOST_STORED: u64 = 24;
@@ -22,9 +20,10 @@ fn is_refused_memory(answer: &Result<Reply, Fault>) -> bool {
 fn ask<T: Opened + Drop>(topic: &mut Restartable<T>, event: &Event) -> Result<Reply, Fault> {
     let answer = topic.apply(event);
     if is_refused_memory(&answer) {
-        return topic.apply(event);
+        topic.apply(event)
+    } else {
+        answer
     }
-    answer
 }
 
 /// The ledger that the topic goes on in.
@@ -42,45 +41,51 @@ fn are_alike(plainly: &Result<Reply, Fault>, fastly: &Result<Reply, Fault>) -> b
     }
 }
 
-/// Both topics, with what is stored of each, and what looks random.
+fn check_alike<R: Abort>(
+    rt: &R,
+    plainly: &Result<Reply, Fault>,
+    fastly: &Result<Reply, Fault>,
+    line: &str,
+) {
+    assert!(rt; are_alike(plainly, fastly), "{line}");
+}
+
+/// The plain topic and the fast one, with what is stored of each, and what looks random.
 #[derive(Drop)]
-pub(super) struct Pair {
+pub(super) struct Pair<P: Opened, F: Opened> {
     alloc: Global,
     name: TopicName,
-    plain: Restartable<PlainTopic>,
-    fast: Restartable<TopicCore>,
+    plain: Restartable<P>,
+    fast: Restartable<F>,
     dice: Dice,
 }
 
-impl Pair {
+fn begin<R: Abort + AllocGlobal, T: Opened + Drop>(rt: &R, size: LedgerSize) -> Restartable<T> {
+    let topic = T::fresh(rt.alloc(), topic_name(rt), size).expect(rt, "no memory");
+    Restartable::new(topic).expect(rt, "no memory")
+}
+
+impl<P: Opened + Drop, F: Opened + Drop> Pair<P, F> {
     pub(super) fn new<R: Abort + AllocGlobal>(rt: &R, size: LedgerSize, number: u64) -> Self {
-        let plain = PlainTopic::new(rt.alloc(), topic_name(rt), size);
-        let fast = TopicCore::new(rt.alloc(), topic_name(rt), size);
         Pair {
             alloc: rt.alloc(),
             name: topic_name(rt),
-            plain: Restartable::new(plain).expect(rt, "no memory"),
-            fast: Restartable::new(fast).expect(rt, "no memory"),
+            plain: begin(rt, size),
+            fast: begin(rt, size),
             dice: Dice::new(number),
         }
     }
 
-    /// The event, or at times a store of a part in place of one of all: no line has that.
-    fn chosen(&mut self, event: Event) -> Event {
-        if !matches!(event, Event::Stored) || self.dice.roll(3) != 0 {
-            return event;
-        }
-        Event::StoredTo {
-            length: self.dice.roll(MOST_STORED),
-            ordinal: self.dice.roll(4),
-        }
+    /// Whether a store of a part is to come in place of the event.
+    fn stores_part(&mut self, event: &Event) -> bool {
+        matches!(event, Event::Stored) && self.dice.roll(3) == 0
     }
 
     /// Both answer the event alike.
     fn ask<R: Abort>(&mut self, rt: &R, event: &Event, line: &str) {
         let plainly = ask(&mut self.plain, event);
         let fastly = ask(&mut self.fast, event);
-        assert!(rt; are_alike(&plainly, &fastly), "{line}");
+        check_alike(rt, &plainly, &fastly, line);
     }
 
     /// Both go on from what is stored.
@@ -90,16 +95,35 @@ impl Pair {
         assert!(rt; plainly.is_some() && fastly == plainly);
     }
 
-    /// So they answer the line, where it stands for an event or a restart.
-    fn answer<R: Abort>(&mut self, rt: &R, line: &str) {
-        match read_line(self.alloc, &self.name, line.as_bytes()) {
-            Ok(Line::Event(event)) => {
-                let event = self.chosen(event);
-                self.ask(rt, &event, line);
-            }
+    fn ask_part<R: Abort>(&mut self, rt: &R, line: &str) {
+        let part = Event::StoredTo {
+            length: self.dice.roll(MOST_STORED),
+            ordinal: self.dice.roll(4),
+        };
+        self.ask(rt, &part, line);
+    }
+
+    /// The event, or at times a store of a part in place of one of all: no line has that.
+    fn ask_chosen<R: Abort>(&mut self, rt: &R, event: &Event, line: &str) {
+        if self.stores_part(event) {
+            self.ask_part(rt, line);
+        } else {
+            self.ask(rt, event, line);
+        }
+    }
+
+    fn answer_read<R: Abort>(&mut self, rt: &R, read: &Result<Line, Unread>, line: &str) {
+        match read {
+            Ok(Line::Event(event)) => self.ask_chosen(rt, event, line),
             Ok(Line::Restart) => self.restart(rt),
             _ => {}
         }
+    }
+
+    /// So they answer the line, where it stands for an event or a restart.
+    fn answer<R: Abort>(&mut self, rt: &R, line: &str) {
+        let read = read_line(self.alloc, &self.name, line.as_bytes());
+        self.answer_read(rt, &read, line);
     }
 
     pub(super) fn answer_each<R: Abort + AllocGlobal>(&mut self, rt: &R, lines: &str) {
