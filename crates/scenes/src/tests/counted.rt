@@ -1,10 +1,8 @@
 // How much of a topic an offer looks at, where many messages are pending.
-use super::subscription::Only;
 use super::topic::Topic;
+use super::{in_order, shared};
 use crate::ListView;
 use dispatch_core::{Dispatcher, Offer, Seen, View};
-use dispatch_shared::Shared;
-use dispatch_single::Single;
 use position_core::{Kind, LogIndex};
 use std::cell::Cell;
 use std::process::Abort;
@@ -16,8 +14,8 @@ const COUNT: u64 = 1_000;
 #[derive(Drop)]
 pub(super) struct CountedView<'a> {
     list: ListView<'a>,
-    pub(super) calls: Cell<u64>,
-    pub(super) passed: Cell<u64>,
+    calls: Cell<u64>,
+    passed: Cell<u64>,
 }
 
 impl<'a> CountedView<'a> {
@@ -78,51 +76,76 @@ impl View for CountedView<'_> {
 /// So many messages are sent to the first member, and the dispatcher is told of each.
 pub(super) fn send_first<R: Abort, D: Dispatcher>(
     rt: &R,
-    begun: Topic,
+    topic: &mut Topic,
     dispatcher: &mut D,
     count: u64,
-) -> Topic {
-    let mut topic = begun;
+) {
     for index in 0..count {
-        topic = topic.hold(rt, index, 1);
+        topic.hold(rt, index, 1);
         let done = dispatcher.on_sent(&topic.view(), index, 1);
         done.expect(rt, "no memory");
     }
-    topic
+}
+
+fn tell_of_first<R: Abort, D: Dispatcher>(rt: &R, dispatcher: &mut D, topic: &Topic) {
+    let done = dispatcher.on_join(&topic.view(), 1);
+    done.expect(rt, "no memory");
 }
 
 /// All messages but the last are sent to the one member.
 fn sent<R: Abort + AllocGlobal, D: Dispatcher>(rt: &R, kind: Kind, dispatcher: &mut D) -> Topic {
-    let topic = Topic::long(rt, kind, COUNT);
-    let done = dispatcher.on_join(&topic.view(), 1);
-    done.expect(rt, "no memory");
-    send_first(rt, topic, dispatcher, COUNT - 1)
+    let mut topic = Topic::long(rt, kind, COUNT);
+    tell_of_first(rt, dispatcher, &topic);
+    send_first(rt, &mut topic, dispatcher, COUNT - 1);
+    topic
 }
 
-fn expect_little<R: Abort>(rt: &R, view: &CountedView<'_>, offer: Option<Offer>) {
+fn check_counts<R: Abort>(rt: &R, calls: u64, most: u64, passed: u64) {
+    assert!(rt; calls <= most);
+    assert_eq!(rt; passed, 0);
+}
+
+/// This was offered by so many calls at most, which passed over no message.
+pub(super) fn check_offered<R: Abort>(
+    rt: &R,
+    view: &CountedView<'_>,
+    offer: Option<Offer>,
+    expected: Offer,
+    most: u64,
+) {
+    assert_eq!(rt; offer, Some(expected));
+    check_counts(rt, view.calls.get(), most, view.passed.get());
+}
+
+/// The last message was offered to the one member, by few calls.
+fn check_last<R: Abort>(rt: &R, view: &CountedView<'_>, offer: Option<Offer>) {
     let last = Offer {
         index: COUNT - 1,
         consumer: 1,
     };
-    assert_eq!(rt; offer, Some(last));
-    assert!(rt; view.calls.get() <= 10);
-    assert_eq!(rt; view.passed.get(), 0);
+    check_offered(rt, view, offer, last, 10);
+}
+
+fn offer_in_order<R: Abort + AllocGlobal>(rt: &R) {
+    let mut dispatcher = in_order::begin(rt, Kind::Failover);
+    let topic = sent(rt, Kind::Failover, &mut dispatcher);
+    let view = CountedView::new(topic.view());
+    check_last(rt, &view, dispatcher.offer(&view));
 }
 
 #[test]
 fn an_offer_in_order_goes_over_nothing_that_is_pending(rt: HostRuntime) {
-    let only = Only::new(&rt, Kind::Failover);
-    let mut dispatcher = Single::begin(rt.alloc(), &only.alone()).expect(&rt, "no memory");
-    let topic = sent(&rt, Kind::Failover, &mut dispatcher);
+    offer_in_order(&rt);
+}
+
+fn offer_in_turn<R: Abort + AllocGlobal>(rt: &R) {
+    let mut dispatcher = shared::begin(rt);
+    let topic = sent(rt, Kind::Shared, &mut dispatcher);
     let view = CountedView::new(topic.view());
-    expect_little(&rt, &view, dispatcher.offer(&view));
+    check_last(rt, &view, dispatcher.offer(&view));
 }
 
 #[test]
 fn an_offer_in_turn_goes_over_nothing_that_is_pending(rt: HostRuntime) {
-    let only = Only::new(&rt, Kind::Shared);
-    let mut dispatcher = Shared::begin(rt.alloc(), &only.alone()).expect(&rt, "no memory");
-    let topic = sent(&rt, Kind::Shared, &mut dispatcher);
-    let view = CountedView::new(topic.view());
-    expect_little(&rt, &view, dispatcher.offer(&view));
+    offer_in_turn(&rt);
 }

@@ -3,7 +3,7 @@ ghost use Rattle.std.specs.Prelude.{IsTrue};
 ghost use Rattle.position_core.specs.Kind.{is_in_order};
 
 use super::member::Takes;
-use super::scene::{Change, Scene, Stage, play};
+use super::scene::{Change, Scene, Stage, play, tell_of_all};
 use super::subscription::Only;
 use super::topic::Topic;
 use dispatch_core::{Dispatcher, Offer};
@@ -18,17 +18,21 @@ struct SingleStage {
     dispatcher: Single,
 }
 
+/// A dispatcher of a subscription of the kind, which nobody has joined.
+pub(super) fn begin<R: Abort + AllocGlobal>(rt: &R, kind: Kind) -> Single
+    requires { IsTrue (is_in_order kind) }
+{
+    let only = Only::new(rt, kind);
+    Single::begin(rt.alloc(), &only.alone()).expect(rt, "no memory")
+}
+
 impl SingleStage {
-    fn new<R: Abort + AllocGlobal>(rt: &R, kind: Kind, scene: Scene) -> Self
+    fn new<R: Abort + AllocGlobal>(rt: &R, kind: Kind, scene: &Scene) -> Self
         requires { IsTrue (is_in_order kind) }
     {
-        let only = Only::new(rt, kind);
-        let mut dispatcher = Single::begin(rt.alloc(), &only.alone()).expect(rt, "no memory");
+        let mut dispatcher = begin(rt, kind);
         let topic = Topic::new(rt, kind, scene);
-        for (number, _, _) in scene.members {
-            let done = dispatcher.on_join(&topic.view(), *number);
-            done.expect(rt, "no memory");
-        }
+        tell_of_all(rt, &mut dispatcher, &topic.view(), scene.members);
         SingleStage { topic, dispatcher }
     }
 }
@@ -44,10 +48,8 @@ impl Stage for SingleStage {
         }
     }
 
-    fn make<R: Abort + AllocGlobal>(self, rt: &R, change: Change, offer: Option<Offer>) -> Self {
-        let dispatcher = self.dispatcher;
-        let topic = self.topic.make(rt, change, offer);
-        SingleStage { topic, dispatcher }
+    fn make<R: Abort + AllocGlobal>(&mut self, rt: &R, change: Change, offer: Option<Offer>) {
+        self.topic.make(rt, change, offer);
     }
 }
 
@@ -55,12 +57,12 @@ impl Stage for SingleStage {
 const PLAIN: Scene = Scene {
     says: "the first waiting message goes to the active member",
     durable: 3,
-    keys: [None; 3],
+    keys: &[None; 3],
     members: &[(1, 0, Takes::Pushed(10))],
     steps: &[(Change::Begun, Some((0, 1)))],
 };
 
-const SCENES: [Scene; 13] = [
+const SCENES: &[Scene] = &[
     PLAIN,
     Scene {
         says: "of equal levels the one that joined first is served",
@@ -141,10 +143,18 @@ const SCENES: [Scene; 13] = [
     },
 ];
 
+fn play_each<R: Abort + AllocGlobal>(rt: &R, scenes: &[Scene]) {
+    for scene in scenes {
+        play(rt, &mut SingleStage::new(rt, Kind::Failover, scene), scene);
+    }
+}
+
+fn play_exclusive<R: Abort + AllocGlobal>(rt: &R, scene: &Scene) {
+    play(rt, &mut SingleStage::new(rt, Kind::Exclusive, scene), scene);
+}
+
 #[test]
 fn each_scene_has_its_offers(rt: HostRuntime) {
-    for scene in SCENES {
-        play(&rt, SingleStage::new(&rt, Kind::Failover, scene), scene);
-    }
-    play(&rt, SingleStage::new(&rt, Kind::Exclusive, PLAIN), PLAIN);
+    play_each(&rt, SCENES);
+    play_exclusive(&rt, &PLAIN);
 }

@@ -22,34 +22,21 @@ struct KeyedStage {
 }
 
 impl KeyedStage {
-    fn new<R: Abort + AllocGlobal>(rt: &R, scene: Scene) -> Self {
+    fn new<R: Abort + AllocGlobal>(rt: &R, scene: &Scene) -> Self {
         let only = Only::new(rt, Kind::KeyShared);
         let dispatcher = Keyed::begin(rt.alloc(), &only.alone()).expect(rt, "no memory");
         let topic = Topic::new(rt, Kind::KeyShared, scene);
         KeyedStage { topic, dispatcher }
     }
 
-    /// As it is when the change is made.
-    fn before<R: Abort + AllocGlobal>(self, rt: &R, change: Change) -> Self {
-        match change {
-            Change::Left(consumer) => self.release(rt, consumer),
-            _ => self,
-        }
-    }
-
     /// What is pending at the consumer waits again.
-    fn release<R: Abort + AllocGlobal>(self, rt: &R, consumer: u64) -> Self {
-        let KeyedStage {
-            mut topic,
-            mut dispatcher,
-        } = self;
-        for index in 0..topic.view().length() {
-            if topic.view().holder(index) == Some(consumer) {
-                topic = topic.release(rt, index);
-                dispatcher.on_released(&topic.view(), index);
+    fn release<R: Abort + AllocGlobal>(&mut self, rt: &R, consumer: u64) {
+        for index in 0..self.topic.view().length() {
+            if self.topic.view().holder(index) == Some(consumer) {
+                self.topic.release(rt, index);
+                self.dispatcher.on_released(&self.topic.view(), index);
             }
         }
-        KeyedStage { topic, dispatcher }
     }
 }
 
@@ -80,23 +67,21 @@ impl Stage for KeyedStage {
         self.dispatcher.offer(&self.topic.view())
     }
 
-    fn make<R: Abort + AllocGlobal>(self, rt: &R, change: Change, offer: Option<Offer>) -> Self {
-        let KeyedStage {
-            topic,
-            mut dispatcher,
-        } = self.before(rt, change);
-        let topic = topic.make(rt, change, offer);
-        let view = topic.view();
-        tell(rt, &mut dispatcher, &view, change, offer);
-        dispatcher.look(&view).expect(rt, "no memory");
-        KeyedStage { topic, dispatcher }
+    fn make<R: Abort + AllocGlobal>(&mut self, rt: &R, change: Change, offer: Option<Offer>) {
+        if let Change::Left(consumer) = change {
+            self.release(rt, consumer);
+        }
+        self.topic.make(rt, change, offer);
+        let view = self.topic.view();
+        tell(rt, &mut self.dispatcher, &view, change, offer);
+        self.dispatcher.look(&view).expect(rt, "no memory");
     }
 }
 
 const DRAINING: Scene = Scene {
     says: "a hash drains before its new owner is served, and another one goes on",
     durable: 3,
-    keys: [Some("Hello, world!"), Some("Hello, world!"), Some("test")],
+    keys: &[Some("Hello, world!"), Some("Hello, world!"), Some("test")],
     members: &[],
     steps: &[
         (Change::Begun, None),
@@ -110,11 +95,11 @@ const DRAINING: Scene = Scene {
     ],
 };
 
-const SCENES: [Scene; 9] = [
+const SCENES: &[Scene] = &[
     DRAINING,
     Scene {
         says: "two keys of one hash are as one key",
-        keys: [Some("k69"), Some("k259"), None],
+        keys: &[Some("k69"), Some("k259"), None],
         steps: &[
             (Change::Joined(1, 9), Some((0, 1))),
             (Change::Sent, Some((1, 1))),
@@ -128,7 +113,7 @@ const SCENES: [Scene; 9] = [
     },
     Scene {
         says: "an owner without room waits, and another one goes on",
-        keys: [Some("test"), Some("test"), Some("Hello, world!")],
+        keys: &[Some("test"), Some("test"), Some("Hello, world!")],
         steps: &[
             (Change::Joined(1, 1), Some((0, 1))),
             (Change::Joined(2, 9), Some((0, 1))),
@@ -140,7 +125,7 @@ const SCENES: [Scene; 9] = [
     },
     Scene {
         says: "a message without a key has a hash of its own, and one of an empty key has another",
-        keys: [None, Some(""), None],
+        keys: &[None, Some(""), None],
         steps: &[
             (Change::Joined(1, 1), Some((0, 1))),
             (Change::Joined(2, 9), Some((0, 1))),
@@ -152,7 +137,7 @@ const SCENES: [Scene; 9] = [
     },
     Scene {
         says: "one of one key follows another to the same member",
-        keys: [Some("test"), Some("test"), Some("test")],
+        keys: &[Some("test"), Some("test"), Some("test")],
         steps: &[
             (Change::Joined(1, 9), Some((0, 1))),
             (Change::Sent, Some((1, 1))),
@@ -200,9 +185,13 @@ const SCENES: [Scene; 9] = [
     },
 ];
 
+fn play_each<R: Abort + AllocGlobal>(rt: &R, scenes: &[Scene]) {
+    for scene in scenes {
+        play(rt, &mut KeyedStage::new(rt, scene), scene);
+    }
+}
+
 #[test]
 fn each_scene_has_its_offers(rt: HostRuntime) {
-    for scene in SCENES {
-        play(&rt, KeyedStage::new(&rt, scene), scene);
-    }
+    play_each(&rt, SCENES);
 }

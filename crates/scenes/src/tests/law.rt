@@ -2,6 +2,7 @@
 ghost use Rattle.std.specs.Prelude.{◌≡◌, [], IsTrue};
 ghost use Rattle.delivery_machine.specs.Words.{members_of};
 ghost use Rattle.dispatch_core.specs.Changes.{Joined, Kept};
+ghost use Rattle.scenes.specs.Listed.{listed};
 
 use super::member::{Takes, new_member};
 use super::message::new_log;
@@ -11,7 +12,8 @@ use dispatch_core::{Dispatcher, Offer, View};
 use dispatch_keyed::Keyed;
 use dispatch_shared::Shared;
 use dispatch_single::Single;
-use position_core::{Fault, Kind};
+use plain_lists::{Member, Subscription};
+use position_core::{Fault, Kind, Message};
 use std::alloc::Global;
 use std::process::Abort;
 
@@ -47,44 +49,73 @@ fn tell<D: Dispatcher, V: View>(dispatcher: &mut D, view: &V) -> Result<(), Faul
     dispatcher.on_reset(view)
 }
 
-/// A dispatcher begins, a first consumer joins, the log is stored, and each change is told.
-fn expect_law<R: Abort + AllocGlobal, D: Dispatcher + Drop>(rt: &R, kind: Kind)
-    requires { IsTrue (D.serves kind) }
-{
-    let log = new_log(rt, [None; 3]);
-    let before = Only::new(rt, kind);
-    let after = Only::new(rt, kind).with(rt, 1);
-    let members = [new_member(rt, 1, 0, Takes::Pushed(10))];
-    let empty = ListView {
-        log: log.as_slice(),
-        durable: 0,
-        subscription: &before.subscription,
-        members: &[],
-    };
-    let joined = ListView {
-        subscription: &after.subscription,
-        members: &members,
-        ..empty
-    };
-    let stored = ListView {
-        durable: 3,
-        ..joined
-    };
-    let (unstored, offered) = offers::<D, ListView<'_>>(
-        rt.alloc(),
-        &empty,
-        &joined,
-        &stored,
-        1,
-    ).expect(rt, "no memory");
+fn check_offers<R: Abort>(rt: &R, unstored: Option<Offer>, offered: Option<Offer>) {
     let first = Offer {
         index: 0,
         consumer: 1,
     };
     assert_eq!(rt; unstored, None);
     assert_eq!(rt; offered, Some(first));
-    let mut told = D::begin(rt.alloc(), &empty).expect(rt, "no memory");
-    tell(&mut told, &stored).expect(rt, "no memory");
+}
+
+/// A dispatcher begins, and each change is told.
+fn expect_told<R: Abort + AllocGlobal, D: Dispatcher + Drop, V: View>(rt: &R, empty: &V, stored: &V)
+    requires kind { IsTrue (D.serves (V.subscription empty.now).kind) }
+    requires nobody { members_of (V.state empty.now) (V.subscription empty.now).name ≡ [] }
+    requires unshared { (V.subscription empty.now).shares ≡ [] }
+{
+    let mut told = D::begin(rt.alloc(), empty).expect(rt, "no memory");
+    tell(&mut told, stored).expect(rt, "no memory");
+}
+
+/// A dispatcher begins, a first consumer joins, and the log is stored.
+fn expect_offers<R: Abort + AllocGlobal, D: Dispatcher + Drop>(
+    rt: &R,
+    log: &[Message],
+    before: &Subscription,
+    after: &Subscription,
+    members: &[Member],
+)
+    requires kind { IsTrue (D.serves before.now.kind) }
+    requires unshared { before.now.shares ≡ [] }
+    requires joins { Joined 1 (listed log.now 0 []) before.now (listed log.now 0 members.now) after.now }
+{
+    let empty = ListView {
+        log,
+        durable: 0,
+        subscription: before,
+        members: &[],
+    };
+    let joined = ListView {
+        subscription: after,
+        members,
+        ..empty
+    };
+    let stored = ListView {
+        durable: 3,
+        ..joined
+    };
+    let offered = offers::<D, ListView<'_>>(rt.alloc(), &empty, &joined, &stored, 1);
+    let (unstored, offered) = offered.expect(rt, "no memory");
+    check_offers(rt, unstored, offered);
+    expect_told::<R, D, ListView<'_>>(rt, &empty, &stored);
+}
+
+fn expect_law<R: Abort + AllocGlobal, D: Dispatcher + Drop>(rt: &R, kind: Kind)
+    requires { IsTrue (D.serves kind) }
+{
+    let log = new_log(rt, [None; 3]);
+    let before = Only::new(rt, kind);
+    let mut after = Only::new(rt, kind);
+    after.join(rt, 1);
+    let members = [new_member(rt, 1, 0, Takes::Pushed(10))];
+    expect_offers::<R, D>(
+        rt,
+        log.as_slice(),
+        &before.subscription,
+        &after.subscription,
+        &members,
+    );
 }
 
 #[test]

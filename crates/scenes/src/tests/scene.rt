@@ -1,6 +1,7 @@
 // A scene: what happens to a topic, and what is offered after each step.
 use super::member::Takes;
-use dispatch_core::Offer;
+use crate::ListView;
+use dispatch_core::{Dispatcher, Offer};
 use std::process::Abort;
 
 #[derive(Clone, Copy)]
@@ -26,7 +27,7 @@ pub(super) enum Change {
 pub(super) struct Scene {
     pub(super) says: &'static str,
     pub(super) durable: usize,
-    pub(super) keys: [Option<&'static str>; 3],
+    pub(super) keys: &'static [Option<&'static str>; 3],
     /// Who is there from the first: numbers, levels and flows.
     pub(super) members: &'static [(u64, u32, Takes)],
     /// What changes, and the index and the consumer that are offered then.
@@ -34,21 +35,42 @@ pub(super) struct Scene {
 }
 
 /// A topic and a dispatcher of its subscription.
-pub(super) trait Stage: Sized + Drop {
+pub(super) trait Stage {
     fn offer(&self) -> Option<Offer>;
 
     /// Where a message is sent, it is the one that was offered.
-    fn make<R: Abort + AllocGlobal>(self, rt: &R, change: Change, offer: Option<Offer>) -> Self;
+    fn make<R: Abort + AllocGlobal>(&mut self, rt: &R, change: Change, offer: Option<Offer>);
+}
+
+/// The dispatcher is told of each who joins.
+pub(super) fn tell_of_all<R: Abort, D: Dispatcher>(
+    rt: &R,
+    dispatcher: &mut D,
+    view: &ListView<'_>,
+    members: &[(u64, u32, Takes)],
+) {
+    for (number, _, _) in members {
+        let done = dispatcher.on_join(view, *number);
+        done.expect(rt, "no memory");
+    }
+}
+
+fn check_offer<R: Abort>(
+    rt: &R,
+    offer: Option<Offer>,
+    expected: Option<(u64, u64)>,
+    says: &'static str,
+) {
+    let offered = offer.map(|offer| (offer.index, offer.consumer));
+    assert_eq!(rt; offered, expected, "{says}");
 }
 
 /// Makes the changes, and looks after each at what is offered.
-pub(super) fn play<R: Abort + AllocGlobal, S: Stage>(rt: &R, begun: S, scene: Scene) {
-    let mut stage = begun;
+pub(super) fn play<R: Abort + AllocGlobal, S: Stage>(rt: &R, stage: &mut S, scene: &Scene) {
     let mut offer = None;
     for (change, expected) in scene.steps {
-        stage = stage.make(rt, *change, offer);
+        stage.make(rt, *change, offer);
         offer = stage.offer();
-        let offered = offer.map(|offer| (offer.index, offer.consumer));
-        assert_eq!(rt; offered, *expected, "{}", scene.says);
+        check_offer(rt, offer, *expected, scene.says);
     }
 }

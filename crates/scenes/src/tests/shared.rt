@@ -1,6 +1,6 @@
 // Scenes, each with its offers by the rules of Shared.
 use super::member::Takes;
-use super::scene::{Change, Scene, Stage, play};
+use super::scene::{Change, Scene, Stage, play, tell_of_all};
 use super::subscription::Only;
 use super::topic::Topic;
 use crate::ListView;
@@ -15,15 +15,17 @@ struct SharedStage {
     dispatcher: Shared,
 }
 
+/// A dispatcher of a subscription that nobody has joined.
+pub(super) fn begin<R: Abort + AllocGlobal>(rt: &R) -> Shared {
+    let only = Only::new(rt, Kind::Shared);
+    Shared::begin(rt.alloc(), &only.alone()).expect(rt, "no memory")
+}
+
 impl SharedStage {
-    fn new<R: Abort + AllocGlobal>(rt: &R, scene: Scene) -> Self {
-        let only = Only::new(rt, Kind::Shared);
-        let mut dispatcher = Shared::begin(rt.alloc(), &only.alone()).expect(rt, "no memory");
+    fn new<R: Abort + AllocGlobal>(rt: &R, scene: &Scene) -> Self {
+        let mut dispatcher = begin(rt);
         let topic = Topic::new(rt, Kind::Shared, scene);
-        for (number, _, _) in scene.members {
-            let done = dispatcher.on_join(&topic.view(), *number);
-            done.expect(rt, "no memory");
-        }
+        tell_of_all(rt, &mut dispatcher, &topic.view(), scene.members);
         SharedStage { topic, dispatcher }
     }
 }
@@ -37,6 +39,12 @@ fn release(dispatcher: &mut Shared, view: &ListView<'_>, consumer: u64) {
     }
 }
 
+fn tell_sent<R: Abort>(rt: &R, dispatcher: &mut Shared, view: &ListView<'_>, offer: Option<Offer>) {
+    let Offer { index, consumer } = offer.expect(rt, "nothing is offered");
+    let done = dispatcher.on_sent(view, index, consumer);
+    done.expect(rt, "no memory");
+}
+
 impl Stage for SharedStage {
     fn offer(&self) -> Option<Offer> {
         let view = self.topic.view();
@@ -48,22 +56,16 @@ impl Stage for SharedStage {
         }
     }
 
-    fn make<R: Abort + AllocGlobal>(self, rt: &R, change: Change, offer: Option<Offer>) -> Self {
-        let mut dispatcher = self.dispatcher;
+    fn make<R: Abort + AllocGlobal>(&mut self, rt: &R, change: Change, offer: Option<Offer>) {
         if let Change::Left(consumer) = change {
-            release(&mut dispatcher, &self.topic.view(), consumer);
+            release(&mut self.dispatcher, &self.topic.view(), consumer);
         }
-        let topic = self.topic.make(rt, change, offer);
+        self.topic.make(rt, change, offer);
         match change {
-            Change::Sent => {
-                let Offer { index, consumer } = offer.expect(rt, "nothing is offered");
-                let done = dispatcher.on_sent(&topic.view(), index, consumer);
-                done.expect(rt, "no memory");
-            }
-            Change::Left(consumer) => dispatcher.on_leave(&topic.view(), consumer),
+            Change::Sent => tell_sent(rt, &mut self.dispatcher, &self.topic.view(), offer),
+            Change::Left(consumer) => self.dispatcher.on_leave(&self.topic.view(), consumer),
             _ => {}
         }
-        SharedStage { topic, dispatcher }
     }
 }
 
@@ -71,7 +73,7 @@ impl Stage for SharedStage {
 const PLAIN: Scene = Scene {
     says: "members of one level take turns",
     durable: 3,
-    keys: [None; 3],
+    keys: &[None; 3],
     members: &[(1, 5, Takes::Pushed(2)), (2, 5, Takes::Pushed(2))],
     steps: &[
         (Change::Begun, Some((0, 1))),
@@ -92,7 +94,7 @@ const LEVELS: Scene = Scene {
     ..PLAIN
 };
 
-const SCENES: [Scene; 11] = [
+const SCENES: &[Scene] = &[
     PLAIN,
     LEVELS,
     Scene {
@@ -189,9 +191,13 @@ const SCENES: [Scene; 11] = [
     },
 ];
 
+fn play_each<R: Abort + AllocGlobal>(rt: &R, scenes: &[Scene]) {
+    for scene in scenes {
+        play(rt, &mut SharedStage::new(rt, scene), scene);
+    }
+}
+
 #[test]
 fn each_scene_has_its_offers(rt: HostRuntime) {
-    for scene in SCENES {
-        play(&rt, SharedStage::new(&rt, scene), scene);
-    }
+    play_each(&rt, SCENES);
 }

@@ -32,10 +32,11 @@ impl Only {
     {
         let acknowledged = PositionSet::new(rt.alloc());
         let subscription = Subscription::new(rt.alloc(), name(rt), kind, 1, acknowledged);
-        Only {
+        let mut only = Only {
             subscription: subscription.expect(rt, "no memory"),
-        }
-        .without(1)
+        };
+        only.leave(1);
+        only
     }
 
     /// Seen without messages and members.
@@ -51,54 +52,47 @@ impl Only {
         }
     }
 
-    /// With a further consumer.
-    pub(super) fn with<R: Abort>(self, rt: &R, consumer: u64) -> Self
-        ensures { result.subscription ≡ joining self.subscription.kind consumer self.subscription }
+    /// A further consumer joins.
+    pub(super) fn join<R: Abort>(&mut self, rt: &R, consumer: u64)
+        ensures { self.new.subscription ≡ joining self.old.subscription.kind consumer self.old.subscription }
     {
-        let Only { mut subscription } = self;
-        let kind = subscription.kind();
-        subscription.join(kind, consumer).expect(rt, "no memory");
-        Only { subscription }
+        let kind = self.subscription.kind();
+        let done = self.subscription.join(kind, consumer);
+        done.expect(rt, "no memory");
     }
 
-    /// Without the consumer, whose messages wait again.
-    pub(super) fn without(self, consumer: u64) -> Self
-        ensures { result.subscription ≡ leaving consumer self.subscription }
+    /// The consumer leaves, and its messages wait again.
+    pub(super) fn leave(&mut self, consumer: u64)
+        ensures { self.new.subscription ≡ leaving consumer self.old.subscription }
     {
-        let Only { mut subscription } = self;
-        subscription.leave(consumer);
-        Only { subscription }
+        self.subscription.leave(consumer);
     }
 
-    /// With the message pending at the consumer.
-    pub(super) fn holding<R: Abort>(self, rt: &R, index: u64, consumer: u64) -> Self
-        ensures { (result.subscription.kind ≡ self.subscription.kind) × (result.subscription.shares ≡ self.subscription.shares) }
+    /// The message is pending at the consumer.
+    pub(super) fn hold<R: Abort>(&mut self, rt: &R, index: u64, consumer: u64)
+        ensures { (self.new.subscription.kind ≡ self.old.subscription.kind) × (self.new.subscription.shares ≡ self.old.subscription.shares) }
     {
-        let Only { mut subscription } = self;
         let held = Held {
             consumer,
             due: None,
         };
-        let done = subscription.hold(position_at(index), held);
+        let done = self.subscription.hold(position_at(index), held);
         done.expect(rt, "no memory");
-        Only { subscription }
     }
 
-    /// With the message, which is pending, waiting again.
-    pub(super) fn releasing<R: Abort + AllocGlobal>(self, rt: &R, index: u64) -> Self {
-        let Only { mut subscription } = self;
-        let done = subscription.redeliver(rt.alloc(), &[position_at(index)]);
+    /// The message, which is pending, waits again.
+    pub(super) fn release<R: Abort + AllocGlobal>(&mut self, rt: &R, index: u64) {
+        let done = self
+            .subscription
+            .redeliver(rt.alloc(), &[position_at(index)]);
         done.expect(rt, "no memory");
-        Only { subscription }
     }
 
-    /// With the message acknowledged.
-    pub(super) fn acknowledging<R: Abort>(self, rt: &R, index: u64) -> Self
-        ensures { (result.subscription.kind ≡ self.subscription.kind) × (result.subscription.shares ≡ self.subscription.shares) }
+    /// The message is acknowledged.
+    pub(super) fn acknowledge<R: Abort>(&mut self, rt: &R, index: u64)
+        ensures { (self.new.subscription.kind ≡ self.old.subscription.kind) × (self.new.subscription.shares ≡ self.old.subscription.shares) }
     {
-        let Only { mut subscription } = self;
-        let done = subscription.acknowledge(&[position_at(index)]);
+        let done = self.subscription.acknowledge(&[position_at(index)]);
         done.expect(rt, "no memory");
-        Only { subscription }
     }
 }

@@ -17,21 +17,41 @@ pub(super) struct Topic {
     log: Vec<Message>,
     durable: usize,
     members: Vec<Member>,
-    pub(super) only: Only,
+    only: Only,
+}
+
+fn push_member<R: Abort>(rt: &R, members: &mut Vec<Member>, member: Member) {
+    members.push(member).expect(rt, "no memory");
+}
+
+/// The members, by numbers, levels and flows.
+fn push_members<R: Abort + AllocGlobal>(
+    rt: &R,
+    members: &mut Vec<Member>,
+    list: &[(u64, u32, Takes)],
+) {
+    for (number, level, takes) in list {
+        push_member(rt, members, new_member(rt, *number, *level, *takes));
+    }
+}
+
+/// So many messages without keys.
+fn push_messages<R: Abort + AllocGlobal>(rt: &R, log: &mut Vec<Message>, count: u64) {
+    for index in 0..count {
+        let message = message_at(rt, position_at(index), None);
+        log.push(message).expect(rt, "no memory");
+    }
 }
 
 impl Topic {
     /// The scene's topic as it begins.
-    pub(super) fn new<R: Abort + AllocGlobal>(rt: &R, kind: Kind, scene: Scene) -> Self
+    pub(super) fn new<R: Abort + AllocGlobal>(rt: &R, kind: Kind, scene: &Scene) -> Self
         ensures { (result.only.subscription.kind ≡ kind) × (result.only.subscription.shares ≡ []) }
     {
         let mut members = Vec::new(rt.alloc());
-        for (number, level, takes) in scene.members {
-            let member = new_member(rt, *number, *level, *takes);
-            members.push(member).expect(rt, "no memory");
-        }
+        push_members(rt, &mut members, scene.members);
         Topic {
-            log: new_log(rt, scene.keys),
+            log: new_log(rt, *scene.keys),
             durable: scene.durable,
             members,
             only: Only::new(rt, kind),
@@ -41,11 +61,10 @@ impl Topic {
     /// A topic of so many messages, and one member that may hold them all.
     pub(super) fn long<R: Abort + AllocGlobal>(rt: &R, kind: Kind, count: u64) -> Self {
         let mut log = Vec::new(rt.alloc());
-        for index in 0..count {
-            let message = message_at(rt, position_at(index), None);
-            log.push(message).expect(rt, "no memory");
-        }
-        Topic::of(rt, kind, log).join(rt, 1, 100_000)
+        push_messages(rt, &mut log, count);
+        let mut topic = Topic::of(rt, kind, log);
+        topic.join(rt, 1, 100_000);
+        topic
     }
 
     /// A topic of these messages, which are all visible, and of nobody.
@@ -61,11 +80,11 @@ impl Topic {
         }
     }
 
-    /// So that so many messages are visible.
-    pub(super) fn shown(self, durable: usize) -> Self
-        ensures { (result.only ≡ self.only) × (result.members.items ≡ self.members.items) }
+    /// So many messages are visible.
+    pub(super) fn show(&mut self, durable: usize)
+        ensures { (self.new.only ≡ self.old.only) × (self.new.members.items ≡ self.old.members.items) }
     {
-        Topic { durable, ..self }
+        self.durable = durable;
     }
 
     pub(super) fn view(&self) -> ListView<'_>
@@ -80,89 +99,65 @@ impl Topic {
         }
     }
 
-    pub(super) fn join<R: Abort + AllocGlobal>(self, rt: &R, consumer: u64, window: u32) -> Self
-        ensures { result.only.subscription ≡ joining self.only.subscription.kind consumer self.only.subscription }
+    pub(super) fn join<R: Abort + AllocGlobal>(&mut self, rt: &R, consumer: u64, window: u32)
+        ensures { self.new.only.subscription ≡ joining self.old.only.subscription.kind consumer self.old.only.subscription }
     {
-        let mut members = self.members;
         let member = new_member(rt, consumer, 0, Takes::Pushed(window));
-        members.push(member).expect(rt, "no memory");
-        let only = self.only.with(rt, consumer);
-        Topic {
-            members,
-            only,
-            ..self
-        }
+        push_member(rt, &mut self.members, member);
+        self.only.join(rt, consumer);
     }
 
-    pub(super) fn leave(self, consumer: u64) -> Self
-        ensures { result.only.subscription ≡ leaving consumer self.only.subscription }
+    fn leave(&mut self, consumer: u64)
+        ensures { self.new.only.subscription ≡ leaving consumer self.old.only.subscription }
     {
-        let mut members = self.members;
-        let _ = take_member(&mut members, consumer);
-        let only = self.only.without(consumer);
-        Topic {
-            members,
-            only,
-            ..self
-        }
+        let _ = take_member(&mut self.members, consumer);
+        self.only.leave(consumer);
     }
 
-    pub(super) fn hold<R: Abort>(self, rt: &R, index: u64, consumer: u64) -> Self
-        ensures { (result.only.subscription.kind ≡ self.only.subscription.kind) × (result.only.subscription.shares ≡ self.only.subscription.shares) }
+    pub(super) fn hold<R: Abort>(&mut self, rt: &R, index: u64, consumer: u64)
+        ensures { (self.new.only.subscription.kind ≡ self.old.only.subscription.kind) × (self.new.only.subscription.shares ≡ self.old.only.subscription.shares) }
     {
-        let only = self.only.holding(rt, index, consumer);
-        Topic { only, ..self }
+        self.only.hold(rt, index, consumer);
     }
 
     /// The message is pending at the consumer, which may be sent one message less.
-    pub(super) fn send<R: Abort>(self, rt: &R, offer: Option<Offer>) -> Self
-        ensures { (result.only.subscription.kind ≡ self.only.subscription.kind) × (result.only.subscription.shares ≡ self.only.subscription.shares) }
+    fn send<R: Abort>(&mut self, rt: &R, offer: Option<Offer>)
+        ensures { (self.new.only.subscription.kind ≡ self.old.only.subscription.kind) × (self.new.only.subscription.shares ≡ self.old.only.subscription.shares) }
     {
         let Offer { index, consumer } = offer.expect(rt, "nothing is offered");
-        let mut members = self.members;
-        let place = place_of_member(&members, consumer).expect(rt, "no member");
-        members[place].spend();
-        let only = self.only.holding(rt, index, consumer);
-        Topic {
-            members,
-            only,
-            ..self
-        }
+        let place = place_of_member(&self.members, consumer).expect(rt, "no member");
+        self.members[place].spend();
+        self.only.hold(rt, index, consumer);
     }
 
     /// The message, which is pending, waits again.
-    pub(super) fn release<R: Abort + AllocGlobal>(self, rt: &R, index: u64) -> Self {
-        let only = self.only.releasing(rt, index);
-        Topic { only, ..self }
+    pub(super) fn release<R: Abort + AllocGlobal>(&mut self, rt: &R, index: u64) {
+        self.only.release(rt, index);
     }
 
-    pub(super) fn acknowledge<R: Abort>(self, rt: &R, index: u64) -> Self
-        ensures { (result.only.subscription.kind ≡ self.only.subscription.kind) × (result.only.subscription.shares ≡ self.only.subscription.shares) }
+    pub(super) fn acknowledge<R: Abort>(&mut self, rt: &R, index: u64)
+        ensures { (self.new.only.subscription.kind ≡ self.old.only.subscription.kind) × (self.new.only.subscription.shares ≡ self.old.only.subscription.shares) }
     {
-        let only = self.only.acknowledging(rt, index);
-        Topic { only, ..self }
+        self.only.acknowledge(rt, index);
     }
 
-    pub(super) fn permit<R: Abort>(self, rt: &R, consumer: u64, number: u32) -> Self
-        ensures { result.only ≡ self.only }
+    fn permit<R: Abort>(&mut self, rt: &R, consumer: u64, number: u32)
+        ensures { self.new.only ≡ self.old.only }
     {
-        let mut members = self.members;
         let permits = Permits::new(number).expect(rt, "no permits");
-        let place = place_of_member(&members, consumer).expect(rt, "no member");
-        members[place]
-            .permit(permits)
-            .expect(rt, "too many permits");
-        Topic { members, ..self }
+        let place = place_of_member(&self.members, consumer).expect(rt, "no member");
+        let done = self.members[place].permit(permits);
+        done.expect(rt, "too many permits");
     }
 
     pub(super) fn make<R: Abort + AllocGlobal>(
-        self,
+        &mut self,
         rt: &R,
         change: Change,
         offer: Option<Offer>,
-    ) -> Self {
+    ) {
         match change {
-            Change::Begun => self,
+            Change::Begun => {}
             Change::Joined(consumer, window) => self.join(rt, consumer, window),
             Change::Left(consumer) => self.leave(consumer),
             Change::Sent | Change::SentUntold => self.send(rt, offer),

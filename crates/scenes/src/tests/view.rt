@@ -23,11 +23,12 @@ fn expect_scene<R: Abort, V: View>(rt: &R, view: &V) {
 #[test]
 fn a_view_shows_its_lists(rt: HostRuntime) {
     let log = new_log(&rt, [None, Some("k"), None]);
-    let Only { subscription } = Only::new(&rt, Kind::Failover).holding(&rt, 1, 4);
+    let mut only = Only::new(&rt, Kind::Failover);
+    only.hold(&rt, 1, 4);
     let view = ListView {
         log: log.as_slice(),
         durable: 2,
-        subscription: &subscription,
+        subscription: &only.subscription,
         members: &[],
     };
     expect_scene(&rt, &view);

@@ -1,9 +1,9 @@
-use Rattle.std.proofs.Common.{◌≡◌, ℕ, ◌≤◌, List, [], ◌∷◌, map, cond, refl, ap, subst, ◌∙◌, sym, arith}
+use Rattle.std.proofs.Common.{◌≡◌, ℕ, List, [], ◌∷◌, map, cond, refl, ap, subst, ◌∙◌, sym, arith}
 use Rattle.std.proofs.lemmas.Slice.Eq.{bytes_eq-Decides}
 use Rattle.position_core.specs.declared.message.Entry.{Entry}
 use Rattle.delivery_machine.specs.State.{Subscription, Member}
 use Rattle.delivery_machine.specs.Joining.{joining}
-use Rattle.dispatch_core.specs.Changes.{Joined, Kept}
+use Rattle.dispatch_core.specs.Changes.{Joined}
 use Rattle.dispatch_core.specs.Log.{waits_at, holder_at, line_of}
 use Rattle.scenes.specs.Listed.{listed}
 use Rattle.scenes.proofs.tests.law.expect_law.Goals as goal
@@ -21,26 +21,12 @@ joined_alone log durable sub m n number name = record {
   few = omega arith;
 }
 
-more_stored : (log : List Entry) (before after : ℕ) (sub : Subscription) (ms : List Member) → before ≤ after → Kept (listed log before ms) sub (listed log after ms) sub
-unfolding waits_at holder_at line_of
-more_stored log before after sub ms more = record {
-  kind = refl;
-  log = refl;
-  durable = more;
-  line = refl;
-  shares = refl;
-  messages = λ i. record { waits = refl; holder = refl };
-}
-
-pub offers-requires-clause-joins : goal.offers-requires-clause-joins
-offers-requires-clause-joins g c =
+pub expect_offers-requires-clause-joins : goal.expect_offers-requires-clause-joins
+expect_offers-requires-clause-joins g c =
     let before = c.new-before.result.subscription in
     let m = c.new_member.result in
     let log = c.as_slice.result.now in
-    let same : c.new.result.subscription ≡ before = c.new.ensures.begun ∙ sym c.new-before.ensures.begun in
-    let is = c.with-after.ensures ∙ ap (λ (s : Subscription). joining s.kind 1 s) same in
+    let same : c.new-after.result.subscription ≡ before = c.new-after.ensures.begun ∙ sym c.new-before.ensures.begun in
+    let is = c.join.ensures ∙ ap (λ (s : Subscription). joining s.kind 1 s) same in
     subst (λ (new : Subscription). Joined 1 (listed log 0 []) before (listed log 0 (m ∷ [])) new) (sym is)
     (joined_alone log 0 before m 1 c.new_member.ensures.0 (c.new_member.ensures.1 ∙ sym c.new-before.result.named))
-
-pub offers-requires-clause-stores : goal.offers-requires-clause-stores
-offers-requires-clause-stores g c = more_stored _ 0 3 _ _ (omega arith)
