@@ -180,12 +180,7 @@ impl<T: Opened + Drop, S: Alter, J: Naming, B: Bell + Drop> Directory<T, S, J, B
         }
     }
 
-    fn make_next<R: Wait>(
-        &self,
-        rt: &R,
-        courier: &mut Courier<T, J, B>,
-        now: Moment,
-    ) -> Stepped {
+    fn make_next<R: Wait>(&self, rt: &R, courier: &mut Courier<T, J, B>, now: Moment) -> Stepped {
         match next_move(&courier.route, &courier.hand, now) {
             Ok(next) => self.make(rt, courier, next),
             Err(_) => Stepped::Fails,

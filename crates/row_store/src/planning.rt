@@ -68,7 +68,10 @@ fn plan_over(alloc: Global, snapshot: Snapshot, base: &Snapshot) -> Result<Write
     ensures fits { IfOk result (λ write. (db : Trees) → Stands base.now db → Fits db write) }
     ensures err { IfErr result (λ fault. fault ≡ NoMemory) }
 {
-    match (text_of(alloc, &snapshot), Change::between(alloc, base, &snapshot)) {
+    match (
+        text_of(alloc, &snapshot),
+        Change::between(alloc, base, &snapshot),
+    ) {
         (Ok(topic), Ok(change)) => Ok(Write {
             snapshot,
             topic,

@@ -71,11 +71,7 @@ impl<S: Alter, J: Naming> Keeper<S, J> {
     }
 
     /// The snapshot under a mark of its own.
-    fn marked(
-        &mut self,
-        snapshot: Snapshot,
-        base: Option<Mark<Note, J>>,
-    ) -> Result<Part<J>, Fault>
+    fn marked(&mut self, snapshot: Snapshot, base: Option<Mark<Note, J>>) -> Result<Part<J>, Fault>
         requires base { IfSome base (λ base. GoesOn base.kept snapshot) }
         ensures keeper { self.new ≡ self.old }
         ensures part { IfOk result (λ part. part ≡ snapshot) }

@@ -15,4 +15,3 @@ new-requires g c = λ is_clean.
     let settled : s.now ≡ s.committed = c.is_autocommit.ensures.settled runs_alone shown.1 in
     let there = among c.args.snapshot.now s.committed.trees (subst (λ (db : Database). Stands c.args.snapshot.now db.trees) settled stands) in
     subst (λ r. StandsAmong c.in-Some.mark.kept r) (sym c.in-Some-commit.ensures.rows) (subst (λ k. StandsAmong k (all_rows s.committed.trees)) (sym c.in-Some.ensures) there)
-
