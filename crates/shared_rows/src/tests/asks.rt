@@ -40,40 +40,63 @@ fn subscription<R: Abort + AllocGlobal>(rt: &R, who: &str) -> SubscriptionName {
     name.expect(rt, "no memory").expect(rt, "no name")
 }
 
-fn connecting<R: Abort + AllocGlobal>(rt: &R, who: &str) -> Event {
+fn producer_name<R: Abort + AllocGlobal>(rt: &R, who: &str) -> ProducerName {
     let name = ArcStr::from_str(rt.alloc(), who).expect(rt, "no memory");
+    ProducerName::new(name).expect(rt, "no producer's name")
+}
+
+fn connecting<R: Abort + AllocGlobal>(rt: &R, who: &str) -> Event {
+    let base = Base::new(-1).expect(rt, "no base");
     Event::AddProducer {
-        name: Some(ProducerName::new(name).expect(rt, "no producer's name")),
-        base: Base::new(-1).expect(rt, "no base"),
+        name: Some(producer_name(rt, who)),
+        base,
     }
 }
 
-fn publishing<R: Abort + AllocGlobal>(rt: &R, who: &str, producer: u64, sequence: i64) -> Event {
+fn body<R: Abort + AllocGlobal>(rt: &R, who: &str) -> Body {
     let payload = who.as_bytes().to_vec(rt.alloc()).expect(rt, "no memory");
     let content = Content {
         key: None,
         properties: Properties::none(rt.alloc()),
         payload: Payload::new(payload).expect(rt, "no payload"),
     };
+    Body::new(rt.alloc(), content).expect(rt, "no memory")
+}
+
+fn publishing<R: Abort + AllocGlobal>(rt: &R, who: &str, producer: u64, sequence: i64) -> Event {
+    let now = Moment::new(1000).expect(rt, "no moment");
     Event::Publish {
         producer,
         sequence,
-        body: Body::new(rt.alloc(), content).expect(rt, "no memory"),
-        now: Moment::new(1000).expect(rt, "no moment"),
+        body: body(rt, who),
+        now,
     }
 }
 
 fn joining<R: Abort + AllocGlobal>(rt: &R, who: &str) -> Event {
+    let level = Level::new(0).expect(rt, "no level");
+    let window = WindowSize::new(1000).expect(rt, "no window");
+    let ack_timeout = Millis::new(0).expect(rt, "no timeout");
+    let nack_delay = Millis::new(60_000).expect(rt, "no delay");
+    let max_redeliver = RedeliverLimit::new(0).expect(rt, "no limit");
     Event::Subscribe {
         subscription: subscription(rt, who),
         kind: Kind::Exclusive,
-        level: Level::new(0).expect(rt, "no level"),
-        flow: Flow::Window(WindowSize::new(1000).expect(rt, "no window")),
-        ack_timeout: Millis::new(0).expect(rt, "no timeout"),
-        nack_delay: Millis::new(60_000).expect(rt, "no delay"),
-        max_redeliver: RedeliverLimit::new(0).expect(rt, "no limit"),
+        level,
+        flow: Flow::Window(window),
+        ack_timeout,
+        nack_delay,
+        max_redeliver,
         dead_topic: topic_name(rt, "persistent://public/default/t-DLQ"),
         initial: Initial::Earliest,
+    }
+}
+
+fn dispatching<R: Abort + AllocGlobal>(rt: &R, who: &str) -> Event {
+    let now = Moment::new(1000).expect(rt, "no moment");
+    Event::Dispatch {
+        subscription: subscription(rt, who),
+        now,
     }
 }
 
@@ -84,10 +107,7 @@ pub(super) fn event_of<R: Abort + AllocGlobal>(rt: &R, who: &str, ask: Ask) -> E
         Ask::Publish { producer, sequence } => publishing(rt, who, producer, sequence),
         Ask::Store => Event::Stored,
         Ask::Progress => Event::Progress,
-        Ask::Dispatch => Event::Dispatch {
-            subscription: subscription(rt, who),
-            now: Moment::new(1000).expect(rt, "no moment"),
-        },
+        Ask::Dispatch => dispatching(rt, who),
         Ask::Collect { consumer } => Event::Collect { consumer },
         Ask::Disconnect { producer } => Event::DropProducer { producer },
         Ask::Leave { consumer } => Event::Leave { consumer },

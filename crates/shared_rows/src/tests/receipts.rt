@@ -3,7 +3,7 @@ ghost use Rattle.std.specs.Prelude.{◌≡◌, []};
 ghost use Rattle.delivery_machine.specs.State.{fresh};
 
 use super::asks::{Ask, event_of, name, size};
-use delivery_machine::{Deliveries, Event, Reply};
+use delivery_machine::{Deliveries, Event, Reply, Topic};
 use std::alloc::AllocError;
 use std::marker::Brand;
 use std::process::Abort;
@@ -32,6 +32,13 @@ struct Answered {
     ask: Ask,
 }
 
+// The calls of a thread.
+#[derive(Drop)]
+struct Calls {
+    who: &'static str,
+    calls: Vec<Answered>,
+}
+
 // What a thread has done.
 #[derive(Drop)]
 struct Worked<L: Opening> {
@@ -42,10 +49,10 @@ struct Worked<L: Opening> {
 
 impl<L: Opening> Worked<L> {
     /// One call, noted; true where its answer is not `Idle`.
-    fn call<R: Wait + Abort + AllocGlobal>(
+    fn call<R: Wait + Abort + AllocGlobal, T: Topic + Drop>(
         &mut self,
         rt: &R,
-        topic: &SharedTopic<TopicCore, L>,
+        topic: &SharedTopic<T, L>,
         ask: Ask,
     ) -> bool {
         let event = event_of(rt, self.who, ask);
@@ -55,6 +62,47 @@ impl<L: Opening> Worked<L> {
             .push(Answered { receipt, ask })
             .expect(rt, "no memory");
         goes_on
+    }
+
+    fn publish_all<R: Wait + Abort + AllocGlobal, T: Topic + Drop>(
+        &mut self,
+        rt: &R,
+        topic: &SharedTopic<T, L>,
+        producer: u64,
+    ) {
+        for sequence in 0..MESSAGES {
+            let sequence = i64::from(sequence);
+            self.call(rt, topic, Ask::Publish { producer, sequence });
+        }
+    }
+
+    fn dispatch_all<R: Wait + Abort + AllocGlobal, T: Topic + Drop>(
+        &mut self,
+        rt: &R,
+        topic: &SharedTopic<T, L>,
+    ) {
+        for _ in 0..1000 {
+            if !self.call(rt, topic, Ask::Dispatch) {
+                return;
+            }
+        }
+    }
+
+    /// Publishes messages and reads them back.
+    fn work<R: Wait + Abort + AllocGlobal, T: Topic + Drop>(
+        &mut self,
+        rt: &R,
+        topic: &SharedTopic<T, L>,
+    ) {
+        self.call(rt, topic, Ask::Connect);
+        let producer = self.attached();
+        self.call(rt, topic, Ask::Join);
+        let consumer = self.attached();
+        self.publish_all(rt, topic, producer);
+        self.call(rt, topic, Ask::Store);
+        self.dispatch_all(rt, topic);
+        self.call(rt, topic, Ask::Collect { consumer });
+        assert_eq!(rt; self.read_back(), MESSAGES as usize);
     }
 
     /// The number that the last call attached.
@@ -90,9 +138,9 @@ fn own(copies: &Deliveries, who: &str) -> usize {
         .count()
 }
 
-fn work<L: Opening, R: Wait + Abort + AllocGlobal>(
+fn take_part<L: Opening, R: Wait + Abort + AllocGlobal, T: Topic + Drop>(
     rt: &R,
-    topic: &SharedTopic<TopicCore, L>,
+    topic: &SharedTopic<T, L>,
     which: usize,
 ) -> Worked<L> {
     let mut done = Worked {
@@ -100,28 +148,7 @@ fn work<L: Opening, R: Wait + Abort + AllocGlobal>(
         who: name_of(which),
         calls: Vec::new(rt.alloc()),
     };
-    done.call(rt, topic, Ask::Connect);
-    let producer = done.attached();
-    done.call(rt, topic, Ask::Join);
-    let consumer = done.attached();
-    for sequence in 0..MESSAGES {
-        done.call(
-            rt,
-            topic,
-            Ask::Publish {
-                producer,
-                sequence: i64::from(sequence),
-            },
-        );
-    }
-    done.call(rt, topic, Ask::Store);
-    for _ in 0..1000 {
-        if !done.call(rt, topic, Ask::Dispatch) {
-            break;
-        }
-    }
-    done.call(rt, topic, Ask::Collect { consumer });
-    assert_eq!(rt; done.read_back(), MESSAGES as usize);
+    done.work(rt, topic);
     done
 }
 
@@ -136,7 +163,7 @@ impl<L: Opening + Send + Sync> Job for SharedTopic<TopicCore, L> {
     type Out = Worked<L>;
 
     fn go<R: Wait + Abort + AllocGlobal>(&self, rt: &R, which: usize) -> Worked<L> {
-        work(rt, self, which)
+        take_part(rt, self, which)
     }
 }
 
@@ -147,34 +174,87 @@ fn by_all<X: Job + Sync, R: Threads + Wait + Abort + AllocGlobal + Sync>(
     thread::map_indices(rt, rt.alloc(), THREADS as usize, &|i| shared.go(rt, i))
 }
 
+fn check_line<R: Abort>(rt: &R, journal: &Journal, receipt: &Receipt, event: &Event, want: bool) {
+    assert!(rt; journal.check(receipt, event) == want);
+}
+
 /// The receipt has its line, and no other event, seat or number has.
-fn check<R: Abort + AllocGlobal>(rt: &R, journal: &Journal, who: &str, call: Answered) {
-    let Answered { receipt, ask } = call;
-    let event = event_of(rt, who, ask);
-    assert!(rt; journal.check(&receipt, &event));
-    assert!(rt; !journal.check(&receipt, &Event::Progress));
-    let Receipt {
-        number,
-        seat,
-        reply,
-    } = receipt;
-    let elsewhere = Receipt {
-        number,
-        seat: seat.wrapping_add(1),
-        reply,
-    };
-    assert!(rt; !journal.check(&elsewhere, &event));
-    let Receipt {
-        number,
-        seat: _,
-        reply,
-    } = elsewhere;
-    let later = Receipt {
-        number: number.wrapping_add(1),
-        seat,
-        reply,
-    };
-    assert!(rt; !journal.check(&later, &event));
+fn check_receipt<R: Abort>(rt: &R, journal: &Journal, receipt: &mut Receipt, event: &Event) {
+    let seat = receipt.seat;
+    check_line(rt, journal, receipt, event, true);
+    check_line(rt, journal, receipt, &Event::Progress, false);
+    receipt.seat = seat.wrapping_add(1);
+    check_line(rt, journal, receipt, event, false);
+    receipt.seat = seat;
+    receipt.number = receipt.number.wrapping_add(1);
+    check_line(rt, journal, receipt, event, false);
+}
+
+fn check<R: Abort + AllocGlobal>(rt: &R, journal: &Journal, calls: &mut Calls) {
+    for call in calls.calls.iter_mut() {
+        let event = event_of(rt, calls.who, call.ask);
+        check_receipt(rt, journal, &mut call.receipt, &event);
+    }
+}
+
+/// Each receipt has its line, and there are no other lines.
+fn check_all<R: Abort + AllocGlobal>(rt: &R, journal: &Journal, lists: &mut [Calls]) {
+    let mut count: usize = 0;
+    for calls in lists.iter_mut() {
+        count = calls.calls.len().saturating_add(count);
+        check(rt, journal, calls);
+    }
+    assert_eq!(rt; journal.len(), count);
+}
+
+fn part<L: Opening>(
+    work: Worked<L>,
+    seats: &mut Vec<Seat<L>>,
+    lists: &mut Vec<Calls>,
+) -> Result<(), AllocError> {
+    let Worked { seat, who, calls } = work;
+    seats.push(seat)?;
+    lists.push(Calls { who, calls })?;
+    Ok(())
+}
+
+fn part_all<L: Opening>(
+    works: Vec<Worked<L>>,
+    seats: &mut Vec<Seat<L>>,
+    lists: &mut Vec<Calls>,
+) -> Result<(), AllocError> {
+    for work in works {
+        part(work, seats, lists)?;
+    }
+    Ok(())
+}
+
+fn close<L: Opening, R: Abort + AllocGlobal, T: Topic + Drop>(
+    rt: &R,
+    topic: SharedTopic<T, L>,
+    seats: Vec<Seat<L>>,
+    lists: &mut [Calls],
+) -> Result<(), Fail> {
+    match topic.close(seats) {
+        Ok(journal) => {
+            check_all(rt, &journal, lists);
+            Ok(())
+        }
+        Err(_) => Err(Fail::from("a seat is missing")),
+    }
+}
+
+fn end<L: Opening, R: Abort + AllocGlobal, T: Topic + Drop>(
+    rt: &R,
+    topic: SharedTopic<T, L>,
+    works: Vec<Worked<L>>,
+) -> Result<(), Fail> {
+    let mut seats = Vec::new(rt.alloc());
+    let mut lists = Vec::new(rt.alloc());
+    match part_all(works, &mut seats, &mut lists) {
+        Ok(()) => close(rt, topic, seats, &mut lists),
+        Err(error) => Err(Fail::from(error)),
+    }
 }
 
 fn run<L: Opening + Send + Sync, R: Threads + Wait + Abort + AllocGlobal + Sync>(
@@ -190,25 +270,7 @@ fn run<L: Opening + Send + Sync, R: Threads + Wait + Abort + AllocGlobal + Sync>
     let limit = LineLimit::new(100_000).expect(rt, "a limit");
     let topic = SharedTopic::<TopicCore, L>::open(rt.alloc(), base, blank, limit, seats)?;
     let works = by_all::<SharedTopic<TopicCore, L>, R>(rt, &topic)?;
-    let mut handed = Vec::new(rt.alloc());
-    let mut lists = Vec::new(rt.alloc());
-    for work in works {
-        let Worked { seat, who, calls } = work;
-        handed.push(seat)?;
-        lists.push((who, calls))?;
-    }
-    let Ok(journal) = topic.close(handed) else {
-        return Err(Fail::from("a seat is missing"));
-    };
-    let mut count: usize = 0;
-    for (who, calls) in lists {
-        count = calls.len().saturating_add(count);
-        for call in calls {
-            check(rt, &journal, who, call);
-        }
-    }
-    assert_eq!(rt; journal.len(), count);
-    Ok(())
+    end(rt, topic, works)
 }
 
 #[test]

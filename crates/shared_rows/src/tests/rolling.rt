@@ -1,6 +1,6 @@
 // Threads at one cell, of which some begin the journal anew between the others' calls.
 use super::asks::{Ask, event_of, name, size};
-use delivery_machine::Reply;
+use delivery_machine::{Reply, Topic};
 use std::alloc::AllocError;
 use std::process::Abort;
 use std::sync::{Mutex, Wait};
@@ -30,9 +30,9 @@ fn length_in(reply: &Reply) -> u64 {
     }
 }
 
-fn asked<R: Wait + Abort + AllocGlobal>(
+fn asked<R: Wait + Abort + AllocGlobal, T: Topic + Drop>(
     rt: &R,
-    cell: &Mutex<Cell<TopicCore>>,
+    cell: &Mutex<Cell<T>>,
     who: &str,
     ask: Ask,
 ) -> Reply {
@@ -41,23 +41,50 @@ fn asked<R: Wait + Abort + AllocGlobal>(
     receipt.expect(rt, "answered").reply
 }
 
+fn connect<R: Wait + Abort + AllocGlobal, T: Topic + Drop>(
+    rt: &R,
+    cell: &Mutex<Cell<T>>,
+    who: &str,
+) -> u64 {
+    producer_in(&asked(rt, cell, who, Ask::Connect))
+}
+
+fn publish<R: Wait + Abort + AllocGlobal, T: Topic + Drop>(
+    rt: &R,
+    cell: &Mutex<Cell<T>>,
+    who: &str,
+    producer: u64,
+    sequence: i64,
+) {
+    let _ = asked(rt, cell, who, Ask::Publish { producer, sequence });
+}
+
+/// Publishes, and begins the journal anew now and then.
+fn publish_all<R: Wait + Abort + AllocGlobal, T: Topic + Drop>(
+    rt: &R,
+    cell: &Mutex<Cell<T>>,
+    who: &str,
+    producer: u64,
+) {
+    for sequence in 0..MESSAGES {
+        let sequence = i64::from(sequence);
+        publish(rt, cell, who, producer, sequence);
+        if sequence % 4 == 0 {
+            cell.lock(rt).roll();
+        }
+    }
+}
+
 // What one of several threads does with what they share.
 trait Job {
     fn go<R: Wait + Abort + AllocGlobal>(&self, rt: &R, which: usize) -> u64;
 }
 
 impl Job for Mutex<Cell<TopicCore>> {
-    /// Publishes, and begins the journal anew now and then.
     fn go<R: Wait + Abort + AllocGlobal>(&self, rt: &R, which: usize) -> u64 {
         let who = NAMES[which % 4];
-        let producer = producer_in(&asked(rt, self, who, Ask::Connect));
-        for sequence in 0..MESSAGES {
-            let sequence = i64::from(sequence);
-            let _ = asked(rt, self, who, Ask::Publish { producer, sequence });
-            if sequence % 4 == 0 {
-                self.lock(rt).roll();
-            }
-        }
+        let producer = connect(rt, self, who);
+        publish_all(rt, self, who, producer);
         producer
     }
 }
@@ -69,16 +96,41 @@ fn by_four<X: Job + Sync, R: Threads + Wait + Abort + AllocGlobal + Sync>(
     thread::map_indices(rt, rt.alloc(), 4, &|i| shared.go(rt, i))
 }
 
+fn new_cell<R: Abort + AllocGlobal>(rt: &R) -> Mutex<Cell<TopicCore>> {
+    let limit = LineLimit::new(64).expect(rt, "a limit");
+    let seats = SeatCount::new(4).expect(rt, "seats");
+    let topic = TopicCore::new(rt.alloc(), name(rt), size(rt));
+    let cell = Cell::new(rt.alloc(), topic, limit, seats);
+    Mutex::new(cell.expect(rt, "no memory"))
+}
+
+fn check_producers<R: Abort>(rt: &R, producers: &[u64]) {
+    for producer in producers {
+        assert!(rt; *producer > 0);
+    }
+}
+
+fn check_length<R: Wait + Abort + AllocGlobal, T: Topic + Drop>(
+    rt: &R,
+    cell: &Mutex<Cell<T>>,
+    want: u64,
+) {
+    let reply = asked(rt, cell, "a", Ask::Progress);
+    assert_eq!(rt; length_in(&reply), want);
+}
+
+fn check_cell<R: Threads + Wait + Abort + AllocGlobal + Sync>(
+    rt: &R,
+    cell: &Mutex<Cell<TopicCore>>,
+) -> Result<(), AllocError> {
+    let producers = by_four(rt, cell)?;
+    check_producers(rt, &producers);
+    check_length(rt, cell, 160);
+    Ok(())
+}
+
 #[test]
 fn rolls_leave_room_for_all(rt: HostRuntime) -> Result<(), Fail> {
-    let limit = LineLimit::new(64).expect(&rt, "a limit");
-    let seats = SeatCount::new(4).expect(&rt, "seats");
-    let topic = TopicCore::new(rt.alloc(), name(&rt), size(&rt));
-    let cell = Mutex::new(Cell::new(rt.alloc(), topic, limit, seats)?);
-    let producers = by_four(&rt, &cell)?;
-    for producer in producers {
-        assert!(rt; producer > 0);
-    }
-    assert_eq!(rt; length_in(&asked(&rt, &cell, "a", Ask::Progress)), 160);
+    check_cell(&rt, &new_cell(&rt))?;
     Ok(())
 }
