@@ -1,5 +1,6 @@
 // How sessions are closed.
-use super::stage::{check, check_front};
+use super::stage::{check, check_front, joined};
+use std::process::Abort;
 
 #[test]
 fn a_refused_member_closes_with_4002(rt: HostRuntime) {
@@ -17,77 +18,86 @@ open /ws/v2/producer/persistent/public/default/t?producerName=p",
     );
 }
 
-#[test]
-fn bad_commands_close_with_4003(rt: HostRuntime) {
-    let texts: &[(&str, &str)] = &[
-        ("{\"messageId\":\"CAAQAw\"}", "closed 4003 F17\n"),
-        ("{\"messageId\":5}", "closed 4003 F18\n"),
-        ("{\"type\":\"other\"}", "closed 4003 F18\n"),
-        (
-            "{\"type\":\"permit\",\"permitMessages\":5.0}",
-            "closed 4003 F18\n",
-        ),
-        ("nothing", "closed 4003 F18\n"),
-        (
-            "{\"type\":\"acknowledgeCumulative\",\"messageId\":\"CAAQAA==\"}",
-            "open\n",
-        ),
-    ];
+/// Commands, each with how it closes the session.
+const COMMANDS: &[(&str, &str)] = &[
+    ("{\"messageId\":\"CAAQAw\"}", "closed 4003 F17\n"),
+    ("{\"messageId\":5}", "closed 4003 F18\n"),
+    ("{\"type\":\"other\"}", "closed 4003 F18\n"),
+    (
+        "{\"type\":\"permit\",\"permitMessages\":5.0}",
+        "closed 4003 F18\n",
+    ),
+    ("nothing", "closed 4003 F18\n"),
+    (
+        "{\"type\":\"acknowledgeCumulative\",\"messageId\":\"CAAQAA==\"}",
+        "open\n",
+    ),
+];
+
+fn each_closes<R: Abort + AllocGlobal>(rt: &R, texts: &[(&str, &str)]) {
     for (text, want) in texts {
-        closes(&rt, text, want);
+        closes(rt, text, want);
     }
 }
 
-fn closes<R: std::process::Abort + AllocGlobal>(rt: &R, text: &str, want: &str) {
-    let mut script = String::new(rt.alloc());
+#[test]
+fn bad_commands_close_with_4003(rt: HostRuntime) {
+    each_closes(&rt, COMMANDS);
+}
+
+fn closes<R: Abort + AllocGlobal>(rt: &R, text: &str, want: &str) {
     let start = "open /ws/v2/consumer/persistent/public/default/t/s\ntext ";
-    script.push_str(start).expect(rt, "no memory");
-    script.push_str(text).expect(rt, "no memory");
-    script.push_str("\nturn 1000").expect(rt, "no memory");
+    let script = joined(rt, &[start, text, "\nturn 1000"]);
     check(rt, script.as_str(), want);
 }
 
 /// A session whose next call is refused.
-fn refused<R: std::process::Abort + AllocGlobal>(rt: &R, head: &str, fault: &str, want: &str) {
-    let mut script = String::new(rt.alloc());
-    for part in [
-        head,
-        "\nrefuse ",
-        fault,
-        "\nturn 1000\nrefuse none\nturn 1001",
-    ] {
-        script.push_str(part).expect(rt, "no memory");
-    }
+fn refused<R: Abort + AllocGlobal>(rt: &R, head: &str, fault: &str, want: &str) {
+    let end = "\nturn 1000\nrefuse none\nturn 1001";
+    let script = joined(rt, &[head, "\nrefuse ", fault, end]);
     check(rt, script.as_str(), want);
+}
+
+const PRODUCER: &str = "open /ws/v2/producer/persistent/public/default/t";
+
+const PUBLISH: &str =
+    "open /ws/v2/producer/persistent/public/default/t\ntext {\"payload\":\"aGk=\"}";
+
+const CONSUMER: &str = "open /ws/v2/consumer/persistent/public/default/t/s";
+
+const ACK: &str =
+    "open /ws/v2/consumer/persistent/public/default/t/s\ntext {\"messageId\":\"CAAQAA==\"}";
+
+const ADMIN: &str =
+    "open /ws/v2/admin/persistent/public/default/t\ntext {\"type\":\"stats\",\"subscription\":\"s\"}";
+
+const UNKNOWN: &str = "{\"errorMsg\":\"Unknown error\",\"result\":\"send-error:8\"}\nopen\n";
+
+/// Sessions, each with the refusal of its next call, and how it ends.
+const REFUSALS: &[(&str, &str, &str)] = &[
+    (PRODUCER, "F15", "closed 4008 F15\n"),
+    (PRODUCER, "F1", "open\n"),
+    (PUBLISH, "F3", "closed 4008 F3\n"),
+    (PUBLISH, "F15", "closed 4008 F15\n"),
+    (PUBLISH, "F1", UNKNOWN),
+    (CONSUMER, "F15", "closed 4008 F15\n"),
+    (CONSUMER, "F1", "open\n"),
+    (ACK, "F1", "closed 4008 F1\n"),
+    (ACK, "F3", "closed 4008 F3\n"),
+    (ACK, "F13", "closed 4008 F13\n"),
+    (ADMIN, "F15", "closed 4008 F15\n"),
+    (ADMIN, "F1", "{\"fault\":1,\"result\":\"refused\"}\nopen\n"),
+];
+
+fn each_refused<R: Abort + AllocGlobal>(rt: &R, cases: &[(&str, &str, &str)]) {
+    for (head, fault, want) in cases {
+        refused(rt, head, fault, want);
+    }
 }
 
 #[test]
 fn refusals_close_or_are_passed_over(rt: HostRuntime) {
-    let producer = "open /ws/v2/producer/persistent/public/default/t";
-    let publish = "open /ws/v2/producer/persistent/public/default/t\ntext {\"payload\":\"aGk=\"}";
-    let consumer = "open /ws/v2/consumer/persistent/public/default/t/s";
-    let ack =
-        "open /ws/v2/consumer/persistent/public/default/t/s\ntext {\"messageId\":\"CAAQAA==\"}";
-    let admin =
-        "open /ws/v2/admin/persistent/public/default/t\ntext {\"type\":\"stats\",\"subscription\":\"s\"}";
-    let unknown = "{\"errorMsg\":\"Unknown error\",\"result\":\"send-error:8\"}\nopen\n";
-    let cases: &[(&str, &str, &str)] = &[
-        (producer, "F15", "closed 4008 F15\n"),
-        (producer, "F1", "open\n"),
-        (publish, "F3", "closed 4008 F3\n"),
-        (publish, "F15", "closed 4008 F15\n"),
-        (publish, "F1", unknown),
-        (consumer, "F15", "closed 4008 F15\n"),
-        (consumer, "F1", "open\n"),
-        (ack, "F1", "closed 4008 F1\n"),
-        (ack, "F3", "closed 4008 F3\n"),
-        (ack, "F13", "closed 4008 F13\n"),
-        (admin, "F15", "closed 4008 F15\n"),
-        (admin, "F1", "{\"fault\":1,\"result\":\"refused\"}\nopen\n"),
-    ];
-    for (head, fault, want) in cases {
-        refused(&rt, head, fault, want);
-    }
+    each_refused(&rt, REFUSALS);
 }
 
 #[test]
@@ -140,18 +150,23 @@ open /ws/v2/consumer/persistent/public/default/t/s",
     );
 }
 
-/// Some texts, with the connection failing after so many calls.
-fn fails_after<R: std::process::Abort + AllocGlobal>(rt: &R, calls: u32, whole: &str) {
-    let calls = format!(in rt.alloc(); "\nfail {calls}\n").expect(rt, "no memory");
-    let mut script = String::new(rt.alloc());
-    let head = "open /ws/v2/producer/persistent/public/default/t
+const THREE_TEXTS: &str = "open /ws/v2/producer/persistent/public/default/t
 text {\"context\":1}
 text {\"context\":2}
 text {\"context\":3}";
-    for part in [head, calls.as_str(), "turn 1000\nserve 1000\nturn 1000"] {
-        script.push_str(part).expect(rt, "no memory");
-    }
+
+/// Some texts, with the connection failing after so many calls.
+fn fails_after<R: Abort + AllocGlobal>(rt: &R, calls: u32, whole: &str) {
+    let calls = format!(in rt.alloc(); "\nfail {calls}\n").expect(rt, "no memory");
+    let end = "turn 1000\nserve 1000\nturn 1000";
+    let script = joined(rt, &[THREE_TEXTS, calls.as_str(), end]);
     check_front(rt, script.as_str(), whole);
+}
+
+fn each_fails<R: Abort + AllocGlobal>(rt: &R, whole: &str) {
+    for calls in 0..12 {
+        fails_after(rt, calls, whole);
+    }
 }
 
 #[test]
@@ -162,9 +177,7 @@ fn what_is_sent_before_a_failure_is_a_front_of_all(rt: HostRuntime) {
 {\"context\":\"3\",\"errorMsg\":\"Failed to deserialize from JSON\",\"result\":\"send-error:3\"}
 open
 ";
-    for calls in 0..12 {
-        fails_after(&rt, calls, whole);
-    }
+    each_fails(&rt, whole);
 }
 
 #[test]

@@ -1,5 +1,6 @@
 // Producers' sessions.
-use super::stage::{check, count};
+use super::stage::{check, count, push};
+use std::process::Abort;
 
 #[test]
 fn answers_wait_for_storing_and_for_their_turn(rt: HostRuntime) {
@@ -97,19 +98,29 @@ open
     );
 }
 
+/// The line so many times.
+fn repeat<R: Abort>(rt: &R, script: &mut String, line: &str, times: u32) {
+    for _ in 0..times {
+        push(rt, script, line);
+    }
+}
+
+/// More texts than may be without answers, to a connection without room at first.
+fn push_thousand<R: Abort>(rt: &R, script: &mut String) {
+    let head = "open /ws/v2/producer/persistent/public/default/t\nroom 0\n";
+    push(rt, script, head);
+    repeat(rt, script, "text {}\n", 1_010);
+    repeat(rt, script, "serve 1000\n", 20);
+    push(rt, script, "room 3\nturn 1000\nroom 2000\nturn 1000");
+}
+
+fn check_count<R: Abort + AllocGlobal>(rt: &R, script: &str, want: usize) {
+    assert_eq!(rt; count(rt, script), want);
+}
+
 #[test]
 fn a_thousand_without_answers_stop_the_reading(rt: HostRuntime) {
     let mut script = String::new(rt.alloc());
-    let head = "open /ws/v2/producer/persistent/public/default/t\nroom 0\n";
-    script.push_str(head).expect(&rt, "no memory");
-    for _ in 0..1_010 {
-        script.push_str("text {}\n").expect(&rt, "no memory");
-    }
-    for _ in 0..20 {
-        script.push_str("serve 1000\n").expect(&rt, "no memory");
-    }
-    script
-        .push_str("room 3\nturn 1000\nroom 2000\nturn 1000")
-        .expect(&rt, "no memory");
-    assert_eq!(rt; count(&rt, script.as_str()), 1_002);
+    push_thousand(&rt, &mut script);
+    check_count(&rt, script.as_str(), 1_002);
 }

@@ -34,20 +34,25 @@ fn refusal<R: Abort>(rt: &R, word: &str) -> Option<Fault> {
     }
 }
 
-/// The producer `p` publishes under the last number of 64 bits.
-fn last_number<R: Abort + AllocGlobal>(rt: &R, stage: &mut Stage) {
+fn empty_body<R: Abort + AllocGlobal>(rt: &R) -> Body {
     let content = Content {
         key: None,
         properties: Properties::none(rt.alloc()),
         payload: Payload::new(Vec::new(rt.alloc())).expect(rt, "a payload"),
     };
-    let body = Body::new(rt.alloc(), content).expect(rt, "no memory");
-    let _ = stage.desk.topic.apply(&Event::Publish {
+    Body::new(rt.alloc(), content).expect(rt, "no memory")
+}
+
+/// The producer `p` publishes under the last number of 64 bits, and goes.
+fn last_number<R: Abort + AllocGlobal>(rt: &R, stage: &mut Stage) {
+    let now = Moment::new(0).expect(rt, "a moment");
+    let publish = Event::Publish {
         producer: 1,
         sequence: i64::MAX,
-        body,
-        now: Moment::new(0).expect(rt, "a moment"),
-    });
+        body: empty_body(rt),
+        now,
+    };
+    let _ = stage.desk.topic.apply(&publish);
     let _ = stage.desk.topic.apply(&Event::DropProducer { producer: 1 });
 }
 
@@ -77,6 +82,15 @@ pub(super) fn push<R: Abort>(rt: &R, out: &mut String, part: &str) {
     out.push_str(part).expect(rt, "no memory");
 }
 
+/// A text in parts.
+pub(super) fn joined<R: Abort + AllocGlobal>(rt: &R, parts: &[&str]) -> String {
+    let mut out = String::new(rt.alloc());
+    for part in parts {
+        push(rt, &mut out, part);
+    }
+    out
+}
+
 /// What was told of the connection.
 fn told<'a, R: Abort>(rt: &R, stage: &'a Stage) -> &'a Told {
     stage.side.conn.told().expect(rt, "no memory")
@@ -93,13 +107,29 @@ fn show<R: Abort>(rt: &R, stage: &mut Stage, out: &mut String) {
     stage.seen = told(rt, stage).sent.len();
 }
 
+/// Writes how a connection is closed.
+fn show_close<R: Abort + AllocGlobal>(rt: &R, code: u16, reason: &str, out: &mut String) {
+    let line = format!(in rt.alloc(); "closed {code} {reason}\n").expect(rt, "no memory");
+    push(rt, out, line.as_str());
+}
+
 /// Writes how the connection was closed.
 fn show_closes<R: Abort + AllocGlobal>(rt: &R, stage: &Stage, out: &mut String) {
     for closed in told(rt, stage).closes.iter() {
-        let code = closed.code;
-        let reason = closed.reason.as_str();
-        let line = format!(in rt.alloc(); "closed {code} {reason}\n").expect(rt, "no memory");
-        push(rt, out, line.as_str());
+        show_close(rt, closed.code, closed.reason.as_str(), out);
+    }
+}
+
+/// Does what the lines say, and writes what is sent, how the connection is closed, and whether the session is open.
+fn play<R: Abort + AllocGlobal>(rt: &R, stage: &mut Stage, out: &mut String, script: &str) {
+    for line in script.lines() {
+        let (word, rest) = line.split_once(' ').unwrap_or((line, ""));
+        does(rt, stage, word, rest);
+        show(rt, stage, out);
+    }
+    show_closes(rt, stage, out);
+    if stage.side.session.is_some() {
+        push(rt, out, "open\n");
     }
 }
 
@@ -110,15 +140,7 @@ fn played<R: Abort + AllocGlobal>(rt: &R, script: &str) -> String {
         seen: 0,
     };
     let mut out = String::new(rt.alloc());
-    for line in script.lines() {
-        let (word, rest) = line.split_once(' ').unwrap_or((line, ""));
-        does(rt, &mut stage, word, rest);
-        show(rt, &mut stage, &mut out);
-    }
-    show_closes(rt, &stage, &mut out);
-    if stage.side.session.is_some() {
-        push(rt, &mut out, "open\n");
-    }
+    play(rt, &mut stage, &mut out, script);
     out
 }
 

@@ -117,6 +117,28 @@ fn show<R: Abort>(rt: &R, side: &Side, out: &mut String) {
     }
 }
 
+fn open<R: AllocGlobal>(rt: &R, world: &mut World, consumer: &str) {
+    let producer = "/ws/v2/producer/persistent/public/default/t";
+    world.producer.open(rt, &mut world.desk, producer);
+    world.consumer.open(rt, &mut world.desk, consumer);
+}
+
+/// Plays the script, and writes what is sent.
+fn play<R: Abort + AllocGlobal>(
+    rt: &R,
+    world: &mut World,
+    out: &mut String,
+    script: &str,
+    is_eager: bool,
+) {
+    for now in 0..END {
+        comes(rt, world, script, now);
+        serves(rt, world, is_eager || now == 0, now);
+    }
+    show(rt, &world.producer, out);
+    show(rt, &world.consumer, out);
+}
+
 /// What is sent, and in how many turns.
 fn played<R: Abort + AllocGlobal>(
     rt: &R,
@@ -130,26 +152,27 @@ fn played<R: Abort + AllocGlobal>(
         consumer: Side::new(rt),
         turns: 0,
     };
-    let producer = "/ws/v2/producer/persistent/public/default/t";
-    world.producer.open(rt, &mut world.desk, producer);
-    world.consumer.open(rt, &mut world.desk, consumer);
-    for now in 0..END {
-        comes(rt, &mut world, script, now);
-        serves(rt, &mut world, is_eager || now == 0, now);
-    }
     let mut out = String::new(rt.alloc());
-    show(rt, &world.producer, &mut out);
-    show(rt, &world.consumer, &mut out);
+    open(rt, &mut world, consumer);
+    play(rt, &mut world, &mut out, script, is_eager);
     (out, world.turns)
+}
+
+fn check_texts<R: Abort>(rt: &R, woken: &str, always: &str, texts: usize) {
+    assert_eq!(rt; woken, always);
+    assert_eq!(rt; always.lines().count(), texts);
+}
+
+fn check_turns<R: Abort>(rt: &R, turns: u64, most: u64) {
+    assert!(rt; turns <= most, "{turns}");
 }
 
 /// The texts are the same, so many, and a session that waits is served in at most so many turns.
 fn check<R: Abort + AllocGlobal>(rt: &R, consumer: &str, script: &str, texts: usize, most: u64) {
     let (always, _) = played(rt, consumer, script, true);
     let (woken, turns) = played(rt, consumer, script, false);
-    assert_eq!(rt; woken.as_str(), always.as_str());
-    assert_eq!(rt; always.as_str().lines().count(), texts);
-    assert!(rt; turns <= most, "{turns}");
+    check_texts(rt, woken.as_str(), always.as_str(), texts);
+    check_turns(rt, turns, most);
 }
 
 #[test]
