@@ -68,17 +68,18 @@ fn plan_over(alloc: Global, snapshot: Snapshot, base: &Snapshot) -> Result<Write
     ensures fits { IfOk result (λ write. (db : Trees) → Stands base.now db → Fits db write) }
     ensures err { IfErr result (λ fault. fault ≡ NoMemory) }
 {
-    match (
-        text_of(alloc, &snapshot),
-        Change::between(alloc, base, &snapshot),
-    ) {
-        (Ok(topic), Ok(change)) => Ok(Write {
+    let topic = match text_of(alloc, &snapshot) {
+        Ok(topic) => topic,
+        Err(fault) => return Err(fault),
+    };
+    match Change::between(alloc, base, &snapshot) {
+        Ok(change) => Ok(Write {
             snapshot,
             topic,
             change,
             whole: false,
         }),
-        _ => Err(Fault::NoMemory),
+        Err(_) => Err(Fault::NoMemory),
     }
 }
 

@@ -3,9 +3,9 @@ use Rattle.position_core.specs.TopicName.{topic_text}
 use Rattle.row_forms.specs.Standing.{Has}
 use Rattle.row_store.proofs.planning.plan_over.Goals as goal
 
-pub returns-in-Ok-Ok-clause-fits : goal.returns-in-Ok-Ok-clause-fits
-returns-in-Ok-Ok-clause-fits c = λ db stands.
-    let led = c.in-Ok-Ok.ensures.leads stands.0 stands.1 in
+pub returns-in-Ok-between-clause-fits : goal.returns-in-Ok-between-clause-fits
+returns-in-Ok-between-clause-fits c = λ db stands.
+    let led = c.in-Ok-between.ensures.leads stands.0 stands.1 in
     record {
       olds = stands.0;
       news = led.0;
