@@ -26,7 +26,8 @@ pub fn forget<J: Naming>(known: &mut Vec<Known<J>>, writes: &[Write])
     known.retain(|one| !is_among(writes, one.topic()));
 }
 
-/// What was written is known under its mark, as far as there is memory for it. The lists are used up.
+/// What was written is known under its mark, as far as there is memory for it, and is taken off
+/// the lists.
 pub fn remember<J: Naming>(
     known: &mut Vec<Known<J>>,
     writes: &mut Vec<Write>,
