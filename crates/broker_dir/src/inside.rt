@@ -1,6 +1,6 @@
 // What a topic's lock guards: the topic with what is stored of it, and the bells of those who sit at it.
 ghost use Rattle.std.specs.Prelude.{◌≡◌, ◌-◌, ◌<◌, IfOk, set, true};
-ghost use Rattle.topic_shared.specs.Seats.{IsFree};
+ghost use Rattle.topic_seats.specs.Seats.{IsFree};
 
 use delivery_machine::{Event, Fault, KeptSubscription, Opened, Reply, Saved, SubscriptionName};
 use kept_rows::Kept;

@@ -7,7 +7,8 @@ use Rattle.std.proofs.KnownBytes.{Appends-trans, Appends-nil, Consumes-nil}
 use Rattle.position_core.specs.declared.topic_name.TopicName.{TopicName}
 use Rattle.replay_lines.specs.Grammar.{IsBadLine}
 use Rattle.replay_core.specs.Lines.{lines_of, ends_in}
-use Rattle.replay_core.specs.Replay.{Standing, Answer, AreAnswered, IsAnswered, BeginsWith, IsTooLong, HaveEnded, IsNext, IsBadNext, IsLost, IsWritten, IsReplay, Ends, Sides, sides, lines_after, texts, bad_line_text, last_words}
+use Rattle.topic_restart.specs.Standing.{Standing}
+use Rattle.replay_core.specs.Replay.{Answer, AreAnswered, IsAnswered, BeginsWith, IsTooLong, HaveEnded, IsNext, IsBadNext, IsLost, IsWritten, IsReplay, Ends, Sides, sides, lines_after, texts, bad_line_text, last_words}
 use Rattle.replay_core.specs.Output.{WritesFront}
 use Rattle.replay_core.specs.Outcomes.{bad_line_in, failed_writing}
 use Rattle.replay_core.specs.Progress.{Progress, Start, Moment, Stopped, Because, LeavesBefore, Ended, AreApart, BeginsWithLine, has_end, joined, moment, with_gathered}

@@ -7,7 +7,8 @@ use Rattle.std.proofs.lemmas.Grind.{flat_map-append}
 use Rattle.std.proofs.lemmas.List.Folds.{list_any-append, list_all-append}
 use Rattle.position_core.specs.declared.topic_name.TopicName.{TopicName}
 use Rattle.replay_lines.specs.Grammar.{IsBadLine}
-use Rattle.replay_core.specs.Replay.{Standing, Answer, answer_text, texts, IsRun, IsAnswered, IsStepOf}
+use Rattle.topic_restart.specs.Standing.{Standing}
+use Rattle.replay_core.specs.Replay.{Answer, answer_text, texts, IsRun, IsAnswered, IsStepOf}
 use Rattle.replay_core.specs.Progress.{Progress, Start, Moment, Stopped, Because, LeavesBefore, BeginsWithLine, BeginsTooLong, has_end, joined, moment}
 use Rattle.replay_core.specs.declared.engine.Replay.{Replay}
 use Rattle.replay_core.specs.declared.stop.Stop.{Stop}

@@ -6,7 +6,8 @@ use Rattle.std.specs.declared.result.Result.TheVariants.{Ok, Err}
 use Rattle.std.specs.Io.KnownBytes.{Appends}
 use Rattle.position_core.specs.declared.topic_name.TopicName.{TopicName}
 use Rattle.replay_lines.specs.Grammar.{IsBadLine}
-use Rattle.replay_core.specs.Replay.{Standing, Answer, IsAnswered, answer_text}
+use Rattle.topic_restart.specs.Standing.{Standing}
+use Rattle.replay_core.specs.Replay.{Answer, IsAnswered, answer_text}
 use Rattle.replay_core.specs.Answering.{IsAnsweredBy, MayBeLost, StopsAt}
 use Rattle.replay_core.specs.Output.{WritesFront}
 use Rattle.replay_core.specs.Progress.{Progress, Start, Moment, Stopped, Takes, Because, LeavesBefore, BeginsWithLine, has_end, moment}

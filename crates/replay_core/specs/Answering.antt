@@ -6,7 +6,8 @@ use Rattle.replay_core.specs.declared.stop.Stop.{Stop}
 use Rattle.replay_core.specs.declared.stop.Stop.TheVariants.{BadLine, Read, Write, Memory}
 use Rattle.replay_lines.specs.declared.reading.Line.{Line}
 use Rattle.replay_lines.specs.declared.reading.Line.TheVariants as lines
-use Rattle.replay_core.specs.Replay.{Standing, Answer, bad_id, IsAnswered, IsAnswerTo, IsRestart, IsStepOf}
+use Rattle.topic_restart.specs.Standing.{Standing}
+use Rattle.replay_core.specs.Replay.{Answer, bad_id, IsAnswered, IsAnswerTo, IsRestart, IsStepOf}
 
 -- the answer to what a line stands for
 abbrev pub IsAnswerOf : Line → Answer → Type 0

@@ -7,7 +7,8 @@ use Rattle.std.specs.declared.result.Result.TheVariants.{Err}
 use Rattle.position_core.specs.declared.topic_name.TopicName.{TopicName}
 use Rattle.replay_lines.specs.Grammar.{IsBadLine}
 use Rattle.replay_core.specs.Lines.{lines_of}
-use Rattle.replay_core.specs.Replay.{Standing, Answer, AreAnswered, IsAnswered, IsStepOf, IsRun, IsTooLong, IsLost, IsWritten, HaveEnded, Ends, texts}
+use Rattle.topic_restart.specs.Standing.{Standing}
+use Rattle.replay_core.specs.Replay.{Answer, AreAnswered, IsAnswered, IsStepOf, IsRun, IsTooLong, IsLost, IsWritten, HaveEnded, Ends, texts}
 use Rattle.replay_core.specs.declared.stop.Stop.{Stop}
 use Rattle.replay_core.specs.declared.stop.Stop.TheVariants.{BadLine, Read, Write, Memory}
 use Rattle.replay_core.specs.declared.engine.Replay.{Replay}

@@ -7,32 +7,18 @@ use Rattle.std.specs.declared.result.Result.{Result}
 use Rattle.std.specs.declared.result.Result.TheVariants.{Ok, Err}
 use Rattle.position_core.specs.declared.topic_name.TopicName.{TopicName}
 use Rattle.position_core.specs.declared.fault.Fault.TheVariants.{BadId, NoMemory}
-use Rattle.delivery_machine.specs.State.{State}
-use Rattle.delivery_machine.specs.Snapshot.{Snapshot, snapshot_of, restarted}
+use Rattle.delivery_machine.specs.Snapshot.{restarted}
 use Rattle.delivery_machine.specs.Run.{Answers}
 use Rattle.delivery_machine.specs.declared.event.Event.{Event}
 use Rattle.delivery_machine.specs.declared.event.Event.TheVariants.{Stored}
 use Rattle.delivery_machine.specs.declared.reply.Reply.{Reply}
+use Rattle.topic_restart.specs.Standing.{Standing, stored_by}
 use Rattle.replay_core.specs.Lines.{lines_of, ends_in}
 use Rattle.replay_lines.specs.Grammar.{IsLine, IsBadLine, longest_line}
 use Rattle.replay_core.specs.Printing.{reply_text, refused_text, restarted_text}
 use Rattle.replay_lines.specs.declared.reading.Line.TheVariants as lines
 use Rattle.replay_core.specs.declared.stop.Stop.{Stop}
 use Rattle.replay_core.specs.declared.stop.Stop.TheVariants.{BadLine, Read, Write, Memory}
-
--- how a topic stands: its state, and what is stored of it
-pub record Standing : Type 0 where
-  pub state : State
-  pub stored : Snapshot
-
--- what is stored of a topic that has just been opened is its snapshot
-abbrev pub opening : State → Standing
-opening s = record { state = s; stored = snapshot_of s }
-
--- what is stored once the event was answered: `Stored` keeps the snapshot of that moment
-abbrev pub stored_by : Event → Standing → Snapshot
-stored_by Stored s = snapshot_of s.state
-stored_by event s = s.stored
 
 -- how a line was answered: as an event by its reply; by the ledger in which a topic goes on from what is stored; as one for
 -- which there was no room; or as one with a bad id

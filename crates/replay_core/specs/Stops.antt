@@ -2,7 +2,8 @@
 use Rattle.std.specs.Prelude.{◌≡◌, ℕ, List, Option}
 use Rattle.std.specs.declared.result.Result.{Result}
 use Rattle.std.specs.declared.result.Result.TheVariants.{Ok, Err}
-use Rattle.replay_core.specs.Replay.{Standing, IsReplay, Sides, sides, this_topic}
+use Rattle.topic_restart.specs.Standing.{Standing}
+use Rattle.replay_core.specs.Replay.{IsReplay, Sides, sides, this_topic}
 use Rattle.replay_core.specs.declared.stop.Stop.{Stop}
 use Rattle.replay_core.specs.declared.stop.Stop.TheVariants.{BadLine, Read, Write, Memory}
 

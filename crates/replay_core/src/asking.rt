@@ -1,7 +1,8 @@
 // What a program that replays was asked for.
 ghost use Rattle.std.specs.Prelude.{◌≡◌, IfOk, Err};
 ghost use Rattle.delivery_machine.specs.State.{fresh};
-ghost use Rattle.replay_core.specs.Replay.{opening, sides, this_topic};
+ghost use Rattle.topic_restart.specs.Standing.{opening};
+ghost use Rattle.replay_core.specs.Replay.{sides, this_topic};
 ghost use Rattle.replay_core.specs.Stops.{EndsWith};
 ghost use Rattle.replay_core.specs.declared.asking.Unasked.TheVariants.{Arguments, Memory};
 

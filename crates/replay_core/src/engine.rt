@@ -8,7 +8,6 @@ ghost use Rattle.replay_lines.specs.declared.words.Unread.TheVariants.{BadLine, 
 
 use crate::output::Output;
 use crate::printing::{append_refused, append_reply, append_restarted};
-use crate::restartable::Restartable;
 use crate::stop::Stop;
 use delivery_machine::{Event, Opened, Reply};
 use position_core::{Fault, TopicName};
@@ -16,6 +15,7 @@ use replay_lines::{LONGEST_LINE, Line, Unread, read_line, split};
 use std::alloc::{AllocError, Global};
 use std::io::{Read, Write};
 use std::mem;
+use topic_restart::Restartable;
 
 /// How often the reader is asked before it counts as one that does not end.
 const MOST_READS: u64 = 4_294_967_296;
@@ -171,7 +171,8 @@ fn failed_writing(outcome: &Result<(), Stop>) -> bool
 impl Replay {
     ghost use Rattle.std.specs.Prelude.{◌≡◌, ◌+◌, ◌*◌, ◌<◌, ◌≤◌, ◌^◌, List, ℕ, Option, [], ◌∷◌, ◌++◌, length, OnOk, OnErr, IfErr, false};
     ghost use Rattle.std.specs.Io.KnownBytes.{Consumes, IsAtEnd};
-    ghost use Rattle.replay_core.specs.Replay.{Standing, Answer, IsReplay, sides, answer_text, bad_line_text, last_words};
+    ghost use Rattle.topic_restart.specs.Standing.{Standing};
+    ghost use Rattle.replay_core.specs.Replay.{Answer, IsReplay, sides, answer_text, bad_line_text, last_words};
     ghost use Rattle.replay_core.specs.Answering.{IsAnsweredBy, StopsAt};
     ghost use Rattle.replay_core.specs.Progress.{Ended, Progress, Start, Takes, has_end, moment};
 

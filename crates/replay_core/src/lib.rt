@@ -8,12 +8,10 @@ mod names;
 mod output;
 mod plain;
 mod printing;
-mod restartable;
 mod stop;
 
 pub use arguments::read_ledger_size;
 pub use asking::{Unasked, asked_ledger_size, replay_asked};
 pub use engine::replay_over;
 pub use plain::{replay, replay_fresh, replay_to_status};
-pub use restartable::Restartable;
 pub use stop::{Stop, status};

@@ -3,11 +3,11 @@ ghost use Rattle.std.specs.Prelude.{◌≡◌, IsTrue, IfOk, IfErr};
 ghost use Rattle.position_core.specs.Name.{is_name};
 ghost use Rattle.delivery_machine.specs.State.{fresh};
 ghost use Rattle.replay_core.specs.declared.stop.Stop.TheVariants.{Memory};
-ghost use Rattle.replay_core.specs.Replay.{IsReplay, Standing, opening, sides, this_topic};
+ghost use Rattle.topic_restart.specs.Standing.{Standing, opening};
+ghost use Rattle.replay_core.specs.Replay.{IsReplay, sides, this_topic};
 ghost use Rattle.replay_core.specs.Stops.{EndsWith};
 
 use crate::engine::replay_over;
-use crate::restartable::Restartable;
 use crate::stop::{Stop, status};
 use delivery_machine::Opened;
 use plain_topic::PlainTopic;
@@ -15,6 +15,7 @@ use position_core::{LedgerSize, Name, TopicName};
 use std::alloc::{AllocError, Global};
 use std::io::{Read, Write};
 use std::sync::ArcStr;
+use topic_restart::Restartable;
 
 fn name_of(alloc: Global, text: &str) -> Result<Name, AllocError>
     requires { IsTrue (is_name text.now) }

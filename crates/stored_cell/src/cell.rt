@@ -8,7 +8,7 @@ ghost use Rattle.delivery_machine.specs.Places.{snapshot_in};
 ghost use Rattle.delivery_machine.specs.Journals.{changes_snapshot, is_storing};
 ghost use Rattle.journal_lines.specs.Lines.{line, Legal};
 ghost use Rattle.topic_shared.specs.Kept.{KeepsSeats, needed_by, spoken_for, is_end};
-ghost use Rattle.topic_shared.specs.Seats.{IsFree, without_seat};
+ghost use Rattle.topic_seats.specs.Seats.{IsFree, without_seat};
 ghost use Rattle.stored_cell.specs.Held.{IsDurable};
 
 use crate::viewed::{Stored, Viewed};

@@ -5,8 +5,7 @@ use Rattle.position_core.specs.Numbers.{ProducerNumber, ConsumerNumber}
 use Rattle.delivery_machine.specs.declared.event.Event.{Event}
 use Rattle.delivery_machine.specs.declared.event.Event.TheVariants.{AddProducer, DropProducer, Subscribe, Leave}
 use Rattle.delivery_machine.specs.declared.reply.Reply.{Reply}
-use Rattle.delivery_machine.specs.declared.reply.Reply.TheVariants.{ProducerAdded, Subscribed, Refused}
-use Rattle.position_core.specs.declared.fault.Fault.TheVariants.{NoMemory}
+use Rattle.delivery_machine.specs.declared.reply.Reply.TheVariants.{ProducerAdded, Subscribed}
 
 abbrev pub is_among : List ℕ → ℕ → Bool
 is_among numbers number = list_any (λ n. n == number) numbers
@@ -33,14 +32,3 @@ attaches reply = false
 abbrev pub needs : List ProducerNumber → List ConsumerNumber → Event → ℕ
 needs producers consumers event =
     if detaches producers consumers event then 0 else if asks_to_attach event then 2 else 1
-
--- the event detaches a producer or a consumer, if it is attached
-abbrev pub is_farewell : Event → Bool
-is_farewell (DropProducer producer) = true
-is_farewell (Leave consumer) = true
-is_farewell event = false
-
--- the answer of want of memory, which is no step
-abbrev pub is_no_memory : Reply → Bool
-is_no_memory (Refused NoMemory) = true
-is_no_memory reply = false

@@ -1,5 +1,4 @@
 pub mod Attached
-pub mod Seats
 pub mod Kept
 pub mod Accounts
 pub mod Inside

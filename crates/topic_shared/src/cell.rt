@@ -3,23 +3,23 @@ ghost use Rattle.std.specs.Prelude.{◌≡◌, ◌↔◌, ◌⊎◌, ◌<◌, �
 ghost use Rattle.position_core.specs.declared.fault.Fault.TheVariants.{NoMemory, JournalFull, NoRoom};
 ghost use Rattle.delivery_machine.specs.Run.{Step};
 ghost use Rattle.delivery_machine.specs.Snapshot.{snapshot_of};
-ghost use Rattle.delivery_machine.specs.Journals.{changes_snapshot};
+ghost use Rattle.delivery_machine.specs.Journals.{changes_snapshot, producers_noted, consumers_noted};
 ghost use Rattle.journal_lines.specs.Lines.{line, Legal};
 ghost use Rattle.journal_lines.specs.Short.{is_long, is_long_reply};
 ghost use Rattle.topic_shared.specs.Kept.{Kept, KeepsSeats, needed_by, kept_lines, spoken_for, is_end};
-ghost use Rattle.topic_shared.specs.Seats.{IsFree, without_seat};
+ghost use Rattle.topic_shared.specs.Attached.{attaches};
+ghost use Rattle.topic_seats.specs.Seats.{IsFree, without_seat};
 
-use crate::answering::{Answered, answer_drafted, marked};
 use crate::journal::Journal;
-use crate::limits::{LineLimit, SeatCount};
 use crate::receipt::Receipt;
 use crate::room::{make_room, needs, note_consumer, note_producer};
-use crate::seats::{enter, exit, free_seats};
 use delivery_machine::{ConsumerNumber, Event, Fault, ProducerNumber, Reply, Topic};
 use journal_lines::{Draft, Line};
 use std::alloc::Global;
 use std::marker::Model;
 use std::snapshot::Snapshot;
+use topic_answers::{Answered, answer_drafted, marked};
+use topic_seats::{LineLimit, SeatCount, enter, exit, free_seats};
 
 /// Writes the draft's line into room that is there.
 pub(crate) fn write(lines: &mut Vec<Line>, seat: u64, draft: Draft, reply: Reply)
@@ -29,6 +29,36 @@ pub(crate) fn write(lines: &mut Vec<Line>, seat: u64, draft: Draft, reply: Reply
     ensures capacity { vec_capacity lines.new ≡ vec_capacity lines.old }
 {
     lines.push_reserved(draft.into_line(seat, reply));
+}
+
+/// Notes who is attached then, writes the line into room that is there, and makes the caller's receipt.
+fn note(
+    lines: &mut Vec<Line>,
+    producers: &mut Vec<ProducerNumber>,
+    consumers: &mut Vec<ConsumerNumber>,
+    seat: u64,
+    answered: Answered,
+) -> Receipt
+    requires room { vec_len lines.old < vec_capacity lines.old }
+    requires producers { attaches answered.reply ≡ true → vec_len producers.old < vec_capacity producers.old }
+    requires consumers { attaches answered.reply ≡ true → vec_len consumers.old < vec_capacity consumers.old }
+    requires fits { is_long answered.draft ≡ false → is_long_reply answered.reply ≡ false }
+    ensures line { lines.new.items ≡ lines.old.items ++ line seat answered.draft answered.reply ∷ [] }
+    ensures capacity { vec_capacity lines.new ≡ vec_capacity lines.old }
+    ensures producers { producers.new.items ≡ producers_noted producers.old.items answered.draft answered.reply }
+    ensures consumers { consumers.new.items ≡ consumers_noted consumers.old.items answered.draft answered.reply }
+    ensures receipt { (result.number ≡ length lines.old.items) × (result.seat ≡ seat) × (result.reply ≡ answered.twin) }
+{
+    let Answered { draft, reply, twin } = answered;
+    let number = lines.len() as u64;
+    note_producer(producers, draft.event(), &reply);
+    note_consumer(consumers, draft.event(), &reply);
+    write(lines, seat, draft, reply);
+    Receipt {
+        number,
+        seat,
+        reply: twin,
+    }
 }
 
 /// A topic with the journal of its calls, which leads from the opening state to the topic's.
@@ -113,9 +143,31 @@ impl<T: Topic + Drop> Cell<T> {
         ensures full { (result ≡ Err JournalFull) ↔ self.old.limit < spoken_for self.old + needed_by self.old event }
         ensures ends { is_end self.old event ≡ true → IsOk result }
     {
-        let Some(needed) = self.room_for(&event) else {
-            return Err(Fault::JournalFull);
-        };
+        match self.room_for(&event) {
+            Some(needed) => self.call_within(seat, event, needed),
+            None => {
+                drop(event);
+                Err(Fault::JournalFull)
+            }
+        }
+    }
+
+    /// One event that needs so many lines, for which the journal has room. Only want of memory is a refusal.
+    fn call_within(&mut self, seat: u64, event: Event, needed: u64) -> Result<Receipt, Fault>
+        requires seat { 0 < seat }
+        requires needed { (needed ≡ needed_by self.old event) × (spoken_for self.old + needed ≤ self.old.limit) }
+        requires few { needed ≤ 2 }
+        requires limit { self.old.limit ≤ 16777216 }
+        ensures line { IfOk result (λ r. self.new.lines ≡ self.old.lines ++ line seat event r.reply ∷ []) }
+        ensures receipt { IfOk result (λ r. (r.number ≡ length self.old.lines) × (r.seat ≡ seat)) }
+        ensures step { IfOk result (λ r. Step self.old.state event r.reply self.new.state) }
+        ensures same { KeepsSeats self.old self.new }
+        ensures marks { IfOk result (λ r. (self.new.settled ≡ false) × (self.new.unsaved ≡ (self.old.unsaved || changes_snapshot event r.reply))) }
+        ensures within { length self.new.lines ≤ 16777216 }
+        ensures err { OnErr result (self.new ≡ self.old) }
+        ensures fault { IfErr result (λ fault. fault ≡ NoMemory) }
+        ensures ends { is_end self.old event ≡ true → IsOk result }
+    {
         let kept = self.kept_lines();
         match make_room(
             &mut self.lines,
@@ -125,22 +177,22 @@ impl<T: Topic + Drop> Cell<T> {
             needed,
         ) {
             Ok(()) => {}
-            Err(fault) => return Err(fault),
+            Err(fault) => {
+                drop(event);
+                return Err(fault);
+            }
         }
         match answer_drafted(self.alloc, &mut self.topic, event) {
             Ok(answered) => {
-                let Answered { draft, reply, twin } = answered;
-                let number = self.lines.len() as u64;
-                note_producer(&mut self.producers, draft.event(), &reply);
-                note_consumer(&mut self.consumers, draft.event(), &reply);
-                self.unsaved = marked(self.unsaved, draft.event(), &reply);
+                self.unsaved = marked(self.unsaved, answered.draft.event(), &answered.reply);
                 self.settled = false;
-                write(&mut self.lines, seat, draft, reply);
-                Ok(Receipt {
-                    number,
+                Ok(note(
+                    &mut self.lines,
+                    &mut self.producers,
+                    &mut self.consumers,
                     seat,
-                    reply: twin,
-                })
+                    answered,
+                ))
             }
             Err(fault) => Err(fault),
         }
@@ -220,6 +272,8 @@ impl<T: Topic> Cell<T> {
         ensures few { IfSome result (λ needed. needed ≤ 2) }
         ensures limit { self.now.limit ≤ 16777216 }
         ensures none { IfNone result (self.now.limit < spoken_for self.now + needed_by self.now event.now) }
+        ensures stays { IfNone result (is_end self.now event.now ≡ false) }
+        ensures within { length self.now.lines ≤ 16777216 }
     {
         let needed = needs(self.producers.as_slice(), self.consumers.as_slice(), event);
         if (self.limit.get() as u64) - self.spoken_for() < needed {

@@ -3,7 +3,7 @@ use super::calls::topic_name;
 use super::dice::Dice;
 use delivery_machine::{Event, Opened, Reply};
 use position_core::{Fault, LedgerSize, TopicName};
-use replay_core::Restartable;
+use topic_restart::Restartable;
 use replay_lines::{Line, Unread, read_line};
 use std::alloc::Global;
 use std::io::BufRead;

@@ -99,6 +99,12 @@ fn show_endpoint<R: Abort + AllocGlobal>(rt: &R, out: &mut String, endpoint: &En
     }
 }
 
+fn endpoint_text<R: Abort + AllocGlobal>(rt: &R, endpoint: &Endpoint) -> String {
+    let mut out = String::new(rt.alloc());
+    show_endpoint(rt, &mut out, endpoint);
+    out
+}
+
 fn cause_text<R: Abort + AllocGlobal>(rt: &R, fault: RouteFault) -> String {
     let cause = fault.cause;
     format!(in rt.alloc(); "{cause:?}").expect(rt, "no memory")
@@ -120,15 +126,16 @@ fn refusal_text<R: Abort + AllocGlobal>(rt: &R, fault: RouteFault) -> String {
     )
 }
 
-fn answer<R: Abort + AllocGlobal>(rt: &R, target: &str) -> String {
-    match &route(rt.alloc(), target) {
-        Ok(endpoint) => {
-            let mut out = String::new(rt.alloc());
-            show_endpoint(rt, &mut out, endpoint);
-            out
-        }
+fn answer_text<R: Abort + AllocGlobal>(rt: &R, routed: &Result<Endpoint, RouteFault>) -> String {
+    match routed {
+        Ok(endpoint) => endpoint_text(rt, endpoint),
         Err(fault) => refusal_text(rt, *fault),
     }
+}
+
+fn answer<R: Abort + AllocGlobal>(rt: &R, target: &str) -> String {
+    let routed = route(rt.alloc(), target);
+    answer_text(rt, &routed)
 }
 
 fn check<R: Abort + AllocGlobal>(rt: &R, target: &str, want: &str) {

@@ -12,6 +12,17 @@ fn subscription<R: Abort + AllocGlobal>(rt: &R) -> Subscription {
     made.expect(rt, "no memory")
 }
 
+/// What is done with a subscription.
+trait Case {
+    fn play<R: Abort + AllocGlobal>(rt: &R, subscription: &mut Subscription);
+}
+
+/// Plays the case with a new subscription. It alone owns one: to own a subscription is dear to prove.
+fn check<C: Case, R: Abort + AllocGlobal>(rt: &R) {
+    let mut subscription = subscription(rt);
+    C::play(rt, &mut subscription);
+}
+
 fn letter<R: Abort + AllocGlobal>(rt: &R, place: u64) -> DeadLetter {
     DeadLetter {
         position: position_at(0, place),
@@ -45,27 +56,40 @@ fn check_end<R: Abort>(rt: &R, subscription: &Subscription, want: u64) {
     assert!(rt; subscription.mark_delete_end() == want);
 }
 
+struct ComeAndGo;
+
+impl Case for ComeAndGo {
+    fn play<R: Abort + AllocGlobal>(rt: &R, subscription: &mut Subscription) {
+        subscription.join(Kind::Shared, 5).expect(rt, "no memory");
+        check_number(rt, subscription, 0, Some(3));
+        check_number(rt, subscription, 1, Some(5));
+        subscription.leave(3);
+        check_number(rt, subscription, 0, Some(5));
+        check_number(rt, subscription, 1, None);
+    }
+}
+
 #[test]
 fn consumers_come_and_go(rt: HostRuntime) {
-    let mut subscription = subscription(&rt);
-    subscription.join(Kind::Shared, 5).expect(&rt, "no memory");
-    check_number(&rt, &subscription, 0, Some(3));
-    check_number(&rt, &subscription, 1, Some(5));
-    subscription.leave(3);
-    check_number(&rt, &subscription, 0, Some(5));
-    check_number(&rt, &subscription, 1, None);
+    check::<ComeAndGo, HostRuntime>(&rt);
+}
+
+struct TakenBack;
+
+impl Case for TakenBack {
+    fn play<R: Abort + AllocGlobal>(rt: &R, subscription: &mut Subscription) {
+        let joined = subscription.join(Kind::KeyShared, 7);
+        joined.expect(rt, "no memory");
+        check_owner(rt, subscription, Some(7));
+        subscription.undo_join(Kind::Shared, 7);
+        check_owner(rt, subscription, None);
+        check_number(rt, subscription, 1, None);
+    }
 }
 
 #[test]
 fn a_join_is_taken_back(rt: HostRuntime) {
-    let mut subscription = subscription(&rt);
-    subscription
-        .join(Kind::KeyShared, 7)
-        .expect(&rt, "no memory");
-    check_owner(&rt, &subscription, Some(7));
-    subscription.undo_join(Kind::Shared, 7);
-    check_owner(&rt, &subscription, None);
-    check_number(&rt, &subscription, 1, None);
+    check::<TakenBack, HostRuntime>(&rt);
 }
 
 fn check_pending<R: Abort>(rt: &R, subscription: &Subscription, at: Position) {
@@ -82,18 +106,25 @@ fn check_waiting<R: Abort>(rt: &R, subscription: &Subscription, at: Position) {
     assert!(rt; subscription.number_pending() == 0);
 }
 
+struct WaitsAgain;
+
+impl Case for WaitsAgain {
+    fn play<R: Abort + AllocGlobal>(rt: &R, subscription: &mut Subscription) {
+        let third = position_at(0, 2);
+        let held = Held {
+            consumer: 3,
+            due: Some(70),
+        };
+        subscription.hold(third, held).expect(rt, "no memory");
+        check_pending(rt, subscription, third);
+        subscription.redeliver(third);
+        check_waiting(rt, subscription, third);
+    }
+}
+
 #[test]
 fn a_message_is_held_and_waits_again(rt: HostRuntime) {
-    let mut subscription = subscription(&rt);
-    let third = position_at(0, 2);
-    let held = Held {
-        consumer: 3,
-        due: Some(70),
-    };
-    subscription.hold(third, held).expect(&rt, "no memory");
-    check_pending(&rt, &subscription, third);
-    subscription.redeliver(third);
-    check_waiting(&rt, &subscription, third);
+    check::<WaitsAgain, HostRuntime>(&rt);
 }
 
 fn acknowledge_fifth<R: Abort>(rt: &R, subscription: &mut Subscription) {
@@ -104,14 +135,21 @@ fn acknowledge_fifth<R: Abort>(rt: &R, subscription: &mut Subscription) {
     check_live(rt, subscription, 3, 5);
 }
 
+struct Dies;
+
+impl Case for Dies {
+    fn play<R: Abort + AllocGlobal>(rt: &R, subscription: &mut Subscription) {
+        check_live(rt, subscription, 0, 2);
+        bury(rt, subscription, 3);
+        acknowledge_fifth(rt, subscription);
+        assert!(rt; subscription.number_acknowledged() == 3);
+        assert!(rt; subscription.first_buried() == Some(3));
+    }
+}
+
 #[test]
 fn messages_are_acknowledged_and_die(rt: HostRuntime) {
-    let mut subscription = subscription(&rt);
-    check_live(&rt, &subscription, 0, 2);
-    bury(&rt, &mut subscription, 3);
-    acknowledge_fifth(&rt, &mut subscription);
-    assert!(rt; subscription.number_acknowledged() == 3);
-    assert!(rt; subscription.first_buried() == Some(3));
+    check::<Dies, HostRuntime>(&rt);
 }
 
 fn seek_to_second<R: Abort + AllocGlobal>(rt: &R, subscription: &mut Subscription) {
@@ -119,26 +157,39 @@ fn seek_to_second<R: Abort + AllocGlobal>(rt: &R, subscription: &mut Subscriptio
     sought.expect(rt, "no memory");
 }
 
+struct StaysDead;
+
+impl Case for StaysDead {
+    fn play<R: Abort + AllocGlobal>(rt: &R, subscription: &mut Subscription) {
+        bury(rt, subscription, 3);
+        seek_to_second(rt, subscription);
+        check_live(rt, subscription, 0, 1);
+        check_live(rt, subscription, 3, 4);
+        assert!(rt; subscription.number_of_dead() == 1);
+    }
+}
+
 #[test]
 fn a_seek_leaves_who_is_dead(rt: HostRuntime) {
-    let mut subscription = subscription(&rt);
-    bury(&rt, &mut subscription, 3);
-    seek_to_second(&rt, &mut subscription);
-    check_live(&rt, &subscription, 0, 1);
-    check_live(&rt, &subscription, 3, 4);
-    assert!(rt; subscription.number_of_dead() == 1);
+    check::<StaysDead, HostRuntime>(&rt);
+}
+
+struct Moved;
+
+impl Case for Moved {
+    fn play<R: Abort + AllocGlobal>(rt: &R, subscription: &mut Subscription) {
+        bury(rt, subscription, 2);
+        check_end(rt, subscription, 2);
+        let moved = subscription.move_first(2, position_at(0, 2));
+        moved.expect(rt, "no memory");
+        check_end(rt, subscription, 3);
+        assert!(rt; subscription.number_of_dead() == 0);
+    }
 }
 
 #[test]
 fn a_dead_message_is_moved(rt: HostRuntime) {
-    let mut subscription = subscription(&rt);
-    bury(&rt, &mut subscription, 2);
-    check_end(&rt, &subscription, 2);
-    subscription
-        .move_first(2, position_at(0, 2))
-        .expect(&rt, "no memory");
-    check_end(&rt, &subscription, 3);
-    assert!(rt; subscription.number_of_dead() == 0);
+    check::<Moved, HostRuntime>(&rt);
 }
 
 /// It goes on from what is kept, with a dead message.
@@ -147,10 +198,21 @@ fn again<R: Abort + AllocGlobal>(rt: &R, subscription: &Subscription) -> Subscri
     Subscription::restored(rt.alloc(), &kept, &[3]).expect(rt, "no memory")
 }
 
+fn check_again<R: Abort>(rt: &R, again: &Subscription) {
+    check_end(rt, again, 2);
+    check_live(rt, again, 0, 2);
+    check_live(rt, again, 3, 4);
+}
+
+struct GoesOn;
+
+impl Case for GoesOn {
+    fn play<R: Abort + AllocGlobal>(rt: &R, subscription: &mut Subscription) {
+        check_again(rt, &again(rt, subscription));
+    }
+}
+
 #[test]
 fn a_subscription_goes_on_from_what_is_kept(rt: HostRuntime) {
-    let again = again(&rt, &subscription(&rt));
-    check_end(&rt, &again, 2);
-    check_live(&rt, &again, 0, 2);
-    check_live(&rt, &again, 3, 4);
+    check::<GoesOn, HostRuntime>(&rt);
 }

@@ -1,7 +1,7 @@
 // Seats, each by whether it is taken, from seat 1 on.
 ghost use Rattle.std.specs.Prelude.{◌≡◌, ◌↔◌, ◌-◌, ◌≤◌, IfOk, IfErr, OnErr, IfSome, IfNone, All, Some, set, slice_get, replicate, true, false, Err};
 ghost use Rattle.position_core.specs.declared.fault.Fault.TheVariants.{NoMemory, NoRoom};
-ghost use Rattle.topic_shared.specs.Seats.{IsFree, without_seat};
+ghost use Rattle.topic_seats.specs.Seats.{IsFree, without_seat};
 
 use crate::limits::SeatCount;
 use position_core::Fault;

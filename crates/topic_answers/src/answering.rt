@@ -7,7 +7,7 @@ ghost use Rattle.delivery_machine.specs.Delivering.{out_of};
 ghost use Rattle.delivery_machine.specs.Dying.{is_letter};
 ghost use Rattle.delivery_machine.specs.Run.{Step};
 ghost use Rattle.delivery_machine.specs.Journals.{changes_snapshot, is_kept_once_done};
-ghost use Rattle.topic_shared.specs.Attached.{is_farewell, is_no_memory};
+ghost use Rattle.topic_answers.specs.Farewells.{is_farewell, is_no_memory};
 
 use delivery_machine::{Deliveries, Event, Fault, Reply, Topic};
 use journal_lines::Draft;

@@ -5,7 +5,7 @@ ghost use Rattle.position_core.specs.declared.fault.Fault.TheVariants.{NoMemory}
 ghost use Rattle.delivery_machine.specs.Run.{Answers};
 ghost use Rattle.delivery_machine.specs.Snapshot.{restarted};
 ghost use Rattle.delivery_machine.specs.declared.event.Event.TheVariants.{Stored};
-ghost use Rattle.replay_core.specs.Replay.{Standing, opening, stored_by};
+ghost use Rattle.topic_restart.specs.Standing.{Standing, opening, stored_by};
 
 use delivery_machine::{Event, Opened, Reply, Snapshot};
 use position_core::Fault;
@@ -26,7 +26,7 @@ impl<T: Opened> Model for Restartable<T> {
     ghost use Rattle.std.specs.Coded.{codes};
     ghost use Rattle.delivery_machine.specs.Codes.{coded_positions, coded_pending, coded_counts};
     ghost use Rattle.delivery_machine.specs.Places.{snapshot_in};
-    ghost use Rattle.replay_core.specs.Replay.{Standing};
+    ghost use Rattle.topic_restart.specs.Standing.{Standing};
 
     ghost Value = { Standing };
 
