@@ -70,8 +70,15 @@ impl<'a, T: Opened + Drop, S: Alter, J: Naming, B: Bell + Drop, R: Wait, G: Gate
 
     fn ask(&self, event: Event) -> Result<Reply, Fault> {
         match self.asked(&event) {
-            Ok(asked) => self.answer(&asked, event),
-            Err(fault) => Err(fault),
+            Ok(asked) => {
+                let answer = self.answer(&asked, event);
+                drop(asked);
+                answer
+            }
+            Err(fault) => {
+                drop(event);
+                Err(fault)
+            }
         }
     }
 }

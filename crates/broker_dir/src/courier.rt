@@ -70,10 +70,10 @@ impl<T: Opened + Drop, J: Naming, B: Bell + Drop> Courier<T, J, B> {
     fn take(&mut self, before: Aim, reply: Reply) -> Stepped {
         let is_done = matches!(&reply, Reply::Done | Reply::NoDead);
         let hand = mem::replace(&mut self.hand, Hand::Empty);
-        self.hand = after(hand, reply);
+        drop(mem::replace(&mut self.hand, after(hand, reply)));
         let now = aim_of(&self.hand);
         if now == Aim::Looking {
-            self.target = None;
+            drop(self.target.take());
         }
         outcome_of(before, now, is_done)
     }
@@ -86,15 +86,20 @@ impl<T: Opened + Drop, S: Alter, J: Naming, B: Bell + Drop> Directory<T, S, J, B
         source: &Arc<Shared<T, J, B>>,
         subscription: &SubscriptionName,
     ) -> Option<Courier<T, J, B>> {
-        let route = Route::new(self.alloc, &source.name, subscription);
-        match (route, Arc::try_clone(source)) {
-            (Ok(Some(route)), Ok(source)) => Some(Courier {
+        let Ok(Some(route)) = Route::new(self.alloc, &source.name, subscription) else {
+            return None;
+        };
+        match Arc::try_clone(source) {
+            Ok(source) => Some(Courier {
                 route,
                 hand: Hand::Empty,
                 source,
                 target: None,
             }),
-            _ => None,
+            Err(_) => {
+                drop(route);
+                None
+            }
         }
     }
 
@@ -129,7 +134,7 @@ impl<T: Opened + Drop, S: Alter, J: Naming, B: Bell + Drop> Directory<T, S, J, B
         };
         match target {
             Ok(target) => {
-                courier.target = Some(target);
+                drop(mem::replace(&mut courier.target, Some(target)));
                 Ok(())
             }
             Err(fault) => Err(fault),
@@ -150,7 +155,10 @@ impl<T: Opened + Drop, S: Alter, J: Naming, B: Bell + Drop> Directory<T, S, J, B
         };
         match topic {
             Some(topic) => self.reply(rt, topic, event, awaits && side == Side::Target),
-            None => Reply::Refused(Fault::NoSession),
+            None => {
+                drop(event);
+                Reply::Refused(Fault::NoSession)
+            }
         }
     }
 
@@ -204,6 +212,7 @@ impl<T: Opened + Drop, S: Alter, J: Naming, B: Bell + Drop> Directory<T, S, J, B
         if self.comes_to_wait(rt, &mut courier, now) {
             Some(courier)
         } else {
+            drop(courier);
             None
         }
     }
@@ -282,9 +291,12 @@ fn put<T: Opened + Drop, J: Naming, B: Bell + Drop>(
     couriers: &mut Vec<Courier<T, J, B>>,
     courier: Option<Courier<T, J, B>>,
 ) {
-    if let Some(courier) = courier
-        && couriers.reserve(1).is_ok()
-    {
+    let Some(courier) = courier else {
+        return;
+    };
+    if couriers.reserve(1).is_ok() {
         couriers.push_reserved(courier);
+    } else {
+        drop(courier);
     }
 }

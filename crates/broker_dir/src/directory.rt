@@ -1,5 +1,5 @@
 // The directory: topics by name, and who sits at them.
-ghost use Rattle.std.specs.Prelude.{◌≡◌, OnOk, OnErr};
+ghost use Rattle.std.specs.Prelude.{◌≡◌, OnOk, OnErr, false, true};
 ghost use Rattle.std.specs.String.{string_bytes};
 ghost use Rattle.broker_dir.specs.Listing.{names_of, with_name};
 
@@ -83,9 +83,11 @@ impl<T: Opened + Drop, S: Alter, J: Naming, B: Bell + Drop> Directory<T, S, J, B
         bell: Arc<B>,
     ) -> Result<Attached<T, J, B>, Fault> {
         if self.is_closed() {
+            drop(bell);
             return Err(Fault::StoreFailed);
         }
         let Ok(text) = topic_text(self.alloc, name) else {
+            drop(bell);
             return Err(Fault::NoMemory);
         };
         let mut guard = self.table.lock(rt);
@@ -93,10 +95,14 @@ impl<T: Opened + Drop, S: Alter, J: Naming, B: Bell + Drop> Directory<T, S, J, B
         match table.find(text.as_str()) {
             Some(topic) => {
                 let topic = clone_of(topic);
+                drop(text);
                 drop(guard);
                 match topic {
                     Ok(topic) => sit(rt, topic, bell),
-                    Err(fault) => Err(fault),
+                    Err(fault) => {
+                        drop(bell);
+                        Err(fault)
+                    }
                 }
             }
             None => match self.open_in(rt, table, text, name, create, Some(bell)) {
@@ -121,11 +127,16 @@ impl<T: Opened + Drop, S: Alter, J: Naming, B: Bell + Drop> Directory<T, S, J, B
         ensures refused { OnErr result (table.new.topics.entries ≡ table.old.topics.entries) }
     {
         if table.count() >= MOST_OPEN {
+            drop(text);
+            drop(bell);
             return Err(Fault::TooMany);
         }
         match self.made(rt, name, create, bell, table.count()) {
             Ok(made) => self.list(rt, table, text, made),
-            Err(fault) => Err(fault),
+            Err(fault) => {
+                drop(text);
+                Err(fault)
+            }
         }
     }
 
@@ -140,7 +151,10 @@ impl<T: Opened + Drop, S: Alter, J: Naming, B: Bell + Drop> Directory<T, S, J, B
     ) -> Result<Made<Shared<T, J, B>>, Fault> {
         match self.load(rt, name, create) {
             Ok(inside) => self.seated(rt, inside, name, bell, open),
-            Err(fault) => Err(fault),
+            Err(fault) => {
+                drop(bell);
+                Err(fault)
+            }
         }
     }
 
@@ -158,7 +172,10 @@ impl<T: Opened + Drop, S: Alter, J: Naming, B: Bell + Drop> Directory<T, S, J, B
                 Ok(topic) => Ok(Made { topic, seat, sends }),
                 Err(fault) => Err(fault),
             },
-            Err(fault) => Err(fault),
+            Err(fault) => {
+                drop(inside);
+                Err(fault)
+            }
         }
     }
 
@@ -173,18 +190,26 @@ impl<T: Opened + Drop, S: Alter, J: Naming, B: Bell + Drop> Directory<T, S, J, B
         ensures opened { OnOk result (names_of table.new.topics.entries ≡ with_name (names_of table.old.topics.entries) (string_bytes text)) }
         ensures refused { OnErr result (table.new.topics.entries ≡ table.old.topics.entries) }
     {
-        match (clone_of(&made.topic), clone_of(&made.topic)) {
-            (Ok(listed), Ok(errand)) => {
-                if !table.add(text, listed) {
-                    return Err(Fault::NoMemory);
-                }
-                if made.sends {
-                    self.board.send(rt, errand);
-                }
-                Ok((made.topic, made.seat))
+        let Made { topic, seat, sends } = made;
+        let errand = match clone_of(&topic) {
+            Ok(errand) => errand,
+            Err(fault) => {
+                drop(text);
+                drop(topic);
+                return Err(fault);
             }
-            _ => Err(Fault::NoMemory),
+        };
+        if !add_to(table, text, &topic) {
+            drop(errand);
+            drop(topic);
+            return Err(Fault::NoMemory);
         }
+        if sends {
+            self.board.send(rt, errand);
+        } else {
+            drop(errand);
+        }
+        Ok((topic, seat))
     }
 
     /// The open topic of the name, which is made where it is not known.
@@ -199,7 +224,11 @@ impl<T: Opened + Drop, S: Alter, J: Naming, B: Bell + Drop> Directory<T, S, J, B
         let mut guard = self.table.lock(rt);
         let table = &mut *guard;
         match table.find(text.as_str()) {
-            Some(topic) => clone_of(topic),
+            Some(topic) => {
+                let topic = clone_of(topic);
+                drop(text);
+                topic
+            }
             None => match self.open_in(rt, table, text, name, true, None) {
                 Ok((topic, _)) => Ok(topic),
                 Err(fault) => Err(fault),
@@ -233,7 +262,10 @@ impl<T: Opened + Drop, S: Alter, J: Naming, B: Bell + Drop> Directory<T, S, J, B
     ) -> Result<Arc<Shared<T, J, B>>, Fault> {
         match self.name_with_room(rt, name, open) {
             Ok(name) => shared(self.alloc, name, inside),
-            Err(fault) => Err(fault),
+            Err(fault) => {
+                drop(inside);
+                Err(fault)
+            }
         }
     }
 
@@ -330,6 +362,20 @@ fn clone_of<X>(topic: &Arc<X>) -> Result<Arc<X>, Fault> {
     }
 }
 
+/// The topic is open under the name. False for want of memory.
+fn add_to<X: Drop>(table: &mut Table<Arc<X>>, name: String, topic: &Arc<X>) -> bool
+    ensures added { result ≡ true → names_of table.new.topics.entries ≡ with_name (names_of table.old.topics.entries) (string_bytes name) }
+    ensures refused { result ≡ false → table.new.topics.entries ≡ table.old.topics.entries }
+{
+    match clone_of(topic) {
+        Ok(topic) => table.add(name, topic),
+        Err(_) => {
+            drop(name);
+            false
+        }
+    }
+}
+
 /// The seat of the one with the bell; 0 where nobody sits down.
 fn seat_for<T: Opened + Drop, J: Naming, B: Bell + Drop>(
     inside: &mut Inside<T, J, B>,
@@ -351,6 +397,9 @@ fn sit<T: Opened + Drop, J: Naming, B: Bell + Drop, R: Wait>(
     drop(inside);
     match entered {
         Ok(seat) => Ok(Attached { topic, seat }),
-        Err(fault) => Err(fault),
+        Err(fault) => {
+            drop(topic);
+            Err(fault)
+        }
     }
 }

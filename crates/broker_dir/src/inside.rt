@@ -55,8 +55,15 @@ impl<T: Opened + Drop, J: Naming, B: Bell + Drop> Inside<T, J, B> {
     /// Over a topic that was just opened: the courier is to look at each of its subscriptions in which letters lie.
     pub(crate) fn opened(alloc: Global, cell: StoredCell<T, J>) -> Result<Self, Fault> {
         match cell.view() {
-            Ok(snapshot) => Inside::knowing(alloc, cell, snapshot.subscriptions()),
-            Err(fault) => Err(fault),
+            Ok(snapshot) => {
+                let inside = Inside::knowing(alloc, cell, snapshot.subscriptions());
+                drop(snapshot);
+                inside
+            }
+            Err(fault) => {
+                drop(cell);
+                Err(fault)
+            }
         }
     }
 
@@ -68,7 +75,10 @@ impl<T: Opened + Drop, J: Naming, B: Bell + Drop> Inside<T, J, B> {
         let mut inside = Inside::new(alloc, cell);
         match inside.know_graves(subscriptions) {
             Ok(()) => Ok(inside),
-            Err(fault) => Err(fault),
+            Err(fault) => {
+                drop(inside);
+                Err(fault)
+            }
         }
     }
 
@@ -88,7 +98,10 @@ impl<T: Opened + Drop, J: Naming, B: Bell + Drop> Inside<T, J, B> {
     {
         let seat = match self.cell.enter() {
             Ok(seat) => seat,
-            Err(fault) => return Err(fault),
+            Err(fault) => {
+                drop(bell);
+                return Err(fault);
+            }
         };
         match self.bells.enter(seat, bell) {
             Ok(()) => Ok(seat),
@@ -114,7 +127,10 @@ impl<T: Opened + Drop, J: Naming, B: Bell + Drop> Inside<T, J, B> {
     ) -> Result<Reply, Fault> {
         match self.make_room(seat, asked) {
             Ok(()) => self.answer_with_room(rt, seat, asked, event),
-            Err(fault) => Err(fault),
+            Err(fault) => {
+                drop(event);
+                Err(fault)
+            }
         }
     }
 
@@ -223,7 +239,10 @@ impl<T: Opened + Drop, J: Naming, B: Bell + Drop> Inside<T, J, B> {
                 self.cell.exit(seat);
                 answer
             }
-            Err(fault) => Err(fault),
+            Err(fault) => {
+                drop(event);
+                Err(fault)
+            }
         }
     }
 

@@ -32,10 +32,11 @@ struct Batch<J: Naming> {
 impl<J: Naming> Batch<J> {
     /// With room for so many topics.
     fn for_topics(alloc: Global, count: usize) -> Result<Self, Fault> {
-        let (Ok(parts), Ok(seen)) = (
-            Vec::with_capacity(alloc, count),
-            Vec::with_capacity(alloc, count),
-        ) else {
+        let Ok(parts) = Vec::with_capacity(alloc, count) else {
+            return Err(Fault::NoMemory);
+        };
+        let Ok(seen) = Vec::with_capacity(alloc, count) else {
+            drop(parts);
             return Err(Fault::NoMemory);
         };
         Ok(Batch { parts, seen })
@@ -186,7 +187,10 @@ impl<T: Opened + Drop, S: Alter, J: Naming, B: Bell + Drop> Directory<T, S, J, B
         let mut keeper = self.keeper.lock(rt);
         match view_all(rt, &mut *keeper, topics, &mut batch) {
             Ok(()) => self.store_viewed(rt, &mut *keeper, topics, batch),
-            Err(fault) => Err(fault),
+            Err(fault) => {
+                drop(batch);
+                Err(fault)
+            }
         }
     }
 
@@ -220,6 +224,8 @@ impl<T: Opened + Drop, S: Alter, J: Naming, B: Bell + Drop> Directory<T, S, J, B
                 && let Some(topic) = topics.get(seen.place)
             {
                 self.confirm(rt, topic, seen.length, kept);
+            } else {
+                drop(kept);
             }
             at = at.saturating_add(1);
         }

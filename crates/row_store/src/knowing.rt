@@ -89,6 +89,9 @@ pub fn know<J: Naming>(
     ensures { (db : Trees) → All (λ (kept : KeptTopic). Stands kept db) known.old.items → Stands snapshot db → All (λ (kept : KeptTopic). Stands kept db) known.new.items }
 {
     let Ok(()) = known.reserve(1) else {
+        drop(topic);
+        drop(snapshot);
+        drop(mark);
         return;
     };
     known.push_reserved(Known::new(topic, snapshot, mark));

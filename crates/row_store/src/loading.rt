@@ -45,18 +45,29 @@ impl<S: Alter, J: Naming> Keeper<S, J> {
             return Err(Fault::NoMemory);
         };
         let Ok(raw) = read(&mut self.conn, topic.as_str()) else {
+            drop(topic);
             return Err(Fault::StoreFailed);
         };
         if raw.is_empty() {
+            drop(topic);
+            drop(raw);
             return Ok(None);
         }
-        match snapshot_in(self.alloc, name, &raw) {
+        let found = snapshot_in(self.alloc, name, &raw);
+        drop(raw);
+        match found {
             Ok(Some(snapshot)) => match self.know_loaded(topic, snapshot) {
                 Ok(loaded) => Ok(Some(loaded)),
                 Err(fault) => Err(fault),
             },
-            Ok(None) => Err(Fault::StoreFailed),
-            Err(_) => Err(Fault::NoMemory),
+            Ok(None) => {
+                drop(topic);
+                Err(Fault::StoreFailed)
+            }
+            Err(_) => {
+                drop(topic);
+                Err(Fault::NoMemory)
+            }
         }
     }
 
@@ -71,7 +82,11 @@ impl<S: Alter, J: Naming> Keeper<S, J> {
     {
         match self.proof_of(&snapshot) {
             Ok(kept) => self.know_kept(topic, snapshot, kept),
-            Err(fault) => Err(fault),
+            Err(fault) => {
+                drop(topic);
+                drop(snapshot);
+                Err(fault)
+            }
         }
     }
 
@@ -86,7 +101,10 @@ impl<S: Alter, J: Naming> Keeper<S, J> {
         match self.notes.view(snapshot) {
             Some(mark) => match self.notes.commit(&self.conn) {
                 Some(rows) => Ok(Kept::new(mark, rows)),
-                None => Err(Fault::StoreFailed),
+                None => {
+                    drop(mark);
+                    Err(Fault::StoreFailed)
+                }
             },
             None => Err(Fault::StoreFailed),
         }
@@ -113,7 +131,12 @@ impl<S: Alter, J: Naming> Keeper<S, J> {
                 know(&mut self.known, topic, copy, kept.mark());
                 Ok(Loaded { snapshot, kept })
             }
-            Err(_) => Err(Fault::NoMemory),
+            Err(_) => {
+                drop(topic);
+                drop(snapshot);
+                drop(kept);
+                Err(Fault::NoMemory)
+            }
         }
     }
 }

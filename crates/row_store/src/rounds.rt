@@ -29,7 +29,10 @@ fn alone<J: Naming>(alloc: Global, part: Part<J>) -> Result<Vec<Part<J>>, Fault>
             parts.push_reserved(part);
             Ok(parts)
         }
-        Err(_) => Err(Fault::NoMemory),
+        Err(_) => {
+            drop(part);
+            Err(Fault::NoMemory)
+        }
     }
 }
 
@@ -79,7 +82,11 @@ impl<S: Alter, J: Naming> Keeper<S, J> {
     {
         match self.notes.view(&snapshot) {
             Some(mark) => Ok(Part::new(snapshot, mark, base)),
-            None => Err(Fault::StoreFailed),
+            None => {
+                drop(snapshot);
+                drop(base);
+                Err(Fault::StoreFailed)
+            }
         }
     }
 

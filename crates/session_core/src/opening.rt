@@ -119,7 +119,10 @@ fn consumer_party(subscription: SubscriptionName, reply: &Reply) -> Option<Party
             number: *consumer,
             subscription,
         }),
-        _ => None,
+        _ => {
+            drop(subscription);
+            None
+        }
     }
 }
 
@@ -166,7 +169,9 @@ fn open_producer<C: Conn, K: Caller>(
     let given = endpoint.base;
     let reply = ask(caller, joins_producer(endpoint));
     let party = producer_party(&given, &reply);
-    begin_by(alloc, party, no_dues(), conn, 4001, &reply)
+    let session = begin_by(alloc, party, no_dues(), conn, 4001, &reply);
+    drop(reply);
+    session
 }
 
 /// The event with which a consumer's session begins.
@@ -201,7 +206,9 @@ fn join_consumer<C: Conn, K: Caller>(
 {
     let reply = ask(caller, event);
     let party = consumer_party(subscription, &reply);
-    begin_by(alloc, party, dues, conn, 4002, &reply)
+    let session = begin_by(alloc, party, dues, conn, 4002, &reply);
+    drop(reply);
+    session
 }
 
 fn open_consumer<C: Conn, K: Caller>(
@@ -224,7 +231,10 @@ fn open_consumer<C: Conn, K: Caller>(
             conn,
             caller,
         ),
-        Err(_) => refuse(conn, 4008, Fault::NoMemory),
+        Err(_) => {
+            drop(endpoint);
+            refuse(conn, 4008, Fault::NoMemory)
+        }
     }
 }
 
@@ -243,6 +253,9 @@ pub fn open<C: Conn, K: Caller>(
     match endpoint {
         Endpoint::Producer(producer) => open_producer(alloc, producer, conn, caller),
         Endpoint::Consumer(consumer) => open_consumer(alloc, consumer, conn, caller),
-        Endpoint::Admin(_) => Some(begin(alloc, Party::Admin, no_dues())),
+        Endpoint::Admin(admin) => {
+            drop(admin);
+            Some(begin(alloc, Party::Admin, no_dues()))
+        }
     }
 }

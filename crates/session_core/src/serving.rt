@@ -61,9 +61,7 @@ fn say_last<K: Caller>(party: &Party, caller: &mut K)
     ensures { SaysLast party.now (K.calls caller.old) (K.calls caller.new) }
 {
     match party.farewell() {
-        Some(event) => {
-            let _ = ask(caller, event);
-        }
+        Some(event) => drop(ask(caller, event)),
         None => {}
     }
 }
@@ -92,6 +90,7 @@ pub fn serve<C: Conn, K: Caller>(
         Err(stop) => {
             close_conn(conn, stop);
             say_last(&session.party, caller);
+            drop(session);
             None
         }
     }

@@ -38,7 +38,10 @@ impl Lines {
         let mut lines = self;
         match lines.items.push(line) {
             Ok(()) => Some(lines),
-            Err(_) => None,
+            Err(_) => {
+                drop(lines);
+                None
+            }
         }
     }
 
@@ -47,7 +50,11 @@ impl Lines {
     {
         match reply_in(answer) {
             Ok(reply) => self.and_line(Line { event, reply }),
-            Err(_) => None,
+            Err(_) => {
+                drop(self);
+                drop(event);
+                None
+            }
         }
     }
 }
@@ -57,7 +64,10 @@ fn tell(lines: Option<Lines>, event: Event, answer: &Result<Reply, Fault>) -> Op
 {
     match lines {
         Some(lines) => lines.and_call(event, answer),
-        None => None,
+        None => {
+            drop(event);
+            None
+        }
     }
 }
 

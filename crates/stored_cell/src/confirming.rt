@@ -51,6 +51,7 @@ impl<T: Opened + Drop, J: Naming> StoredCell<T, J> {
             Err(fault) => return Err(fault),
         };
         let Some(mark) = notes.view(&snapshot) else {
+            drop(snapshot);
             return Err(Fault::StoreFailed);
         };
         let base = base_of(&self.stored);
@@ -70,9 +71,11 @@ impl<T: Opened + Drop, J: Naming> StoredCell<T, J> {
         ensures durable { self.old.cell.state.durable ≤ self.new.cell.state.durable }
     {
         let Some(viewed) = &self.outstanding else {
+            drop(kept);
             return false;
         };
         if !kept.is(viewed.mark()) {
+            drop(kept);
             return false;
         }
         let length = viewed.length();

@@ -118,9 +118,7 @@ fn refused<R: Abort + AllocGlobal>(rt: &R, context: Option<&str>, fault: Fault) 
     out
 }
 
-/// What a text says, or the text that answers its refusal.
-fn answer<R: Abort + AllocGlobal>(rt: &R, text: &str) -> String {
-    let reading = read(rt, text.as_bytes());
+fn answer_to<R: Abort + AllocGlobal>(rt: &R, reading: &PublishReading) -> String {
     let context = match &reading.context {
         Some(context) => Some(context.as_str()),
         None => None,
@@ -129,6 +127,12 @@ fn answer<R: Abort + AllocGlobal>(rt: &R, text: &str) -> String {
         Ok(content) => shown(rt, context, content),
         Err(fault) => refused(rt, context, *fault),
     }
+}
+
+/// What a text says, or the text that answers its refusal.
+fn answer<R: Abort + AllocGlobal>(rt: &R, text: &str) -> String {
+    let reading = read(rt, text.as_bytes());
+    answer_to(rt, &reading)
 }
 
 fn check_answer<R: Abort + AllocGlobal>(rt: &R, text: &str, want: &str) {

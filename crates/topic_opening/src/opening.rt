@@ -76,8 +76,16 @@ fn restarted_cell<T: Opened + Drop, J: Naming>(
 {
     let Loaded { snapshot, kept } = loaded;
     match cell_from(alloc, &snapshot, terms) {
-        Ok(cell) => Ok(StoredCell::restarted(cell, &snapshot, kept)),
-        Err(fault) => Err(fault),
+        Ok(cell) => {
+            let opened = StoredCell::restarted(cell, &snapshot, kept);
+            drop(snapshot);
+            Ok(opened)
+        }
+        Err(fault) => {
+            drop(snapshot);
+            drop(kept);
+            Err(fault)
+        }
     }
 }
 

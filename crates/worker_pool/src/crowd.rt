@@ -60,9 +60,15 @@ fn client_of<T: Opened + Drop, J: Naming>(
     match bell_for(alloc, post, token) {
         Some(bell) => match Shaking::start(alloc, stream) {
             Ok(shaking) => Some(Client::new(number, bell, shaking)),
-            Err(_) => None,
+            Err(_) => {
+                drop(bell);
+                None
+            }
         },
-        None => None,
+        None => {
+            drop(stream);
+            None
+        }
     }
 }
 
@@ -135,6 +141,7 @@ impl<T: Opened + Drop, J: Naming> Crowd<T, J> {
         now: Moment,
     ) -> bool {
         if !self.make_room(rt, post) {
+            drop(stream);
             return false;
         }
         let token = self.clients.vacant_key();
@@ -166,7 +173,12 @@ impl<T: Opened + Drop, J: Naming> Crowd<T, J> {
             token,
             number: client.number,
         };
-        self.timers.add(timer) && self.clients.insert(client).is_ok()
+        if self.timers.add(timer) {
+            self.clients.insert(client).is_ok()
+        } else {
+            drop(client);
+            false
+        }
     }
 
     /// Serves those that are due, once each.

@@ -88,6 +88,7 @@ fn session_at<T: Opened + Drop, S: Alter, J: Naming, G: Gate + Drop, R: Wait>(
     if conn.is_open() {
         open(alloc, endpoint, conn, &mut caller)
     } else {
+        drop(endpoint);
         None
     }
 }
@@ -109,6 +110,7 @@ fn begin<T: Opened + Drop, S: Alter, J: Naming, G: Gate + Drop, R: Wait>(
         }),
         None => {
             let _ = conn.flush();
+            drop(conn);
             place.directory.detach(rt, attached);
             None
         }
@@ -128,6 +130,7 @@ pub(crate) fn enter<T: Opened + Drop, S: Alter, J: Naming, G: Gate + Drop, R: Wa
         Ok(endpoint) => enter_at(rt, alloc, place, conn, endpoint, bell),
         Err(fault) => {
             turn_away(&mut conn, fault.close_code(), fault.fault());
+            drop(conn);
             None
         }
     }
@@ -145,6 +148,8 @@ fn enter_at<T: Opened + Drop, S: Alter, J: Naming, G: Gate + Drop, R: Wait>(
         Ok(attached) => begin(rt, alloc, place, endpoint, conn, attached),
         Err(refusal) => {
             turn_away(&mut conn, refusal.code, refusal.fault);
+            drop(conn);
+            drop(endpoint);
             None
         }
     }

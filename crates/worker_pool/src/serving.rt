@@ -123,6 +123,7 @@ fn turn<T: Opened + Drop, S: Alter, J: Naming, G: Gate + Drop, R: Wait>(
         if conn.is_open() {
             serve(session, &mut conn, &mut caller, now, most_texts())
         } else {
+            drop(session);
             None
         }
     };
@@ -138,6 +139,7 @@ fn turn<T: Opened + Drop, S: Alter, J: Naming, G: Gate + Drop, R: Wait>(
             stay(rt, place, guest, received)
         }
         None => {
+            drop(conn);
             place.directory.detach(rt, attached);
             (Turned::gone(), None)
         }
@@ -192,17 +194,14 @@ impl<T: Opened + Drop, J: Naming> Client<T, J> {
                 self.stage = Stage::Shaking(shaking);
                 Turned::waits()
             }
-            Shaken::Open(conn, target) => match enter(
-                rt,
-                alloc,
-                place,
-                conn,
-                target.as_str(),
-                &self.bell,
-            ) {
-                Some(guest) => self.turn(rt, place, guest, now),
-                None => Turned::gone(),
-            },
+            Shaken::Open(conn, target) => {
+                let guest = enter(rt, alloc, place, conn, target.as_str(), &self.bell);
+                drop(target);
+                match guest {
+                    Some(guest) => self.turn(rt, place, guest, now),
+                    None => Turned::gone(),
+                }
+            }
             Shaken::Failed => Turned::gone(),
         }
     }

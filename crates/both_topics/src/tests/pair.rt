@@ -3,11 +3,11 @@ use super::calls::topic_name;
 use super::dice::Dice;
 use delivery_machine::{Event, Opened, Reply};
 use position_core::{Fault, LedgerSize, TopicName};
-use topic_restart::Restartable;
 use replay_lines::{Line, Unread, read_line};
 use std::alloc::Global;
 use std::io::BufRead;
 use std::process::Abort;
+use topic_restart::Restartable;
 
 /// A store of a part has fewer messages than this, which may be more than there are.
 const MOST_STORED: u64 = 24;

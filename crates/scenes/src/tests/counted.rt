@@ -3,6 +3,8 @@ use super::topic::Topic;
 use super::{in_order, shared};
 use crate::ListView;
 use dispatch_core::{Dispatcher, Offer, Seen, View};
+use dispatch_shared::Shared;
+use dispatch_single::Single;
 use position_core::{Kind, LogIndex};
 use std::cell::Cell;
 use std::process::Abort;
@@ -126,11 +128,15 @@ fn check_last<R: Abort>(rt: &R, view: &CountedView<'_>, offer: Option<Offer>) {
     check_offered(rt, view, offer, last, 10);
 }
 
+fn check_in_order<R: Abort>(rt: &R, topic: &Topic, dispatcher: &Single) {
+    let view = CountedView::new(topic.view());
+    check_last(rt, &view, dispatcher.offer(&view));
+}
+
 fn offer_in_order<R: Abort + AllocGlobal>(rt: &R) {
     let mut dispatcher = in_order::begin(rt, Kind::Failover);
     let topic = sent(rt, Kind::Failover, &mut dispatcher);
-    let view = CountedView::new(topic.view());
-    check_last(rt, &view, dispatcher.offer(&view));
+    check_in_order(rt, &topic, &dispatcher);
 }
 
 #[test]
@@ -138,11 +144,15 @@ fn an_offer_in_order_goes_over_nothing_that_is_pending(rt: HostRuntime) {
     offer_in_order(&rt);
 }
 
+fn check_in_turn<R: Abort>(rt: &R, topic: &Topic, dispatcher: &Shared) {
+    let view = CountedView::new(topic.view());
+    check_last(rt, &view, dispatcher.offer(&view));
+}
+
 fn offer_in_turn<R: Abort + AllocGlobal>(rt: &R) {
     let mut dispatcher = shared::begin(rt);
     let topic = sent(rt, Kind::Shared, &mut dispatcher);
-    let view = CountedView::new(topic.view());
-    check_last(rt, &view, dispatcher.offer(&view));
+    check_in_turn(rt, &topic, &dispatcher);
 }
 
 #[test]

@@ -1,6 +1,7 @@
 // What an administrator's texts ask for.
 use super::{expect, joined, number, position, refusal, repeated};
 use delivery_machine::Target;
+use position_core::{Fault, SubscriptionName};
 use std::process::Abort;
 use wire_json::{AdminCommand, read_admin};
 
@@ -13,41 +14,37 @@ fn target<R: Abort + AllocGlobal>(rt: &R, target: Target) -> String {
     }
 }
 
+/// A word, a subscription and what is asked of it.
+fn worded<R: Abort + AllocGlobal>(
+    rt: &R,
+    word: &str,
+    subscription: &SubscriptionName,
+    rest: String,
+) -> String {
+    joined(rt, &[word, subscription.as_str(), " ", rest.as_str()])
+}
+
 /// What a command asks for, in short.
 fn named<R: Abort + AllocGlobal>(rt: &R, command: &AdminCommand) -> String {
     match command {
         AdminCommand::Seek {
             subscription,
             target: to,
-        } => joined(
+        } => worded(rt, "seek ", subscription, target(rt, *to)),
+        AdminCommand::SeekTime { subscription, time } => worded(
             rt,
-            &[
-                "seek ",
-                subscription.as_str(),
-                " ",
-                target(rt, *to).as_str(),
-            ],
-        ),
-        AdminCommand::SeekTime { subscription, time } => joined(
-            rt,
-            &[
-                "time ",
-                subscription.as_str(),
-                " ",
-                number(rt, time.millis()).as_str(),
-            ],
+            "time ",
+            subscription,
+            number(rt, time.millis()),
         ),
         AdminCommand::Skip {
             subscription,
             count,
-        } => joined(
+        } => worded(
             rt,
-            &[
-                "skip ",
-                subscription.as_str(),
-                " ",
-                number(rt, u64::from(count.get())).as_str(),
-            ],
+            "skip ",
+            subscription,
+            number(rt, u64::from(count.get())),
         ),
         AdminCommand::DropSubscription { subscription } => {
             joined(rt, &["drop ", subscription.as_str()])
@@ -56,11 +53,16 @@ fn named<R: Abort + AllocGlobal>(rt: &R, command: &AdminCommand) -> String {
     }
 }
 
-fn shown<R: Abort + AllocGlobal>(rt: &R, text: &[u8]) -> String {
-    match &read_admin(rt.alloc(), text).expect(rt, "no memory") {
+fn answer_in<R: Abort + AllocGlobal>(rt: &R, read: &Result<AdminCommand, Fault>) -> String {
+    match read {
         Ok(command) => named(rt, command),
         Err(fault) => refusal(rt, *fault),
     }
+}
+
+fn shown<R: Abort + AllocGlobal>(rt: &R, text: &[u8]) -> String {
+    let read = read_admin(rt.alloc(), text).expect(rt, "no memory");
+    answer_in(rt, &read)
 }
 
 fn check<R: Abort + AllocGlobal>(rt: &R, table: &[(&str, &str)]) {

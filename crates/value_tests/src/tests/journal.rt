@@ -10,9 +10,16 @@ fn from_first() -> Base {
     }
 }
 
+fn is_line(line: &Line, seat: u64, event: Event, reply: Reply) -> bool {
+    let is = line.is(seat, &event, &reply);
+    drop(event);
+    drop(reply);
+    is
+}
+
 /// Whether the line is that of the consumer's leave.
 fn is_leave(line: &Line, seat: u64, consumer: u64, reply: Reply) -> bool {
-    line.is(seat, &Event::Leave { consumer }, &reply)
+    is_line(line, seat, Event::Leave { consumer }, reply)
 }
 
 fn check_leave<R: Abort>(rt: &R, line: &Line) {
@@ -58,5 +65,5 @@ fn added_line<R: Abort + AllocGlobal>(rt: &R) -> Line {
 #[test]
 fn a_long_line(rt: HostRuntime) {
     let line = added_line(&rt);
-    assert!(rt; !line.is(5, &add_producer(), &producer_added(None)));
+    assert!(rt; !is_line(&line, 5, add_producer(), producer_added(None)));
 }
