@@ -45,7 +45,9 @@ impl Callee for PlainTopic {
     }
 
     fn ask(&mut self, event: Event) -> io::Result<Reply> {
-        Ok(self.apply(&event))
+        let reply = self.apply(&event);
+        drop(event);
+        Ok(reply)
     }
 
     fn pass(&mut self) {}
@@ -100,37 +102,80 @@ struct Scene<C: Callee> {
 
 impl<C: Callee> Scene<C> {
     fn new(alloc: Global, size: u64) -> io::Result<Self> {
-        let name = SubscriptionName::from_text(alloc, "s")?;
-        let mut scene = Scene {
-            callee: C::fresh(alloc)?,
-            body: body(alloc, size)?,
-            name: name.ok_or(wrong())?,
-            now: Moment::new(1_000).ok_or(wrong())?,
-        };
-        let joins = scene.joins(alloc)?;
-        scene.callee.ask(Event::AddProducer {
-            name: None,
-            base: Base::new(-1).ok_or(wrong())?,
-        })?;
-        scene.callee.ask(joins)?;
-        scene.ask(Ask::Publish)?;
-        scene.callee.ask(Event::Stored)?;
-        scene.ask(Ask::Ack)?;
-        Ok(scene)
+        let mut scene = Scene::over(alloc, body(alloc, size)?)?;
+        match scene.begin(alloc) {
+            Ok(()) => Ok(scene),
+            Err(error) => {
+                drop(scene);
+                Err(error)
+            }
+        }
+    }
+
+    /// Over a topic with nothing in it.
+    fn over(alloc: Global, body: Body) -> io::Result<Self> {
+        let now = Moment::new(1_000).ok_or(wrong())?;
+        let name = SubscriptionName::from_text(alloc, "s")?.ok_or(wrong())?;
+        match C::fresh(alloc) {
+            Ok(callee) => Ok(Scene {
+                callee,
+                body,
+                name,
+                now,
+            }),
+            Err(error) => {
+                drop(body);
+                drop(name);
+                Err(error)
+            }
+        }
+    }
+
+    /// A producer and a consumer join, and a message is published, stored and acknowledged.
+    fn begin(&mut self, alloc: Global) -> io::Result<()> {
+        self.add_producer()?;
+        self.subscribe(alloc)?;
+        self.ask(Ask::Publish)?;
+        drop(self.callee.ask(Event::Stored)?);
+        self.ask(Ask::Ack)?;
+        Ok(())
+    }
+
+    fn add_producer(&mut self) -> io::Result<()> {
+        let base = Base::new(-1).ok_or(wrong())?;
+        drop(self.callee.ask(Event::AddProducer { name: None, base })?);
+        Ok(())
+    }
+
+    fn subscribe(&mut self, alloc: Global) -> io::Result<()> {
+        let joins = self.joins(alloc)?;
+        drop(self.callee.ask(joins)?);
+        Ok(())
     }
 
     fn joins(&self, alloc: Global) -> io::Result<Event> {
-        Ok(Event::Subscribe {
-            subscription: self.name.clone()?,
-            kind: Kind::Exclusive,
-            level: Level::new(0).ok_or(wrong())?,
-            flow: Flow::Window(WindowSize::new(1_000).ok_or(wrong())?),
-            ack_timeout: Millis::new(0).ok_or(wrong())?,
-            nack_delay: Millis::new(0).ok_or(wrong())?,
-            max_redeliver: RedeliverLimit::new(0).ok_or(wrong())?,
-            dead_topic: topic(alloc)?,
-            initial: Initial::Earliest,
-        })
+        let level = Level::new(0).ok_or(wrong())?;
+        let window = WindowSize::new(1_000).ok_or(wrong())?;
+        let none = Millis::new(0).ok_or(wrong())?;
+        let max_redeliver = RedeliverLimit::new(0).ok_or(wrong())?;
+        let subscription = self.name.clone()?;
+        match topic(alloc) {
+            Ok(dead_topic) => Ok(Event::Subscribe {
+                subscription,
+                kind: Kind::Exclusive,
+                level,
+                flow: Flow::Window(window),
+                ack_timeout: none,
+                nack_delay: none,
+                max_redeliver,
+                dead_topic,
+                initial: Initial::Earliest,
+            }),
+            Err(error) => {
+                drop(subscription);
+                Err(error)
+            }
+        }
     }
 
     fn event(&self, ask: Ask) -> io::Result<Event> {
@@ -161,7 +206,9 @@ impl<C: Callee> Scene<C> {
     fn ask(&mut self, ask: Ask) -> io::Result<bool> {
         let event = self.event(ask)?;
         let reply = self.callee.ask(event)?;
-        Ok(!matches!(reply, Reply::Refused(_)))
+        let is_taken = !matches!(&reply, Reply::Refused(_));
+        drop(reply);
+        Ok(is_taken)
     }
 
     fn turn(&mut self, ask: Ask) -> io::Result<bool> {

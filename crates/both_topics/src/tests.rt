@@ -83,6 +83,7 @@ fn check_pair<P: Opened + Drop, F: Opened + Drop, R: Abort + AllocGlobal>(
 ) {
     let mut pair = Pair::<P, F>::new(rt, size, number);
     pair.answer_each(rt, lines);
+    drop(pair);
 }
 
 /// So many lists of so many events.

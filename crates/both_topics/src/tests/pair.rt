@@ -124,6 +124,7 @@ impl<P: Opened + Drop, F: Opened + Drop> Pair<P, F> {
     fn answer<R: Abort>(&mut self, rt: &R, line: &str) {
         let read = read_line(self.alloc, &self.name, line.as_bytes());
         self.answer_read(rt, &read, line);
+        drop(read);
     }
 
     pub(super) fn answer_each<R: Abort + AllocGlobal>(&mut self, rt: &R, lines: &str) {

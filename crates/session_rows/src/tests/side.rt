@@ -1,10 +1,11 @@
 // One session of a plain topic, with its connection.
-use delivery_machine::{Moment, TopicName};
-use endpoint_core::route;
+use delivery_machine::{Event, Moment, Reply, Topic, TopicName};
+use endpoint_core::{Endpoint, route};
 use plain_topic::PlainTopic;
 use position_core::LedgerSize;
 use session_core::{Session, TextCount, open, serve};
 use session_links::{Incoming, ListConn, TopicCaller};
+use std::mem;
 use std::process::Abort;
 
 pub(crate) type Desk = TopicCaller<PlainTopic>;
@@ -15,6 +16,13 @@ pub(crate) fn desk<R: Abort + AllocGlobal>(rt: &R) -> Desk {
     let name = name.expect(rt, "no memory").expect(rt, "a name");
     let size = LedgerSize::new(10).expect(rt, "a size");
     TopicCaller::new(rt.alloc(), PlainTopic::new(rt.alloc(), name, size))
+}
+
+/// What the topic answers.
+pub(crate) fn asked(desk: &mut Desk, event: Event) -> Reply {
+    let reply = desk.topic.apply(&event);
+    drop(event);
+    reply
 }
 
 #[derive(Drop)]
@@ -32,12 +40,18 @@ impl Side {
     }
 
     pub(crate) fn open<R: AllocGlobal>(&mut self, rt: &R, desk: &mut Desk, target: &str) {
-        self.conn = ListConn::new(rt.alloc());
-        let endpoint = route(rt.alloc(), target);
-        if self.conn.is_open()
-            && let Ok(endpoint) = endpoint
-        {
-            self.session = open(rt.alloc(), endpoint, &mut self.conn, desk);
+        drop(mem::replace(&mut self.conn, ListConn::new(rt.alloc())));
+        if let Ok(endpoint) = route(rt.alloc(), target) {
+            self.begin(rt, desk, endpoint);
+        }
+    }
+
+    fn begin<R: AllocGlobal>(&mut self, rt: &R, desk: &mut Desk, endpoint: Endpoint) {
+        if self.conn.is_open() {
+            let session = open(rt.alloc(), endpoint, &mut self.conn, desk);
+            drop(mem::replace(&mut self.session, session));
+        } else {
+            drop(endpoint);
         }
     }
 
@@ -48,7 +62,8 @@ impl Side {
         if self.conn.is_open()
             && let Some(session) = self.session.take()
         {
-            self.session = serve(session, &mut self.conn, desk, now, most);
+            let session = serve(session, &mut self.conn, desk, now, most);
+            drop(mem::replace(&mut self.session, session));
         }
     }
 

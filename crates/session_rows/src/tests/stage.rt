@@ -1,6 +1,6 @@
 // Plays a session over lists and a plain topic, from a text of lines.
-use super::side::{Desk, Side, desk};
-use delivery_machine::{Event, Moment, Topic};
+use super::side::{Desk, Side, asked, desk};
+use delivery_machine::{Event, Moment};
 use position_core::{Body, Content, Fault, Payload, Properties};
 use session_links::Told;
 use std::process::Abort;
@@ -52,8 +52,8 @@ fn last_number<R: Abort + AllocGlobal>(rt: &R, stage: &mut Stage) {
         body: empty_body(rt),
         now,
     };
-    let _ = stage.desk.topic.apply(&publish);
-    let _ = stage.desk.topic.apply(&Event::DropProducer { producer: 1 });
+    drop(asked(&mut stage.desk, publish));
+    drop(asked(&mut stage.desk, Event::DropProducer { producer: 1 }));
 }
 
 /// Does what a line says.
@@ -67,9 +67,7 @@ fn does<R: Abort + AllocGlobal>(rt: &R, stage: &mut Stage, word: &str, rest: &st
         "gone" => stage.side.goes(rt),
         "turn" => stage.side.serve(rt, &mut stage.desk, 1, number(rt, rest)),
         "serve" => stage.side.serve(rt, &mut stage.desk, 64, number(rt, rest)),
-        "stored" => {
-            let _ = stage.desk.topic.apply(&Event::Stored);
-        }
+        "stored" => drop(asked(&mut stage.desk, Event::Stored)),
         "room" => stage.side.conn.room = number(rt, rest),
         "fail" => stage.side.conn.calls = number(rt, rest),
         "refuse" => stage.desk.refusal = refusal(rt, rest),

@@ -1,7 +1,7 @@
 // A session that is served only when what it waits for has come sends the same texts as one that is served all the time.
-use super::side::{Desk, Side, desk};
+use super::side::{Desk, Side, asked, desk};
 use super::stage::{number, push};
-use delivery_machine::{Event, Reply, SubscriptionName, Topic};
+use delivery_machine::{Event, Reply, SubscriptionName};
 use session_core::Waits;
 use std::process::Abort;
 
@@ -18,10 +18,24 @@ struct World {
     turns: u64,
 }
 
-fn durable(desk: &mut Desk) -> u64 {
-    match desk.topic.apply(&Event::Progress) {
-        Reply::Progress { durable, length: _ } => durable,
+fn durable_in(reply: &Reply) -> u64 {
+    match reply {
+        Reply::Progress { durable, length: _ } => *durable,
         _ => 0,
+    }
+}
+
+fn durable(desk: &mut Desk) -> u64 {
+    let reply = asked(desk, Event::Progress);
+    let durable = durable_in(&reply);
+    drop(reply);
+    durable
+}
+
+fn are_waiting(reply: &Reply) -> bool {
+    match reply {
+        Reply::Stats { live, pending, .. } => live > pending,
+        _ => false,
     }
 }
 
@@ -29,18 +43,10 @@ fn durable(desk: &mut Desk) -> u64 {
 fn has_waiting<R: Abort + AllocGlobal>(rt: &R, desk: &mut Desk) -> bool {
     let name = SubscriptionName::from_text(rt.alloc(), "s").expect(rt, "no memory");
     let subscription = name.expect(rt, "a name");
-    match desk.topic.apply(&Event::Stats { subscription }) {
-        Reply::Stats {
-            kind: _,
-            members: _,
-            mark_delete: _,
-            acknowledged: _,
-            live,
-            pending,
-            dead: _,
-        } => live > pending,
-        _ => false,
-    }
+    let reply = asked(desk, Event::Stats { subscription });
+    let waiting = are_waiting(&reply);
+    drop(reply);
+    waiting
 }
 
 fn is_over<R: Abort + AllocGlobal>(
@@ -78,9 +84,7 @@ fn does<R: Abort + AllocGlobal>(rt: &R, world: &mut World, word: &str, rest: &st
         "publishes" => publishes(rt, &mut world.producer, number(rt, rest)),
         "producer" => world.producer.comes(rt, rest),
         "consumer" => world.consumer.comes(rt, rest),
-        "stored" => {
-            let _ = world.desk.topic.apply(&Event::Stored);
-        }
+        "stored" => drop(asked(&mut world.desk, Event::Stored)),
         "producer_room" => world.producer.conn.room = number(rt, rest),
         "consumer_room" => world.consumer.conn.room = number(rt, rest),
         _ => None.expect(rt, "a line"),
