@@ -4,14 +4,14 @@ use Rattle.std.specs.Prelude.{slice_get}
 use Rattle.std.specs.Option.{option_map, option_map_or}
 use Rattle.std.proofs.lemmas.Bool.{false≢true}
 use Rattle.std.proofs.lemmas.List.{get_or-map, length-map}
-use Rattle.std.proofs.lemmas.Option.{slice_get_cases, slice_get-get_or, same_Some, none-some}
+use Rattle.std.proofs.lemmas.Option.{slice_get_cases, slice_get-get_or, slice_get-map, same_Some, none-some}
 use Rattle.position_core.specs.declared.kind.Kind.{Kind}
 use Rattle.position_core.specs.declared.kind.Kind.TheVariants.{Exclusive, Failover, Shared, KeyShared}
 use Rattle.position_core.specs.Kind.{is_in_order}
 use Rattle.position_core.specs.declared.message.Entry.{Entry}
 use Rattle.delivery_machine.specs.State.{State, Subscription, Member}
 use Rattle.delivery_machine.specs.Words as machine
-use Rattle.delivery_machine.specs.Words.{active_of, has_room, members_of, visible, ChoosesBy, IsNextInOrder, NoneEligible}
+use Rattle.delivery_machine.specs.Words.{active_at, active_of, has_room, members_of, visible, ChoosesBy, IsNextInOrder, NoneEligible}
 use Rattle.dispatch_core.specs.Log.{line_of, IsNextReady, NoneReady}
 use Rattle.dispatch_core.specs.Offers.{seen_of, seen_at, IsGoodOffer}
 use Rattle.dispatch_core.specs.declared.view.Seen.{Seen}
@@ -100,6 +100,17 @@ none_in_line s sub active served is nobody =
 
 -- ---- the active member is seen
 
+numbers_of_pairs : (o : Option Member) → option_map (λ (p : ℕ × ℕ). p.0) (option_map pair o) ≡ option_map (λ (m : Member). m.number) o
+numbers_of_pairs None = refl
+numbers_of_pairs (Some m) = refl
+
+-- nobody is active where nobody is in line
+pub none_is_active : (s : State) (sub : Subscription) (active : Option Active) → active ≡ None → IsActive (line_of s sub) active → None ≡ active_at s sub.name
+unfolding line_of
+none_is_active s sub active is nobody =
+    let none : length (line_of s sub) ≡ 0 = subst (IsActive (line_of s sub)) is nobody in
+    sym (ap (option_map (λ (m : Member). m.number)) (no_members (members_of s sub.name) (omega (arith, none, length-map (members_of s sub.name) pair))))
+
 module _ (s : State) (sub : Subscription) (active : Option Active) (first : Active) (served : IsTrue (is_in_order sub.kind)) (is : active ≡ Some first) (in_line : IsActive (line_of s sub) active) where
   there : slice_get (members_of s sub.name) first.place ≡ active_of (members_of s sub.name)
   unfolding line_of
@@ -107,6 +118,14 @@ module _ (s : State) (sub : Subscription) (active : Option Active) (first : Acti
       let here : IsActive (line_of s sub) (Some first) = subst (IsActive (line_of s sub)) is in_line in
       active_there (members_of s sub.name) first.place
       (subst (λ (n : ℕ). IsActiveAt (line_of s sub) n first.place) (length-map (members_of s sub.name) pair) here.0)
+
+  -- the number that is kept is the machine's
+  pub its_number : Some first.consumer ≡ active_at s sub.name
+  unfolding line_of
+  its_number =
+      let here : IsActive (line_of s sub) (Some first) = subst (IsActive (line_of s sub)) is in_line in
+      ap (option_map (λ (p : ℕ × ℕ). p.0)) (sym here.1 ∙ slice_get-map pair (members_of s sub.name) first.place ∙ ap (option_map pair) there)
+      ∙ numbers_of_pairs (active_of (members_of s sub.name))
 
   active_seen : (seen : Option Seen) → seen ≡ seen_at s sub first.place → seen ≡ option_map (seen_of s sub) (active_of (members_of s sub.name))
   active_seen seen shown = shown ∙ ap (option_map (seen_of s sub)) there

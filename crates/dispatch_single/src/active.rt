@@ -11,7 +11,7 @@ use position_core::{ConsumerNumber, Level};
 #[derive(Clone, Copy)]
 pub(crate) struct Active {
     pub(crate) place: u64,
-    consumer: ConsumerNumber,
+    pub(crate) consumer: ConsumerNumber,
     level: Level,
 }
 

@@ -25,6 +25,23 @@ impl Model for Single {
     ghost view = { λ d. record { waiting = d.waiting; line = d.line } };
 }
 
+impl Single {
+    ghost use Rattle.std.specs.Prelude.{◌≡◌};
+    ghost use Rattle.delivery_machine.specs.State.{State, Subscription};
+    ghost use Rattle.delivery_machine.specs.Words.{active_at};
+    ghost use Rattle.dispatch_single.specs.InOrder.{Agrees};
+
+    /// The number of the active member. It is kept, so nobody is looked at.
+    pub fn active(&self) -> Option<ConsumerNumber>
+        ensures { (s : State) (sub : Subscription) → Agrees self.now s sub → result ≡ active_at s sub.name }
+    {
+        match self.line.active {
+            Some(member) => Some(member.consumer),
+            None => None,
+        }
+    }
+}
+
 impl Dispatcher for Single {
     ghost use Rattle.std.specs.Prelude.{◌≡◌, IsOk, OnOk, OnErr, IfOk, IfErr, IfSome, IfNone};
     ghost use Rattle.position_core.specs.declared.fault.Fault.TheVariants.{NoMemory};
