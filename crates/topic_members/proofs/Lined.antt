@@ -1,21 +1,19 @@
 -- The members of a line of numbers, one number after another, and where the line is that of those who pass a test.
-use Rattle.std.proofs.Common.{◌≡◌, ℕ, ◌+◌, ◌<◌, List, [], ◌∷◌, ◌++◌, Bool, true, false, cond, map, Some, None, Option, refl, ap, ap₂, sym, ◌∙◌, subst, take, get_or, length}
+use Rattle.std.proofs.Common.{◌≡◌, ℕ, ◌+◌, ◌<◌, List, [], ◌∷◌, ◌++◌, Bool, true, false, cond, map, refl, ap, ap₂, sym, ◌∙◌, subst, take, get_or, length}
 use Rattle.std.specs.Prelude.{◌==◌, ◌||◌, if◌then◌else◌}
-use Rattle.std.specs.List.{AllByRecursion, filter, find}
+use Rattle.std.specs.List.{AllByRecursion, filter}
 use Rattle.std.specs.List.Sorted.{IsStrictlySortedBy, IsStrictlyIncreasing}
-use Rattle.std.specs.Option.{option_map_or}
 use Rattle.std.specs.Ordering.{nat_cmp}
 use Rattle.std.specs.declared.cmp.Ordering.TheVariants.{Less}
 use Rattle.std.proofs.lemmas.List.{take_more}
 use Rattle.std.proofs.lemmas.List.Folds.{list_any-append}
 use Rattle.std.proofs.lemmas.Map.Keys.{sorted_from_strictly_increasing}
 use Rattle.delivery_machine.specs.State.{Member}
-use Rattle.delivery_machine.specs.Words.{active_of, changed, earlier, emptied, is_member}
-use Rattle.delivery_machine.proofs.Best.{best_by-push, earlier_assoc}
+use Rattle.delivery_machine.specs.Words.{changed, emptied, is_member}
 use Rattle.delivery_machine.proofs.Deciding.{apart_above, apart_below, itself, number_is}
 use Rattle.delivery_machine.proofs.Keyed.{keys_mapped, kept_if}
 use Rattle.topic_members.specs.Members.{NumbersRise}
-use Rattle.topic_members.specs.Joined.{numbers_of, is_in, emptied_in, those_of}
+use Rattle.topic_members.specs.Joined.{numbers_of, is_in, emptied_in}
 use Rattle.topic_members.proofs.Halving.{is_less}
 
 -- ---- one number more in the line
@@ -111,61 +109,3 @@ module _ (p : Member → Bool) where
 
   pub emptied_those : (ms : List Member) (line : List ℕ) → NumbersRise ms → line ≡ numbers_of (filter p ms) → map (emptied_in line) ms ≡ map (λ m. if p m then emptied m else m) ms
   emptied_those ms line rising is = ap (λ ns. map (emptied_in ns) ms) is ∙ emptied_passing ms (sorted_from_strictly_increasing (numbers_of ms) rising)
-
-  those_found : (all ms : List Member) → AllByRecursion (λ m. find (is_member m.number) all ≡ Some m) ms → those_of all (numbers_of (filter p ms)) ≡ filter p ms
-  those_found all [] found = refl
-  those_found all (x ∷ ms) found = by (p x) (those_found all ms found.1)
-    where
-      by : (b : Bool) → those_of all (numbers_of (filter p ms)) ≡ filter p ms → those_of all (numbers_of (cond b (x ∷ filter p ms) (filter p ms))) ≡ cond b (x ∷ filter p ms) (filter p ms)
-      by true rest =
-          ap (λ o. option_map_or (λ m. m ∷ those_of all (numbers_of (filter p ms))) o (those_of all (numbers_of (filter p ms)))) found.0
-          ∙ ap (λ xs. x ∷ xs) rest
-      by false rest = rest
-
-found_beside : (x : Member) (all ms : List Member) → AllByRecursion (λ q. nat_cmp x.number q ≡ Less) (numbers_of ms) → AllByRecursion (λ m. find (is_member m.number) all ≡ Some m) ms → AllByRecursion (λ m. find (is_member m.number) (x ∷ all) ≡ Some m) ms
-found_beside x all [] above found = tt
-found_beside x all (m ∷ ms) above found =
-    (ap (λ b. cond b (Some x) (find (is_member m.number) all)) (apart_below x.number m.number (is_less x.number m.number above.0)) ∙ found.0, found_beside x all ms above.1 found.1)
-
-each_found : (ms : List Member) → IsStrictlySortedBy nat_cmp (numbers_of ms) → AllByRecursion (λ m. find (is_member m.number) ms ≡ Some m) ms
-unfolding IsStrictlySortedBy
-each_found [] rising = tt
-each_found (x ∷ ms) rising =
-    (ap (λ b. cond b (Some x) (find (is_member x.number) ms)) (itself x.number), found_beside x ms ms rising.0 (each_found ms rising.1))
-
-pub those_passing : (p : Member → Bool) (ms : List Member) (line : List ℕ) → NumbersRise ms → line ≡ numbers_of (filter p ms) → those_of ms line ≡ filter p ms
-those_passing p ms line rising is =
-    ap (those_of ms) is ∙ those_found p ms ms (each_found ms (sorted_from_strictly_increasing (numbers_of ms) rising))
-
--- ---- the one of them that is served
-
-those_longer : (ms : List Member) (line : List ℕ) (n : ℕ) → those_of ms (line ++ n ∷ []) ≡ option_map_or (λ m. those_of ms line ++ m ∷ []) (find (is_member n) ms) (those_of ms line)
-those_longer ms [] n = refl
-those_longer ms (k ∷ line) n = by (find (is_member k) ms) (find (is_member n) ms) (those_longer ms line n)
-  where
-    by : (found next : Option Member) → those_of ms (line ++ n ∷ []) ≡ option_map_or (λ m. those_of ms line ++ m ∷ []) next (those_of ms line) → option_map_or (λ m. m ∷ those_of ms (line ++ n ∷ [])) found (those_of ms (line ++ n ∷ [])) ≡ option_map_or (λ m. option_map_or (λ x. x ∷ those_of ms line) found (those_of ms line) ++ m ∷ []) next (option_map_or (λ x. x ∷ those_of ms line) found (those_of ms line))
-    by None next rest = rest
-    by (Some x) None rest = ap (λ xs. x ∷ xs) rest
-    by (Some x) (Some m) rest = ap (λ xs. x ∷ xs) rest
-
-active_further : (ms : List Member) (line : List ℕ) (i : ℕ) → i < length line → active_of (those_of ms (take (i + 1) line)) ≡ option_map_or (λ m. Some (option_map_or (λ b. earlier b m) (active_of (those_of ms (take i line))) m)) (find (is_member (get_or line i 0)) ms) (active_of (those_of ms (take i line)))
-active_further ms line i below =
-    ap (λ ns. active_of (those_of ms ns)) (take_more line i 0 below)
-    ∙ ap active_of (those_longer ms (take i line) (get_or line i 0))
-    ∙ by (find (is_member (get_or line i 0)) ms)
-  where
-    by : (found : Option Member) → active_of (option_map_or (λ m. those_of ms (take i line) ++ m ∷ []) found (those_of ms (take i line))) ≡ option_map_or (λ m. Some (option_map_or (λ b. earlier b m) (active_of (those_of ms (take i line))) m)) found (active_of (those_of ms (take i line)))
-    by None = refl
-    by (Some m) = best_by-push earlier earlier_assoc (those_of ms (take i line)) m
-
-pub served_on : (ms : List Member) (line : List ℕ) (i : ℕ) (best new : Option Member) (m served : Member) → i < length line → best ≡ active_of (those_of ms (take i line)) → Some m ≡ find (is_member (get_or line i 0)) ms → served ≡ option_map_or (λ b. earlier b m) best m → new ≡ Some served → new ≡ active_of (those_of ms (take (i + 1) line))
-served_on ms line i best new m served below so_far here is after =
-    after ∙ ap (λ (x : Member). Some x) (is ∙ ap (λ (o : Option Member). option_map_or (λ b. earlier b m) o m) so_far)
-    ∙ ap (λ (o : Option Member). option_map_or (λ x. Some (option_map_or (λ b. earlier b x) (active_of (those_of ms (take i line))) x)) o (active_of (those_of ms (take i line)))) here
-    ∙ sym (active_further ms line i below)
-
-pub served_still : (ms : List Member) (line : List ℕ) (i : ℕ) (best new : Option Member) → i < length line → best ≡ active_of (those_of ms (take i line)) → None ≡ find (is_member (get_or line i 0)) ms → new ≡ best → new ≡ active_of (those_of ms (take (i + 1) line))
-served_still ms line i best new below so_far nowhere after =
-    after ∙ so_far
-    ∙ ap (λ (o : Option Member). option_map_or (λ x. Some (option_map_or (λ b. earlier b x) (active_of (those_of ms (take i line))) x)) o (active_of (those_of ms (take i line)))) nowhere
-    ∙ sym (active_further ms line i below)

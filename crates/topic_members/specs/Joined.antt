@@ -1,11 +1,10 @@
 -- The members of a topic as one value, in the order of joining, and what is done to those of a line of numbers.
 use Rattle.std.specs.Prelude.{ℕ, ◌≤◌, ◌^◌, ◌==◌, Bool, List, [], ◌∷◌, ◌++◌, map, if◌then◌else◌}
-use Rattle.std.specs.List.{find, list_any}
+use Rattle.std.specs.List.{list_any}
 use Rattle.std.specs.List.Sorted.{IsStrictlySortedBy}
-use Rattle.std.specs.Option.{option_map_or}
 use Rattle.std.specs.Ordering.{nat_cmp}
 use Rattle.delivery_machine.specs.State.{Member}
-use Rattle.delivery_machine.specs.Words.{emptied, is_member}
+use Rattle.delivery_machine.specs.Words.{emptied}
 
 -- the next member to join gets the number `next`; there is room for so many without taking memory
 pub record Joined : Type 0 where
@@ -28,8 +27,3 @@ is_in line m = list_any (λ n. m.number == n) line
 -- the member with nothing left to collect, where its number is in the line
 abbrev pub emptied_in : List ℕ → Member → Member
 emptied_in line m = if is_in line m then emptied m else m
-
--- the members of the numbers of the line, in the order of the line
-abbrev pub those_of : List Member → List ℕ → List Member
-those_of members [] = []
-those_of members (n ∷ line) = option_map_or (λ m. m ∷ those_of members line) (find (is_member n) members) (those_of members line)

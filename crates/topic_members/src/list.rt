@@ -1,13 +1,13 @@
 // The members of a topic, and the number of the next one.
 ghost use Rattle.std.specs.Prelude.{◌≡◌, ℕ, ◌+◌, ◌<◌, ◌≤◌, ◌^◌, [], ◌∷◌, ◌++◌, List, length, map, slice_get, IfOk, OnOk, OnErr};
 ghost use Rattle.std.specs.List.{filter, find};
-ghost use Rattle.std.specs.Option.{option_copied, option_map, option_map_or};
+ghost use Rattle.std.specs.Option.{option_copied, option_map_or};
 ghost use Rattle.delivery_machine.specs.State.{State};
-ghost use Rattle.delivery_machine.specs.Words.{active_of, changed, emptied_at, is_at, is_member, removed};
+ghost use Rattle.delivery_machine.specs.Words.{changed, emptied_at, is_at, is_member, removed};
 ghost use Rattle.delivery_machine.specs.Run.{Answers};
 ghost use Rattle.delivery_machine.specs.declared.event.Event.TheVariants.{Collect, Permit};
 ghost use Rattle.topic_members.specs.Members.{NumbersRise, joining, leaving_out, pushed, shortened, spending};
-ghost use Rattle.topic_members.specs.Joined.{emptied_in, numbers_of, those_of};
+ghost use Rattle.topic_members.specs.Joined.{emptied_in, numbers_of};
 
 use crate::member::{Member, Terms};
 use crate::members::{member_at, member_near};
@@ -199,14 +199,5 @@ impl Members {
         ensures next { self.new.next ≡ self.old.next }
     {
         line::empty_those(&mut self.list, line);
-    }
-
-    /// The number of the member of the line that is served: of the least level, and among those of the
-    /// least number.
-    pub fn active_in(&self, line: &[ConsumerNumber]) -> Option<ConsumerNumber>
-        ensures those { result ≡ option_map (λ m. m.number) (active_of (those_of self.now.members line.now)) }
-        ensures at { (name : List ℕ) → line.now ≡ numbers_of (filter (is_at name) self.now.members) → result ≡ option_map (λ m. m.number) (active_of (filter (is_at name) self.now.members)) }
-    {
-        line::active_in(&self.list, line)
     }
 }

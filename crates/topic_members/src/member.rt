@@ -1,6 +1,6 @@
 // What a consumer of a subscription asked for, and what it was sent.
 ghost use Rattle.std.specs.Prelude.{◌≡◌, OnOk, OnErr, IfOk, IfErr, None, Some};
-ghost use Rattle.delivery_machine.specs.Words.{is_member, is_at, comes_before, emptied};
+ghost use Rattle.delivery_machine.specs.Words.{is_member, is_at, emptied};
 ghost use Rattle.position_core.specs.Flow.{flow_has_room, granting_refused};
 ghost use Rattle.delivery_machine.specs.Joining.{permitted};
 ghost use Rattle.delivery_machine.specs.Delivering.{due_after};
@@ -114,15 +114,6 @@ impl Member {
         ensures { result ≡ self.now.flow }
     {
         self.flow
-    }
-
-    /// Whether it is served before the other one.
-    pub fn comes_before(&self, other: &Member) -> bool
-        ensures { result ≡ comes_before self.now other.now }
-    {
-        let level = self.level.get();
-        let their_level = other.level.get();
-        level < their_level || (level == their_level && self.number < other.number)
     }
 
     /// Whether a further message may be sent to it, where so many are pending at it.
