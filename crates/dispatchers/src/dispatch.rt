@@ -1,7 +1,9 @@
 // A subscription's dispatcher, of whichever kind.
-ghost use Rattle.std.specs.Prelude.{◌≡◌, [], IsOk, IfOk, IfErr, OnOk, OnErr, IfSome, IfNone};
+ghost use Rattle.std.specs.Prelude.{◌≡◌, [], None, IsOk, IfOk, IfErr, OnOk, OnErr, IfSome, IfNone, if◌then◌else◌};
 ghost use Rattle.position_core.specs.declared.fault.Fault.TheVariants.{NoMemory};
-ghost use Rattle.delivery_machine.specs.Words.{members_of, NoneEligible};
+ghost use Rattle.position_core.specs.Kind.{is_in_order};
+ghost use Rattle.delivery_machine.specs.State.{State, Subscription};
+ghost use Rattle.delivery_machine.specs.Words.{active_at, members_of, NoneEligible};
 ghost use Rattle.dispatch_core.specs.Offers.{IsGoodOffer};
 ghost use Rattle.dispatch_core.specs.Changes.{Appended, TakenBack, Joined, Left, Sent, Gone, Released, Reset, AgreesAfter, WillAgree};
 ghost use Rattle.dispatchers.specs.Agreeing.{agrees};
@@ -71,6 +73,16 @@ impl Dispatch {
             Dispatch::InOrder(d) => d.offer(view),
             Dispatch::InTurn(d) => d.offer(view),
             Dispatch::ByKey(d) => d.offer(view),
+        }
+    }
+
+    /// The number of the active member, which the kinds in order keep. None of the others.
+    pub fn active(&self) -> Option<ConsumerNumber>
+        ensures { (s : State) (sub : Subscription) → agrees self.now s sub → result ≡ if is_in_order sub.kind then active_at s sub.name else None }
+    {
+        match self {
+            Dispatch::InOrder(d) => d.active(),
+            Dispatch::InTurn(_) | Dispatch::ByKey(_) => None,
         }
     }
 
