@@ -8,3 +8,4 @@ pub mod Absent
 pub mod Kinded
 pub mod Welcome
 pub mod Newcomer
+pub mod Active

@@ -2,7 +2,6 @@
 ghost use Rattle.std.specs.Prelude.{◌≡◌, ◌<◌, Some, None, IfOk, IfErr, OnOk, OnErr};
 ghost use Rattle.std.specs.List.{position as place_in};
 ghost use Rattle.position_core.specs.declared.fault.Fault.TheVariants.{NoMemory};
-ghost use Rattle.delivery_machine.specs.Words.{active_at};
 ghost use Rattle.delivery_machine.specs.Joining.{with_member};
 ghost use Rattle.delivery_machine.specs.Run.{Answers};
 ghost use Rattle.delivery_machine.specs.declared.event.Initial.{Initial};
@@ -10,6 +9,7 @@ ghost use Rattle.delivery_machine.specs.declared.event.Event.TheVariants.{Subscr
 ghost use Rattle.topic_members.specs.Members.{joining};
 ghost use Rattle.topic_subscriptions.specs.Placed.{is_placed};
 ghost use Rattle.topic_served.specs.Served.{IsBound, IsSettled, state_in};
+ghost use Rattle.member_events.specs.Active.{active_in_order};
 ghost use Rattle.member_events.specs.Entering.{IsAllowed, IsWelcome};
 ghost use Rattle.member_events.specs.Places.{names_of};
 
@@ -37,10 +37,10 @@ fn make_room(served: &mut Served) -> Result<(), Fault>
     }
 }
 
-/// The number of the active member: none where the subscription is not there.
+/// The number of the active member: none where the subscription is not there, or not in order.
 fn active_in(served: &Served, name: &SubscriptionName) -> Option<ConsumerNumber>
-    requires { IsSettled served.now }
-    ensures { result ≡ active_at (state_in served.now) name.now }
+    requires { IsBound served.now }
+    ensures { result ≡ active_in_order (state_in served.now) name.now }
 {
     match served.parts.place_of(name) {
         Some(place) => active_at(served, place),

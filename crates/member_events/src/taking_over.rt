@@ -1,31 +1,28 @@
 // Which member of a Failover is active, and what happens when another one is.
 ghost use Rattle.std.specs.Prelude.{◌≡◌, ◌<◌, List, ℕ, Some, length};
 ghost use Rattle.std.specs.List.{position as place_in};
-ghost use Rattle.delivery_machine.specs.Words.{active_at};
 ghost use Rattle.delivery_machine.specs.Joining.{all_released, is_taken_over, taken_over};
 ghost use Rattle.topic_subscriptions.specs.Placed.{is_placed};
-ghost use Rattle.topic_parts.specs.Parts.{AreTied};
 ghost use Rattle.topic_served.specs.Served.{IsBound, state_in};
+ghost use Rattle.member_events.specs.Active.{active_in_order};
 ghost use Rattle.member_events.specs.Places.{StandsAt, number_pending};
 
 use crate::releasing::release_all;
 use position_core::{ConsumerNumber, Kind};
 use topic_served::Served;
 
-/// The number of the active member of the subscription at the place.
+/// The number of the active member of the subscription at the place, as its dispatcher keeps it: none for the kinds
+/// that are not in order, since nobody takes over there.
 pub(crate) fn active_at(served: &Served, place: usize) -> Option<ConsumerNumber>
-    requires tied { AreTied served.now.parts }
+    requires bound { IsBound served.now }
     requires stands { StandsAt served.now.parts place }
-    ensures { (name : List ℕ) → Some place ≡ place_in (is_placed name) served.now.parts.subscriptions.items → result ≡ active_at (state_in served.now) name }
+    ensures { (name : List ℕ) → Some place ≡ place_in (is_placed name) served.now.parts.subscriptions.items → result ≡ active_in_order (state_in served.now) name }
 {
-    served
-        .parts
-        .members
-        .active_in(served.parts.subscriptions[place].line())
+    served.dispatchers[place].active()
 }
 
 fn is_taken_over(served: &Served, place: usize, before: Option<ConsumerNumber>) -> bool
-    requires tied { AreTied served.now.parts }
+    requires bound { IsBound served.now }
     requires stands { StandsAt served.now.parts place }
     ensures { (name : List ℕ) → Some place ≡ place_in (is_placed name) served.now.parts.subscriptions.items → result ≡ is_taken_over name before (state_in served.now) }
 {

@@ -6,9 +6,14 @@ use Rattle.delivery_machine.specs.State.{State, Member}
 use Rattle.delivery_machine.specs.Words.{active_at, is_member}
 use Rattle.delivery_machine.specs.Joining.{taken_over, without_member}
 use Rattle.delivery_machine.specs.WellFormed.{NamesRise}
-use Rattle.topic_subscriptions.specs.Placed.{is_placed}
+use Rattle.topic_subscriptions.specs.Placed.{is_placed, sub_in}
+use Rattle.topic_parts.specs.Parts.{log_of}
+use Rattle.topic_parts.proofs.Changing.{named_sub}
 use Rattle.topic_served.specs.Served.{state_in}
 use Rattle.topic_served.proofs.Settled.{well_of}
+use Rattle.topic_served.proofs.Telling.{one_stands}
+use Rattle.member_events.specs.Active.{active_in_order}
+use Rattle.member_events.proofs.Active.{known_before_leaving, same_takeover}
 use Rattle.member_events.proofs.Standing.{are_ordered, one_of, same_place, still_member, still_named}
 use Rattle.member_events.proofs.leaving.leave.Goals as goal
 
@@ -37,11 +42,14 @@ returns-clause-answers c =
     let u = c.release_held_by.new.served.parts in
     let m = one_of (λ (m : Member). Some c.in-Some.place ≡ position (is_placed m.subscription) t.subscriptions.items) (find (is_member c.args.consumer) t.members.members) c.in-Some.ensures.some in
     let name = m.0.subscription in
+    let stands = one_stands (is_placed name) t.subscriptions.items c.in-Some.place m.2 in
     let then_named = still_named t u c.in-Some.place name c.release_held_by.ensures.same.kept m.2 in
     let after_named = then_named ∙ sym (same_place u.subscriptions.items c.let_go.new.served.parts.subscriptions.items name c.let_go.ensures.names) in
     let left = c.let_go.ensures.left name then_named ∙ c.release_held_by.ensures.same.same name m.2 in
     let over = c.take_over.ensures.over name after_named
-    ∙ ap₂ (λ (before : Option ℕ) (x : State). taken_over name before x) (c.active_at-before.ensures name m.2) left in (
+    ∙ ap₂ (λ (before : Option ℕ) (x : State). taken_over name before x) (c.active_at-before.ensures name m.2) left
+    ∙ same_takeover (without_member s c.args.consumer name) name (active_in_order s name) (active_at s name)
+    (known_before_leaving s c.args.consumer name (sub_in (log_of t) stands.0) (named_sub (log_of t) t.subscriptions.items name c.in-Some.place m.2 stands.0 stands.2)) in (
       ap (λ (o : Option Member). if is_some o then None else Some NoSession) m.1,
       (
         refl,
