@@ -12,7 +12,7 @@ use Rattle.dispatch_core.specs.Changes.{Appended, TakenBack}
 use Rattle.dispatchers.specs.declared.dispatch.Dispatch.{Dispatch}
 use Rattle.dispatchers.specs.Agreeing.{agrees}
 use Rattle.dispatchers.specs.Happening.{AllKept, OthersKept, HappensAt, ComesAt, GoesAt}
-use Rattle.dispatchers.specs.Told.{AreTold, IsToldAt, IsBegunAt, IsBegunAgainAt}
+use Rattle.dispatchers.specs.Told.{AreTold, IsToldAt}
 use Rattle.dispatchers.proofs.Keeping.{agrees-kept, agrees-appended, agrees-taken_back}
 use Rattle.dispatchers.proofs.Spots.{set_at, set_other, inserted_at, inserted_before, inserted_after, removed_before, removed_after, there}
 
@@ -132,17 +132,6 @@ told_as ds after s t u i Changes sub new seen told happens same at tell =
     (told_of ds after s t i Changes sub new told happens
     (subst (λ (x : Subscription). IsToldAt i Changes ds after t x) (one_there t.subscriptions i seen new (subst (λ (x : State). slice_get x.subscriptions i ≡ Some seen) same at) happens.is)
     (subst (λ (x : State). IsToldAt i Changes ds after x seen) same tell)))
-
--- where one begins for a subscription that came in
-pub told_begun : (ds after : List Dispatch) (s t : State) (i : ℕ) (new : Subscription) → AreTold ds s → ComesAt i s t new → IsBegunAt i ds after t new → AreTold after t
-told_begun ds after s t i new told comes begins =
-    subst (λ (xs : List Dispatch). AreTold xs t) (sym begins.is) (told_inserted ds s t told i begins.begun new comes begins.agreeing)
-
--- where one begins anew
-pub told_begun_again : (ds after : List Dispatch) (s t : State) (i : ℕ) (new : Subscription) → AreTold ds s → OthersKept i s t → slice_get t.subscriptions i ≡ Some new → IsBegunAgainAt i ds after t new → AreTold after t
-told_begun_again ds after s t i new told others is begins =
-    subst (λ (xs : List Dispatch). AreTold xs t) (sym begins.is)
-    (told_at ds s t told i begins.begun new others (omega (arith, told.many, others.many, slice_get_within t.subscriptions i new is)) is begins.agreeing)
 
 -- a topic without subscriptions has no dispatchers
 pub told_fresh : (name : TopicName) (ledger_size : ℕ) → AreTold [] (fresh name ledger_size)

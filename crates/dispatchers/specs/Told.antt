@@ -24,9 +24,3 @@ pub record IsBegunAt (place : ℕ) (before after : List Dispatch) (t : State) (n
   pub begun : Dispatch
   pub is : after ≡ insert before place begun
   pub agreeing : agrees begun t new
-
--- one that agrees with the subscription at the place stands there in place of another
-pub record IsBegunAgainAt (place : ℕ) (before after : List Dispatch) (t : State) (new : Subscription) : Type 0 where
-  pub begun : Dispatch
-  pub is : after ≡ slice_set before place begun
-  pub agreeing : agrees begun t new

@@ -38,6 +38,8 @@ pub(crate) fn enter_anew(
     let before = served.parts.subscriptions[place].kind();
     served.parts.subscriptions[place].set_kind(kind);
     let Ok(mut begun) = begin(&served.parts, place, kind) else {
+        drop(name);
+        drop(dead_topic);
         served.parts.subscriptions[place].set_kind(before);
         return Err(Fault::NoMemory);
     };
@@ -55,6 +57,7 @@ pub(crate) fn enter_anew(
             Ok(())
         }
         Err(fault) => {
+            drop(begun);
             served.parts.subscriptions[place].set_kind(before);
             Err(fault)
         }

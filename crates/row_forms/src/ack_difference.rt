@@ -155,7 +155,8 @@ fn add(
     }
 }
 
-pub(crate) fn ack_difference(
+/// Which rows of runs go and which come, from those of the one list of subscriptions to those of the other.
+pub fn ack_difference(
     alloc: Global,
     olds: &[KeptSubscription],
     news: &[KeptSubscription],

@@ -1,15 +1,13 @@
 //! The rows of topics: what stands in the database of what is kept of a topic.
 #![tactic(auto)]
 
-mod ack_difference;
+pub mod ack_difference;
 mod between;
 mod change;
 mod dead_difference;
 mod raw_rows;
 mod side;
-mod sub_difference;
-#[cfg(test)]
-mod tests;
+pub mod sub_difference;
 mod texts;
 
 pub use change::{AckRow, Change, DeadRow, Difference, SubRow};

@@ -35,7 +35,8 @@ fn add(difference: &mut Difference<SubRow>, side: Side<&KeptSubscription>) -> Re
     }
 }
 
-pub(crate) fn sub_difference(
+/// Which rows of subscriptions go and which come, from those of the one list to those of the other.
+pub fn sub_difference(
     alloc: Global,
     olds: &[KeptSubscription],
     news: &[KeptSubscription],

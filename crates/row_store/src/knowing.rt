@@ -39,6 +39,7 @@ pub fn remember<J: Naming>(
 {
     while let Some(write) = writes.pop() {
         let Some(mark) = marks.pop() else {
+            drop(write);
             return;
         };
         let Ok(()) = known.push(Known::new(write.topic, write.snapshot, mark)) else {

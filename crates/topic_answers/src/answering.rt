@@ -63,6 +63,8 @@ fn answer_with<T: Topic>(
 {
     let reply = topic.apply(event);
     if is_no_memory(&reply) {
+        drop(reply);
+        drop(copies);
         Err(Fault::NoMemory)
     } else {
         doubled(reply, copies)
@@ -122,7 +124,10 @@ fn answer_draft<T: Topic>(topic: &mut T, draft: Draft) -> Result<Answered, Fault
 {
     match answer(topic, draft.event()) {
         Ok((reply, twin)) => Ok(Answered { draft, reply, twin }),
-        Err(fault) => Err(fault),
+        Err(fault) => {
+            drop(draft);
+            Err(fault)
+        }
     }
 }
 

@@ -1,12 +1,6 @@
 // One dispatcher of each kind, over a topic that nothing has happened to.
-ghost use Rattle.std.specs.Prelude.{◌<◌, length};
-ghost use Rattle.dispatchers.specs.Bare.{bare, only};
-
 use dispatch_core::{Seen, View};
-use dispatchers::{
-    Dispatch, begin_again, begin_at, offer_at, tell_gone, tell_joined, tell_left, tell_released,
-    tell_reset, tell_sent,
-};
+use dispatchers::Dispatch;
 use position_core::{Fault, Kind, LogIndex};
 use std::process::Abort;
 
@@ -51,15 +45,13 @@ impl View for Bare {
 }
 
 /// Makes each call that tells of a change.
-fn tell_each<V: View>(dispatchers: &mut [Dispatch], view: &V) -> Result<(), Fault>
-    requires { 0 < length dispatchers.old }
-{
-    tell_joined(dispatchers, 0, view, 2)?;
-    tell_sent(dispatchers, 0, view, 0, 2)?;
-    tell_released(dispatchers, 0, view, 0);
-    tell_gone(dispatchers, 0, view, 0);
-    tell_left(dispatchers, 0, view, 2);
-    tell_reset(dispatchers, 0, view)
+fn tell_each<V: View>(dispatch: &mut Dispatch, view: &V) -> Result<(), Fault> {
+    dispatch.on_join(view, 2)?;
+    dispatch.on_sent(view, 0, 2)?;
+    dispatch.on_released(view, 0);
+    dispatch.on_gone(view, 0);
+    dispatch.on_leave(view, 2);
+    dispatch.on_reset(view)
 }
 
 /// So those of a message that comes and is taken back, of which none need be told.
@@ -71,12 +63,11 @@ fn tell_of_message<V: View>(dispatch: &mut Dispatch, view: &V) -> Result<(), Fau
 
 fn expect_told<R: Abort + AllocGlobal>(rt: &R, kind: Kind) {
     let view = Bare { kind };
-    let mut dispatchers = Vec::new(rt.alloc());
-    begin_at(rt.alloc(), &mut dispatchers, 0, &view, kind).expect(rt, "no memory");
-    assert_eq!(rt; offer_at(&dispatchers, 0, &view), None);
-    begin_again(rt.alloc(), &mut dispatchers, 0, &view, kind).expect(rt, "no memory");
-    tell_each(&mut dispatchers, &view).expect(rt, "no memory");
-    tell_of_message(&mut dispatchers[0], &view).expect(rt, "no memory");
+    let mut dispatch = Dispatch::begin(rt.alloc(), &view, kind).expect(rt, "no memory");
+    assert_eq!(rt; dispatch.offer(&view), None);
+    tell_each(&mut dispatch, &view).expect(rt, "no memory");
+    tell_of_message(&mut dispatch, &view).expect(rt, "no memory");
+    drop(dispatch);
 }
 
 #[test]
