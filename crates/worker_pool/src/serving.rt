@@ -191,7 +191,7 @@ impl<T: Opened + Drop, J: Naming> Client<T, J> {
     ) -> Turned {
         match shaking.advance() {
             Shaken::Waits(shaking) => {
-                self.stage = Stage::Shaking(shaking);
+                self.come_to(Stage::Shaking(shaking));
                 Turned::waits()
             }
             Shaken::Open(conn, target) => {
@@ -215,8 +215,12 @@ impl<T: Opened + Drop, J: Naming> Client<T, J> {
     ) -> Turned {
         let (turned, guest) = turn(rt, place, guest, now);
         if let Some(guest) = guest {
-            self.stage = Stage::Open(guest);
+            self.come_to(Stage::Open(guest));
         }
         turned
+    }
+
+    fn come_to(&mut self, stage: Stage<T, J>) {
+        drop(mem::replace(&mut self.stage, stage));
     }
 }
