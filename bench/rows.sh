@@ -1,12 +1,12 @@
 #!/bin/sh
 # How long stores and loads of rows take on a file, over a topic of 1,000, 100,000 and 1,000,000 messages, and
 # whether the stock sqlite3 (Debian's package of that name) reads what was written.
-# Run from the repository, after crates/row_bench is built (`cd crates/row_bench && rt test`):
+# Run from the repository, after crates/keeper_rows is built (`cd crates/keeper_rows && rt test`):
 #   sh bench/rows.sh [FOLDER]
 # The files go into the folder and are removed again. Without one they go into /dev/shm, where a sync costs nothing:
 # so the time of the statements is told apart from the disk's. It fails where sqlite3 finds a fault.
 set -eu
-program="$(dirname "$0")/../crates/row_bench/out/row_bench_tests"
+program="$(dirname "$0")/../crates/keeper_rows/out/keeper_rows_tests"
 work="$(mktemp -d "${1:-/dev/shm}/rows.XXXXXX")"
 trap 'rm -rf "$work"' EXIT
 
@@ -20,7 +20,7 @@ want() {
 
 for size in 1000 100000 1000000; do
     echo "$size messages"
-    ROWS_FILE="$work/$size.db" ROWS_SIZE=$size "$program" tests::playing::rows
+    ROWS_FILE="$work/$size.db" ROWS_SIZE=$size "$program" tests::times::rows
     want integrity "$(ask $size 'PRAGMA integrity_check')" ok
     want journal "$(ask $size 'PRAGMA journal_mode')" wal
     want version "$(ask $size 'SELECT id, version FROM meta')" "1|1"

@@ -1,5 +1,5 @@
-//! Worked rounds of topics over a database in memory: what is stored, loaded and refused; and how a snapshot is
-//! read from its rows.
+//! Worked rounds of topics over databases in memory and on disks: what is stored, loaded and refused, with trials of
+//! it; how a snapshot is read from its rows; and how long stores and loads take.
 #![tactic(auto)]
 
 #[cfg(test)]

@@ -1,12 +1,25 @@
-// Worked rounds of topics over a database in memory, and rows that are read as a snapshot.
+// Worked rounds of topics over databases in memory and on disks, trials of them, and how long they take.
+mod answers;
 mod bodies;
 mod breaks;
 mod broken;
 mod confirming;
+mod dice;
+mod disks;
 mod failing;
+mod keepers;
+mod keeps;
+mod little;
+mod memory;
+mod players;
+mod plays;
+mod random;
 mod reading;
 mod restarts;
 mod rounds;
 mod same;
-mod world;
+mod stops;
+mod times;
+mod topics;
+mod works;
 mod writing;

@@ -1,9 +1,9 @@
 // Names, keys, properties and payloads of every kind.
-use super::world::{
-    Lone, Rows, Scene, check_stands, fresh, is_taken, round, topic_name, with_keeper,
-};
+use super::answers::topic_name;
+use super::keepers::in_memory;
+use super::keeps::{Keeps, Scene};
+use super::plays::{check_stands, round};
 use delivery_machine::{Event, Initial};
-use marks::Naming;
 use position_core::{
     Base, Body, Content, Flow, Key, Kind, Level, Millis, Moment, Payload, ProducerName, Properties,
     RedeliverLimit, SubscriptionName, TopicName, WindowSize,
@@ -92,23 +92,23 @@ fn joining<R: Abort + AllocGlobal>(rt: &R, topic: TopicName) -> Event {
     }
 }
 
-fn connect<J: Naming, R: Abort + AllocGlobal>(rt: &R, cell: &mut Lone<J>) {
-    assert!(rt; is_taken(rt, cell, connecting(rt)));
+fn connect<K: Keeps, R: Abort + AllocGlobal>(rt: &R, cell: &mut K::Topic) {
+    assert!(rt; !K::call(rt, cell, connecting(rt)).is_refused());
 }
 
-fn join<J: Naming, R: Abort + AllocGlobal>(rt: &R, cell: &mut Lone<J>) {
+fn join<K: Keeps, R: Abort + AllocGlobal>(rt: &R, cell: &mut K::Topic) {
     let other = topic_name(rt, "persistent://a/b/c'\"%");
-    assert!(rt; is_taken(rt, cell, joining(rt, other)));
+    assert!(rt; !K::call(rt, cell, joining(rt, other)).is_refused());
 }
 
-fn publish<J: Naming, R: Abort + AllocGlobal>(
+fn publish<K: Keeps, R: Abort + AllocGlobal>(
     rt: &R,
-    cell: &mut Lone<J>,
+    cell: &mut K::Topic,
     sequence: i64,
     content: Content,
 ) {
     assert!(rt;
-        is_taken(rt, cell, publishing(rt, sequence, content)),
+        !K::call(rt, cell, publishing(rt, sequence, content)).is_refused(),
         "{sequence}"
     );
 }
@@ -132,29 +132,29 @@ fn content_with<R: Abort + AllocGlobal>(rt: &R, texts: &[&str], payload: Vec<u8>
     }
 }
 
-fn publish_each<J: Naming, R: Abort + AllocGlobal>(rt: &R, cell: &mut Lone<J>) {
+fn publish_each<K: Keeps, R: Abort + AllocGlobal>(rt: &R, cell: &mut K::Topic) {
     let mut sequence: i64 = 0;
     for text in TEXTS {
-        publish(rt, cell, sequence, content_of(rt, text));
+        publish::<K, R>(rt, cell, sequence, content_of(rt, text));
         sequence = sequence.saturating_add(1);
     }
 }
 
-fn publish_all<J: Naming, R: Abort + AllocGlobal>(rt: &R, cell: &mut Lone<J>) {
-    publish(rt, cell, 12, content_with(rt, &TEXTS, Vec::new(rt.alloc())));
+fn publish_all<K: Keeps, R: Abort + AllocGlobal>(rt: &R, cell: &mut K::Topic) {
+    publish::<K, R>(rt, cell, 12, content_with(rt, &TEXTS, Vec::new(rt.alloc())));
 }
 
 #[derive(Drop)]
 struct EveryKind;
 
 impl Scene for EveryKind {
-    fn play<J: Naming, R: Abort + AllocGlobal>(&self, rt: &R, mut keeper: Rows<J>) {
-        let mut cell = fresh(rt, TOPIC);
-        connect(rt, &mut cell);
-        publish_each(rt, &mut cell);
+    fn play<K: Keeps, R: Abort + AllocGlobal>(&self, rt: &R, mut keeper: K) {
+        let mut cell = K::fresh(rt, TOPIC);
+        connect::<K, R>(rt, &mut cell);
+        publish_each::<K, R>(rt, &mut cell);
         round(rt, &mut keeper, &mut cell);
-        publish_all(rt, &mut cell);
-        join(rt, &mut cell);
+        publish_all::<K, R>(rt, &mut cell);
+        join::<K, R>(rt, &mut cell);
         round(rt, &mut keeper, &mut cell);
         check_stands(rt, &mut keeper, &cell);
     }
@@ -162,7 +162,7 @@ impl Scene for EveryKind {
 
 #[test]
 fn texts_of_every_kind(rt: HostRuntime) {
-    with_keeper(&rt, &EveryKind);
+    in_memory(&rt, &EveryKind);
 }
 
 fn most_bytes<R: Abort + AllocGlobal>(rt: &R) -> Vec<u8> {
@@ -175,10 +175,10 @@ fn most_bytes<R: Abort + AllocGlobal>(rt: &R) -> Vec<u8> {
 struct Large;
 
 impl Scene for Large {
-    fn play<J: Naming, R: Abort + AllocGlobal>(&self, rt: &R, mut keeper: Rows<J>) {
-        let mut cell = fresh(rt, TOPIC);
-        connect(rt, &mut cell);
-        publish(rt, &mut cell, 0, content_with(rt, &[], most_bytes(rt)));
+    fn play<K: Keeps, R: Abort + AllocGlobal>(&self, rt: &R, mut keeper: K) {
+        let mut cell = K::fresh(rt, TOPIC);
+        connect::<K, R>(rt, &mut cell);
+        publish::<K, R>(rt, &mut cell, 0, content_with(rt, &[], most_bytes(rt)));
         round(rt, &mut keeper, &mut cell);
         check_stands(rt, &mut keeper, &cell);
     }
@@ -186,5 +186,5 @@ impl Scene for Large {
 
 #[test]
 fn a_payload_of_the_most_bytes(rt: HostRuntime) {
-    with_keeper(&rt, &Large);
+    in_memory(&rt, &Large);
 }

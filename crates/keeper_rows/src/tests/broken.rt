@@ -1,11 +1,9 @@
 // Rows that are no snapshot's: each breaks one rule, is refused and stays, and once mended is loaded again.
 use super::breaks::{CONTENTS, LETTERS, PLACES, RUNS, SUBSCRIPTIONS, TOPICS};
-use super::world::{FOUR, Rows, Scene, T, fresh, play_rounds, snapshot_of, stands, with_keeper};
-use delivery_machine::{Fault, Snapshot};
-use marks::Naming;
-use position_core::TopicName;
-use row_store::Keeper;
-use sqlite::{Connection, MemStore};
+use super::keepers::in_memory;
+use super::keeps::{Keeps, Scene};
+use super::plays::{FOUR, T, play_rounds};
+use position_core::Fault;
 use std::process::Abort;
 
 /// Two deaths, of which the first was moved, and two runs of what is acknowledged; beside them a
@@ -35,51 +33,35 @@ dispatch s 1400
 ack 1 CAAQAw==
 ";
 
-fn execute<R: Abort>(rt: &R, conn: &mut Connection<MemStore>, sql: &str) {
-    assert!(rt; conn.execute(sql, &[]).is_ok(), "{sql}");
-}
-
 /// The keeper over its database after the statement.
-fn after<J: Naming, R: Abort + AllocGlobal>(rt: &R, keeper: Rows<J>, sql: &str) -> Rows<J> {
-    let (mut conn, notes) = keeper.into_parts();
-    execute(rt, &mut conn, sql);
-    let adopted = Keeper::adopt(rt.alloc(), conn, notes);
-    adopted.ok().expect(rt, "not adopted")
+fn after<K: Keeps, R: Abort + AllocGlobal>(rt: &R, keeper: K, sql: &str) -> K {
+    let mut database = keeper.into_database();
+    assert!(rt; K::execute(&mut database, sql), "{sql}");
+    K::adopt(rt, database).expect(rt, "not adopted")
 }
 
 /// The topic is played, with rounds, and this is its snapshot then.
-fn filled<J: Naming, R: Abort + AllocGlobal>(rt: &R, keeper: &mut Rows<J>) -> Snapshot {
-    let mut cell = fresh(rt, T);
-    play_rounds(rt, keeper, &mut cell, &[FOUR, PLAYED, STORED]);
-    snapshot_of(rt, &cell)
-}
-
-fn check_refused<J: Naming, R: Abort>(rt: &R, keeper: &mut Rows<J>, name: &TopicName, sql: &str) {
-    let refused = matches!(keeper.load(name), Err(Fault::StoreFailed));
-    assert!(rt; refused, "{sql}");
-}
-
-fn check_mended<J: Naming, R: Abort + AllocGlobal>(
-    rt: &R,
-    keeper: &mut Rows<J>,
-    snapshot: &Snapshot,
-    sql: &str,
-) {
-    assert!(rt; stands(rt, keeper, snapshot), "{sql}");
+fn filled<K: Keeps, R: Abort + AllocGlobal>(rt: &R, keeper: &mut K) -> K::Snapshot {
+    let mut topic = K::fresh(rt, T);
+    play_rounds(rt, keeper, &mut topic, &[FOUR, PLAYED, STORED]);
+    K::snapshot_of(rt, &topic)
 }
 
 /// The keeper after a statement that breaks a rule, and one that mends it.
-fn check_break<J: Naming, R: Abort + AllocGlobal>(
+fn check_break<K: Keeps, R: Abort + AllocGlobal>(
     rt: &R,
-    keeper: Rows<J>,
-    snapshot: &Snapshot,
+    keeper: K,
+    snapshot: &K::Snapshot,
     wrong: &str,
     right: &str,
-) -> Rows<J> {
+) -> K {
     let mut broken = after(rt, keeper, wrong);
-    check_refused(rt, &mut broken, snapshot.name(), wrong);
+    assert!(rt;
+        matches!(&broken.show(rt, T), Err(Fault::StoreFailed)),
+        "{wrong}"
+    );
     let mut mended = after(rt, broken, right);
-    check_mended(rt, &mut mended, snapshot, right);
+    assert!(rt; mended.stands(snapshot), "{right}");
     mended
 }
 
@@ -89,7 +71,7 @@ struct Broken {
 }
 
 impl Scene for Broken {
-    fn play<J: Naming, R: Abort + AllocGlobal>(&self, rt: &R, mut keeper: Rows<J>) {
+    fn play<K: Keeps, R: Abort + AllocGlobal>(&self, rt: &R, mut keeper: K) {
         let snapshot = filled(rt, &mut keeper);
         for (wrong, right) in self.breaks {
             keeper = check_break(rt, keeper, &snapshot, wrong, right);
@@ -99,7 +81,7 @@ impl Scene for Broken {
 
 #[test]
 fn subscriptions(rt: HostRuntime) {
-    with_keeper(
+    in_memory(
         &rt,
         &Broken {
             breaks: &SUBSCRIPTIONS,
@@ -109,25 +91,25 @@ fn subscriptions(rt: HostRuntime) {
 
 #[test]
 fn topics(rt: HostRuntime) {
-    with_keeper(&rt, &Broken { breaks: &TOPICS });
+    in_memory(&rt, &Broken { breaks: &TOPICS });
 }
 
 #[test]
 fn places(rt: HostRuntime) {
-    with_keeper(&rt, &Broken { breaks: &PLACES });
+    in_memory(&rt, &Broken { breaks: &PLACES });
 }
 
 #[test]
 fn contents(rt: HostRuntime) {
-    with_keeper(&rt, &Broken { breaks: &CONTENTS });
+    in_memory(&rt, &Broken { breaks: &CONTENTS });
 }
 
 #[test]
 fn runs(rt: HostRuntime) {
-    with_keeper(&rt, &Broken { breaks: &RUNS });
+    in_memory(&rt, &Broken { breaks: &RUNS });
 }
 
 #[test]
 fn letters(rt: HostRuntime) {
-    with_keeper(&rt, &Broken { breaks: &LETTERS });
+    in_memory(&rt, &Broken { breaks: &LETTERS });
 }

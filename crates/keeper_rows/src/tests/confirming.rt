@@ -1,50 +1,41 @@
 // What comes to a topic between its view and the confirmation of its store.
-use super::world::{
-    FOUR, Lone, Rows, Scene, T, asked, check_stands, fresh, play, snapshot_of, stands, viewed,
-    with_keeper,
-};
-use delivery_machine::{Event, Reply};
-use kept_rows::{Kept, Part};
-use marks::Naming;
+use super::answers::Answer;
+use super::keepers::in_memory;
+use super::keeps::{Keeps, Scene};
+use super::plays::{FOUR, T, check_stands, play, stored};
 use std::process::Abort;
 
-fn stored<J: Naming, R: Abort + AllocGlobal>(
-    rt: &R,
-    keeper: &mut Rows<J>,
-    part: Part<J>,
-) -> Kept<J> {
-    let parts = vec![in rt.alloc(); part].expect(rt, "no memory");
-    let mut kept = keeper.store(parts).ok().expect(rt, "not stored");
-    assert!(rt; kept.len() == 1);
-    kept.pop().expect(rt, "no proof")
-}
-
 /// How many messages are durable, and how many there are.
-fn progress<J: Naming, R: Abort>(rt: &R, cell: &mut Lone<J>) -> (u64, u64) {
-    match asked(rt, cell, Event::Progress) {
-        Reply::Progress { durable, length } => (durable, length),
+fn progress(answer: Answer) -> (u64, u64) {
+    match answer {
+        Answer::Progress { durable, length } => (durable, length),
         _ => (0, 0),
     }
 }
 
-fn check_progress<J: Naming, R: Abort>(rt: &R, cell: &mut Lone<J>, durable: u64, length: u64) {
-    assert!(rt; progress(rt, cell) == (durable, length));
+fn check_progress<K: Keeps, R: Abort + AllocGlobal>(
+    rt: &R,
+    cell: &mut K::Topic,
+    durable: u64,
+    length: u64,
+) {
+    assert!(rt; progress(K::ask(rt, cell, "progress")) == (durable, length));
 }
 
-fn check_needs<J: Naming, R: Abort>(rt: &R, cell: &Lone<J>, needs: bool) {
-    assert!(rt; cell.cell().needs_storing() == needs);
+fn check_needs<K: Keeps, R: Abort>(rt: &R, cell: &K::Topic, needs: bool) {
+    assert!(rt; K::needs_storing(cell) == needs);
 }
 
 /// The part is stored, and confirmed where no later one was viewed.
-fn confirm<J: Naming, R: Abort + AllocGlobal>(
+fn confirm<K: Keeps, R: Abort + AllocGlobal>(
     rt: &R,
-    keeper: &mut Rows<J>,
-    cell: &mut Lone<J>,
-    part: Part<J>,
+    keeper: &mut K,
+    cell: &mut K::Topic,
+    part: K::Part,
     is_last: bool,
 ) {
     let kept = stored(rt, keeper, part);
-    assert!(rt; cell.confirm(kept) == is_last);
+    assert!(rt; K::confirm(cell, kept) == is_last);
 }
 
 const BEGUN: &str = "subscribe s Shared 0 push:10 0 100 1 - Earliest
@@ -65,29 +56,29 @@ seek e earliest
 publish 1 5 - aGk= 1005
 ";
 
-fn begin<J: Naming, R: Abort + AllocGlobal>(rt: &R, keeper: &mut Rows<J>, cell: &mut Lone<J>) {
-    play(rt, cell, FOUR);
-    let first = viewed(rt, keeper, cell);
+fn begin<K: Keeps, R: Abort + AllocGlobal>(rt: &R, keeper: &mut K, cell: &mut K::Topic) {
+    play::<K, R>(rt, cell, FOUR);
+    let first = keeper.view(rt, cell);
     confirm(rt, keeper, cell, first, true);
-    play(rt, cell, BEGUN);
-    check_needs(rt, cell, true);
+    play::<K, R>(rt, cell, BEGUN);
+    check_needs::<K, R>(rt, cell, true);
 }
 
-fn go_on<J: Naming, R: Abort + AllocGlobal>(rt: &R, keeper: &mut Rows<J>, cell: &mut Lone<J>) {
-    let part = viewed(rt, keeper, cell);
-    check_needs(rt, cell, false);
-    let then = snapshot_of(rt, cell);
-    play(rt, cell, MEANWHILE);
+fn go_on<K: Keeps, R: Abort + AllocGlobal>(rt: &R, keeper: &mut K, cell: &mut K::Topic) {
+    let part = keeper.view(rt, cell);
+    check_needs::<K, R>(rt, cell, false);
+    let then = K::snapshot_of(rt, cell);
+    play::<K, R>(rt, cell, MEANWHILE);
     confirm(rt, keeper, cell, part, true);
-    check_progress(rt, cell, 4, 6);
-    check_needs(rt, cell, true);
-    assert!(rt; stands(rt, keeper, &then));
+    check_progress::<K, R>(rt, cell, 4, 6);
+    check_needs::<K, R>(rt, cell, true);
+    assert!(rt; keeper.stands(&then));
 }
 
-fn finish<J: Naming, R: Abort + AllocGlobal>(rt: &R, keeper: &mut Rows<J>, cell: &mut Lone<J>) {
-    let part = viewed(rt, keeper, cell);
+fn finish<K: Keeps, R: Abort + AllocGlobal>(rt: &R, keeper: &mut K, cell: &mut K::Topic) {
+    let part = keeper.view(rt, cell);
     confirm(rt, keeper, cell, part, true);
-    check_progress(rt, cell, 6, 6);
+    check_progress::<K, R>(rt, cell, 6, 6);
     check_stands(rt, keeper, cell);
 }
 
@@ -95,8 +86,8 @@ fn finish<J: Naming, R: Abort + AllocGlobal>(rt: &R, keeper: &mut Rows<J>, cell:
 struct Between;
 
 impl Scene for Between {
-    fn play<J: Naming, R: Abort + AllocGlobal>(&self, rt: &R, mut keeper: Rows<J>) {
-        let mut cell = fresh(rt, T);
+    fn play<K: Keeps, R: Abort + AllocGlobal>(&self, rt: &R, mut keeper: K) {
+        let mut cell = K::fresh(rt, T);
         begin(rt, &mut keeper, &mut cell);
         go_on(rt, &mut keeper, &mut cell);
         finish(rt, &mut keeper, &mut cell);
@@ -105,29 +96,29 @@ impl Scene for Between {
 
 #[test]
 fn events_between_view_and_confirmation(rt: HostRuntime) {
-    with_keeper(&rt, &Between);
+    in_memory(&rt, &Between);
 }
 
-fn confirm_first<J: Naming, R: Abort + AllocGlobal>(
+fn confirm_first<K: Keeps, R: Abort + AllocGlobal>(
     rt: &R,
-    keeper: &mut Rows<J>,
-    cell: &mut Lone<J>,
-    first: Part<J>,
+    keeper: &mut K,
+    cell: &mut K::Topic,
+    first: K::Part,
 ) {
     confirm(rt, keeper, cell, first, false);
-    check_progress(rt, cell, 0, 5);
-    assert!(rt; cell.stored().is_none());
+    check_progress::<K, R>(rt, cell, 0, 5);
+    assert!(rt; !K::is_stored(cell));
 }
 
-fn confirm_second<J: Naming, R: Abort + AllocGlobal>(
+fn confirm_second<K: Keeps, R: Abort + AllocGlobal>(
     rt: &R,
-    keeper: &mut Rows<J>,
-    cell: &mut Lone<J>,
-    second: Part<J>,
+    keeper: &mut K,
+    cell: &mut K::Topic,
+    second: K::Part,
 ) {
     confirm(rt, keeper, cell, second, true);
-    check_progress(rt, cell, 5, 5);
-    assert!(rt; cell.stored().is_some());
+    check_progress::<K, R>(rt, cell, 5, 5);
+    assert!(rt; K::is_stored(cell));
     check_stands(rt, keeper, cell);
 }
 
@@ -136,12 +127,12 @@ fn confirm_second<J: Naming, R: Abort + AllocGlobal>(
 struct Late;
 
 impl Scene for Late {
-    fn play<J: Naming, R: Abort + AllocGlobal>(&self, rt: &R, mut keeper: Rows<J>) {
-        let mut cell = fresh(rt, T);
-        play(rt, &mut cell, FOUR);
-        let first = viewed(rt, &mut keeper, &mut cell);
-        play(rt, &mut cell, "publish 1 4 - aGk= 1004\n");
-        let second = viewed(rt, &mut keeper, &mut cell);
+    fn play<K: Keeps, R: Abort + AllocGlobal>(&self, rt: &R, mut keeper: K) {
+        let mut cell = K::fresh(rt, T);
+        play::<K, R>(rt, &mut cell, FOUR);
+        let first = keeper.view(rt, &mut cell);
+        play::<K, R>(rt, &mut cell, "publish 1 4 - aGk= 1004\n");
+        let second = keeper.view(rt, &mut cell);
         confirm_first(rt, &mut keeper, &mut cell, first);
         confirm_second(rt, &mut keeper, &mut cell, second);
     }
@@ -149,5 +140,5 @@ impl Scene for Late {
 
 #[test]
 fn an_old_proof_does_nothing(rt: HostRuntime) {
-    with_keeper(&rt, &Late);
+    in_memory(&rt, &Late);
 }

@@ -1,85 +1,73 @@
 // A store that fails: the keeper refuses all until its database is adopted again.
-use super::world::{
-    FOUR, Lone, Rows, Scene, T, check_stands, fresh, play, round, snapshot_of, stands, topic_name,
-    viewed, with_keeper,
-};
-use delivery_machine::Fault;
-use kept_rows::Part;
-use marks::Naming;
-use row_store::Keeper;
-use sqlite::{Connection, MemStore};
+use super::keepers::in_memory;
+use super::keeps::{Keeps, Scene};
+use super::plays::{FOUR, T, adopted, check_stands, play, round, view};
+use position_core::Fault;
 use std::process::Abort;
 
 const NO_TABLES: &str =
     "DROP TABLE meta; DROP TABLE topic; DROP TABLE entry; DROP TABLE sub; DROP TABLE ack; DROP TABLE dead";
 
-fn change<R: Abort>(rt: &R, conn: &mut Connection<MemStore>, sql: &str) {
-    assert!(rt; conn.execute_batch(sql).is_ok());
+/// A keeper over the database without tables, whose statements may visit three rows each.
+fn with_limit<K: Keeps, R: Abort + AllocGlobal>(rt: &R, keeper: K) -> K {
+    let mut database = keeper.into_database();
+    assert!(rt; K::execute(&mut database, NO_TABLES));
+    K::limit(&mut database, 3);
+    K::create(rt, database).expect(rt, "no tables")
 }
 
-/// Its tables are gone, and its statements may visit three rows each.
-fn limit<R: Abort>(rt: &R, conn: &mut Connection<MemStore>) {
-    change(rt, conn, NO_TABLES);
-    conn.set_step_limit(Some(3));
-}
-
-/// A keeper over the limited database.
-fn with_limit<J: Naming, R: Abort + AllocGlobal>(rt: &R, keeper: Rows<J>) -> Rows<J> {
-    let (mut conn, notes) = keeper.into_parts();
-    limit(rt, &mut conn);
-    let keeper = Keeper::create(rt.alloc(), conn, notes);
-    keeper.ok().expect(rt, "no tables")
-}
-
-fn adopted<J: Naming, R: Abort + AllocGlobal>(rt: &R, keeper: Rows<J>) -> Rows<J> {
-    let (conn, notes) = keeper.into_parts();
-    let keeper = Keeper::adopt(rt.alloc(), conn, notes);
-    keeper.ok().expect(rt, "not adopted")
+/// Whether a store of the topic as it is, so many times over, is refused.
+fn is_store_refused<K: Keeps, R: Abort + AllocGlobal>(
+    rt: &R,
+    keeper: &mut K,
+    cell: &mut K::Topic,
+    times: u64,
+) -> bool {
+    let mut parts = Vec::new(rt.alloc());
+    for _ in 0..times {
+        view(rt, keeper, cell, &mut parts);
+    }
+    matches!(&keeper.store(parts), Err(Fault::StoreFailed))
 }
 
 /// Whether the topic as it is cannot be stored.
-fn is_refused<J: Naming, R: Abort + AllocGlobal>(
+fn is_refused<K: Keeps, R: Abort + AllocGlobal>(
     rt: &R,
-    keeper: &mut Rows<J>,
-    cell: &mut Lone<J>,
+    keeper: &mut K,
+    cell: &mut K::Topic,
 ) -> bool {
-    let parts = vec![in rt.alloc(); viewed(rt, keeper, cell)].expect(rt, "no memory");
-    matches!(keeper.store(parts), Err(Fault::StoreFailed))
+    is_store_refused(rt, keeper, cell, 1)
         && keeper.round(cell) == Err(Fault::StoreFailed)
-        && matches!(keeper.load(&topic_name(rt, T)), Err(Fault::StoreFailed))
+        && matches!(&keeper.show(rt, T), Err(Fault::StoreFailed))
 }
 
-fn check_failed<J: Naming, R: Abort>(rt: &R, keeper: &Rows<J>, has_failed: bool) {
-    assert!(rt; keeper.has_failed() == has_failed);
-}
-
-fn fail<J: Naming, R: Abort + AllocGlobal>(rt: &R, keeper: &mut Rows<J>, other: &mut Lone<J>) {
-    play(rt, other, "producer q -\npublish 1 0 - - 2000\n");
+fn fail<K: Keeps, R: Abort + AllocGlobal>(rt: &R, keeper: &mut K, other: &mut K::Topic) {
+    play::<K, R>(rt, other, "producer q -\npublish 1 0 - - 2000\n");
     assert!(rt; keeper.round(other) == Err(Fault::StoreFailed));
-    check_failed(rt, keeper, true);
+    assert!(rt; keeper.has_failed());
 }
 
 /// Until it is adopted.
-fn check_before<J: Naming, R: Abort + AllocGlobal>(
+fn check_before<K: Keeps, R: Abort + AllocGlobal>(
     rt: &R,
-    keeper: &mut Rows<J>,
-    one: &mut Lone<J>,
-    other: &mut Lone<J>,
+    keeper: &mut K,
+    one: &mut K::Topic,
+    other: &mut K::Topic,
 ) {
-    play(rt, one, FOUR);
+    play::<K, R>(rt, one, FOUR);
     round(rt, keeper, one);
-    check_failed(rt, keeper, false);
+    assert!(rt; !keeper.has_failed());
     fail(rt, keeper, other);
     assert!(rt; is_refused(rt, keeper, one));
 }
 
-fn check_after<J: Naming, R: Abort + AllocGlobal>(
+fn check_after<K: Keeps, R: Abort + AllocGlobal>(
     rt: &R,
-    keeper: &mut Rows<J>,
-    one: &mut Lone<J>,
-    other: &mut Lone<J>,
+    keeper: &mut K,
+    one: &mut K::Topic,
+    other: &mut K::Topic,
 ) {
-    check_failed(rt, keeper, false);
+    assert!(rt; !keeper.has_failed());
     check_stands(rt, keeper, one);
     round(rt, keeper, other);
     check_stands(rt, keeper, other);
@@ -92,10 +80,10 @@ fn check_after<J: Naming, R: Abort + AllocGlobal>(
 struct Limited;
 
 impl Scene for Limited {
-    fn play<J: Naming, R: Abort + AllocGlobal>(&self, rt: &R, keeper: Rows<J>) {
+    fn play<K: Keeps, R: Abort + AllocGlobal>(&self, rt: &R, keeper: K) {
         let mut keeper = with_limit(rt, keeper);
-        let mut one = fresh(rt, T);
-        let mut other = fresh(rt, T);
+        let mut one = K::fresh(rt, T);
+        let mut other = K::fresh(rt, T);
         check_before(rt, &mut keeper, &mut one, &mut other);
         let mut keeper = adopted(rt, keeper);
         check_after(rt, &mut keeper, &mut one, &mut other);
@@ -104,40 +92,15 @@ impl Scene for Limited {
 
 #[test]
 fn after_a_failure_all_is_refused_until_it_is_adopted(rt: HostRuntime) {
-    with_keeper(&rt, &Limited);
+    in_memory(&rt, &Limited);
 }
 
-fn push_viewed<J: Naming, R: Abort + AllocGlobal>(
-    rt: &R,
-    keeper: &mut Rows<J>,
-    cell: &mut Lone<J>,
-    parts: &mut Vec<Part<J>>,
-) {
-    parts.push(viewed(rt, keeper, cell)).expect(rt, "no memory");
-}
-
-fn viewed_twice<J: Naming, R: Abort + AllocGlobal>(
-    rt: &R,
-    keeper: &mut Rows<J>,
-    cell: &mut Lone<J>,
-) -> Vec<Part<J>> {
-    let mut parts = Vec::new(rt.alloc());
-    push_viewed(rt, keeper, cell, &mut parts);
-    push_viewed(rt, keeper, cell, &mut parts);
-    parts
-}
-
-fn check_twice<J: Naming, R: Abort + AllocGlobal>(
-    rt: &R,
-    keeper: &mut Rows<J>,
-    cell: &mut Lone<J>,
-) {
-    let stored = snapshot_of(rt, cell);
-    play(rt, cell, "publish 1 4 - - 1004\n");
-    let parts = viewed_twice(rt, keeper, cell);
-    assert!(rt; matches!(keeper.store(parts), Err(Fault::StoreFailed)));
-    check_failed(rt, keeper, false);
-    assert!(rt; stands(rt, keeper, &stored));
+fn check_twice<K: Keeps, R: Abort + AllocGlobal>(rt: &R, keeper: &mut K, cell: &mut K::Topic) {
+    let stored = K::snapshot_of(rt, cell);
+    play::<K, R>(rt, cell, "publish 1 4 - - 1004\n");
+    assert!(rt; is_store_refused(rt, keeper, cell, 2));
+    assert!(rt; !keeper.has_failed());
+    assert!(rt; keeper.stands(&stored));
 }
 
 /// A topic that comes twice in a store is refused, and nothing else.
@@ -145,9 +108,9 @@ fn check_twice<J: Naming, R: Abort + AllocGlobal>(
 struct Twice;
 
 impl Scene for Twice {
-    fn play<J: Naming, R: Abort + AllocGlobal>(&self, rt: &R, mut keeper: Rows<J>) {
-        let mut cell = fresh(rt, T);
-        play(rt, &mut cell, FOUR);
+    fn play<K: Keeps, R: Abort + AllocGlobal>(&self, rt: &R, mut keeper: K) {
+        let mut cell = K::fresh(rt, T);
+        play::<K, R>(rt, &mut cell, FOUR);
         round(rt, &mut keeper, &mut cell);
         check_twice(rt, &mut keeper, &mut cell);
         round(rt, &mut keeper, &mut cell);
@@ -157,27 +120,20 @@ impl Scene for Twice {
 
 #[test]
 fn a_topic_twice(rt: HostRuntime) {
-    with_keeper(&rt, &Twice);
+    in_memory(&rt, &Twice);
 }
 
-fn store_four<J: Naming, R: Abort + AllocGlobal>(rt: &R, keeper: &mut Rows<J>) {
-    let mut cell = fresh(rt, T);
-    play(rt, &mut cell, FOUR);
+fn store_four<K: Keeps, R: Abort + AllocGlobal>(rt: &R, keeper: &mut K) {
+    let mut cell = K::fresh(rt, T);
+    play::<K, R>(rt, &mut cell, FOUR);
     round(rt, keeper, &mut cell);
 }
 
 /// Whether the keeper's database is no longer taken after the statements.
-fn is_no_longer_taken<J: Naming, R: Abort + AllocGlobal>(
-    rt: &R,
-    keeper: Rows<J>,
-    wrong: &str,
-) -> bool {
-    let (mut conn, notes) = keeper.into_parts();
-    change(rt, &mut conn, wrong);
-    match &Keeper::start(rt.alloc(), conn, notes) {
-        Ok(_) => false,
-        Err(refused) => refused.fault == Fault::StoreFailed,
-    }
+fn is_no_longer_taken<K: Keeps, R: Abort + AllocGlobal>(rt: &R, keeper: K, wrong: &str) -> bool {
+    let mut database = keeper.into_database();
+    assert!(rt; K::execute(&mut database, wrong));
+    matches!(&K::start(rt, database), Err(Fault::StoreFailed))
 }
 
 /// A database of another version, or without a table, is not taken, and stays as it is.
@@ -187,7 +143,7 @@ struct Others {
 }
 
 impl Scene for Others {
-    fn play<J: Naming, R: Abort + AllocGlobal>(&self, rt: &R, mut keeper: Rows<J>) {
+    fn play<K: Keeps, R: Abort + AllocGlobal>(&self, rt: &R, mut keeper: K) {
         store_four(rt, &mut keeper);
         assert!(rt; is_no_longer_taken(rt, keeper, self.wrong));
     }
@@ -207,6 +163,6 @@ fn other_databases(rt: HostRuntime) {
         "CREATE INDEX more ON sub (kind)",
         "DROP TABLE dead; CREATE TABLE dead (topic TEXT NOT NULL, sub TEXT NOT NULL, ordinal INTEGER NOT NULL, idx INTEGER NOT NULL, target TEXT NOT NULL) STRICT",
     ] {
-        with_keeper(&rt, &Others { wrong });
+        in_memory(&rt, &Others { wrong });
     }
 }

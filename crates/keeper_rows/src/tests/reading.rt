@@ -1,8 +1,8 @@
 // That a snapshot is read back from its rows, up to the greatest numbers, with which a topic goes on, and that other
 // rows are refused.
-use super::world::{event_in, topic_name};
+use super::answers::{Answer, event_in, topic_name};
 use ack_ranges::AckSet;
-use delivery_machine::{DeadLetter, KeptSubscription, Opened, Reply, Snapshot, Topic};
+use delivery_machine::{DeadLetter, KeptSubscription, Opened, Snapshot, Topic};
 use plain_topic::PlainTopic;
 use position_core::{Fault, Kind, Position};
 use row_forms::RawRows;
@@ -181,22 +181,22 @@ fn restarted<R: Abort + AllocGlobal>(rt: &R, texts: [&str; 5]) -> PlainTopic {
 }
 
 /// What the topic answers to the line.
-fn answer<R: Abort + AllocGlobal>(rt: &R, topic: &mut PlainTopic, line: &str) -> Reply {
-    let event = event_in(rt, &topic_name(rt, NAME), line).expect(rt, "no event");
-    topic.apply(&event)
+fn answer<R: Abort + AllocGlobal>(rt: &R, topic: &mut PlainTopic, line: &str) -> Answer {
+    let event = event_in(rt, &topic_name(rt, NAME), line);
+    Answer::of(&topic.apply(&event))
 }
 
 fn is_told<R: Abort + AllocGlobal>(rt: &R, topic: &mut PlainTopic) -> bool {
     matches!(
         answer(rt, topic, "publish 1 7 - aGk= 1000"),
-        Reply::Duplicate { length: 1 }
+        Answer::Duplicate { length: 1 }
     )
 }
 
 fn is_full<R: Abort + AllocGlobal>(rt: &R, topic: &mut PlainTopic) -> bool {
     matches!(
         answer(rt, topic, "publish 2 7 - aGk= 1000"),
-        Reply::Refused(Fault::TopicFull)
+        Answer::Refused(Fault::TopicFull)
     )
 }
 
@@ -209,9 +209,9 @@ fn a_duplicate_is_told_before_a_full_log(rt: HostRuntime) {
     assert!(rt; is_full(&rt, &mut topic));
 }
 
-fn ordinal_of(reply: &Reply) -> Option<u64> {
-    match reply {
-        Reply::Died { ordinal, .. } => Some(*ordinal),
+fn ordinal_of(answer: Answer) -> Option<u64> {
+    match answer {
+        Answer::Died(ordinal) => Some(ordinal),
         _ => None,
     }
 }
@@ -225,8 +225,7 @@ fn check_death<R: Abort + AllocGlobal>(
 ) {
     answer(rt, topic, "dispatch s 1000");
     answer(rt, topic, nack);
-    let reply = answer(rt, topic, "tick s 60000");
-    assert!(rt; ordinal_of(&reply) == want);
+    assert!(rt; ordinal_of(answer(rt, topic, "tick s 60000")) == want);
 }
 
 fn check_last<R: Abort + AllocGlobal>(rt: &R, topic: &mut PlainTopic) {

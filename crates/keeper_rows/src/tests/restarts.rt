@@ -1,34 +1,9 @@
 // Topics that go on from what was loaded, and are stored by what changed since.
-ghost use Rattle.std.specs.Prelude.{◌≡◌};
-
-use super::world::{
-    FOUR, Lone, Rows, Scene, T, asked, check_stands, fresh, one_cell, play, play_rounds, round,
-    topic_name, with_keeper,
-};
-use delivery_machine::{Event, Opened, Reply};
-use marks::Naming;
-use plain_topic::PlainTopic;
-use row_store::Loaded;
+use super::answers::Answer;
+use super::keepers::in_memory;
+use super::keeps::{Keeps, Scene};
+use super::plays::{FOUR, T, check_stands, play, play_rounds, resumed, round};
 use std::process::Abort;
-use stored_cell::StoredCell;
-
-fn loaded<J: Naming, R: Abort + AllocGlobal>(rt: &R, keeper: &mut Rows<J>) -> Loaded<J>
-    ensures { result.kept.kept ≡ result.snapshot }
-{
-    match keeper.load(&topic_name(rt, T)) {
-        Ok(found) => found.expect(rt, "no rows"),
-        Err(_) => panic!(rt; "not loaded"),
-    }
-}
-
-/// The topic goes on from its rows.
-fn restarted<J: Naming, R: Abort + AllocGlobal>(rt: &R, keeper: &mut Rows<J>) -> Lone<J> {
-    let Loaded { snapshot, kept } = loaded(rt, keeper);
-    match PlainTopic::restart(rt.alloc(), &snapshot) {
-        Ok(topic) => StoredCell::restarted(one_cell(rt, topic), &snapshot, kept),
-        Err(_) => panic!(rt; "no memory"),
-    }
-}
 
 const BEFORE: &str = "subscribe s Shared 0 push:10 0 100 1 - Earliest
 dispatch s 1000
@@ -50,42 +25,42 @@ ack 1 CAAQAg==
 subscribe t Failover 0 push:10 0 60000 0 - Latest
 ";
 
-fn begin<J: Naming, R: Abort + AllocGlobal>(rt: &R, keeper: &mut Rows<J>) {
-    let mut cell = fresh(rt, T);
-    play_rounds(rt, keeper, &mut cell, &[FOUR, BEFORE]);
+fn begin<K: Keeps, R: Abort + AllocGlobal>(rt: &R, keeper: &mut K) {
+    let mut topic = K::fresh(rt, T);
+    play_rounds(rt, keeper, &mut topic, &[FOUR, BEFORE]);
 }
 
-fn has_four<J: Naming, R: Abort>(rt: &R, cell: &mut Lone<J>) -> bool {
+fn has_four(answer: Answer) -> bool {
     matches!(
-        asked(rt, cell, Event::Progress),
-        Reply::Progress {
+        answer,
+        Answer::Progress {
             durable: 4,
             length: 4
         }
     )
 }
 
-fn go_on<J: Naming, R: Abort + AllocGlobal>(rt: &R, keeper: &mut Rows<J>) {
-    let mut cell = restarted(rt, keeper);
-    assert!(rt; has_four(rt, &mut cell));
-    assert!(rt; cell.stored().is_some());
-    play(rt, &mut cell, AFTER);
-    round(rt, keeper, &mut cell);
-    check_stands(rt, keeper, &cell);
+fn go_on<K: Keeps, R: Abort + AllocGlobal>(rt: &R, keeper: &mut K) {
+    let (_, mut topic) = resumed(rt, keeper, T);
+    assert!(rt; has_four(K::ask(rt, &mut topic, "progress")));
+    assert!(rt; K::is_stored(&topic));
+    play::<K, R>(rt, &mut topic, AFTER);
+    round(rt, keeper, &mut topic);
+    check_stands(rt, keeper, &topic);
 }
 
-fn go_on_again<J: Naming, R: Abort + AllocGlobal>(rt: &R, keeper: &mut Rows<J>) {
-    let mut cell = restarted(rt, keeper);
-    assert!(rt; !cell.is_by_word());
-    round(rt, keeper, &mut cell);
-    check_stands(rt, keeper, &cell);
+fn go_on_again<K: Keeps, R: Abort + AllocGlobal>(rt: &R, keeper: &mut K) {
+    let (_, mut topic) = resumed(rt, keeper, T);
+    assert!(rt; !K::is_by_word(&topic));
+    round(rt, keeper, &mut topic);
+    check_stands(rt, keeper, &topic);
 }
 
 #[derive(Drop)]
 struct GoesOn;
 
 impl Scene for GoesOn {
-    fn play<J: Naming, R: Abort + AllocGlobal>(&self, rt: &R, mut keeper: Rows<J>) {
+    fn play<K: Keeps, R: Abort + AllocGlobal>(&self, rt: &R, mut keeper: K) {
         begin(rt, &mut keeper);
         go_on(rt, &mut keeper);
         go_on_again(rt, &mut keeper);
@@ -94,5 +69,5 @@ impl Scene for GoesOn {
 
 #[test]
 fn it_goes_on_from_its_rows(rt: HostRuntime) {
-    with_keeper(&rt, &GoesOn);
+    in_memory(&rt, &GoesOn);
 }

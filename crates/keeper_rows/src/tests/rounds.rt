@@ -1,41 +1,39 @@
 // Rounds one after the other, each by what changed since the one before.
-use super::world::{
-    FOUR, Lone, Rows, Scene, T, U, check_stands, fresh, has_none, play, play_rounds, round,
-    snapshot_of, stands, with_keeper,
-};
-use marks::Naming;
+use super::keepers::in_memory;
+use super::keeps::{Keeps, Scene};
+use super::plays::{FOUR, T, U, check_stands, has_none, play, play_rounds, round};
 use std::process::Abort;
 
 /// The one is stored, and then the other.
-fn store_both<J: Naming, R: Abort + AllocGlobal>(
+fn store_both<K: Keeps, R: Abort + AllocGlobal>(
     rt: &R,
-    keeper: &mut Rows<J>,
-    one: &mut Lone<J>,
-    other: &mut Lone<J>,
+    keeper: &mut K,
+    one: &mut K::Topic,
+    other: &mut K::Topic,
 ) {
-    play(rt, one, FOUR);
+    play::<K, R>(rt, one, FOUR);
     round(rt, keeper, one);
     assert!(rt; has_none(rt, keeper, U));
-    play(rt, other, FOUR);
+    play::<K, R>(rt, other, FOUR);
     round(rt, keeper, other);
 }
 
 /// Both go on, and the one is stored, while the other's rows stay.
-fn store_one<J: Naming, R: Abort + AllocGlobal>(
+fn store_one<K: Keeps, R: Abort + AllocGlobal>(
     rt: &R,
-    keeper: &mut Rows<J>,
-    one: &mut Lone<J>,
-    other: &mut Lone<J>,
+    keeper: &mut K,
+    one: &mut K::Topic,
+    other: &mut K::Topic,
 ) {
-    let kept = snapshot_of(rt, other);
-    play(
+    let kept = K::snapshot_of(rt, other);
+    play::<K, R>(
         rt,
         one,
         "publish 1 4 - aGk= 1004\nsubscribe s Shared 0 push:10 0 100 1 - Earliest\n",
     );
-    play(rt, other, "publish 1 4 - aGk= 1004\n");
+    play::<K, R>(rt, other, "publish 1 4 - aGk= 1004\n");
     round(rt, keeper, one);
-    assert!(rt; stands(rt, keeper, &kept));
+    assert!(rt; keeper.stands(&kept));
     check_stands(rt, keeper, one);
 }
 
@@ -44,9 +42,9 @@ fn store_one<J: Naming, R: Abort + AllocGlobal>(
 struct TwoTopics;
 
 impl Scene for TwoTopics {
-    fn play<J: Naming, R: Abort + AllocGlobal>(&self, rt: &R, mut keeper: Rows<J>) {
-        let mut one = fresh(rt, T);
-        let mut other = fresh(rt, U);
+    fn play<K: Keeps, R: Abort + AllocGlobal>(&self, rt: &R, mut keeper: K) {
+        let mut one = K::fresh(rt, T);
+        let mut other = K::fresh(rt, U);
         store_both(rt, &mut keeper, &mut one, &mut other);
         store_one(rt, &mut keeper, &mut one, &mut other);
         round(rt, &mut keeper, &mut other);
@@ -57,7 +55,7 @@ impl Scene for TwoTopics {
 
 #[test]
 fn two_topics(rt: HostRuntime) {
-    with_keeper(&rt, &TwoTopics);
+    in_memory(&rt, &TwoTopics);
 }
 
 /// A topic is played part by part, with a round after each, and then loaded.
@@ -67,8 +65,8 @@ struct Parts {
 }
 
 impl Scene for Parts {
-    fn play<J: Naming, R: Abort + AllocGlobal>(&self, rt: &R, mut keeper: Rows<J>) {
-        let mut cell = fresh(rt, T);
+    fn play<K: Keeps, R: Abort + AllocGlobal>(&self, rt: &R, mut keeper: K) {
+        let mut cell = K::fresh(rt, T);
         play_rounds(rt, &mut keeper, &mut cell, self.parts);
         check_stands(rt, &mut keeper, &cell);
     }
@@ -78,7 +76,7 @@ impl Scene for Parts {
 fn check_parts<R: Abort + AllocGlobal>(rt: &R, parts: &'static [&'static str]) {
     for count in 1..=parts.len() {
         let (parts, _) = parts.split_at(count);
-        with_keeper(rt, &Parts { parts });
+        in_memory(rt, &Parts { parts });
     }
 }
 

@@ -1,6 +1,7 @@
 // How many rows a round writes.
-use super::world::{FOUR, Lone, Rows, Scene, T, fresh, play, round, with_keeper};
-use marks::Naming;
+use super::keepers::in_memory;
+use super::keeps::{Keeps, Scene};
+use super::plays::{FOUR, T, play, round};
 use row_store::Written;
 use std::process::Abort;
 
@@ -38,14 +39,14 @@ fn counts(written: Written) -> Counts {
     )
 }
 
-fn check_step<J: Naming, R: Abort + AllocGlobal>(
+fn check_step<K: Keeps, R: Abort + AllocGlobal>(
     rt: &R,
-    keeper: &mut Rows<J>,
-    cell: &mut Lone<J>,
+    keeper: &mut K,
+    cell: &mut K::Topic,
     part: &str,
     wanted: Counts,
 ) {
-    play(rt, cell, part);
+    play::<K, R>(rt, cell, part);
     round(rt, keeper, cell);
     assert!(rt; counts(keeper.written()) == wanted, "{part}");
 }
@@ -54,8 +55,8 @@ fn check_step<J: Naming, R: Abort + AllocGlobal>(
 struct Counted;
 
 impl Scene for Counted {
-    fn play<J: Naming, R: Abort + AllocGlobal>(&self, rt: &R, mut keeper: Rows<J>) {
-        let mut cell = fresh(rt, T);
+    fn play<K: Keeps, R: Abort + AllocGlobal>(&self, rt: &R, mut keeper: K) {
+        let mut cell = K::fresh(rt, T);
         for (part, wanted) in STEPS {
             check_step(rt, &mut keeper, &mut cell, part, wanted);
         }
@@ -64,5 +65,5 @@ impl Scene for Counted {
 
 #[test]
 fn rows_of_rounds(rt: HostRuntime) {
-    with_keeper(&rt, &Counted);
+    in_memory(&rt, &Counted);
 }

@@ -1,0 +1,93 @@
+// What is done while a disk stops.
+use super::keeps::Keeps;
+use super::plays::{T, U, play, view};
+use std::process::Abort;
+
+const FIRST: &str = "producer p -
+publish 1 0 - aGk= 1000
+publish 1 1 k - 1001
+subscribe s Shared 0 push:10 0 100 1 - Earliest
+subscribe t Exclusive 0 push:10 0 100 1 - Latest
+";
+
+const LATER: &str = "producer p -
+publish 1 2 - aGk= 1002
+publish 1 3 - aGk= 1003
+subscribe s Shared 0 push:10 0 100 1 - Earliest
+dispatch s 1000
+ack 1 CAAQAA==
+dropsub t
+seek s latest
+";
+
+#[derive(Clone, Copy)]
+pub(super) enum Work {
+    /// The tables are made.
+    Create,
+    /// One topic is stored.
+    Round,
+    /// Two topics are stored at once.
+    Store,
+}
+
+fn first<K: Keeps, R: Abort + AllocGlobal>(rt: &R, name: &str) -> K::Topic {
+    let mut topic = K::fresh(rt, name);
+    play::<K, R>(rt, &mut topic, FIRST);
+    topic
+}
+
+fn later<K: Keeps, R: Abort + AllocGlobal>(rt: &R, mut topic: K::Topic) -> K::Topic {
+    play::<K, R>(rt, &mut topic, LATER);
+    topic
+}
+
+/// The topic goes on from its rows, or begins. None where they cannot be read.
+fn played<K: Keeps, R: Abort + AllocGlobal>(
+    rt: &R,
+    keeper: &mut K,
+    name: &str,
+) -> Option<K::Topic> {
+    match keeper.resume(rt, name) {
+        Ok(Some((_, topic))) => Some(later::<K, R>(rt, topic)),
+        Ok(None) => Some(first::<K, R>(rt, name)),
+        Err(_) => None,
+    }
+}
+
+fn is_one_stored<K: Keeps, R: Abort + AllocGlobal>(rt: &R, keeper: &mut K) -> bool {
+    match played(rt, keeper, T) {
+        Some(mut topic) => keeper.round(&mut topic).is_ok(),
+        None => false,
+    }
+}
+
+fn view_played<K: Keeps, R: Abort + AllocGlobal>(
+    rt: &R,
+    keeper: &mut K,
+    name: &str,
+    parts: &mut Vec<K::Part>,
+) {
+    if let Some(mut topic) = played(rt, keeper, name) {
+        view(rt, keeper, &mut topic, parts);
+    }
+}
+
+fn are_both_stored<K: Keeps, R: Abort + AllocGlobal>(rt: &R, keeper: &mut K) -> bool {
+    let mut parts = Vec::new(rt.alloc());
+    view_played(rt, keeper, T, &mut parts);
+    view_played(rt, keeper, U, &mut parts);
+    parts.len() == 2 && keeper.store(parts).is_ok()
+}
+
+/// Whether the work was done.
+pub(super) fn is_done<K: Keeps, R: Abort + AllocGlobal>(
+    rt: &R,
+    keeper: &mut K,
+    work: Work,
+) -> bool {
+    match work {
+        Work::Create => true,
+        Work::Round => is_one_stored(rt, keeper),
+        Work::Store => are_both_stored(rt, keeper),
+    }
+}
