@@ -5,6 +5,7 @@ mod breaks;
 mod broken;
 mod confirming;
 mod dice;
+mod differences;
 mod disks;
 mod failing;
 mod keepers;
