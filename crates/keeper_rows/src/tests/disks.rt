@@ -1,14 +1,14 @@
 // Databases on disks in memory that stop after so many calls, and what a stop leaves of them.
 ghost use Rattle.std.specs.Prelude.{◌≡◌};
 
-use super::keepers::over;
+use super::keepers::{over, started, store_of, taken};
 use super::keeps::{Keeps, Scene};
 use super::plays::{T, U};
 use super::same::same;
 use super::stops::{Machine, NEVER, Outcome, Stop};
 use super::works::{Work, is_done};
 use delivery_machine::Snapshot;
-use kept_rows::{Note, Notes};
+use kept_rows::Note;
 use marks::{Naming, Unnamed};
 use row_store::{Keeper, Refused};
 use sqlite::{Connection, FileStore, Files, Options};
@@ -101,8 +101,7 @@ fn worked<J: Naming, R: Abort + AllocGlobal>(
     work: Work,
 ) -> Outcome<Image> {
     let done = is_done(rt, &mut keeper, work);
-    let (conn, _) = keeper.into_parts();
-    left_in(rt, conn.into_store().close(), done)
+    left_in(rt, store_of(keeper).close(), done)
 }
 
 fn run<J: Naming, R: Abort + AllocGlobal>(
@@ -113,7 +112,7 @@ fn run<J: Naming, R: Abort + AllocGlobal>(
 ) -> Outcome<Image>
     requires { history ≡ J.book }
 {
-    match Keeper::start(rt.alloc(), conn, Notes::<J>::new(history)) {
+    match started::<Store, J, R>(rt, conn, history) {
         Ok(keeper) => worked(rt, keeper, work),
         Err(refused) => untaken(rt, refused),
     }
@@ -142,8 +141,8 @@ fn look<J: Naming, R: Abort + AllocGlobal>(
 ) -> Seen
     requires { history ≡ J.book }
 {
-    let keeper = Keeper::start(rt.alloc(), conn, Notes::<J>::new(history));
-    let mut keeper = keeper.ok().expect(rt, "not taken");
+    let keeper = taken(started::<Store, J, R>(rt, conn, history));
+    let mut keeper = keeper.expect(rt, "not taken");
     Seen {
         one: shown(rt, &mut keeper, T),
         other: shown(rt, &mut keeper, U),

@@ -21,7 +21,7 @@ pub(super) struct Database<S: Alter + Drop, J: Naming> {
 }
 
 /// The keeper, or why there is none.
-fn taken<S: Alter + Drop, J: Naming>(
+pub(super) fn taken<S: Alter + Drop, J: Naming>(
     outcome: Result<Keeper<S, J>, Refused<S, J>>,
 ) -> Result<Keeper<S, J>, Fault> {
     match outcome {
@@ -173,6 +173,23 @@ impl<S: Alter + Drop, J: Naming> Keeps for Keeper<S, J> {
     }
 }
 
+/// A keeper over the database, or why there is none, with what the database stands on.
+pub(super) fn started<S: Alter + Drop, J: Naming, R: AllocGlobal>(
+    rt: &R,
+    conn: Connection<S>,
+    history: Unnamed<Note>,
+) -> Result<Keeper<S, J>, Refused<S, J>>
+    requires { history ≡ J.book }
+{
+    Keeper::start(rt.alloc(), conn, Notes::new(history))
+}
+
+/// What the keeper's database stands on.
+pub(super) fn store_of<S: Alter + Drop, J: Naming>(keeper: Keeper<S, J>) -> S {
+    let (conn, _) = keeper.into_parts();
+    conn.into_store()
+}
+
 fn run<S: Alter + Drop, J: Naming, X: Scene, R: Abort + AllocGlobal>(
     rt: &R,
     conn: Connection<S>,
@@ -181,8 +198,8 @@ fn run<S: Alter + Drop, J: Naming, X: Scene, R: Abort + AllocGlobal>(
 )
     requires { history ≡ J.book }
 {
-    let keeper = Keeper::start(rt.alloc(), conn, Notes::<J>::new(history));
-    scene.play::<Keeper<S, J>, R>(rt, keeper.ok().expect(rt, "no memory"));
+    let keeper = taken(started::<S, J, R>(rt, conn, history));
+    scene.play::<Keeper<S, J>, R>(rt, keeper.expect(rt, "no memory"));
 }
 
 /// Plays the scene over an empty database.

@@ -8,11 +8,11 @@ mod loads;
 mod measure;
 mod stores;
 
+use super::keepers::{started, taken};
 use super::keeps::Keeps;
-use kept_rows::{Note, Notes};
+use kept_rows::Note;
 use marks::{Naming, Unnamed};
 use measure::Measure;
-use row_store::Keeper;
 use sqlite::{Alter, Connection};
 use std::env;
 use std::marker::Brand;
@@ -33,8 +33,8 @@ fn tables<J: Naming, S: Alter + Drop, R: Abort + AllocGlobal>(
 ) -> Connection<S>
     requires { history ≡ J.book }
 {
-    let keeper = Keeper::start(measure.rt.alloc(), conn, Notes::<J>::new(history));
-    let (mut conn, _) = keeper.ok().expect(measure.rt, "no tables").into_parts();
+    let keeper = taken(started::<S, J, R>(measure.rt, conn, history));
+    let (mut conn, _) = keeper.expect(measure.rt, "no tables").into_parts();
     let filled = filling::fill(measure.host, &mut conn, measure.size);
     filled.ok().expect(measure.rt, "not filled");
     conn
@@ -56,8 +56,8 @@ fn play<J: Naming, S: Alter + Drop, R: Abort + AllocGlobal>(
     requires { history ≡ J.book }
 {
     let start = measure.start();
-    let keeper = Keeper::start(measure.rt.alloc(), conn, Notes::<J>::new(history));
-    let mut keeper = keeper.ok().expect(measure.rt, "no tables");
+    let keeper = taken(started::<S, J, R>(measure.rt, conn, history));
+    let mut keeper = keeper.expect(measure.rt, "no tables");
     measure.end("start", start);
     time_keeper(measure, &mut keeper);
     let (mut conn, _) = keeper.into_parts();
