@@ -95,13 +95,23 @@ fn untaken<J: Naming, R: Abort + AllocGlobal>(
     left_in(rt, refused.store.close(), false)
 }
 
+/// The keeper's database after the work, and whether that was done.
+fn after<K: Keeps, R: Abort + AllocGlobal>(
+    rt: &R,
+    mut keeper: K,
+    work: Work,
+) -> (K::Database, bool) {
+    let done = is_done(rt, &mut keeper, work);
+    (keeper.into_database(), done)
+}
+
 fn worked<J: Naming, R: Abort + AllocGlobal>(
     rt: &R,
-    mut keeper: Keeper<Store, J>,
+    keeper: Keeper<Store, J>,
     work: Work,
 ) -> Outcome<Image> {
-    let done = is_done(rt, &mut keeper, work);
-    left_in(rt, store_of(keeper).close(), done)
+    let (database, done) = after(rt, keeper, work);
+    left_in(rt, store_of(database).close(), done)
 }
 
 fn run<J: Naming, R: Abort + AllocGlobal>(
@@ -134,6 +144,16 @@ fn shown<K: Keeps, R: Abort + AllocGlobal>(
     keeper.show(rt, name).expect(rt, "not loaded")
 }
 
+/// What the rows of two topics show.
+fn shown_both<K: Keeps, R: Abort + AllocGlobal>(
+    rt: &R,
+    mut keeper: K,
+) -> (Option<K::Snapshot>, Option<K::Snapshot>) {
+    let one = shown(rt, &mut keeper, T);
+    let other = shown(rt, &mut keeper, U);
+    (one, other)
+}
+
 fn look<J: Naming, R: Abort + AllocGlobal>(
     rt: &R,
     conn: Connection<Store>,
@@ -142,11 +162,8 @@ fn look<J: Naming, R: Abort + AllocGlobal>(
     requires { history ≡ J.book }
 {
     let keeper = taken(started::<Store, J, R>(rt, conn, history));
-    let mut keeper = keeper.expect(rt, "not taken");
-    Seen {
-        one: shown(rt, &mut keeper, T),
-        other: shown(rt, &mut keeper, U),
-    }
+    let (one, other) = shown_both(rt, keeper.expect(rt, "not taken"));
+    Seen { one, other }
 }
 
 fn look_over<R: Abort + AllocGlobal>(rt: &R, conn: Connection<Store>) -> Seen {

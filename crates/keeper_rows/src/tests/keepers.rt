@@ -184,9 +184,9 @@ pub(super) fn started<S: Alter + Drop, J: Naming, R: AllocGlobal>(
     Keeper::start(rt.alloc(), conn, Notes::new(history))
 }
 
-/// What the keeper's database stands on.
-pub(super) fn store_of<S: Alter + Drop, J: Naming>(keeper: Keeper<S, J>) -> S {
-    let (conn, _) = keeper.into_parts();
+/// What the database stands on.
+pub(super) fn store_of<S: Alter + Drop, J: Naming>(database: Database<S, J>) -> S {
+    let Database { conn, notes: _ } = database;
     conn.into_store()
 }
 

@@ -41,10 +41,14 @@ fn tables<J: Naming, S: Alter + Drop, R: Abort + AllocGlobal>(
 }
 
 /// What is timed of a keeper over a database that is full.
-fn time_keeper<K: Keeps, R: Abort + AllocGlobal>(measure: &Measure<'_, R>, keeper: &mut K) {
-    loads::load(measure, keeper);
-    stores::rounds(measure, keeper);
-    stores::many(measure, keeper);
+fn time_keeper<K: Keeps, R: Abort + AllocGlobal>(
+    measure: &Measure<'_, R>,
+    mut keeper: K,
+) -> K::Database {
+    loads::load(measure, &mut keeper);
+    stores::rounds(measure, &mut keeper);
+    stores::many(measure, &mut keeper);
+    keeper.into_database()
 }
 
 /// What is timed, over a database that is full.
@@ -57,11 +61,10 @@ fn play<J: Naming, S: Alter + Drop, R: Abort + AllocGlobal>(
 {
     let start = measure.start();
     let keeper = taken(started::<S, J, R>(measure.rt, conn, history));
-    let mut keeper = keeper.expect(measure.rt, "no tables");
+    let keeper = keeper.expect(measure.rt, "no tables");
     measure.end("start", start);
-    time_keeper(measure, &mut keeper);
-    let (mut conn, _) = keeper.into_parts();
-    let rows = bare::rows(measure, &mut conn);
+    let mut database = time_keeper(measure, keeper);
+    let rows = bare::rows(measure, &mut database.conn);
     rows.ok().expect(measure.rt, "no rows");
 }
 
