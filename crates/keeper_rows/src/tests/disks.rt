@@ -10,8 +10,8 @@ use super::works::{Work, is_done};
 use delivery_machine::Snapshot;
 use kept_rows::Note;
 use marks::{Naming, Unnamed};
-use row_store::{Keeper, Refused};
-use sqlite::{Connection, FileStore, Files, Options};
+use row_store::Keeper;
+use sqlite::{Alter, Connection, FileStore, Files, Options};
 use sqlite_disk::{Crash, Disk, Fuse, Memory};
 use std::marker::Brand;
 use std::process::Abort;
@@ -88,13 +88,6 @@ fn open<R: Abort + AllocGlobal>(
     }
 }
 
-fn untaken<J: Naming, R: Abort + AllocGlobal>(
-    rt: &R,
-    refused: Refused<Store, J>,
-) -> Outcome<Image> {
-    left_in(rt, refused.store.close(), false)
-}
-
 /// The keeper's database after the work, and whether that was done.
 fn after<K: Keeps, R: Abort + AllocGlobal>(
     rt: &R,
@@ -105,26 +98,27 @@ fn after<K: Keeps, R: Abort + AllocGlobal>(
     (keeper.into_database(), done)
 }
 
-fn worked<J: Naming, R: Abort + AllocGlobal>(
+fn worked<S: Alter + Drop, J: Naming, R: Abort + AllocGlobal>(
     rt: &R,
-    keeper: Keeper<Store, J>,
+    keeper: Keeper<S, J>,
     work: Work,
-) -> Outcome<Image> {
+) -> (S, bool) {
     let (database, done) = after(rt, keeper, work);
-    left_in(rt, store_of(database).close(), done)
+    (store_of(database), done)
 }
 
-fn run<J: Naming, R: Abort + AllocGlobal>(
+/// What the database stands on after the work, and whether that was done.
+fn run<S: Alter + Drop, J: Naming, R: Abort + AllocGlobal>(
     rt: &R,
-    conn: Connection<Store>,
+    conn: Connection<S>,
     work: Work,
     history: Unnamed<Note>,
-) -> Outcome<Image>
+) -> (S, bool)
     requires { history ≡ J.book }
 {
-    match started::<Store, J, R>(rt, conn, history) {
+    match started::<S, J, R>(rt, conn, history) {
         Ok(keeper) => worked(rt, keeper, work),
-        Err(refused) => untaken(rt, refused),
+        Err(refused) => (refused.store, false),
     }
 }
 
@@ -133,7 +127,8 @@ fn work_over<R: Abort + AllocGlobal>(
     conn: Connection<Store>,
     work: Work,
 ) -> Outcome<Image> {
-    run::<Brand, R>(rt, conn, work, Unnamed::new())
+    let (store, done) = run::<Store, Brand, R>(rt, conn, work, Unnamed::new());
+    left_in(rt, store.close(), done)
 }
 
 fn shown<K: Keeps, R: Abort + AllocGlobal>(
@@ -154,20 +149,20 @@ fn shown_both<K: Keeps, R: Abort + AllocGlobal>(
     (one, other)
 }
 
-fn look<J: Naming, R: Abort + AllocGlobal>(
+fn look<S: Alter + Drop, J: Naming, R: Abort + AllocGlobal>(
     rt: &R,
-    conn: Connection<Store>,
+    conn: Connection<S>,
     history: Unnamed<Note>,
 ) -> Seen
     requires { history ≡ J.book }
 {
-    let keeper = taken(started::<Store, J, R>(rt, conn, history));
+    let keeper = taken(started::<S, J, R>(rt, conn, history));
     let (one, other) = shown_both(rt, keeper.expect(rt, "not taken"));
     Seen { one, other }
 }
 
 fn look_over<R: Abort + AllocGlobal>(rt: &R, conn: Connection<Store>) -> Seen {
-    look::<Brand, R>(rt, conn, Unnamed::new())
+    look::<Store, Brand, R>(rt, conn, Unnamed::new())
 }
 
 fn whole<R: Abort + AllocGlobal>(rt: &R, image: &Image) -> Connection<Store> {
