@@ -25,6 +25,7 @@ fn first_free(taken: &[bool]) -> Option<usize>
     taken.iter().position(|is_taken| !*is_taken)
 }
 
+/// Takes the first free seat. Seats count from 1 on; refused (F21) where none is free.
 pub fn enter(taken: &mut Vec<bool>) -> Result<u64, Fault>
     ensures ok { IfOk result (λ seat. IsFree taken.old.items seat × (taken.new.items ≡ set taken.old.items (seat - 1) true)) }
     ensures err { OnErr result (taken.new.items ≡ taken.old.items) }
@@ -40,6 +41,7 @@ pub fn enter(taken: &mut Vec<bool>) -> Result<u64, Fault>
     }
 }
 
+/// Frees the seat. All stays where there is no such seat, as 0.
 pub fn exit(taken: &mut Vec<bool>, seat: u64)
     ensures { taken.new.items ≡ without_seat taken.old.items seat }
 {
