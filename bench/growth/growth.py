@@ -8,7 +8,8 @@ again. What a turn costs is the program's processor time over these lines, less 
 same words that are refused at once (nobody has the number, nothing has the name): so reading and writing lines
 does not count, and 0 is no more than a refusal. Where a message is collected, its copy is written out with its
 payload, which no refusal is; what that takes is measured apart, at many copies of one answer, and taken off too.
-Each case has topics of its own, several of them, and the median is printed.
+Each case has topics of its own, several of them, and the median is printed. Where one topic has room for few
+turns, as a small one has, more topics of the same making are asked, until so many turns are measured together.
 """
 import argparse
 import base64
@@ -327,16 +328,29 @@ def times_of(turn, made):
     return 2_000
 
 
+# How many turns are measured together, where they are short.
+TURNS = 5_000
+
+
+def turns_of_a_topic(asked, turn, made, times):
+    """The nanoseconds of a turn, of so many at a topic of its own."""
+    topic = Topic(asked.program, **made)
+    if turn in (seeks, seeks_by_time):
+        # what the first one drops is not measured
+        topic.measure(turn, 2)
+    cost = topic.measure(turn, times)
+    topic.replay.end()
+    return cost
+
+
 def cell(asked, turn, made):
+    times = min(times_of(turn, made), asked.times)
+    is_long = turn is rejoins and "keys" in made
+    topics = 1 if is_long else -(-min(TURNS, asked.times) // times)
     costs = []
     for _ in range(asked.turns):
-        topic = Topic(asked.program, **made)
-        if turn in (seeks, seeks_by_time):
-            # what the first one drops is not measured
-            topic.measure(turn, 2)
-        cost = topic.measure(turn, min(times_of(turn, made), asked.times))
+        cost = statistics.mean(turns_of_a_topic(asked, turn, made, times) for _ in range(topics))
         costs.append(cost - asked.writing if turn is cycle else cost)
-        topic.replay.end()
     return statistics.median(costs)
 
 
