@@ -62,18 +62,6 @@ impl Parts {
         self.subscriptions[place].release(position);
     }
 
-    /// Takes a message back that is pending in the subscription at the place, and counts it once more. Its
-    /// copy may still be collected.
-    pub fn recount(&mut self, place: usize, position: Position)
-        requires tied { AreTied self.old }
-        requires within { place < length self.old.subscriptions.items }
-        requires pending { IsAt self.old place (λ p. map_of.contains_key p.pending.pending position ≡ true) }
-        ensures changes { ChangesAt place (redelivered_at position) (redelivering (position ∷ [])) self.old self.new }
-        ensures tied { AreTied self.new }
-    {
-        self.subscriptions[place].redeliver(position);
-    }
-
     /// Takes a message back that is pending in the subscription at the place, counts it once more, and leaves
     /// its copy out of what its holder was sent.
     pub fn redeliver(&mut self, place: usize, position: Position)
