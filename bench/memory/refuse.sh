@@ -3,13 +3,13 @@
 # of memory: an answer that differs after an event was asked once more, rows that are others than before, or a crash.
 # Run from the repository, after the crate's tests are built (`cd crates/NAME && rt test`):
 #   sh bench/memory/refuse.sh [step [crate test]]
-# The tests that are meant for it are both_topics's tests::memory::a_refusal_changes_nothing, which is run if none is
-# named, and keeper_rows's tests::memory::a_round_for_want_of_memory.
+# The tests that are meant for it are topic_tests's tests::both_topics::memory::a_refusal_changes_nothing, which is run
+# if none is named, and keeper_rows's tests::memory::a_round_for_want_of_memory.
 set -eu
 here=$(dirname "$0")
 step=${1:-1}
-crate=${2:-both_topics}
-asked=${3:-tests::memory::a_refusal_changes_nothing}
+crate=${2:-topic_tests}
+asked=${3:-tests::both_topics::memory::a_refusal_changes_nothing}
 tests=$here/../../crates/$crate/out/${crate}_tests
 shim=$(mktemp -d)/refuse.so
 cc -O2 -shared -fPIC -o "$shim" "$here/refuse.c" -ldl

@@ -33,7 +33,7 @@ fn member_in<'a>(members: &'a [Member], name: &SubscriptionName, place: u64) -> 
 }
 
 impl View for ListView<'_> {
-    ghost use Rattle.scenes.specs.Listed.{listed};
+    ghost use Rattle.part_tests.specs.Listed.{listed};
 
     ghost state = { λ v. listed v.log.now v.durable v.members.now };
 

@@ -36,7 +36,7 @@ impl<'a> CountedView<'a> {
 }
 
 impl View for CountedView<'_> {
-    ghost use Rattle.scenes.specs.Listed.{listed};
+    ghost use Rattle.part_tests.specs.Listed.{listed};
 
     ghost state = { λ v. listed v.list.log.now v.list.durable v.list.members.now };
 

@@ -2,7 +2,7 @@
 ghost use Rattle.std.specs.Prelude.{◌≡◌, [], IsTrue};
 ghost use Rattle.delivery_machine.specs.Words.{members_of};
 ghost use Rattle.dispatch_core.specs.Changes.{Joined, Kept};
-ghost use Rattle.scenes.specs.Listed.{listed};
+ghost use Rattle.part_tests.specs.Listed.{listed};
 
 use super::member::{Takes, new_member};
 use super::message::new_log;

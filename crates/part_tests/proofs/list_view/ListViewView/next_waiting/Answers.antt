@@ -1,7 +1,7 @@
 use Rattle.std.proofs.Common.{arith}
-use Rattle.scenes.specs.Listed.{listed}
-use Rattle.scenes.proofs.NextWaiting.{next_found, passed_over}
-use Rattle.scenes.proofs.list_view.ListViewView.next_waiting.Goals as goal
+use Rattle.part_tests.specs.Listed.{listed}
+use Rattle.part_tests.proofs.NextWaiting.{next_found, passed_over}
+use Rattle.part_tests.proofs.list_view.ListViewView.next_waiting.Goals as goal
 
 pub returns-then-is_waiting-clause-some : goal.returns-then-is_waiting-clause-some
 returns-then-is_waiting-clause-some c =

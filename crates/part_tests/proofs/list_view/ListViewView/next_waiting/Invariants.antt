@@ -1,7 +1,7 @@
 use Rattle.std.proofs.Common.{ℕ, ◌<◌, ◌≤◌}
-use Rattle.scenes.specs.Listed.{listed}
+use Rattle.part_tests.specs.Listed.{listed}
 use Rattle.dispatch_core.specs.Log.{IsReadyAt}
-use Rattle.scenes.proofs.list_view.ListViewView.next_waiting.Given as goal
+use Rattle.part_tests.proofs.list_view.ListViewView.next_waiting.Given as goal
 
 abbrev pub invariant-loop-index : goal.invariant-loop-index
 invariant-loop-index l =

@@ -5,8 +5,8 @@ use Rattle.delivery_machine.specs.State.{Subscription, Member}
 use Rattle.delivery_machine.specs.Joining.{joining}
 use Rattle.dispatch_core.specs.Changes.{Joined}
 use Rattle.dispatch_core.specs.Log.{waits_at, holder_at, line_of}
-use Rattle.scenes.specs.Listed.{listed}
-use Rattle.scenes.proofs.tests.law.expect_law.Goals as goal
+use Rattle.part_tests.specs.Listed.{listed}
+use Rattle.part_tests.proofs.tests.scenes.law.expect_law.Goals as goal
 
 joined_alone : (log : List Entry) (durable : ℕ) (sub : Subscription) (m : Member) (n : ℕ) → m.number ≡ n → m.subscription ≡ sub.name → Joined n (listed log durable []) sub (listed log durable (m ∷ [])) (joining sub.kind n sub)
 unfolding waits_at holder_at line_of

@@ -3,8 +3,8 @@ use Rattle.position_core.specs.declared.message.Entry.{Entry}
 use Rattle.delivery_machine.specs.State.{Subscription, Member}
 use Rattle.dispatch_core.specs.Changes.{Kept}
 use Rattle.dispatch_core.specs.Log.{waits_at, holder_at, line_of}
-use Rattle.scenes.specs.Listed.{listed}
-use Rattle.scenes.proofs.tests.law.expect_offers.Goals as goal
+use Rattle.part_tests.specs.Listed.{listed}
+use Rattle.part_tests.proofs.tests.scenes.law.expect_offers.Goals as goal
 
 more_stored : (log : List Entry) (before after : ℕ) (sub : Subscription) (ms : List Member) → before ≤ after → Kept (listed log before ms) sub (listed log after ms) sub
 unfolding waits_at holder_at line_of

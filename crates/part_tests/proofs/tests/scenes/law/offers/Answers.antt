@@ -1,4 +1,4 @@
-use Rattle.scenes.proofs.tests.law.offers.Goals as goal
+use Rattle.part_tests.proofs.tests.scenes.law.offers.Goals as goal
 
 pub offer-requires : goal.offer-requires
 offer-requires g c = c.in_ok-on_join.ensures.ok _ _ c.requires.joins c.in_ok-dispatcher.ensures.ok

@@ -1,4 +1,4 @@
-use Rattle.server_rows.proofs.tests.world.with_rows.Given as goal
+use Rattle.server_tests.proofs.tests.directory.world.with_rows.Given as goal
 
 -- the history that was just opened
 abbrev pub ghosts-run : goal.ghosts-run

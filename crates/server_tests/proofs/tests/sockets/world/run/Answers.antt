@@ -8,7 +8,7 @@ use Rattle.sqlite_trees.specs.contracts.memory.MemStore as Mem
 use Rattle.sqlite_trees.specs.contracts.memory.MemStoreStore.TheImpl as MemStore
 use Rattle.sqlite_trees.proofs.memory.MemStore.TheSendSync.{the_send as mem_send}
 use Rattle.worker_pool.proofs.Crosses.{Place-send, Place-sync}
-use Rattle.server_sockets.proofs.tests.world.run.Goals as goal
+use Rattle.server_tests.proofs.tests.sockets.world.run.Goals as goal
 
 -- nothing is left behind in any field
 pub serve-ended-requires-send-X : goal.serve-ended-requires-send-X

@@ -1,4 +1,4 @@
-use Rattle.server_sockets.proofs.tests.world.serve_all.Given as goal
+use Rattle.server_tests.proofs.tests.sockets.world.serve_all.Given as goal
 
 -- the history that was just opened
 abbrev pub ghosts-run : goal.ghosts-run

@@ -1,4 +1,4 @@
-use Rattle.shared_rows.proofs.tests.receipts.receipts.Given as goal
+use Rattle.topic_tests.proofs.tests.shared_topic.receipts.receipts.Given as goal
 
 abbrev pub ghosts-run-L-Ledger : goal.ghosts-run-L-Ledger
 ghosts-run-L-Ledger g a = record { name = a.blank.name; parts = a.blank.parts }

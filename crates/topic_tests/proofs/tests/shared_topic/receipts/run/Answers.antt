@@ -5,7 +5,7 @@ use Rattle.topic_core.specs.contracts.topic.TopicCore as Core
 use Rattle.topic_core.specs.contracts.topic.TopicCoreTopic.TheImpl as TopicCore
 use Rattle.topic_core.proofs.topic.TopicCore.TheSendSync.{the_send as core_send}
 use Rattle.topic_shared.proofs.Crosses.{Shared-sync}
-use Rattle.shared_rows.proofs.tests.receipts.run.Goals as goal
+use Rattle.topic_tests.proofs.tests.shared_topic.receipts.run.Goals as goal
 
 pub by_all-requires-sync-X : goal.by_all-requires-sync-X
 by_all-requires-sync-X g c κs within =

@@ -1,0 +1,3 @@
+// Values and small structures, and dispatchers.
+mod scenes;
+mod values;

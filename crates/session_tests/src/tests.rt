@@ -1,0 +1,4 @@
+// Texts and targets, sessions, and bells.
+mod bells;
+mod sessions;
+mod texts;
