@@ -86,7 +86,7 @@ impl<T: Opened + Drop, S: Alter, J: Naming, B: Bell + Drop> Directory<T, S, J, B
         source: &Arc<Shared<T, J, B>>,
         subscription: &SubscriptionName,
     ) -> Option<Courier<T, J, B>> {
-        let Ok(Some(route)) = Route::new(self.alloc, &source.name, subscription) else {
+        let Ok(route) = Route::new(self.alloc, &source.name, subscription) else {
             return None;
         };
         match Arc::try_clone(source) {

@@ -1,5 +1,5 @@
 -- How a dead letter is moved: what the courier asks next, and what it makes of the answer.
-use Rattle.std.specs.Prelude.{ℕ, ℤ, pos, negsuc, min, List, ◌∷◌, ◌++◌, codes, Option, Some, None, nat_le, if◌then◌else◌}
+use Rattle.std.specs.Prelude.{ℕ, ℤ, pos, negsuc, min, List, ◌++◌, codes, Option, Some, None, nat_le, if◌then◌else◌}
 use Rattle.position_core.specs.declared.topic_name.TopicName.{TopicName}
 use Rattle.delivery_machine.specs.declared.event.Event.{Event}
 use Rattle.delivery_machine.specs.declared.event.Event.TheVariants.{AddProducer, DropProducer, Publish, Progress, DeadNext, DeadDone}
@@ -26,6 +26,16 @@ at_source event = record { side = Source; event = event }
 
 abbrev pub at_target : Event → Move
 at_target event = record { side = Target; event = event }
+
+-- the topic that the letter in the hand goes to
+abbrev pub target_of : Hand → Option TopicName
+target_of Empty = None
+target_of (Holds letter) = Some letter.target
+target_of (Joined letter producer) = Some letter.target
+target_of (Copied letter producer length) = Some letter.target
+target_of (Leaves producer) = None
+target_of (Waits letter length) = Some letter.target
+target_of (Moved letter) = Some letter.target
 
 -- what the courier asks next, and where
 abbrev pub move_of : Route → Hand → ℕ → Move

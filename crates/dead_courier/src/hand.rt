@@ -42,8 +42,13 @@ pub enum Hand {
 }
 
 impl Hand {
+    ghost use Rattle.std.specs.Prelude.{◌≡◌, option_copied};
+    ghost use Rattle.dead_courier.specs.Moving.{target_of};
+
     /// The topic that the letter in it goes to.
-    pub fn target(&self) -> Option<&TopicName> {
+    pub fn target(&self) -> Option<&TopicName>
+        ensures { option_copied result ≡ target_of self.now }
+    {
         match self {
             Hand::Empty => None,
             Hand::Holds(letter) => Some(&letter.target),

@@ -1,5 +1,5 @@
 // Whose letters a courier moves.
-ghost use Rattle.std.specs.Prelude.{◌≡◌, ◌++◌, IfOk, IfSome, OnOk, string_bytes};
+ghost use Rattle.std.specs.Prelude.{◌≡◌, ◌≤◌, ◌++◌, length, IfOk, OnOk, string_bytes};
 ghost use Rattle.dead_courier.specs.Moving.{courier_name};
 
 use delivery_machine::{ProducerName, SubscriptionName, TopicName};
@@ -46,23 +46,36 @@ fn courier_name(
     }
 }
 
+/// The courier's name is never too long for a producer's.
+#[tactic(auto, using(crate::proofs::Names::courier_short))]
+fn know_fits(source: &TopicName, subscription: &SubscriptionName)
+    ensures least { 1 ≤ length (courier_name source.now subscription.now) }
+    ensures most { length (courier_name source.now subscription.now) ≤ 1280 }
+{
+    let _tenant = source.tenant.as_str();
+    let _namespace = source.namespace.as_str();
+    let _topic = source.topic.as_str();
+    let _subscription = subscription.as_str();
+}
+
 impl Route {
-    /// None where the courier's name would be too long for a producer's, which it is for no names of topics.
+    /// For the letters that die in the subscription of the topic.
     pub fn new(
         alloc: Global,
         source: &TopicName,
         subscription: &SubscriptionName,
-    ) -> Result<Option<Route>, AllocError>
-        ensures { IfOk result (λ found. IfSome found (λ route. (route.source ≡ source.now) × (route.subscription ≡ subscription.now) × (route.name ≡ courier_name source.now subscription.now))) }
+    ) -> Result<Route, AllocError>
+        ensures { IfOk result (λ route. (route.source ≡ source.now) × (route.subscription ≡ subscription.now) × (route.name ≡ courier_name source.now subscription.now)) }
     {
+        know_fits(source, subscription);
         let text = courier_name(alloc, source, subscription)?;
         let Some(name) = ProducerName::new(ArcStr::from_str(alloc, text.as_str())?) else {
-            return Ok(None);
+            unreachable!()
         };
-        Ok(Some(Route {
+        Ok(Route {
             source: source.clone()?,
             subscription: subscription.clone()?,
             name,
-        }))
+        })
     }
 }
