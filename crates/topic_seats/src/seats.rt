@@ -25,7 +25,7 @@ fn first_free(taken: &[bool]) -> Option<usize>
     taken.iter().position(|is_taken| !*is_taken)
 }
 
-/// Takes the first free seat. Seats count from 1 on; refused (F21) where none is free.
+/// Takes a free seat. Seats count from 1 on; refused (F21) where none is free.
 pub fn enter(taken: &mut Vec<bool>) -> Result<u64, Fault>
     ensures ok { IfOk result (λ seat. IsFree taken.old.items seat × (taken.new.items ≡ set taken.old.items (seat - 1) true)) }
     ensures err { OnErr result (taken.new.items ≡ taken.old.items) }
