@@ -17,7 +17,7 @@ use Rattle.broker_dir.proofs.board.Board.TheSendSync.{the_send as board_send, th
 use Rattle.broker_dir.proofs.table.Table.TheSendSync.{the_send as table_send}
 use Rattle.topic_opening.proofs.opening.Terms.TheSendSync.{the_send as terms_send, the_sync as terms_sync}
 use Rattle.row_store.proofs.keeper.Keeper.TheSendSync.{the_send as keeper_send}
-use Rattle.worker_pool.proofs.post.Doorbell.TheSendSync.{the_send as doorbell_send, the_sync as doorbell_sync}
+use Rattle.worker_loops.proofs.post.Doorbell.TheSendSync.{the_send as doorbell_send, the_sync as doorbell_sync}
 use Rattle.std.specs.contracts.option.Option as Option
 use Rattle.std.specs.contracts.vec.Vec as Vec
 use Rattle.std.specs.contracts.sync.Mutex as Mutex
@@ -34,7 +34,7 @@ use Rattle.broker_dir.specs.contracts.table.Table as Table
 use Rattle.broker_dir.specs.contracts.topic.Shared as Shared
 use Rattle.broker_dir.specs.contracts.directory.Directory as Directory
 use Rattle.row_store.specs.contracts.keeper.Keeper as Keeper
-use Rattle.worker_pool.specs.contracts.post.Doorbell as Doorbell
+use Rattle.worker_loops.specs.contracts.post.Doorbell as Doorbell
 use Rattle.worker_pool.specs.contracts.place.Place as Place
 
 StoredCell-send : (T I : RattleType) (g : topic.Ghosts T.Denot) (n : naming.Ghosts I.Denot) → IsSend T → IsSend (StoredCell.the_row T I g n)

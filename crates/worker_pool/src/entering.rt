@@ -1,7 +1,6 @@
 // From a handshake to a session: the target is read, a seat is taken, and the session begins.
-use crate::client::Guest;
 use crate::place::Place;
-use crate::post::Doorbell;
+use crate::serving::Guest;
 use broker_dir::{Attached, Gate};
 use delivery_machine::{Fault, Opened, TopicName};
 use endpoint_core::{Endpoint, route};
@@ -14,6 +13,7 @@ use socket_conn::SocketConn;
 use sqlite::Alter;
 use std::alloc::Global;
 use std::sync::{Arc, Wait};
+use worker_loops::Doorbell;
 
 /// Which topic an endpoint is at, whether it makes one, and the code that a refused seat closes with.
 #[derive(Drop)]

@@ -1,19 +1,9 @@
-//! The workers of a broker: each is a loop over many connections, whose sessions it serves when they have something to do.
+//! The server: sessions at topics, over connections that its workers serve.
 #![tactic(auto)]
 
-mod accepting;
-mod client;
-mod crowd;
 mod entering;
-mod job;
 mod place;
-mod post;
-mod putter;
 mod serving;
-mod timers;
-mod worker;
 
-pub use accepting::{Ended, Limits, serve};
-pub use job::{Job, Start};
 pub use place::Place;
-pub use post::Doorbell;
+pub use worker_loops::{Ended, Limits, serve};

@@ -1,9 +1,16 @@
-// What all workers share.
-use crate::post::Doorbell;
-use broker_dir::Directory;
-use delivery_machine::Opened;
+// What all workers share: the directory of topics, to whose sessions connections come.
+use crate::entering::enter;
+use crate::serving::{Guest, turn};
+use broker_dir::{Directory, Gate, moment};
+use delivery_machine::{Moment, Opened};
 use marks::Naming;
+use mio::net::TcpStream;
+use socket_conn::SocketConn;
 use sqlite::Alter;
+use std::alloc::Global;
+use std::rt::Clock;
+use std::sync::{Arc, Wait};
+use worker_loops::{Doorbell, House, Job, Start, Turned, work_at};
 
 /// What all workers share: the directory of topics, and the gate before each of them.
 #[derive(Drop)]
@@ -15,5 +22,63 @@ pub struct Place<T: Opened + Drop, S: Alter, J: Naming, G: Drop> {
 impl<T: Opened + Drop, S: Alter, J: Naming, G: Drop> Place<T, S, J, G> {
     pub fn new(directory: Directory<T, S, J, Doorbell>, gate: G) -> Self {
         Place { directory, gate }
+    }
+}
+
+impl<T: Opened + Drop, S: Alter, J: Naming, G: Gate + Drop> House for Place<T, S, J, G> {
+    type Guest = Guest<T, J>;
+
+    fn moment<R: Clock>(&self, rt: &R, last: Moment) -> Moment {
+        moment(rt, last)
+    }
+
+    fn enter<R: Wait>(
+        &self,
+        rt: &R,
+        alloc: Global,
+        conn: SocketConn<TcpStream>,
+        target: &str,
+        bell: &Arc<Doorbell>,
+    ) -> Option<Guest<T, J>> {
+        enter(rt, alloc, self, conn, target, bell)
+    }
+
+    fn note_readable(&self, guest: &mut Guest<T, J>) {
+        guest.conn.note_readable();
+    }
+
+    fn turn<R: Wait>(
+        &self,
+        rt: &R,
+        guest: Guest<T, J>,
+        now: Moment,
+    ) -> (Turned, Option<Guest<T, J>>) {
+        turn(rt, self, guest, now)
+    }
+
+    fn help<R: Wait>(&self, rt: &R, made: u64) {
+        self.directory.help(rt, made);
+    }
+
+    fn is_closed(&self) -> bool {
+        self.directory.is_closed()
+    }
+}
+
+impl<T: Opened + Drop, S: Alter, J: Naming, G: Gate + Drop> Job for Place<T, S, J, G> {
+    fn keep<R: Wait + Clock>(&self, rt: &R) {
+        self.directory.keep(rt);
+    }
+
+    fn work<R: Wait + Clock>(&self, rt: &R, alloc: Global, start: Start) -> bool {
+        work_at(rt, self, alloc, start)
+    }
+
+    fn finish<R: Wait>(&self, rt: &R) {
+        self.directory.finish(rt);
+    }
+
+    fn has_failed(&self) -> bool {
+        self.directory.is_closed()
     }
 }

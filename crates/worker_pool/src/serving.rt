@@ -1,57 +1,23 @@
-// A turn of one connection.
-use crate::client::{Client, Guest, Stage};
-use crate::entering::{enter, turn_away};
+// A session with its connection, and its turns.
+use crate::entering::turn_away;
 use crate::place::Place;
-use broker_dir::Gate;
+use broker_dir::{Attached, Gate};
 use delivery_machine::{Fault, Moment, Opened};
 use marks::Naming;
 use mio::net::TcpStream;
 use session_bells::Rest;
 use session_core::{Session, TextCount, serve};
-use socket_conn::{Shaken, Shaking};
+use socket_conn::SocketConn;
 use sqlite::Alter;
-use std::alloc::Global;
-use std::mem;
 use std::sync::Wait;
+use worker_loops::{After, Doorbell, Turned};
 
-/// What is to become of a connection after its turn.
-#[derive(Clone, Copy, Debug, PartialEq, Eq)]
-pub(crate) enum After {
-    /// It has nothing to do until its bell rings, its socket is ready, or a moment has come.
-    Rest,
-    /// It is served again in the next round.
-    Again,
-    /// It is at its end.
-    Gone,
-}
-
-/// What a turn came to.
-#[derive(Clone, Copy, Debug, PartialEq, Eq)]
-pub(crate) struct Turned {
-    pub(crate) after: After,
-    /// How much it may have changed its topic: as many times as it took texts, and at least once, since a moment may
-    /// have come.
-    pub(crate) made: u64,
-    /// When the connection is to be looked at again.
-    pub(crate) due: Option<u64>,
-}
-
-impl Turned {
-    fn gone() -> Turned {
-        Turned {
-            after: After::Gone,
-            made: 1,
-            due: None,
-        }
-    }
-
-    fn waits() -> Turned {
-        Turned {
-            after: After::Rest,
-            made: 0,
-            due: None,
-        }
-    }
+/// A session with its connection and its seat.
+#[derive(Drop)]
+pub struct Guest<T: Opened + Drop, J: Naming> {
+    pub(crate) conn: SocketConn<TcpStream>,
+    pub(crate) session: Session,
+    pub(crate) attached: Attached<T, J, Doorbell>,
 }
 
 /// How many texts of one connection are taken before the next one's turn.
@@ -106,7 +72,7 @@ impl<T: Opened + Drop, J: Naming> Guest<T, J> {
 }
 
 /// One turn of an open connection. Gives it back where it has not ended.
-fn turn<T: Opened + Drop, S: Alter, J: Naming, G: Gate + Drop, R: Wait>(
+pub(crate) fn turn<T: Opened + Drop, S: Alter, J: Naming, G: Gate + Drop, R: Wait>(
     rt: &R,
     place: &Place<T, S, J, G>,
     guest: Guest<T, J>,
@@ -160,67 +126,5 @@ fn stay<T: Opened + Drop, S: Alter, J: Naming, G: Gate + Drop, R: Wait>(
     } else {
         let turned = guest.turned(rt, place, received);
         (turned, Some(guest))
-    }
-}
-
-impl<T: Opened + Drop, J: Naming> Client<T, J> {
-    /// A turn of the connection.
-    pub(crate) fn serve<S: Alter, G: Gate + Drop, R: Wait>(
-        &mut self,
-        rt: &R,
-        alloc: Global,
-        place: &Place<T, S, J, G>,
-        now: Moment,
-    ) -> Turned {
-        self.bell.hear();
-        match mem::replace(&mut self.stage, Stage::Gone) {
-            Stage::Shaking(shaking) => self.shake(rt, alloc, place, shaking, now),
-            Stage::Open(guest) => self.turn(rt, place, guest, now),
-            Stage::Gone => Turned::gone(),
-        }
-    }
-
-    /// A turn of a connection that is in its handshake.
-    fn shake<S: Alter, G: Gate + Drop, R: Wait>(
-        &mut self,
-        rt: &R,
-        alloc: Global,
-        place: &Place<T, S, J, G>,
-        shaking: Shaking<TcpStream>,
-        now: Moment,
-    ) -> Turned {
-        match shaking.advance() {
-            Shaken::Waits(shaking) => {
-                self.come_to(Stage::Shaking(shaking));
-                Turned::waits()
-            }
-            Shaken::Open(conn, target) => {
-                let guest = enter(rt, alloc, place, conn, target.as_str(), &self.bell);
-                drop(target);
-                match guest {
-                    Some(guest) => self.turn(rt, place, guest, now),
-                    None => Turned::gone(),
-                }
-            }
-            Shaken::Failed => Turned::gone(),
-        }
-    }
-
-    fn turn<S: Alter, G: Gate + Drop, R: Wait>(
-        &mut self,
-        rt: &R,
-        place: &Place<T, S, J, G>,
-        guest: Guest<T, J>,
-        now: Moment,
-    ) -> Turned {
-        let (turned, guest) = turn(rt, place, guest, now);
-        if let Some(guest) = guest {
-            self.come_to(Stage::Open(guest));
-        }
-        turned
-    }
-
-    fn come_to(&mut self, stage: Stage<T, J>) {
-        drop(mem::replace(&mut self.stage, stage));
     }
 }

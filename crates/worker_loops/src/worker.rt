@@ -1,14 +1,11 @@
 // The loop of a worker.
 use crate::crowd::Crowd;
-use crate::place::Place;
+use crate::house::House;
 use crate::post::Post;
-use broker_dir::{Gate, moment};
-use delivery_machine::{Moment, Opened};
+use delivery_machine::Moment;
 use handover::Taker;
-use marks::Naming;
 use mio::net::TcpStream;
 use mio::{Events, Poll, Token};
-use sqlite::Alter;
 use std::alloc::Global;
 use std::io;
 use std::rt::Clock;
@@ -47,11 +44,11 @@ impl Door {
 
 /// A worker: one poll, and many connections.
 #[derive(Drop)]
-pub(crate) struct Worker<T: Opened + Drop, J: Naming> {
+pub(crate) struct Worker<G: Drop> {
     poll: Poll,
     post: Arc<Post>,
     taker: Taker<TcpStream>,
-    crowd: Crowd<T, J>,
+    crowd: Crowd<G>,
     events: Events,
     /// Room for tokens that were rung, and for those that are served.
     rung: Vec<usize>,
@@ -59,7 +56,7 @@ pub(crate) struct Worker<T: Opened + Drop, J: Naming> {
     now: Moment,
 }
 
-impl<T: Opened + Drop, J: Naming> Worker<T, J> {
+impl<G: Drop> Worker<G> {
     pub(crate) fn new(
         alloc: Global,
         poll: Poll,
@@ -118,16 +115,16 @@ impl<T: Opened + Drop, J: Naming> Worker<T, J> {
         }
     }
 
-    fn serve<S: Alter, G: Gate + Drop, R: Wait>(&mut self, rt: &R, place: &Place<T, S, J, G>) {
+    fn serve<H: House<Guest = G>, R: Wait>(&mut self, rt: &R, house: &H) {
         self.crowd
-            .serve(rt, place, &*self.post, self.now, &mut self.served);
+            .serve(rt, house, &*self.post, self.now, &mut self.served);
     }
 
     /// Stores what waits, where that is little and nobody else does.
-    fn store<S: Alter, G: Gate + Drop, R: Wait>(&mut self, rt: &R, place: &Place<T, S, J, G>) {
+    fn store<H: House<Guest = G>, R: Wait>(&mut self, rt: &R, house: &H) {
         let made = self.crowd.take_made();
         if made > 0 {
-            place.directory.help(rt, made);
+            house.help(rt, made);
         }
     }
 
@@ -143,16 +140,16 @@ impl<T: Opened + Drop, J: Naming> Worker<T, J> {
     }
 
     /// Waits until there is something to do.
-    fn wait<R: Wait + Clock>(&mut self, rt: &R) -> io::Result<()> {
+    fn wait<H: House<Guest = G>, R: Wait + Clock>(&mut self, rt: &R, house: &H) -> io::Result<()> {
         let pause = self.pause(rt);
         self.poll.poll(&mut self.events, pause)?;
         self.post.wakes(rt);
-        self.now = moment(rt, self.now);
+        self.now = house.moment(rt, self.now);
         for event in self.events.iter() {
             let token = event.token();
             if token != WAKER {
                 let is_readable = event.is_readable() || event.is_read_closed() || event.is_error();
-                self.crowd.note(token.0, is_readable);
+                self.crowd.note(house, token.0, is_readable);
             }
         }
         self.crowd.expire(&*self.post, self.now);
@@ -165,25 +162,25 @@ impl<T: Opened + Drop, J: Naming> Worker<T, J> {
     }
 
     /// Serves connections until no more come and all have ended, or until the store fails.
-    pub(crate) fn work<S: Alter, G: Gate + Drop, R: Wait + Clock>(
+    pub(crate) fn work<H: House<Guest = G>, R: Wait + Clock>(
         &mut self,
         rt: &R,
-        place: &Place<T, S, J, G>,
+        house: &H,
         door: &Door,
     ) -> io::Result<()> {
-        self.now = moment(rt, self.now);
+        self.now = house.moment(rt, self.now);
         for _ in rt.forever() {
             self.welcome(rt);
-            self.serve(rt, place);
-            self.store(rt, place);
-            if place.directory.is_closed() {
-                self.crowd.give_up(rt, place, &*self.post, self.now);
+            self.serve(rt, house);
+            self.store(rt, house);
+            if house.is_closed() {
+                self.crowd.give_up(rt, house, &*self.post, self.now);
                 return Ok(());
             }
             if self.is_over(door) {
                 return Ok(());
             }
-            self.wait(rt)?;
+            self.wait(rt, house)?;
         }
         Ok(())
     }

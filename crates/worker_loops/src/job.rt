@@ -1,14 +1,10 @@
 // What the threads of a broker do.
-use crate::place::Place;
+use crate::house::House;
 use crate::post::Post;
 use crate::worker::{Door, Worker};
-use broker_dir::Gate;
-use delivery_machine::Opened;
 use handover::Taker;
-use marks::Naming;
 use mio::Poll;
 use mio::net::TcpStream;
-use sqlite::Alter;
 use std::alloc::Global;
 use std::rt::Clock;
 use std::sync::{Arc, Wait};
@@ -22,7 +18,7 @@ pub struct Start {
     pub(crate) door: Arc<Door>,
 }
 
-/// What the threads of a broker share, and do.
+/// What the threads of a broker share, and do. It names no guests, so that it can be shared by threads whatever these are.
 pub trait Job {
     /// Stores what waits, until nothing is to be stored any more.
     fn keep<R: Wait + Clock>(&self, rt: &R);
@@ -37,32 +33,20 @@ pub trait Job {
     fn has_failed(&self) -> bool;
 }
 
-impl<T: Opened + Drop, S: Alter, J: Naming, G: Gate + Drop> Job for Place<T, S, J, G> {
-    fn keep<R: Wait + Clock>(&self, rt: &R) {
-        self.directory.keep(rt);
-    }
-
-    fn work<R: Wait + Clock>(&self, rt: &R, alloc: Global, start: Start) -> bool {
-        let Start {
-            poll,
-            post,
-            taker,
-            door,
-        } = start;
-        match Worker::new(alloc, poll, post, taker) {
-            Some(worker) => {
-                let mut worker: Worker<T, J> = worker;
-                worker.work(rt, self, &*door).is_ok()
-            }
-            None => false,
+/// The work of a worker at the house: it serves connections until no more come and all have ended, or until the store
+/// fails. False where it could not.
+pub fn work_at<H: House, R: Wait + Clock>(rt: &R, house: &H, alloc: Global, start: Start) -> bool {
+    let Start {
+        poll,
+        post,
+        taker,
+        door,
+    } = start;
+    match Worker::new(alloc, poll, post, taker) {
+        Some(worker) => {
+            let mut worker: Worker<H::Guest> = worker;
+            worker.work(rt, house, &*door).is_ok()
         }
-    }
-
-    fn finish<R: Wait>(&self, rt: &R) {
-        self.directory.finish(rt);
-    }
-
-    fn has_failed(&self) -> bool {
-        self.directory.is_closed()
+        None => false,
     }
 }

@@ -1,17 +1,13 @@
 // The connections of a worker, and which of them are served next.
 use crate::client::Client;
-use crate::place::Place;
+use crate::house::{After, House, Turned};
 use crate::post::{Doorbell, Post};
-use crate::serving::{After, Turned};
 use crate::timers::{Timer, Timers};
-use broker_dir::Gate;
-use delivery_machine::{Moment, Opened};
-use marks::Naming;
+use delivery_machine::Moment;
 use mio::net::TcpStream;
 use mio::{Interest, Poll, Token};
 use slab::Slab;
 use socket_conn::Shaking;
-use sqlite::Alter;
 use std::alloc::Global;
 use std::mem;
 use std::sync::{Arc, Wait};
@@ -21,9 +17,9 @@ const SHAKING: u64 = 5_000;
 
 /// The connections of a worker.
 #[derive(Drop)]
-pub(crate) struct Crowd<T: Opened + Drop, J: Naming> {
+pub(crate) struct Crowd<G: Drop> {
     alloc: Global,
-    clients: Slab<Client<T, J>>,
+    clients: Slab<Client<G>>,
     /// Those that are served next, each once.
     due: Vec<usize>,
     timers: Timers,
@@ -50,13 +46,13 @@ fn bell_for(alloc: Global, post: &Arc<Post>, token: usize) -> Option<Arc<Doorbel
 }
 
 /// A client that begins its handshake.
-fn client_of<T: Opened + Drop, J: Naming>(
+fn client_of<G: Drop>(
     alloc: Global,
     post: &Arc<Post>,
     token: usize,
     number: u64,
     stream: TcpStream,
-) -> Option<Client<T, J>> {
+) -> Option<Client<G>> {
     match bell_for(alloc, post, token) {
         Some(bell) => match Shaking::start(alloc, stream) {
             Ok(shaking) => Some(Client::new(number, bell, shaking)),
@@ -72,7 +68,7 @@ fn client_of<T: Opened + Drop, J: Naming>(
     }
 }
 
-impl<T: Opened + Drop, J: Naming> Crowd<T, J> {
+impl<G: Drop> Crowd<G> {
     pub(crate) fn new(alloc: Global) -> Self {
         Crowd {
             alloc,
@@ -114,9 +110,9 @@ impl<T: Opened + Drop, J: Naming> Crowd<T, J> {
     }
 
     /// The socket is ready.
-    pub(crate) fn note(&mut self, token: usize, is_readable: bool) {
+    pub(crate) fn note<H: House<Guest = G>>(&mut self, house: &H, token: usize, is_readable: bool) {
         if is_readable && let Some(client) = self.clients.get_mut(token) {
-            client.note_readable();
+            client.note_readable(house);
         }
         self.make_due(token);
     }
@@ -167,7 +163,7 @@ impl<T: Opened + Drop, J: Naming> Crowd<T, J> {
     }
 
     /// The client comes to the token, and is given up there where its handshake lasts too long.
-    fn put_in(&mut self, client: Client<T, J>, token: usize, now: Moment) -> bool {
+    fn put_in(&mut self, client: Client<G>, token: usize, now: Moment) -> bool {
         let timer = Timer {
             millis: now.millis().saturating_add(SHAKING),
             token,
@@ -182,10 +178,10 @@ impl<T: Opened + Drop, J: Naming> Crowd<T, J> {
     }
 
     /// Serves those that are due, once each.
-    pub(crate) fn serve<S: Alter, G: Gate + Drop, R: Wait>(
+    pub(crate) fn serve<H: House<Guest = G>, R: Wait>(
         &mut self,
         rt: &R,
-        place: &Place<T, S, J, G>,
+        house: &H,
         post: &Post,
         now: Moment,
         served: &mut Vec<usize>,
@@ -197,14 +193,14 @@ impl<T: Opened + Drop, J: Naming> Crowd<T, J> {
             return;
         }
         for token in served.iter() {
-            self.serve_one(rt, place, post, now, *token);
+            self.serve_one(rt, house, post, now, *token);
         }
     }
 
-    fn serve_one<S: Alter, G: Gate + Drop, R: Wait>(
+    fn serve_one<H: House<Guest = G>, R: Wait>(
         &mut self,
         rt: &R,
-        place: &Place<T, S, J, G>,
+        house: &H,
         post: &Post,
         now: Moment,
         token: usize,
@@ -213,7 +209,7 @@ impl<T: Opened + Drop, J: Naming> Crowd<T, J> {
             return;
         };
         client.is_due = false;
-        let turned = client.serve(rt, self.alloc, place, now);
+        let turned = client.serve(rt, self.alloc, house, now);
         self.made = self.made.saturating_add(turned.made);
         self.go_on(post, token, turned);
     }
@@ -287,16 +283,16 @@ impl<T: Opened + Drop, J: Naming> Crowd<T, J> {
     }
 
     /// All connections are given up.
-    pub(crate) fn give_up<S: Alter, G: Gate + Drop, R: Wait>(
+    pub(crate) fn give_up<H: House<Guest = G>, R: Wait>(
         &mut self,
         rt: &R,
-        place: &Place<T, S, J, G>,
+        house: &H,
         post: &Post,
         now: Moment,
     ) {
         for token in 0..self.clients.capacity() {
             if let Some(client) = self.clients.get_mut(token) {
-                let _ = client.serve(rt, self.alloc, place, now);
+                let _ = client.serve(rt, self.alloc, house, now);
                 self.remove(post, token);
             }
         }

@@ -1,0 +1,85 @@
+// What workers know of those whom they serve: that a connection is let in by the house, which gives it its turns.
+use crate::post::Doorbell;
+use delivery_machine::Moment;
+use mio::net::TcpStream;
+use socket_conn::SocketConn;
+use std::alloc::Global;
+use std::rt::Clock;
+use std::sync::{Arc, Wait};
+
+/// What is to become of a connection after its turn.
+#[derive(Clone, Copy, Debug, PartialEq, Eq)]
+pub enum After {
+    /// It has nothing to do until its bell rings, its socket is ready, or a moment has come.
+    Rest,
+    /// It is served again in the next round.
+    Again,
+    /// It is at its end.
+    Gone,
+}
+
+/// What a turn came to.
+#[derive(Clone, Copy, Debug, PartialEq, Eq)]
+pub struct Turned {
+    pub after: After,
+    /// How much it may have changed: as many times as it took texts, and at least once, since a moment may have come.
+    pub made: u64,
+    /// When the connection is to be looked at again, in milliseconds since 1970.
+    pub due: Option<u64>,
+}
+
+impl Turned {
+    /// The connection is at its end.
+    pub fn gone() -> Turned {
+        Turned {
+            after: After::Gone,
+            made: 1,
+            due: None,
+        }
+    }
+
+    /// The connection has nothing to do.
+    pub fn waits() -> Turned {
+        Turned {
+            after: After::Rest,
+            made: 0,
+            due: None,
+        }
+    }
+}
+
+/// Where connections come to.
+pub trait House {
+    /// A connection that was let in, with all that it has there.
+    type Guest: Drop;
+
+    /// The moment that it is, or the last one that was told.
+    fn moment<R: Clock>(&self, rt: &R, last: Moment) -> Moment;
+
+    /// What comes after the handshake with the target. None where the connection was turned away.
+    fn enter<R: Wait>(
+        &self,
+        rt: &R,
+        alloc: Global,
+        conn: SocketConn<TcpStream>,
+        target: &str,
+        bell: &Arc<Doorbell>,
+    ) -> Option<Self::Guest>;
+
+    /// The guest's socket has something to read.
+    fn note_readable(&self, guest: &mut Self::Guest);
+
+    /// One turn of a guest, who is given back where it has not ended.
+    fn turn<R: Wait>(
+        &self,
+        rt: &R,
+        guest: Self::Guest,
+        now: Moment,
+    ) -> (Turned, Option<Self::Guest>);
+
+    /// A worker, which has made so many changes, stores what waits, where that is little and nobody else does.
+    fn help<R: Wait>(&self, rt: &R, made: u64);
+
+    /// Whether all is refused, since the store has failed.
+    fn is_closed(&self) -> bool;
+}

@@ -1,0 +1,18 @@
+//! The loops of a broker's workers: each serves many connections when they have something to do. What a connection is
+//! served with is up to the house that it comes to.
+#![tactic(auto)]
+
+mod accepting;
+mod client;
+mod crowd;
+mod house;
+mod job;
+mod post;
+mod putter;
+mod timers;
+mod worker;
+
+pub use accepting::{Ended, Limits, serve};
+pub use house::{After, House, Turned};
+pub use job::{Job, Start, work_at};
+pub use post::Doorbell;
