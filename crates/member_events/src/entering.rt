@@ -32,6 +32,8 @@ pub(crate) fn let_in(
     let consumer = parts.members.next();
     let kind = parts.subscriptions[place].kind();
     let Ok(()) = parts.subscriptions[place].join(kind, consumer) else {
+        drop(name);
+        drop(dead_topic);
         return Err(Fault::NoMemory);
     };
     parts.members.add_reserved(name, terms, dead_topic);

@@ -27,7 +27,7 @@ fn let_go(served: &mut Served, place: usize, consumer: ConsumerNumber)
 {
     let _length = served.parts.log.len();
     let _many = served.parts.members.len();
-    served.parts.members.remove(consumer);
+    drop(served.parts.members.remove(consumer));
     served.parts.subscriptions[place].leave(consumer);
     let view = served.parts.at(place);
     served.dispatchers[place].on_leave(&view, consumer);

@@ -90,7 +90,7 @@ fn remove_subscription(parts: &mut Parts, place: usize)
     ensures items { parts.new.subscriptions.items ≡ remove parts.old.subscriptions.items place }
     ensures rest { parts.new ≡ record parts.old { subscriptions = parts.new.subscriptions } }
 {
-    parts.subscriptions.remove(place);
+    drop(parts.subscriptions.remove(place));
 }
 
 /// Puts in a dispatcher for the subscription at the place, which has no members. Nothing changes where there is no

@@ -153,9 +153,12 @@ fn come_in(
         return Err(Fault::NoMemory);
     };
     let Ok(own_topic) = dead_topic.clone() else {
+        drop(own_name);
         return Err(Fault::NoMemory);
     };
     let Ok(()) = make_room(served) else {
+        drop(own_name);
+        drop(own_topic);
         return Err(Fault::NoMemory);
     };
     match served.parts.place_of(name) {

@@ -22,14 +22,14 @@ fn take_subscription(subscriptions: &mut Vec<Subscription>, place: usize)
     requires { place < length subscriptions.old.items }
     ensures { subscriptions.new.items ≡ remove subscriptions.old.items place }
 {
-    subscriptions.remove(place);
+    drop(subscriptions.remove(place));
 }
 
 fn take_dispatcher(dispatchers: &mut Vec<Dispatch>, place: usize)
     requires { place < length dispatchers.old.items }
     ensures { dispatchers.new.items ≡ remove dispatchers.old.items place }
 {
-    dispatchers.remove(place);
+    drop(dispatchers.remove(place));
 }
 
 /// Drops the subscription, which has neither members nor dead letters. Takes no memory.
