@@ -1,7 +1,7 @@
 // Databases on disks in memory that stop after so many calls, and what a stop leaves of them.
 ghost use Rattle.std.specs.Prelude.{◌≡◌};
 
-use super::keepers::{over, started, store_of, taken};
+use super::keepers::{started, store_of};
 use super::keeps::{Keeps, Scene};
 use super::plays::{T, U};
 use super::same::same;
@@ -88,37 +88,79 @@ fn open<R: Abort + AllocGlobal>(
     }
 }
 
-/// The keeper's database after the work, and whether that was done.
-fn after<K: Keeps, R: Abort + AllocGlobal>(
-    rt: &R,
-    mut keeper: K,
-    work: Work,
-) -> (K::Database, bool) {
-    let done = is_done(rt, &mut keeper, work);
-    (keeper.into_database(), done)
+/// What is done with a keeper over disks, and what comes of it. Only one function names the type of such a database
+/// beside a keeper, which is dear to prove.
+trait Errand {
+    type Gain: Drop;
+
+    /// What comes of it, and the database where it is still wanted.
+    fn run<K: Keeps<Snapshot = Snapshot>, R: Abort + AllocGlobal>(
+        &self,
+        rt: &R,
+        keeper: K,
+    ) -> (Option<K::Database>, Self::Gain);
 }
 
-fn worked<S: Alter + Drop, J: Naming, R: Abort + AllocGlobal>(
+fn went<S: Alter + Drop, J: Naming, X: Errand, R: Abort + AllocGlobal>(
     rt: &R,
     keeper: Keeper<S, J>,
-    work: Work,
-) -> (S, bool) {
-    let (database, done) = after(rt, keeper, work);
-    (store_of(database), done)
+    errand: &X,
+) -> (Option<S>, X::Gain) {
+    let (database, gain) = errand.run(rt, keeper);
+    match database {
+        Some(database) => (Some(store_of(database)), gain),
+        None => (None, gain),
+    }
 }
 
-/// What the database stands on after the work, and whether that was done.
-fn run<S: Alter + Drop, J: Naming, R: Abort + AllocGlobal>(
+/// What the database stands on after the errand, and what came of it. Nothing comes of it where no keeper takes the
+/// database.
+fn run<S: Alter + Drop, J: Naming, X: Errand, R: Abort + AllocGlobal>(
     rt: &R,
     conn: Connection<S>,
-    work: Work,
+    errand: &X,
     history: Unnamed<Note>,
-) -> (S, bool)
+) -> (Option<S>, Option<X::Gain>)
     requires { history ≡ J.book }
 {
     match started::<S, J, R>(rt, conn, history) {
-        Ok(keeper) => worked(rt, keeper, work),
-        Err(refused) => (refused.store, false),
+        Ok(keeper) => {
+            let (store, gain) = went(rt, keeper, errand);
+            (store, Some(gain))
+        }
+        Err(refused) => (Some(refused.store), None),
+    }
+}
+
+/// Does the errand over the database, and gives back its files.
+fn send<X: Errand, R: Abort + AllocGlobal>(
+    rt: &R,
+    conn: Connection<Store>,
+    errand: &X,
+) -> (Option<Files<File>>, Option<X::Gain>) {
+    let (store, gain) = run::<Store, Brand, X, R>(rt, conn, errand, Unnamed::new());
+    match store {
+        Some(store) => (Some(store.close()), gain),
+        None => (None, gain),
+    }
+}
+
+/// A work is done, as far as the disks go.
+#[derive(Drop)]
+struct Working {
+    work: Work,
+}
+
+impl Errand for Working {
+    type Gain = bool;
+
+    fn run<K: Keeps<Snapshot = Snapshot>, R: Abort + AllocGlobal>(
+        &self,
+        rt: &R,
+        mut keeper: K,
+    ) -> (Option<K::Database>, bool) {
+        let done = is_done(rt, &mut keeper, self.work);
+        (Some(keeper.into_database()), done)
     }
 }
 
@@ -127,8 +169,8 @@ fn work_over<R: Abort + AllocGlobal>(
     conn: Connection<Store>,
     work: Work,
 ) -> Outcome<Image> {
-    let (store, done) = run::<Store, Brand, R>(rt, conn, work, Unnamed::new());
-    left_in(rt, store.close(), done)
+    let (files, done) = send(rt, conn, &Working { work });
+    left_in(rt, files.expect(rt, "no files"), done.unwrap_or(false))
 }
 
 fn shown<K: Keeps, R: Abort + AllocGlobal>(
@@ -139,30 +181,27 @@ fn shown<K: Keeps, R: Abort + AllocGlobal>(
     keeper.show(rt, name).expect(rt, "not loaded")
 }
 
-/// What the rows of two topics show.
-fn shown_both<K: Keeps, R: Abort + AllocGlobal>(
-    rt: &R,
-    mut keeper: K,
-) -> (Option<K::Snapshot>, Option<K::Snapshot>) {
-    let one = shown(rt, &mut keeper, T);
-    let other = shown(rt, &mut keeper, U);
-    (one, other)
-}
+/// The rows of two topics are read.
+struct Looking;
 
-fn look<S: Alter + Drop, J: Naming, R: Abort + AllocGlobal>(
-    rt: &R,
-    conn: Connection<S>,
-    history: Unnamed<Note>,
-) -> Seen
-    requires { history ≡ J.book }
-{
-    let keeper = taken(started::<S, J, R>(rt, conn, history));
-    let (one, other) = shown_both(rt, keeper.expect(rt, "not taken"));
-    Seen { one, other }
+impl Errand for Looking {
+    type Gain = Seen;
+
+    fn run<K: Keeps<Snapshot = Snapshot>, R: Abort + AllocGlobal>(
+        &self,
+        rt: &R,
+        mut keeper: K,
+    ) -> (Option<K::Database>, Seen) {
+        let one = shown(rt, &mut keeper, T);
+        let other = shown(rt, &mut keeper, U);
+        drop(keeper);
+        (None, Seen { one, other })
+    }
 }
 
 fn look_over<R: Abort + AllocGlobal>(rt: &R, conn: Connection<Store>) -> Seen {
-    look::<Store, Brand, R>(rt, conn, Unnamed::new())
+    let (_, seen) = send(rt, conn, &Looking);
+    seen.expect(rt, "not taken")
 }
 
 fn whole<R: Abort + AllocGlobal>(rt: &R, image: &Image) -> Connection<Store> {
@@ -210,7 +249,27 @@ impl Machine for Disks {
     }
 }
 
+/// A scene is played.
+#[derive(Drop)]
+struct Playing<'a, X: Scene> {
+    scene: &'a X,
+}
+
+impl<X: Scene> Errand for Playing<'_, X> {
+    type Gain = bool;
+
+    fn run<K: Keeps<Snapshot = Snapshot>, R: Abort + AllocGlobal>(
+        &self,
+        rt: &R,
+        keeper: K,
+    ) -> (Option<K::Database>, bool) {
+        self.scene.play(rt, keeper);
+        (None, true)
+    }
+}
+
 /// Plays the scene over an empty database on disks.
 pub(super) fn on_disks<X: Scene, R: Abort + AllocGlobal>(rt: &R, scene: &X) {
-    over(rt, whole(rt, &Disks::empty(rt)), scene);
+    let (_, played) = send(rt, whole(rt, &Disks::empty(rt)), &Playing { scene });
+    assert!(rt; played == Some(true));
 }

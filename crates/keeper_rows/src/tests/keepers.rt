@@ -106,7 +106,10 @@ impl<S: Alter + Drop, J: Naming> Keeps for Keeper<S, J> {
         rt: &R,
         name: &str,
     ) -> Result<Option<Snapshot>, Fault> {
-        match self.load(&topic_name(rt, name)) {
+        let name = topic_name(rt, name);
+        let loaded = self.load(&name);
+        drop(name);
+        match loaded {
             Ok(Some(loaded)) => Ok(Some(loaded.snapshot)),
             Ok(None) => Ok(None),
             Err(fault) => Err(fault),
@@ -115,7 +118,11 @@ impl<S: Alter + Drop, J: Naming> Keeps for Keeper<S, J> {
 
     fn stands(&mut self, snapshot: &Snapshot) -> bool {
         match self.load(snapshot.name()) {
-            Ok(Some(loaded)) => same(&loaded.snapshot, snapshot),
+            Ok(Some(loaded)) => {
+                let is_same = same(&loaded.snapshot, snapshot);
+                drop(loaded);
+                is_same
+            }
             _ => false,
         }
     }
@@ -125,7 +132,10 @@ impl<S: Alter + Drop, J: Naming> Keeps for Keeper<S, J> {
         rt: &R,
         name: &str,
     ) -> Result<Option<(Snapshot, Lone<J>)>, Fault> {
-        match self.load(&topic_name(rt, name)) {
+        let name = topic_name(rt, name);
+        let loaded = self.load(&name);
+        drop(name);
+        match loaded {
             Ok(Some(loaded)) => Ok(Some(Lone::resumed(rt, loaded))),
             Ok(None) => Ok(None),
             Err(fault) => Err(fault),
@@ -133,7 +143,9 @@ impl<S: Alter + Drop, J: Naming> Keeps for Keeper<S, J> {
     }
 
     fn forget<R: Abort + AllocGlobal>(&mut self, rt: &R, name: &str) {
-        self.forget(&topic_name(rt, name));
+        let name = topic_name(rt, name);
+        self.forget(&name);
+        drop(name);
     }
 
     fn written(&self) -> Written {

@@ -137,6 +137,8 @@ fn offer_in_order<R: Abort + AllocGlobal>(rt: &R) {
     let mut dispatcher = in_order::begin(rt, Kind::Failover);
     let topic = sent(rt, Kind::Failover, &mut dispatcher);
     check_in_order(rt, &topic, &dispatcher);
+    drop(topic);
+    drop(dispatcher);
 }
 
 #[test]
@@ -153,6 +155,8 @@ fn offer_in_turn<R: Abort + AllocGlobal>(rt: &R) {
     let mut dispatcher = shared::begin(rt);
     let topic = sent(rt, Kind::Shared, &mut dispatcher);
     check_in_turn(rt, &topic, &dispatcher);
+    drop(topic);
+    drop(dispatcher);
 }
 
 #[test]

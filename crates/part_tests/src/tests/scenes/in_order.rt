@@ -23,7 +23,9 @@ pub(super) fn begin<R: Abort + AllocGlobal>(rt: &R, kind: Kind) -> Single
     requires { IsTrue (is_in_order kind) }
 {
     let only = Only::new(rt, kind);
-    Single::begin(rt.alloc(), &only.alone()).expect(rt, "no memory")
+    let begun = Single::begin(rt.alloc(), &only.alone());
+    drop(only);
+    begun.expect(rt, "no memory")
 }
 
 impl SingleStage {
@@ -143,18 +145,22 @@ const SCENES: &[Scene] = &[
     },
 ];
 
-fn play_each<R: Abort + AllocGlobal>(rt: &R, scenes: &[Scene]) {
-    for scene in scenes {
-        play(rt, &mut SingleStage::new(rt, Kind::Failover, scene), scene);
-    }
+fn play_one<R: Abort + AllocGlobal>(rt: &R, kind: Kind, scene: &Scene)
+    requires { IsTrue (is_in_order kind) }
+{
+    let mut stage = SingleStage::new(rt, kind, scene);
+    play(rt, &mut stage, scene);
+    drop(stage);
 }
 
-fn play_exclusive<R: Abort + AllocGlobal>(rt: &R, scene: &Scene) {
-    play(rt, &mut SingleStage::new(rt, Kind::Exclusive, scene), scene);
+fn play_each<R: Abort + AllocGlobal>(rt: &R, scenes: &[Scene]) {
+    for scene in scenes {
+        play_one(rt, Kind::Failover, scene);
+    }
+    play_one(rt, Kind::Exclusive, &PLAIN);
 }
 
 #[test]
 fn each_scene_has_its_offers(rt: HostRuntime) {
     play_each(&rt, SCENES);
-    play_exclusive(&rt, &PLAIN);
 }

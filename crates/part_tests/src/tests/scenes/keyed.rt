@@ -24,7 +24,9 @@ struct KeyedStage {
 impl KeyedStage {
     fn new<R: Abort + AllocGlobal>(rt: &R, scene: &Scene) -> Self {
         let only = Only::new(rt, Kind::KeyShared);
-        let dispatcher = Keyed::begin(rt.alloc(), &only.alone()).expect(rt, "no memory");
+        let begun = Keyed::begin(rt.alloc(), &only.alone());
+        drop(only);
+        let dispatcher = begun.expect(rt, "no memory");
         let topic = Topic::new(rt, Kind::KeyShared, scene);
         KeyedStage { topic, dispatcher }
     }
@@ -187,7 +189,9 @@ const SCENES: &[Scene] = &[
 
 fn play_each<R: Abort + AllocGlobal>(rt: &R, scenes: &[Scene]) {
     for scene in scenes {
-        play(rt, &mut KeyedStage::new(rt, scene), scene);
+        let mut stage = KeyedStage::new(rt, scene);
+        play(rt, &mut stage, scene);
+        drop(stage);
     }
 }
 

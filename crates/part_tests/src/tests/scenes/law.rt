@@ -116,6 +116,10 @@ fn expect_law<R: Abort + AllocGlobal, D: Dispatcher + Drop>(rt: &R, kind: Kind)
         &after.subscription,
         &members,
     );
+    drop(members);
+    drop(after);
+    drop(before);
+    drop(log);
 }
 
 #[test]

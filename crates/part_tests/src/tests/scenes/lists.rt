@@ -19,6 +19,7 @@ fn producer<R: Abort + AllocGlobal>(rt: &R, text: &str) -> ProducerName {
 fn check_name<R: Abort + AllocGlobal>(rt: &R, number: u64, want: &str) {
     let name = auto_name(rt.alloc(), number).expect(rt, "no memory");
     assert_eq!(rt; name.as_str(), want);
+    drop(name);
 }
 
 #[test]
@@ -82,7 +83,10 @@ fn check_dead<R: Abort>(rt: &R, subscription: &Subscription, message: &Message) 
 #[test]
 fn a_message_dies(rt: HostRuntime) {
     let message = message_at(&rt, position_at(0), None);
-    check_dead(&rt, &burying(&rt), &message);
+    let subscription = burying(&rt);
+    check_dead(&rt, &subscription, &message);
+    drop(subscription);
+    drop(message);
 }
 
 fn move_first<R: Abort>(rt: &R, subscription: &mut Subscription, message: &Message) {
@@ -99,6 +103,8 @@ fn a_letter_is_moved(rt: HostRuntime) {
     store_all(&mut subscriptions);
     let subscription = subscriptions.first_mut().expect(&rt, "no subscription");
     move_first(&rt, subscription, &message);
+    drop(subscriptions);
+    drop(message);
 }
 
 fn check_seek<R: Abort + AllocGlobal>(rt: &R, subscription: &mut Subscription, message: &Message) {
@@ -110,7 +116,10 @@ fn check_seek<R: Abort + AllocGlobal>(rt: &R, subscription: &mut Subscription, m
 #[test]
 fn a_seek_releases_what_is_pending(rt: HostRuntime) {
     let message = message_at(&rt, position_at(0), None);
-    check_seek(&rt, &mut holding(&rt), &message);
+    let mut subscription = holding(&rt);
+    check_seek(&rt, &mut subscription, &message);
+    drop(subscription);
+    drop(message);
 }
 
 #[test]

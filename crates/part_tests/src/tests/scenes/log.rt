@@ -81,6 +81,7 @@ fn messages_stand_at_their_indexes(rt: HostRuntime) {
     assert!(rt; !log.is_full());
     check_messages(&rt, &log);
     check_beyond(&rt, &log);
+    drop(log);
 }
 
 #[test]
@@ -90,6 +91,7 @@ fn an_empty_log_has_nothing(rt: HostRuntime) {
     check_index(&rt, &log, at(0, 0), None);
     check_pop(&rt, &mut log, false);
     check_next(&rt, &log, at(0, 0));
+    drop(log);
 }
 
 /// The log has so many messages, and none at the next position.
@@ -117,7 +119,9 @@ fn the_last_message_is_taken_back(rt: HostRuntime) {
     for count in [
         0, 1, 31, 32, 33, 511, 512, 992, 1023, 1024, 1025, 1056, 2048,
     ] {
-        take_back(&rt, &mut log_of(&rt, count, 512), count);
+        let mut log = log_of(&rt, count, 512);
+        take_back(&rt, &mut log, count);
+        drop(log);
     }
 }
 
@@ -154,6 +158,7 @@ fn an_index_is_found_past_a_ledger_that_was_left(rt: HostRuntime) {
     append(&rt, &mut log);
     go_on(&rt, &mut log);
     check_left(&rt, &log);
+    drop(log);
 }
 
 /// One more message in this ledger, and one in the next.
@@ -181,4 +186,6 @@ fn a_copy_stays_as_it_is(rt: HostRuntime) {
     check_len(&rt, &log, 3002);
     check_at(&rt, &log, 3001, Some(at(4, 0)));
     check_at(&rt, &copy, 3001, Some(at(3, 1)));
+    drop(copy);
+    drop(log);
 }

@@ -18,7 +18,9 @@ struct SharedStage {
 /// A dispatcher of a subscription that nobody has joined.
 pub(super) fn begin<R: Abort + AllocGlobal>(rt: &R) -> Shared {
     let only = Only::new(rt, Kind::Shared);
-    Shared::begin(rt.alloc(), &only.alone()).expect(rt, "no memory")
+    let begun = Shared::begin(rt.alloc(), &only.alone());
+    drop(only);
+    begun.expect(rt, "no memory")
 }
 
 impl SharedStage {
@@ -193,7 +195,9 @@ const SCENES: &[Scene] = &[
 
 fn play_each<R: Abort + AllocGlobal>(rt: &R, scenes: &[Scene]) {
     for scene in scenes {
-        play(rt, &mut SharedStage::new(rt, scene), scene);
+        let mut stage = SharedStage::new(rt, scene);
+        play(rt, &mut stage, scene);
+        drop(stage);
     }
 }
 

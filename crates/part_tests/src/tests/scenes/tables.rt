@@ -33,6 +33,8 @@ fn a_set_has_the_whole_log(rt: HostRuntime) {
     let mut positions = PositionSet::all_of(rt.alloc(), &log).expect(&rt, "no memory");
     add_other(&rt, &mut positions);
     check_before(&rt, &log);
+    drop(positions);
+    drop(log);
 }
 
 fn count_again<R: Abort + AllocGlobal>(rt: &R, counts: &mut CountTable, positions: &[Position]) {

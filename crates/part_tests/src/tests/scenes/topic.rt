@@ -110,7 +110,7 @@ impl Topic {
     fn leave(&mut self, consumer: u64)
         ensures { self.new.only.subscription ≡ leaving consumer self.old.only.subscription }
     {
-        let _ = take_member(&mut self.members, consumer);
+        drop(take_member(&mut self.members, consumer));
         self.only.leave(consumer);
     }
 

@@ -32,4 +32,6 @@ fn a_view_shows_its_lists(rt: HostRuntime) {
         members: &[],
     };
     expect_scene(&rt, &view);
+    drop(only);
+    drop(log);
 }

@@ -75,6 +75,8 @@ fn offer_past_pending<R: Abort + AllocGlobal>(rt: &R) {
         consumer: 1,
     };
     expect_little(rt, &topic, &mut dispatcher, last);
+    drop(dispatcher);
+    drop(topic);
 }
 
 #[test]
@@ -97,6 +99,8 @@ fn offer_past_draining<R: Abort + AllocGlobal>(rt: &R) {
         consumer: 2,
     };
     expect_little(rt, &topic, &mut dispatcher, next);
+    drop(dispatcher);
+    drop(topic);
 }
 
 /// All messages are pending at the first member when a second one joins, so each of its hashes

@@ -6,7 +6,9 @@ use std::process::Abort;
 
 fn check_payload<R: Abort + AllocGlobal>(rt: &R, length: usize, fits: bool) {
     let bytes = vec![in rt.alloc(); 7; length].expect(rt, "no memory");
-    assert_eq!(rt; Payload::new(bytes).is_some(), fits, "at {length}");
+    let payload = Payload::new(bytes);
+    assert_eq!(rt; payload.is_some(), fits, "at {length}");
+    drop(payload);
 }
 
 #[test]
@@ -29,6 +31,7 @@ fn many_properties<R: Abort + AllocGlobal>(rt: &R, count: u32) -> BTreeMap<Strin
 fn check_number<R: Abort + AllocGlobal>(rt: &R, count: u32, fits: bool) {
     let properties = Properties::new(many_properties(rt, count));
     assert_eq!(rt; properties.is_some(), fits, "at {count}");
+    drop(properties);
 }
 
 #[test]

@@ -31,7 +31,9 @@ fn check_count<R: Abort>(rt: &R, queue: &DeadQueue, want: usize) {
 
 /// Whether the letter of the ordinal was the next.
 fn check_done<R: Abort>(rt: &R, queue: &mut DeadQueue, ordinal: u64, want: bool) {
-    assert!(rt; queue.done(ordinal).is_some() == want);
+    let letter = queue.done(ordinal);
+    assert!(rt; letter.is_some() == want);
+    drop(letter);
 }
 
 fn is_first(letter: &DeadLetter, target: &TopicName) -> bool {
@@ -41,6 +43,7 @@ fn is_first(letter: &DeadLetter, target: &TopicName) -> bool {
 fn check_first<R: Abort>(rt: &R, queue: &mut DeadQueue, target: &TopicName) {
     let first = queue.done(7).expect(rt, "no letter");
     assert!(rt; is_first(&first, target));
+    drop(first);
 }
 
 /// Letters die, and the first of them are stored.
@@ -73,6 +76,8 @@ fn letters_die_are_stored_and_are_published(rt: HostRuntime) {
     store_some(&rt, &mut queue, &target);
     check_first(&rt, &mut queue, &target);
     publish_some(&rt, &mut queue);
+    drop(queue);
+    drop(target);
 }
 
 fn push_next<R: Abort>(rt: &R, queue: &mut DeadQueue, target: &TopicName, ordinal: u64) {
@@ -92,6 +97,8 @@ fn pushes_where_there_is_memory(rt: HostRuntime) {
     }
     check_count(&rt, &queue, 2_000);
     check_next(&rt, &queue, Some(1_000));
+    drop(queue);
+    drop(target);
 }
 
 /// Three letters die, of which two are kept.
@@ -122,6 +129,11 @@ fn publish_both<R: Abort>(rt: &R, queue: &mut DeadQueue) {
 #[test]
 fn a_queue_goes_on_from_the_letters_of_a_snapshot(rt: HostRuntime) {
     let mut queue = DeadQueue::new(rt.alloc());
-    keep_two(&rt, &mut queue, &target(&rt));
-    publish_both(&rt, &mut again(&rt, &queue));
+    let target = target(&rt);
+    keep_two(&rt, &mut queue, &target);
+    let mut other = again(&rt, &queue);
+    publish_both(&rt, &mut other);
+    drop(other);
+    drop(target);
+    drop(queue);
 }

@@ -51,6 +51,8 @@ fn first_is_the_least(rt: HostRuntime) {
     assert!(rt; tree.len() == list.len());
     tree.clear();
     assert!(rt; tree.first() == None);
+    drop(list);
+    drop(tree);
 }
 
 #[test]
@@ -60,4 +62,5 @@ fn pushes_where_there_is_memory(rt: HostRuntime) {
         tree.push(slot(number)).expect(&rt, "no memory");
     }
     assert_eq!(rt; tree.len(), 5_000);
+    drop(tree);
 }

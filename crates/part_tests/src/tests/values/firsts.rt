@@ -54,4 +54,5 @@ fn the_least_number_of_a_range_is_found(rt: HostRuntime) {
     put_some(&rt, &mut firsts);
     check_some(&rt, &firsts);
     take_out_some(&rt, &mut firsts);
+    drop(firsts);
 }

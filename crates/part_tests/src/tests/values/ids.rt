@@ -10,12 +10,14 @@ const GREATEST: u64 = 18_446_744_073_709_551_615;
 fn check_written<R: Abort + AllocGlobal>(rt: &R, position: Position, text: &str) {
     let id = position.to_text(rt.alloc()).expect(rt, "no memory");
     assert_eq!(rt; id.as_str(), text);
+    drop(id);
 }
 
 fn check_appended<R: Abort + AllocGlobal>(rt: &R, position: Position, length: usize) {
     let mut line = String::from_str(rt.alloc(), "id ").expect(rt, "no memory");
     position.append_text(&mut line).expect(rt, "no memory");
     assert_eq!(rt; line.len(), length);
+    drop(line);
 }
 
 fn check_read<R: Abort>(rt: &R, text: &str, want: Result<Position, Fault>) {

@@ -30,12 +30,19 @@ fn check_leave<R: Abort>(rt: &R, line: &Line) {
     assert!(rt; !is_leave(line, 5, 3, Reply::Idle));
 }
 
+fn check_drafted<R: Abort>(rt: &R, draft: &Draft, event: Event) {
+    assert!(rt; draft.event().is(&event));
+    drop(event);
+}
+
 #[test]
 fn a_short_line(rt: HostRuntime) {
     let draft = Draft::new(rt.alloc(), Event::Leave { consumer: 3 });
     let draft = draft.expect(&rt, "no memory");
-    assert!(rt; draft.event().is(&Event::Leave { consumer: 3 }));
-    check_leave(&rt, &draft.into_line(5, Reply::Done));
+    check_drafted(&rt, &draft, Event::Leave { consumer: 3 });
+    let line = draft.into_line(5, Reply::Done);
+    check_leave(&rt, &line);
+    drop(line);
 }
 
 fn add_producer() -> Event {

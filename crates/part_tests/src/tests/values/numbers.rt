@@ -2,6 +2,7 @@
 use position_core::{
     Base, Fault, LedgerSize, Level, Millis, Moment, Position, RedeliverLimit, WindowSize,
 };
+use std::process::Abort;
 
 #[test]
 fn moments_end_with_the_year_9999(rt: HostRuntime) {
@@ -43,24 +44,30 @@ fn roles(number: u32) -> [bool; 5] {
     ]
 }
 
+/// Each number, and what it can be.
+const ROLES: &[(u32, [bool; 5])] = &[
+    (0, [true, true, false, true, false]),
+    (1, [true, true, true, true, true]),
+    (50_000, [true, true, true, true, true]),
+    (50_001, [true, true, true, true, false]),
+    (100_000, [true, true, true, true, false]),
+    (100_001, [true, true, false, true, false]),
+    (1_000_000, [true, true, false, true, false]),
+    (1_000_001, [true, true, false, false, false]),
+    (2_147_483_647, [true, true, false, false, false]),
+    (2_147_483_648, [false, false, false, false, false]),
+];
+
+fn check_roles<R: Abort>(rt: &R, number: u32, want: [bool; 5]) {
+    assert_eq!(rt; roles(number), want, "at {number}");
+}
+
 #[test]
 fn bounded_numbers_keep_their_limits(rt: HostRuntime) {
-    let table = [
-        (0, [true, true, false, true, false]),
-        (1, [true, true, true, true, true]),
-        (50_000, [true, true, true, true, true]),
-        (50_001, [true, true, true, true, false]),
-        (100_000, [true, true, true, true, false]),
-        (100_001, [true, true, false, true, false]),
-        (1_000_000, [true, true, false, true, false]),
-        (1_000_001, [true, true, false, false, false]),
-        (2_147_483_647, [true, true, false, false, false]),
-        (2_147_483_648, [false, false, false, false, false]),
-    ];
-    for (number, want) in table {
-        assert_eq!(rt; roles(number), want, "at {number}");
+    for (number, want) in ROLES {
+        check_roles(&rt, *number, *want);
     }
-    assert_eq!(rt; Level::new(7).map(|level| level.get()), Some(7));
+    assert!(rt; Level::new(7).map(|level| level.get()) == Some(7));
 }
 
 #[test]

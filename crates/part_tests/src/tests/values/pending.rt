@@ -61,6 +61,8 @@ fn answers_as_a_plain_list(rt: HostRuntime) {
         call(&rt, &mut map, &mut plain, draw >> 33, at);
         assert!(rt; agree(&map, &plain, at), "after {step}");
     }
+    drop(plain);
+    drop(map);
 }
 
 fn put<R: Abort>(rt: &R, map: &mut PendingMap, number: u64) {
@@ -81,4 +83,5 @@ fn puts_where_there_is_memory(rt: HostRuntime) {
     assert!(rt; map.due_first() == None);
     map.clear();
     assert!(rt; map.get(position(0)) == None);
+    drop(map);
 }

@@ -111,11 +111,16 @@ fn durable_in(reply: &Reply) -> Option<u64> {
 
 /// So many messages are stored.
 fn store_to<T: Topic>(topic: &mut T, length: u64) -> Reply {
-    topic.apply(&Event::StoredTo { length, ordinal: 0 })
+    let event = Event::StoredTo { length, ordinal: 0 };
+    let reply = topic.apply(&event);
+    drop(event);
+    reply
 }
 
 fn check_durable<R: Abort, T: Topic>(rt: &R, topic: &mut T, length: u64, want: u64) {
-    assert!(rt; durable_in(&store_to(topic, length)) == Some(want));
+    let reply = store_to(topic, length);
+    assert!(rt; durable_in(&reply) == Some(want));
+    drop(reply);
 }
 
 fn check_stores<R: Abort + AllocGlobal, T: Topic + Drop>(rt: &R, mut topic: T) {

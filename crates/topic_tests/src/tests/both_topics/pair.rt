@@ -86,6 +86,8 @@ impl<P: Opened + Drop, F: Opened + Drop> Pair<P, F> {
         let plainly = ask(&mut self.plain, event);
         let fastly = ask(&mut self.fast, event);
         check_alike(rt, &plainly, &fastly, line);
+        drop(fastly);
+        drop(plainly);
     }
 
     /// Both go on from what is stored.
@@ -101,6 +103,7 @@ impl<P: Opened + Drop, F: Opened + Drop> Pair<P, F> {
             ordinal: self.dice.roll(4),
         };
         self.ask(rt, &part, line);
+        drop(part);
     }
 
     /// The event, or at times a store of a part in place of one of all: no line has that.

@@ -194,6 +194,7 @@ fn check<R: Abort + AllocGlobal>(rt: &R, journal: &Journal, calls: &mut Calls) {
     for call in calls.calls.iter_mut() {
         let event = event_of(rt, calls.who, call.ask);
         check_receipt(rt, journal, &mut call.receipt, &event);
+        drop(event);
     }
 }
 

@@ -46,7 +46,10 @@ fn connect<R: Wait + Abort + AllocGlobal, T: Topic + Drop>(
     cell: &Mutex<Cell<T>>,
     who: &str,
 ) -> u64 {
-    producer_in(&asked(rt, cell, who, Ask::Connect))
+    let reply = asked(rt, cell, who, Ask::Connect);
+    let producer = producer_in(&reply);
+    drop(reply);
+    producer
 }
 
 fn publish<R: Wait + Abort + AllocGlobal, T: Topic + Drop>(
@@ -56,7 +59,7 @@ fn publish<R: Wait + Abort + AllocGlobal, T: Topic + Drop>(
     producer: u64,
     sequence: i64,
 ) {
-    let _ = asked(rt, cell, who, Ask::Publish { producer, sequence });
+    drop(asked(rt, cell, who, Ask::Publish { producer, sequence }));
 }
 
 /// Publishes, and begins the journal anew now and then.
@@ -117,6 +120,7 @@ fn check_length<R: Wait + Abort + AllocGlobal, T: Topic + Drop>(
 ) {
     let reply = asked(rt, cell, "a", Ask::Progress);
     assert_eq!(rt; length_in(&reply), want);
+    drop(reply);
 }
 
 fn check_cell<R: Threads + Wait + Abort + AllocGlobal + Sync>(

@@ -1,4 +1,4 @@
-use Rattle.keeper_rows.proofs.tests.disks.work_over.Given as goal
+use Rattle.keeper_rows.proofs.tests.disks.send.Given as goal
 
 -- the history that was just opened
 abbrev pub ghosts-run : goal.ghosts-run
