@@ -65,10 +65,13 @@ fn read<R: Abort + AllocGlobal>(rt: &R, text: &[u8]) -> PublishReading {
 
 /// The fault of a text, where it is refused.
 fn fault<R: Abort + AllocGlobal>(rt: &R, text: &[u8]) -> Option<Fault> {
-    match &read(rt, text).content {
+    let reading = read(rt, text);
+    let fault = match &reading.content {
         Ok(_) => None,
         Err(fault) => Some(*fault),
-    }
+    };
+    drop(reading);
+    fault
 }
 
 fn push_property<R: Abort>(rt: &R, out: &mut String, name: &str, value: &str) {

@@ -68,7 +68,10 @@ fn join<R: Abort + AllocGlobal + Wait>(
 ) {
     let asked = Asked::Joins(name(rt));
     prepare(rt, bells, &asked);
-    bells.answered(rt, seat, &asked, &Reply::Subscribed { consumer });
+    let reply = Reply::Subscribed { consumer };
+    bells.answered(rt, seat, &asked, &reply);
+    drop(reply);
+    drop(asked);
     answer_idle(rt, bells, seat);
 }
 

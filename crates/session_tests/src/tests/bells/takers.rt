@@ -279,6 +279,8 @@ fn ask<R: Abort + Wait>(rt: &R, ends: &mut Ends, connection: String)
 
 #[test]
 fn asks_without_waiting(rt: HostRuntime) -> Result<(), Fail> {
-    ask(&rt, &mut open(rt.alloc())?, String::new(rt.alloc()));
+    let mut ends = open(rt.alloc())?;
+    ask(&rt, &mut ends, String::new(rt.alloc()));
+    drop(ends);
     Ok(())
 }

@@ -139,6 +139,7 @@ fn played<R: Abort + AllocGlobal>(rt: &R, script: &str) -> String {
     };
     let mut out = String::new(rt.alloc());
     play(rt, &mut stage, &mut out, script);
+    drop(stage);
     out
 }
 

@@ -159,7 +159,9 @@ fn played<R: Abort + AllocGlobal>(
     let mut out = String::new(rt.alloc());
     open(rt, &mut world, consumer);
     play(rt, &mut world, &mut out, script, is_eager);
-    (out, world.turns)
+    let turns = world.turns;
+    drop(world);
+    (out, turns)
 }
 
 fn check_texts<R: Abort>(rt: &R, woken: &str, always: &str, texts: usize) {

@@ -42,8 +42,12 @@ fn is_read_as(read: &Result<Line, Unread>, want: Want<'_>) -> bool {
 }
 
 fn stands_for<R: Abort + AllocGlobal>(rt: &R, line: &str, want: Want<'_>) -> bool {
-    let read = read_line(rt.alloc(), &this_topic(rt), line.as_bytes());
-    is_read_as(&read, want)
+    let topic = this_topic(rt);
+    let read = read_line(rt.alloc(), &topic, line.as_bytes());
+    let is = is_read_as(&read, want);
+    drop(read);
+    drop(topic);
+    is
 }
 
 fn check_line<R: Abort + AllocGlobal>(rt: &R, line: &str, want: Want<'_>) {

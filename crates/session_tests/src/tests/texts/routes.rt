@@ -135,7 +135,9 @@ fn answer_text<R: Abort + AllocGlobal>(rt: &R, routed: &Result<Endpoint, RouteFa
 
 fn answer<R: Abort + AllocGlobal>(rt: &R, target: &str) -> String {
     let routed = route(rt.alloc(), target);
-    answer_text(rt, &routed)
+    let text = answer_text(rt, &routed);
+    drop(routed);
+    text
 }
 
 fn check<R: Abort + AllocGlobal>(rt: &R, target: &str, want: &str) {

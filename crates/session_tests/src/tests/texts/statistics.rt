@@ -10,6 +10,8 @@ fn check<R: Abort + AllocGlobal>(rt: &R, reply: Reply, want: &str) {
     let written = admin_text(&mut text, &reply).expect(rt, "no memory");
     assert!(rt; written);
     expect(rt, text.as_str(), want, want);
+    drop(text);
+    drop(reply);
 }
 
 #[test]
