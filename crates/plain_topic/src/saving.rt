@@ -12,9 +12,7 @@ use log_pieces::Pieces;
 use plain_lists::Subscription;
 use position_core::Message;
 use std::alloc::{AllocError, Global};
-
-/// The last ledger, into which no message goes any more.
-const LAST_LEDGER: u64 = (1 << 62) + 1;
+use topic_restart::ledger_after;
 
 fn in_pieces(alloc: Global, log: &[Message]) -> Result<Pieces, AllocError>
     requires { length log.now ≤ 1048576 }
@@ -111,7 +109,7 @@ impl Lists {
             alloc,
             name,
             ledger_size: snapshot.ledger_size(),
-            ledger: (snapshot.ledger() + 1).min(LAST_LEDGER),
+            ledger: ledger_after(snapshot),
             next_ordinal: snapshot.next_ordinal(),
             next_producer: 1,
             next_consumer: 1,

@@ -176,6 +176,7 @@ impl<S: Read + Write + Drop> SocketConn<S> {
             }
             Err(error) => {
                 self.note(&error);
+                drop(error);
                 false
             }
         }
@@ -199,7 +200,9 @@ impl<S: Read + Write + Drop> SocketConn<S> {
         ensures came { Brings S.remaining self.old.socket self.new.socket result }
     {
         let read = self.socket.read();
-        outcome_of(self.alloc, &read)
+        let came = outcome_of(self.alloc, &read);
+        drop(read);
+        came
     }
 
     fn take(&mut self, what: Came) -> Result<Incoming, ConnFault>

@@ -20,11 +20,9 @@ use std::alloc::{AllocError, Global};
 use topic_log::TopicLog;
 use topic_members::Members;
 use topic_parts::{Parts, places_of};
+use topic_restart::ledger_after;
 use topic_served::Served;
 use topic_subscriptions::Subscription;
-
-/// The last ledger, into which no message goes any more.
-const LAST_LEDGER: u64 = (1 << 62) + 1;
 
 /// The subscription as it was kept over the log.
 fn subscription_over(
@@ -71,7 +69,7 @@ fn parts_of(alloc: Global, snapshot: &Snapshot) -> Result<Parts, AllocError>
 {
     let name = snapshot.name().clone()?;
     let pieces = snapshot.log().clone()?;
-    let ledger = (snapshot.ledger() + 1).min(LAST_LEDGER);
+    let ledger = ledger_after(snapshot);
     let log = TopicLog::restored(alloc, pieces, ledger, snapshot.ledger_size())?;
     let subscriptions = subscriptions_over(alloc, &log, snapshot.subscriptions())?;
     Ok(Parts {

@@ -1,5 +1,5 @@
 // A topic that goes on from what is stored of it.
-ghost use Rattle.std.specs.Prelude.{◌≡◌, ◌+◌, ◌^◌, min, IfOk, IfErr, OnErr};
+ghost use Rattle.std.specs.Prelude.{◌≡◌, IfOk, IfErr, OnErr};
 ghost use Rattle.std.specs.Bool.{OnTrue, OnFalse};
 ghost use Rattle.position_core.specs.declared.fault.Fault.TheVariants.{NoMemory};
 ghost use Rattle.delivery_machine.specs.Run.{Answers};
@@ -7,13 +7,11 @@ ghost use Rattle.delivery_machine.specs.Snapshot.{restarted};
 ghost use Rattle.delivery_machine.specs.declared.event.Event.TheVariants.{Stored};
 ghost use Rattle.topic_restart.specs.Standing.{Standing, opening, stored_by};
 
+use crate::ledger::ledger_after;
 use delivery_machine::{Event, Opened, Reply, Snapshot};
 use position_core::Fault;
 use std::alloc::Global;
 use std::marker::Model;
-
-/// The last ledger, into which no message goes any more.
-const LAST_LEDGER: u64 = (1 << 62) + 1;
 
 /// A topic with the snapshot that is stored of it.
 #[derive(Drop)]
@@ -64,13 +62,6 @@ fn is_stored(event: &Event) -> bool
         | Event::DeadNext { .. }
         | Event::DeadDone { .. } => false,
     }
-}
-
-/// The ledger that messages go into after a restart from the snapshot.
-fn ledger_after(snapshot: &Snapshot) -> u64
-    ensures { result ≡ min (snapshot.now.ledger + 1) (2 ^ 62 + 1) }
-{
-    snapshot.ledger().saturating_add(1).min(LAST_LEDGER)
 }
 
 impl<T: Opened + Drop> Restartable<T> {

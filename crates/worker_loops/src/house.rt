@@ -1,4 +1,6 @@
 // What workers know of those whom they serve: that a connection is let in by the house, which gives it its turns.
+ghost use Rattle.std.specs.Prelude.{◌≡◌, None};
+
 use crate::post::Doorbell;
 use delivery_machine::Moment;
 use mio::net::TcpStream;
@@ -30,7 +32,11 @@ pub struct Turned {
 
 impl Turned {
     /// The connection is at its end.
-    pub fn gone() -> Turned {
+    pub fn gone() -> Turned
+        ensures after { result.after ≡ After.Gone }
+        ensures made { result.made ≡ 1 }
+        ensures due { result.due ≡ None }
+    {
         Turned {
             after: After::Gone,
             made: 1,
@@ -39,7 +45,11 @@ impl Turned {
     }
 
     /// The connection has nothing to do.
-    pub fn waits() -> Turned {
+    pub fn waits() -> Turned
+        ensures after { result.after ≡ After.Rest }
+        ensures made { result.made ≡ 0 }
+        ensures due { result.due ≡ None }
+    {
         Turned {
             after: After::Rest,
             made: 0,
