@@ -1,4 +1,4 @@
-// How fast the broker is, by a client that costs little: publishes, deliveries, and eight topics at once.
+// How fast the broker is, by a client that costs little: publishes, deliveries, eight topics at once, and a backlog.
 // cc -O2 -pthread -o speed speed.c; pulsar_broker FOLDER/broker.db 127.0.0.1:PORT 4 & ./speed PORT FOLDER
 #define _GNU_SOURCE
 #include <arpa/inet.h>
@@ -14,7 +14,7 @@
 #include <time.h>
 #include <unistd.h>
 
-enum { PAYLOAD = 1024, MOST = 4096, PAUSE = 5000, COUNT = 1000, EIGHT = 8, FRAME_ROOM = 8192 };
+enum { PAYLOAD = 1024, MOST = 4096, PAUSE = 5000, COUNT = 1000, EIGHT = 8, FRAME_ROOM = 8192, BACKLOG = 50000, UNANSWERED = 1000 };
 
 static int port;
 
@@ -130,11 +130,25 @@ static size_t publish_frame(char *out) {
     return frame(out, text);
 }
 
-static void publish(struct client *client, const char *bytes, size_t length) {
+static void receive_ok(struct client *client) {
     char text[FRAME_ROOM];
-    send_all(client->socket, bytes, length);
     receive(client, text);
     if (!strstr(text, "\"result\":\"ok\"")) fail(text);
+}
+
+static void publish(struct client *client, const char *bytes, size_t length) {
+    send_all(client->socket, bytes, length);
+    receive_ok(client);
+}
+
+// The acknowledgement of a delivery, as a frame.
+static size_t acknowledgement_frame(char *out, const char *delivery) {
+    char text[256];
+    const char *id = strstr(delivery, "\"messageId\":\"");
+    if (!id) fail(delivery);
+    id += 13;
+    snprintf(text, sizeof text, "{\"messageId\":\"%.*s\"}", (int)strcspn(id, "\""), id);
+    return frame(out, text);
 }
 
 // How long each publish takes until its answer, with a pause before each.
@@ -172,15 +186,11 @@ static double sent[MOST], came[MOST];
 // Takes in so many messages, and acknowledges each.
 static void *consume(void *consumer) {
     struct client *client = consumer;
-    char text[FRAME_ROOM], answer[256], bytes[512];
+    char text[FRAME_ROOM], bytes[512];
     for (int i = 0; i < COUNT; i++) {
         receive(client, text);
         came[i] = now_us();
-        char *id = strstr(text, "\"messageId\":\"");
-        if (!id) fail(text);
-        id += 13;
-        snprintf(answer, sizeof answer, "{\"messageId\":\"%.*s\"}", (int)strcspn(id, "\""), id);
-        send_all(client->socket, bytes, frame(bytes, answer));
+        send_all(client->socket, bytes, acknowledgement_frame(bytes, text));
     }
     return NULL;
 }
@@ -224,6 +234,50 @@ static double rate(int topics) {
     return topics * COUNT * 1e6 / (now_us() - before);
 }
 
+// Publishes a second of one publisher, of whose texts some may be unanswered.
+static double fill(const char *topic) {
+    struct client client;
+    char bytes[FRAME_ROOM];
+    size_t length = publish_frame(bytes);
+    begin(&client, "producer/persistent/public/default/%s", topic);
+    double before = now_us();
+    for (int asked = 0, answered = 0; answered < BACKLOG;) {
+        if (asked < BACKLOG && asked - answered < UNANSWERED) {
+            send_all(client.socket, bytes, length);
+            asked++;
+        } else {
+            receive_ok(&client);
+            answered++;
+        }
+    }
+    double took = now_us() - before;
+    close(client.socket);
+    return BACKLOG * 1e6 / took;
+}
+
+// Messages a second of one consumer that acknowledges each, many in one write, until the last has come.
+static double drain(const char *topic) {
+    struct client client;
+    char text[FRAME_ROOM], bytes[4096];
+    size_t length = 0;
+    double before = now_us();
+    begin(&client,
+          "consumer/persistent/public/default/%s/s?subscriptionType=Shared&subscriptionInitialPosition=Earliest"
+          "&receiverQueueSize=%d",
+          topic, UNANSWERED);
+    for (int i = 0; i < BACKLOG; i++) {
+        receive(&client, text);
+        length += acknowledgement_frame(bytes + length, text);
+        if (length > sizeof bytes - 512 || i + 1 == BACKLOG) {
+            send_all(client.socket, bytes, length);
+            length = 0;
+        }
+    }
+    double took = now_us() - before;
+    close(client.socket);
+    return BACKLOG * 1e6 / took;
+}
+
 int main(int count, char **words) {
     if (count != 3) fail("usage: speed PORT FOLDER");
     port = atoi(words[1]);
@@ -244,5 +298,7 @@ int main(int count, char **words) {
     double one = rate(1), eight = rate(EIGHT);
     printf("1 publisher: %.0f a second; %d publishers on %d topics: %.0f a second, %.1f times\n", one, EIGHT, EIGHT,
            eight, eight / one);
+    printf("up to %d unanswered: %.0f publishes a second", UNANSWERED, fill("backlog"));
+    printf("; a backlog of %d: %.0f messages a second\n", BACKLOG, drain("backlog"));
     return 0;
 }
