@@ -14,7 +14,8 @@
 #include <time.h>
 #include <unistd.h>
 
-enum { PAYLOAD = 1024, MOST = 4096, PAUSE = 5000, COUNT = 1000, EIGHT = 8, FRAME_ROOM = 8192, BACKLOG = 50000, UNANSWERED = 1000 };
+enum { PAYLOAD = 1024, MOST = 4096, PAUSE = 5000, COUNT = 1000, EIGHT = 8, FRAME_ROOM = 8192 };
+enum { BACKLOG = 50000, UNANSWERED = 1000 };
 
 static int port;
 
