@@ -12,13 +12,13 @@ use crate::topic::Shared;
 use delivery_machine::{Fault, Opened, TopicName};
 use marks::Naming;
 use row_forms::topic_text;
-use row_store::Keeper;
+use row_store::{Keeper, open_cell};
 use session_bells::{Bell, Rest};
 use sqlite::Alter;
 use std::alloc::Global;
 use std::sync::atomic::{AtomicBool, Ordering};
 use std::sync::{Arc, Mutex, Wait};
-use topic_opening::{Terms, open_cell};
+use stored_cell::Terms;
 
 /// The topics of a broker: the open ones by name, and the keeper of all. Its locks are taken in this order: directory,
 /// keeper, topic.

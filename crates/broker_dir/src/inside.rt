@@ -3,12 +3,11 @@ ghost use Rattle.std.specs.Prelude.{◌≡◌, ◌-◌, ◌<◌, IfOk, set, true
 ghost use Rattle.topic_seats.specs.Seats.{IsFree};
 
 use delivery_machine::{Event, Fault, KeptSubscription, Opened, Reply, Saved, SubscriptionName};
-use kept_rows::Kept;
 use marks::Naming;
 use session_bells::{Asked, Bell, Bells};
 use std::alloc::Global;
 use std::sync::{Arc, Wait};
-use stored_cell::StoredCell;
+use stored_cell::{Kept, StoredCell};
 
 /// After how many lines a journal begins anew, so that its memory is bounded.
 const LONG: u64 = 65_536;

@@ -16,5 +16,6 @@ pub use attached::{Attached, Seated};
 pub use clock::moment;
 pub use directory::Directory;
 pub use gate::{Gate, Open};
+pub use row_store::open_cell;
+pub use stored_cell::Terms;
 pub use storing::Errands;
-pub use topic_opening::{Terms, open_cell};

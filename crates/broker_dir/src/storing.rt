@@ -5,7 +5,6 @@ use crate::courier::Courier;
 use crate::directory::Directory;
 use crate::topic::Shared;
 use delivery_machine::{Fault, Moment, Opened};
-use kept_rows::{Kept, Part};
 use marks::Naming;
 use row_store::Keeper;
 use session_bells::Bell;
@@ -14,6 +13,7 @@ use std::alloc::Global;
 use std::rt::Clock;
 use std::sync::atomic::Ordering;
 use std::sync::{Arc, Wait};
+use stored_cell::{Kept, Part};
 
 /// A topic that was viewed: its place among those that are stored, and how many messages it had.
 #[derive(Clone, Copy, Debug, PartialEq, Eq)]

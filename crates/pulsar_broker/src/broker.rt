@@ -3,7 +3,6 @@ ghost use Rattle.std.specs.Prelude.{◌≡◌};
 
 use crate::arguments::Asked;
 use broker_dir::{Directory, Open, Terms};
-use kept_rows::{Note, Notes};
 use marks::{Naming, Unnamed};
 use position_core::LedgerSize;
 use row_store::Keeper;
@@ -15,6 +14,7 @@ use std::net::{Net, TcpListener, TcpStream};
 use std::rt::Clock;
 use std::sync::{Arc, Wait};
 use std::thread::Threads;
+use stored_cell::{Note, Notes};
 use topic_core::TopicCore;
 use topic_shared::{LineLimit, SeatCount};
 use worker_pool::{Ended, Limits, Place, serve};

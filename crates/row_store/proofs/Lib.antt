@@ -1,3 +1,4 @@
 pub mod Lists
+pub mod Restarting
 pub mod Standing
 pub mod Storing

@@ -22,7 +22,7 @@ use Rattle.row_tables.specs.Goes.{Saves}
 use Rattle.row_tables.specs.Ready.{IsReady}
 use Rattle.row_rounds.specs.declared.saving.Write.{Write}
 use Rattle.row_rounds.specs.Rounds.{Fits, Rounds, StandAll}
-use Rattle.kept_rows.specs.Noted.{Noted, StandsAmong, all_rows, is_shown}
+use Rattle.stored_cell.specs.Noted.{Noted, StandsAmong, all_rows, is_shown}
 use Rattle.row_store.specs.declared.written.Written.{Written}
 use Rattle.row_store.specs.Keeping.{IsKept, StoresAll, stored_in}
 use Rattle.row_store.proofs.Standing.{stores_all}

@@ -12,7 +12,7 @@ use Rattle.delivery_machine.specs.Places.{KeptTopic, snapshot_in}
 use Rattle.row_forms.specs.Standing.{Stands, KeepsOthers}
 use Rattle.row_forms.specs.Schema.{schema_6}
 use Rattle.row_tables.specs.Ready.{IsReady, IsBlank}
-use Rattle.kept_rows.specs.Noted.{Noted, all_rows, is_shown}
+use Rattle.stored_cell.specs.Noted.{Noted, all_rows, is_shown}
 use Rattle.row_store.specs.declared.written.Written.{Written}
 
 -- a keeper, as contracts see it: its connection, whether it failed, the snapshots that it knows to stand in the rows,

@@ -11,13 +11,13 @@ use crate::known::Known;
 use crate::planning::{are_apart, plan_all};
 use crate::written::Written;
 use delivery_machine::Fault;
-use kept_rows::{Kept, Notes, Part};
 use marks::Naming;
 use position_core::TopicName;
 use row_rounds::{room_for, save};
 use sqlite::{Alter, Connection};
 use std::alloc::Global;
 use std::marker::Model;
+use stored_cell::{Kept, Notes, Part};
 
 /// Keeps topics as rows of a database. After a store that failed it answers F16 until the database is
 /// adopted again. Contracts see its connection, and whether it failed.

@@ -6,7 +6,7 @@ ghost use Rattle.sqlite.specs.Tree.{Trees};
 ghost use Rattle.position_core.specs.TopicName.{topic_text};
 ghost use Rattle.delivery_machine.specs.Places.{KeptTopic};
 ghost use Rattle.row_forms.specs.Standing.{Stands};
-ghost use Rattle.kept_rows.specs.Noted.{Noted, StandsAmong};
+ghost use Rattle.stored_cell.specs.Noted.{Noted, StandsAmong};
 ghost use Rattle.row_rounds.specs.declared.saving.Write.{Write};
 ghost use Rattle.row_rounds.specs.Rounds.{IsNamed};
 ghost use Rattle.row_store.specs.Keeping.{known_without};
@@ -14,10 +14,10 @@ ghost use Rattle.row_store.specs.Keeping.{known_without};
 use crate::known::Known;
 use crate::planning::is_among;
 use delivery_machine::Snapshot;
-use kept_rows::{Kept, Note, Part};
 use marks::{Mark, Naming};
 use position_core::TopicName;
 use row_rounds::Write;
+use stored_cell::{Kept, Note, Part};
 
 /// What is written is known no more.
 pub fn forget<J: Naming>(known: &mut Vec<Known<J>>, writes: &[Write])

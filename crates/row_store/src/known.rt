@@ -3,10 +3,10 @@ ghost use Rattle.std.specs.Prelude.{◌≡◌, string_bytes};
 ghost use Rattle.position_core.specs.TopicName.{same_topic, topic_text};
 
 use delivery_machine::Snapshot;
-use kept_rows::Note;
 use marks::{Mark, Naming};
 use position_core::TopicName;
 use std::marker::Model;
+use stored_cell::Note;
 
 /// A topic whose rows are known: what stands there of it, under its mark. Contracts see what stands.
 #[derive(Drop)]

@@ -9,9 +9,10 @@ mod loading;
 mod opening;
 mod planning;
 mod rounds;
+mod topics;
 mod written;
 
 pub use keeper::Keeper;
-pub use loading::Loaded;
 pub use opening::Refused;
+pub use topics::open_cell;
 pub use written::Written;

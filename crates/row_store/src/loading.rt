@@ -10,20 +10,13 @@ ghost use Rattle.row_store.specs.Keeping.{stored_in};
 use crate::keeper::Keeper;
 use crate::knowing::{forget_topic, know};
 use delivery_machine::{Fault, Snapshot};
-use kept_rows::Kept;
 use marks::Naming;
 use position_core::TopicName;
 use row_forms::topic_text;
 use row_reading::snapshot_in;
 use row_rounds::read;
 use sqlite::Alter;
-
-/// A snapshot, with the proof that it stands in rows that were committed.
-#[derive(Drop)]
-pub struct Loaded<J: Naming> {
-    pub snapshot: Snapshot,
-    pub kept: Kept<J>,
-}
+use stored_cell::{Kept, Loaded};
 
 impl<S: Alter, J: Naming> Keeper<S, J> {
     /// The snapshot whose rows stand there; none where the topic has no rows. The next store of the topic

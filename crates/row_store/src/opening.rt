@@ -12,11 +12,11 @@ ghost use Rattle.row_store.specs.Keeping.{MayLeave};
 use crate::keeper::Keeper;
 use crate::written::Written;
 use delivery_machine::Fault;
-use kept_rows::Notes;
 use marks::Naming;
 use row_schema::{create, has_no_schema, is_version_1, reopen};
 use sqlite::{Alter, Connection};
 use std::alloc::Global;
+use stored_cell::Notes;
 
 /// What is left where a database is not taken: why, the store, and the history.
 #[derive(Drop)]

@@ -6,18 +6,18 @@ ghost use Rattle.sqlite.specs.Tree.{Trees};
 ghost use Rattle.position_core.specs.TopicName.{topic_text};
 ghost use Rattle.position_core.specs.declared.fault.Fault.TheVariants.{NoMemory};
 ghost use Rattle.delivery_machine.specs.Places.{KeptTopic};
-ghost use Rattle.kept_rows.specs.Noted.{GoesOn};
+ghost use Rattle.stored_cell.specs.Noted.{GoesOn};
 ghost use Rattle.row_forms.specs.Standing.{Stands};
 ghost use Rattle.row_rounds.specs.declared.saving.Write.{Write};
 ghost use Rattle.row_rounds.specs.Rounds.{AreApart, Fits, IsNamed, name_of};
 
 use crate::known::Known;
 use delivery_machine::{Fault, Snapshot};
-use kept_rows::Part;
 use marks::Naming;
 use row_forms::{Change, topic_text};
 use row_rounds::Write;
 use std::alloc::Global;
+use stored_cell::Part;
 
 /// What is known to stand, and the part goes on from.
 fn base_of<'a, J: Naming>(known: &'a [Known<J>], part: &Part<J>) -> Option<&'a Known<J>>

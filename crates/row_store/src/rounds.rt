@@ -7,17 +7,16 @@ ghost use Rattle.delivery_machine.specs.declared.event.Event.TheVariants.{Stored
 ghost use Rattle.topic_shared.specs.Kept.{HasNoLine, StoresLine, with_promise};
 ghost use Rattle.sqlite.specs.State.{HasCleanDisk, Survives};
 ghost use Rattle.sqlite.specs.Held.{state};
-ghost use Rattle.kept_rows.specs.Noted.{Noted, GoesOn};
+ghost use Rattle.stored_cell.specs.Noted.{Noted, GoesOn};
 ghost use Rattle.stored_cell.specs.Held.{SameButPromise};
 ghost use Rattle.row_store.specs.Keeping.{StoresAll, StoresState, stored_in};
 
 use crate::keeper::Keeper;
 use delivery_machine::{Fault, Opened, Saved, Snapshot};
-use kept_rows::{Kept, Note, Part};
 use marks::{Mark, Naming};
 use sqlite::Alter;
 use std::alloc::Global;
-use stored_cell::StoredCell;
+use stored_cell::{Kept, Note, Part, StoredCell};
 
 /// A list of one part.
 fn alone<J: Naming>(alloc: Global, part: Part<J>) -> Result<Vec<Part<J>>, Fault>

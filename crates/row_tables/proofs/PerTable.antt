@@ -1,6 +1,7 @@
 -- The statements on each of the five tables of topics.
-use Rattle.std.proofs.Common.{◌≡◌, ℕ, ℤ, pos, List, [], ◌∷◌, codes, Ok, refl, arith}
+use Rattle.std.proofs.Common.{◌≡◌, ℕ, ℤ, pos, List, [], ◌∷◌, codes, Ok, refl, subst, arith}
 use Rattle.sqlite.specs.declared.types.Value.TheVariants.{Null, Int, Text, Blob as Octets}
+use Rattle.sqlite.specs.Order.{Row}
 use Rattle.sqlite.specs.Term.{lit, col}
 use Rattle.sqlite.specs.State.{State, ExecutesInside}
 use Rattle.sqlite_schema.specs.declared.schema.Column.{Column}
@@ -34,6 +35,13 @@ pub adds_entry : (topic : List ℕ) (place ledger entry : ℕ) (producer : List 
     → Goes (Adds ENTRY ((Text topic ∷ Int (pos place) ∷ Int (pos ledger) ∷ Int (pos entry) ∷ Text producer ∷ Int sequence ∷ Int (pos time) ∷ Int (pos has) ∷ Text key ∷ Text properties ∷ Octets payload ∷ []) ∷ [])) old new
 adds_entry topic place ledger entry producer sequence time has key properties payload = adds_row 2 (codes "entry") ENTRY entry_columns (1 ∷ 2 ∷ []) refl (λ _ _ _. refl) (λ _ all. all.1.1.0) (λ _ _ all. all.0 (λ e. omega (arith, e))) (λ _. refl) insert_entry (lit Null ∷ col 0 0 ∷ col 0 1 ∷ col 0 2 ∷ col 0 3 ∷ col 0 4 ∷ col 0 5 ∷ col 0 6 ∷ col 0 7 ∷ col 0 8 ∷ col 0 9 ∷ col 0 10 ∷ []) 12 insert_entry_is.0 insert_entry_is.1
     (Text topic ∷ Int (pos place) ∷ Int (pos ledger) ∷ Int (pos entry) ∷ Text producer ∷ Int sequence ∷ Int (pos time) ∷ Int (pos has) ∷ Text key ∷ Text properties ∷ Octets payload ∷ []) refl (rw (cast_int (pos place), cast_int (pos ledger), cast_int (pos entry), cast_int sequence, cast_int (pos time), cast_int (pos has)) refl) (λ _. refl)
+
+-- the same of parameters that are known to be these
+pub adds_entry_as : (topic : List ℕ) (place ledger entry : ℕ) (producer : List ℕ) (sequence : ℤ) (time has : ℕ) (key properties payload : List ℕ) {params : Row} {old new : State} (count : ℕ) → ExecutesInside 0 insert_entry params old new (Ok count)
+    → params ≡ (Text topic ∷ Int (pos place) ∷ Int (pos ledger) ∷ Int (pos entry) ∷ Text producer ∷ Int sequence ∷ Int (pos time) ∷ Int (pos has) ∷ Text key ∷ Text properties ∷ Octets payload ∷ [])
+    → Goes (Adds ENTRY ((Text topic ∷ Int (pos place) ∷ Int (pos ledger) ∷ Int (pos entry) ∷ Text producer ∷ Int sequence ∷ Int (pos time) ∷ Int (pos has) ∷ Text key ∷ Text properties ∷ Octets payload ∷ []) ∷ [])) old new
+adds_entry_as topic place ledger entry producer sequence time has key properties payload {params} {old} {new} count runs is =
+    adds_entry topic place ledger entry producer sequence time has key properties payload old new count (subst (λ (p : Row). ExecutesInside 0 insert_entry p old new (Ok count)) is runs)
 
 abbrev sub_columns : List Column
 sub_columns = required (codes "topic") TextKind ∷ required (codes "name") TextKind ∷ required (codes "kind") Integer ∷ []

@@ -16,7 +16,7 @@ use Rattle.delivery_machine.specs.declared.reply.Reply.{Reply}
 use Rattle.delivery_machine.specs.declared.reply.Reply.TheVariants.{Durable}
 use Rattle.delivery_machine.proofs.Growing.{IsGrown, step_grows, prefix_same}
 use Rattle.topic_shared.specs.Kept.{Kept, StoresLine, spoken_for, with_promise}
-use Rattle.kept_rows.specs.Noted.{Noted, IsStored}
+use Rattle.stored_cell.specs.Noted.{Noted, IsStored}
 use Rattle.stored_cell.specs.Held.{Held, IsBeginning, IsProof, IsSound, has_stored}
 
 prefix_shorter : {A : Type 0} (xs ys : List A) → IsPrefix xs ys → length xs ≤ length ys

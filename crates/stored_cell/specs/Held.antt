@@ -4,7 +4,7 @@ use mathlib.Core.List.{IsPrefix}
 use Rattle.delivery_machine.specs.State.{State}
 use Rattle.delivery_machine.specs.Places.{KeptTopic}
 use Rattle.topic_shared.specs.Kept.{Kept}
-use Rattle.kept_rows.specs.Noted.{Noted, IsStored}
+use Rattle.stored_cell.specs.Noted.{Noted, IsStored}
 
 -- `stored` is the snapshot that was confirmed last, with rows that were committed; `outstanding`, the one that was viewed
 -- last, if it was not confirmed; `by_word`, whether more is durable than was confirmed, by the word of a caller alone

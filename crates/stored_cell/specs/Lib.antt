@@ -1,2 +1,4 @@
--- What the contracts of stored cells cite.
+-- What the contracts of stored snapshots and cells cite.
+pub mod Noted
 pub mod Held
+pub mod Opening

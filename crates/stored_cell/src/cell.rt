@@ -11,9 +11,9 @@ ghost use Rattle.topic_shared.specs.Kept.{KeepsSeats, needed_by, spoken_for, is_
 ghost use Rattle.topic_seats.specs.Seats.{IsFree, without_seat};
 ghost use Rattle.stored_cell.specs.Held.{IsDurable};
 
+use crate::kept::Kept;
 use crate::viewed::{Stored, Viewed};
 use delivery_machine::{Event, Fault, Snapshot, Topic};
-use kept_rows::Kept;
 use marks::Naming;
 use std::marker::Model;
 use topic_shared::{Cell, Receipt};

@@ -8,9 +8,11 @@ ghost use Rattle.topic_shared.specs.Kept.{HasNoLine, StoresLine, with_promise};
 ghost use Rattle.stored_cell.specs.Held.{SameButPromise};
 
 use crate::cell::StoredCell;
+use crate::kept::Kept;
+use crate::notes::{Note, Notes};
+use crate::part::Part;
 use crate::viewed::{Stored, Viewed};
 use delivery_machine::{Fault, Opened, Saved};
-use kept_rows::{Kept, Note, Notes, Part};
 use marks::{Mark, Naming};
 
 /// The mark of the snapshot that was stored last.

@@ -4,7 +4,15 @@
 
 mod cell;
 mod confirming;
+pub mod kept;
+pub mod notes;
+pub mod opening;
+pub mod part;
 mod saving;
 mod viewed;
 
 pub use cell::StoredCell;
+pub use kept::Kept;
+pub use notes::{Note, Notes};
+pub use opening::{Loaded, Terms, opened_cell};
+pub use part::Part;

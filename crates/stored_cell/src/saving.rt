@@ -10,9 +10,10 @@ ghost use Rattle.stored_cell.specs.Held.{has_stored};
 
 use crate::cell::StoredCell;
 use crate::confirming::base_of;
+use crate::kept::Kept;
+use crate::notes::Note;
 use crate::viewed::Stored as StoredAs;
 use delivery_machine::{Fault, Opened, Reply, Saved, Snapshot};
-use kept_rows::{Kept, Note};
 use marks::{Mark, Naming};
 
 /// What was stored last has just so many messages.

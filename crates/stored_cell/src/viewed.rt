@@ -1,9 +1,10 @@
 // Snapshots that were viewed or stored, with how much they hold.
 ghost use Rattle.std.specs.Prelude.{◌≡◌, length};
-ghost use Rattle.kept_rows.specs.Noted.{IsStored};
+ghost use Rattle.stored_cell.specs.Noted.{IsStored};
 
+use crate::kept::Kept;
+use crate::notes::Note;
 use delivery_machine::Snapshot;
-use kept_rows::{Kept, Note};
 use marks::{Mark, Naming};
 use position_core::Ordinal;
 use std::marker::Model;
@@ -75,7 +76,7 @@ impl<J: Naming> Model for Stored<J> {
     ghost use Rattle.std.specs.Prelude.{◌≡◌, length};
     ghost use Rattle.std.specs.Coded.{codes};
     ghost use Rattle.delivery_machine.specs.Codes.{coded_places};
-    ghost use Rattle.kept_rows.specs.Noted.{Noted, IsStored};
+    ghost use Rattle.stored_cell.specs.Noted.{Noted, IsStored};
 
     ghost Value = { Noted };
 

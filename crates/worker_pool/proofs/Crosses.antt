@@ -15,7 +15,7 @@ use Rattle.session_bells.proofs.bells.Bells.TheSendSync.{the_send as bells_send}
 use Rattle.broker_dir.proofs.inside.Grave.TheSendSync.{the_send as grave_send}
 use Rattle.broker_dir.proofs.board.Board.TheSendSync.{the_send as board_send, the_sync as board_sync}
 use Rattle.broker_dir.proofs.table.Table.TheSendSync.{the_send as table_send}
-use Rattle.topic_opening.proofs.opening.Terms.TheSendSync.{the_send as terms_send, the_sync as terms_sync}
+use Rattle.stored_cell.proofs.opening.Terms.TheSendSync.{the_send as terms_send, the_sync as terms_sync}
 use Rattle.row_store.proofs.keeper.Keeper.TheSendSync.{the_send as keeper_send}
 use Rattle.worker_loops.proofs.post.Doorbell.TheSendSync.{the_send as doorbell_send, the_sync as doorbell_sync}
 use Rattle.std.specs.contracts.option.Option as Option

@@ -8,13 +8,13 @@ use super::same::same;
 use super::stops::{Machine, NEVER, Outcome, Stop};
 use super::works::{Work, is_done};
 use delivery_machine::Snapshot;
-use kept_rows::Note;
 use marks::{Naming, Unnamed};
 use row_store::Keeper;
 use sqlite::{Alter, Connection, FileStore, Files, Options};
 use sqlite_disk::{Crash, Disk, Fuse, Memory};
 use std::marker::Brand;
 use std::process::Abort;
+use stored_cell::Note;
 
 type File = Fuse<Memory>;
 

@@ -6,12 +6,12 @@ use super::keeps::{Keeps, Scene};
 use super::same::{changed, same};
 use super::topics::Lone;
 use delivery_machine::{Event, Fault, Saved, Snapshot};
-use kept_rows::{Kept, Note, Notes, Part};
 use marks::{Naming, Unnamed};
 use row_store::{Keeper, Refused, Written};
 use sqlite::{Alter, Connection};
 use std::marker::Brand;
 use std::process::Abort;
+use stored_cell::{Kept, Note, Notes, Part};
 
 /// A database with the history of what was viewed and committed.
 #[derive(Drop)]

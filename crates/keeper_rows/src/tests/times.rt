@@ -10,13 +10,13 @@ mod stores;
 
 use super::keepers::{started, taken};
 use super::keeps::Keeps;
-use kept_rows::Note;
 use marks::{Naming, Unnamed};
 use measure::Measure;
 use sqlite::{Alter, Connection};
 use std::env;
 use std::marker::Brand;
 use std::process::Abort;
+use stored_cell::Note;
 
 /// Makes the tables, and fills them with a topic of so many messages. The database is full then.
 fn filled<S: Alter + Drop, R: Abort + AllocGlobal>(

@@ -3,13 +3,11 @@ ghost use Rattle.std.specs.Prelude.{◌≡◌, []};
 
 use super::answers::{Answer, event_in, topic_name};
 use delivery_machine::{Event, Opened, Snapshot};
-use kept_rows::Kept;
 use marks::Naming;
 use plain_topic::PlainTopic;
 use position_core::{LedgerSize, TopicName};
-use row_store::Loaded;
 use std::process::Abort;
-use stored_cell::StoredCell;
+use stored_cell::{Kept, Loaded, StoredCell};
 use topic_shared::{Cell, LineLimit, SeatCount};
 
 #[derive(Drop)]

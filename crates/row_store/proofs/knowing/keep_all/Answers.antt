@@ -1,5 +1,5 @@
 use Rattle.std.proofs.Common.{subst, sym, ap, ◌∙◌}
-use Rattle.kept_rows.specs.Noted.{Noted, StandsAmong}
+use Rattle.stored_cell.specs.Noted.{Noted, StandsAmong}
 use Rattle.row_store.proofs.knowing.keep_all.Goals as goal
 
 pub new-requires : goal.new-requires

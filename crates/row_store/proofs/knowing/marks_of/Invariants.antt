@@ -1,5 +1,5 @@
 use Rattle.std.proofs.Common.{◌≡◌, ◌≤◌, map, take, length, vec_capacity}
-use Rattle.kept_rows.specs.Noted.{Noted}
+use Rattle.stored_cell.specs.Noted.{Noted}
 use Rattle.row_store.proofs.knowing.marks_of.Given as goal
 
 abbrev pub invariant-loop-part : goal.invariant-loop-part

@@ -2,7 +2,7 @@ use Rattle.std.proofs.Common.{rules, ◌≡◌, All, subst, sym, ap, ◌∙◌, 
 use Rattle.std.proofs.lemmas.List.{map-append}
 use Rattle.std.proofs.lemmas.List.Elements.{All-push, All-pop}
 use Rattle.delivery_machine.specs.Places.{KeptTopic}
-use Rattle.kept_rows.specs.Noted.{Noted}
+use Rattle.stored_cell.specs.Noted.{Noted}
 use Rattle.row_forms.specs.Standing.{Stands}
 use Rattle.row_rounds.specs.declared.saving.Write.{Write}
 use Rattle.row_rounds.specs.Rounds.{IsNamed}

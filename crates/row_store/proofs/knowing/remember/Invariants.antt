@@ -1,7 +1,7 @@
 use Rattle.std.proofs.Common.{◌≡◌, All, length, map}
 use Rattle.sqlite.specs.Tree.{Trees}
 use Rattle.delivery_machine.specs.Places.{KeptTopic}
-use Rattle.kept_rows.specs.Noted.{Noted}
+use Rattle.stored_cell.specs.Noted.{Noted}
 use Rattle.row_forms.specs.Standing.{Stands}
 use Rattle.row_rounds.specs.declared.saving.Write.{Write}
 use Rattle.row_rounds.specs.Rounds.{IsNamed}

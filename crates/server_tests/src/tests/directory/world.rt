@@ -3,7 +3,6 @@ ghost use Rattle.std.specs.Prelude.{◌≡◌};
 
 use broker_dir::{Attached, Directory, Errands, Open, Terms};
 use delivery_machine::{Event, Reply};
-use kept_rows::{Note, Notes};
 use marks::{Naming, Unnamed};
 use position_core::{LedgerSize, TopicName};
 use replay_lines::{Line, read_line};
@@ -15,6 +14,7 @@ use std::marker::Brand;
 use std::process::Abort;
 use std::rt::Clock;
 use std::sync::{Arc, Wait};
+use stored_cell::{Note, Notes};
 use topic_core::TopicCore;
 use topic_shared::{LineLimit, SeatCount};
 

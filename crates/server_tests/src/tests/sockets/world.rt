@@ -2,7 +2,6 @@
 ghost use Rattle.std.specs.Prelude.{◌≡◌};
 
 use broker_dir::{Directory, Gate, Terms};
-use kept_rows::{Note, Notes};
 use marks::{Naming, Unnamed};
 use position_core::LedgerSize;
 use row_store::Keeper;
@@ -15,6 +14,7 @@ use std::rt::Clock;
 use std::sync::{Arc, Wait};
 use std::thread;
 use std::thread::Threads;
+use stored_cell::{Note, Notes};
 use topic_core::TopicCore;
 use topic_shared::{LineLimit, SeatCount};
 use worker_pool::{Ended, Limits, Place, serve};

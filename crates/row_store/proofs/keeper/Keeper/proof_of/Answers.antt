@@ -2,7 +2,7 @@ use Rattle.std.proofs.Common.{◌≡◌, not, IsTrue, refl, subst, sym, ap, ◌�
 use Rattle.sqlite.specs.Effect.{Database}
 use Rattle.sqlite.specs.Held.{state}
 use Rattle.row_forms.specs.Standing.{Stands}
-use Rattle.kept_rows.specs.Noted.{StandsAmong, all_rows}
+use Rattle.stored_cell.specs.Noted.{StandsAmong, all_rows}
 use Rattle.row_store.proofs.Storing.{among, shown_is}
 use Rattle.row_store.proofs.keeper.Keeper.proof_of.Goals as goal
 

@@ -4,7 +4,7 @@ use Rattle.sqlite.specs.Held.{state}
 use Rattle.delivery_machine.specs.Places.{KeptTopic}
 use Rattle.row_forms.specs.Standing.{Stands}
 use Rattle.row_rounds.specs.Rounds.{AreApart}
-use Rattle.kept_rows.specs.Noted.{Noted, StandsAmong, all_rows}
+use Rattle.stored_cell.specs.Noted.{Noted, StandsAmong, all_rows}
 use Rattle.row_store.proofs.Standing.{still_standing, stores_all}
 use Rattle.row_store.proofs.Storing.{all_stored, leaves, marked_among, shown_is, went}
 use Rattle.row_store.proofs.keeper.Keeper.store.Goals as goal

@@ -3,7 +3,7 @@ use Rattle.std.specs.Prelude.{ℕ, ◌&&◌, ◌==◌, not}
 use Rattle.delivery_machine.specs.Places.{KeptTopic}
 use Rattle.delivery_machine.specs.declared.event.Event.TheVariants.{StoredTo}
 use Rattle.topic_shared.specs.Kept.{StoresLine}
-use Rattle.kept_rows.specs.Noted.{Noted, IsStored}
+use Rattle.stored_cell.specs.Noted.{Noted, IsStored}
 use Rattle.stored_cell.specs.Held.{Held, IsSound}
 use Rattle.stored_cell.proofs.Sound.{sound_confirmed}
 use Rattle.stored_cell.proofs.cell.StoredCell.confirm.Goals as goal

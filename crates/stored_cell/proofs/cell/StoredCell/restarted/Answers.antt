@@ -1,5 +1,5 @@
 use Rattle.std.proofs.Common.{rules, ◌≡◌, subst, sym, ◌∙◌, ap}
-use Rattle.kept_rows.specs.Noted.{Noted, IsStored}
+use Rattle.stored_cell.specs.Noted.{Noted, IsStored}
 use Rattle.delivery_machine.specs.Snapshot.{restarted}
 use Rattle.delivery_machine.specs.Places.{snapshot_in}
 use Rattle.stored_cell.proofs.Sound.{sound_restarted}

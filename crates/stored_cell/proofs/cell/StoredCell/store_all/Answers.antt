@@ -1,6 +1,6 @@
 use Rattle.std.proofs.Common.{rules, ◌≡◌, subst, sym, Bool, Some, None}
 use Rattle.std.specs.Prelude.{not}
-use Rattle.kept_rows.specs.Noted.{Noted, IsStored}
+use Rattle.stored_cell.specs.Noted.{Noted, IsStored}
 use Rattle.stored_cell.specs.Held.{IsSound, has_stored}
 use Rattle.stored_cell.proofs.Sound.{sound_stored}
 use Rattle.stored_cell.proofs.cell.StoredCell.store_all.Goals as goal

@@ -7,9 +7,9 @@ use Rattle.delivery_machine.specs.State.{State, fresh}
 use Rattle.delivery_machine.specs.Snapshot.{restarted}
 use Rattle.delivery_machine.specs.Places.{snapshot_in}
 use Rattle.topic_shared.specs.Kept.{Kept}
-use Rattle.kept_rows.specs.Noted.{Noted}
+use Rattle.stored_cell.specs.Noted.{Noted}
 use Rattle.stored_cell.specs.Held.{Held}
-use Rattle.topic_opening.specs.declared.opening.Terms.{Terms}
+use Rattle.stored_cell.specs.declared.opening.Terms.{Terms}
 use Rattle.row_forms.specs.Standing.{Stands, HasNone}
 
 -- a cell in this state whose journal has no line, where nobody sits

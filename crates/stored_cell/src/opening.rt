@@ -1,22 +1,17 @@
-// How a topic comes to be open: from the rows that stand there, or with nothing in it.
-ghost use Rattle.std.specs.Prelude.{◌≡◌, ◌⊎◌, false, true, None, Some, IfOk, IfErr, Err, IsTrue};
-ghost use Rattle.position_core.specs.TopicName.{topic_text};
-ghost use Rattle.position_core.specs.declared.fault.Fault.TheVariants.{NoMemory, NoSuchSubscription, StoreFailed};
+// How a topic comes to be open: from what its rows keep, or with nothing in it.
+ghost use Rattle.std.specs.Prelude.{◌≡◌, ◌⊎◌, ◌↔◌, false, None, Some, IfOk, IfErr, IfSome, MatchOption, Err};
+ghost use Rattle.position_core.specs.declared.fault.Fault.TheVariants.{NoMemory, NoSuchSubscription};
 ghost use Rattle.delivery_machine.specs.State.{fresh};
 ghost use Rattle.delivery_machine.specs.Snapshot.{restarted};
 ghost use Rattle.delivery_machine.specs.Places.{snapshot_in};
-ghost use Rattle.sqlite.specs.State.{HasCleanDisk, Survives};
-ghost use Rattle.sqlite.specs.Held.{state};
-ghost use Rattle.row_forms.specs.Standing.{HasNone};
-ghost use Rattle.topic_opening.specs.Opening.{Opens, begins, opened};
+ghost use Rattle.stored_cell.specs.Opening.{begins, opened};
 
+use crate::cell::StoredCell;
+use crate::kept::Kept;
 use delivery_machine::{Fault, Opened, Snapshot, TopicName};
 use marks::Naming;
 use position_core::LedgerSize;
-use row_store::{Keeper, Loaded};
-use sqlite::Alter;
 use std::alloc::Global;
-use stored_cell::StoredCell;
 use topic_shared::{Cell, LineLimit, SeatCount};
 
 /// How large a topic's ledgers are, how long its journal may be, and how many may sit at it.
@@ -25,6 +20,13 @@ pub struct Terms {
     pub ledger_size: LedgerSize,
     pub lines: LineLimit,
     pub seats: SeatCount,
+}
+
+/// A snapshot, with the proof that it stands in rows that were committed.
+#[derive(Drop)]
+pub struct Loaded<J: Naming> {
+    pub snapshot: Snapshot,
+    pub kept: Kept<J>,
 }
 
 /// A topic that nothing is known of.
@@ -89,33 +91,28 @@ fn restarted_cell<T: Opened + Drop, J: Naming>(
     }
 }
 
-/// Opens the topic: from the rows that stand there, or, where it has none and is to be made, with nothing in it. Refused
-/// (F16) where its rows are none, or the store answers an error; (F11) where it has no rows and is not to be made; (F1)
-/// for want of memory. No row changes.
-pub fn open_cell<T: Opened + Drop, S: Alter, J: Naming>(
+/// The topic, from what was loaded of it, or, where nothing is kept of it and it is to be made, with nothing in it.
+/// Refused (F11) where nothing is kept of it and it is not to be made; (F1) for want of memory.
+pub fn opened_cell<T: Opened + Drop, J: Naming>(
     alloc: Global,
-    keeper: &mut Keeper<S, J>,
+    loaded: Option<Loaded<J>>,
     name: &TopicName,
     create: bool,
     terms: Terms,
 ) -> Result<StoredCell<T, J>, Fault>
-    ensures opens { HasCleanDisk (state S.Store keeper.new.conn) → IfOk result (Opens name.now terms (state S.Store keeper.old.conn).now.trees) }
-    ensures unknown { HasCleanDisk (state S.Store keeper.new.conn) → result ≡ Err NoSuchSubscription → (create ≡ false) × HasNone (topic_text name.now) (state S.Store keeper.old.conn).now.trees }
-    ensures same { HasCleanDisk (state S.Store keeper.new.conn) → IsTrue (state S.Store keeper.new.conn).is_open → (state S.Store keeper.new.conn).now ≡ (state S.Store keeper.old.conn).now }
-    ensures crash { Survives (state S.Store keeper.old.conn) (state S.Store keeper.new.conn) (λ _. ⊥) }
-    ensures failed { keeper.new.failed ≡ keeper.old.failed }
-    ensures refused { keeper.old.failed ≡ true → (result ≡ Err StoreFailed) × (keeper.new ≡ keeper.old) }
-    ensures faults { IfErr result (λ fault. (fault ≡ NoMemory) ⊎ (fault ≡ StoreFailed) ⊎ (fault ≡ NoSuchSubscription)) }
+    requires { IfSome loaded (λ l. l.kept.kept ≡ l.snapshot) }
+    ensures opens { IfOk result (λ cell. MatchOption loaded (cell ≡ opened (fresh name.now terms.ledger_size) terms None) (λ l. cell ≡ opened (restarted (snapshot_in l.snapshot)) terms (Some l.kept))) }
+    ensures unknown { (result ≡ Err NoSuchSubscription) ↔ (loaded ≡ None) × (create ≡ false) }
+    ensures faults { IfErr result (λ fault. (fault ≡ NoMemory) ⊎ (fault ≡ NoSuchSubscription)) }
 {
-    match keeper.load(name) {
-        Ok(Some(loaded)) => restarted_cell(alloc, loaded, terms),
-        Ok(None) => {
+    match loaded {
+        Some(loaded) => restarted_cell(alloc, loaded, terms),
+        None => {
             if create {
                 fresh_cell(alloc, name, terms)
             } else {
                 Err(Fault::NoSuchSubscription)
             }
         }
-        Err(fault) => Err(fault),
     }
 }

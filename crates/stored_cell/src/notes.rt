@@ -1,7 +1,7 @@
 // The history of what was viewed and of what was committed.
 ghost use Rattle.std.specs.Prelude.{◌≡◌, IfSome};
 ghost use Rattle.sqlite.specs.Held.{state};
-ghost use Rattle.kept_rows.specs.Noted.{all_rows, is_shown};
+ghost use Rattle.stored_cell.specs.Noted.{all_rows, is_shown};
 
 use delivery_machine::Snapshot;
 use marks::{Asks, Blank, Mark, Marker, Naming, Unnamed};
@@ -18,7 +18,7 @@ pub struct Note {
 impl Model for Note {
     ghost use Rattle.std.specs.Coded.{codes};
     ghost use Rattle.delivery_machine.specs.Codes.{coded_places};
-    ghost use Rattle.kept_rows.specs.Noted.{Noted, nothing_kept};
+    ghost use Rattle.stored_cell.specs.Noted.{Noted, nothing_kept};
     ghost use Rattle.row_forms.specs.Forms.{no_rows};
     ghost use Rattle.std.specs.Prelude.{false};
 
@@ -30,7 +30,7 @@ impl Model for Note {
 }
 
 impl Blank for Note {
-    ghost use Rattle.kept_rows.specs.Noted.{nothing_kept};
+    ghost use Rattle.stored_cell.specs.Noted.{nothing_kept};
     ghost use Rattle.row_forms.specs.Forms.{no_rows};
     ghost use Rattle.std.specs.Prelude.{false};
 
@@ -52,7 +52,7 @@ struct Committed;
 
 impl<S: Alter> Asks<Connection<S>, Note> for Committed {
     ghost use Rattle.sqlite.specs.Held.{state};
-    ghost use Rattle.kept_rows.specs.Noted.{nothing_kept, all_rows, is_shown};
+    ghost use Rattle.stored_cell.specs.Noted.{nothing_kept, all_rows, is_shown};
 
     ghost ask = { λ conn. record { kept = nothing_kept; rows = all_rows (state S.Store conn).committed.trees; clean = is_shown (state S.Store conn) } };
 }

@@ -1,6 +1,6 @@
 // A snapshot that is to be stored.
 ghost use Rattle.std.specs.Prelude.{◌≡◌, IfSome, IsTrue};
-ghost use Rattle.kept_rows.specs.Noted.{GoesOn};
+ghost use Rattle.stored_cell.specs.Noted.{GoesOn};
 
 use crate::notes::Note;
 use delivery_machine::Snapshot;
@@ -21,7 +21,7 @@ impl<J: Naming> Model for Part<J> {
     ghost use Rattle.std.specs.Coded.{codes};
     ghost use Rattle.delivery_machine.specs.Codes.{coded_places};
     ghost use Rattle.delivery_machine.specs.Places.{KeptTopic};
-    ghost use Rattle.kept_rows.specs.Noted.{GoesOn};
+    ghost use Rattle.stored_cell.specs.Noted.{GoesOn};
 
     ghost Value = { KeptTopic };
 

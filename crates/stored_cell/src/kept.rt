@@ -1,6 +1,6 @@
 // A snapshot that stands in rows that were committed.
 ghost use Rattle.std.specs.Prelude.{◌≡◌, IsTrue, true};
-ghost use Rattle.kept_rows.specs.Noted.{IsStored, StandsAmong};
+ghost use Rattle.stored_cell.specs.Noted.{IsStored, StandsAmong};
 
 use crate::notes::Note;
 use marks::{Mark, Naming};
@@ -17,7 +17,7 @@ pub struct Kept<J: Naming> {
 impl<J: Naming> Model for Kept<J> {
     ghost use Rattle.std.specs.Coded.{codes};
     ghost use Rattle.delivery_machine.specs.Codes.{coded_places};
-    ghost use Rattle.kept_rows.specs.Noted.{Noted, IsStored};
+    ghost use Rattle.stored_cell.specs.Noted.{Noted, IsStored};
 
     ghost Value = { Noted };
 

@@ -1,2 +1,0 @@
--- What the contracts of stored snapshots cite.
-pub mod Noted

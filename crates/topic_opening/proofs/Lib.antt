@@ -1,2 +1,0 @@
--- A lemma on what a topic opens with.
-pub mod Restarting

@@ -1,2 +1,0 @@
--- What a topic opens with.
-pub mod Opening
