@@ -53,7 +53,7 @@ pub(crate) fn enter_anew(
     );
     match entered {
         Ok(()) => {
-            served.dispatchers[place] = begun;
+            drop(std::mem::replace(&mut served.dispatchers[place], begun));
             Ok(())
         }
         Err(fault) => {

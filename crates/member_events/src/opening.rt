@@ -75,12 +75,15 @@ fn put_in(
     ensures rest { parts.new ≡ record parts.old { subscriptions = parts.new.subscriptions } }
 {
     let consumer = parts.members.next();
-    match make(parts.alloc, name, kind, consumer, end) {
-        Ok(made) => match parts.subscriptions.insert(place, made) {
-            Ok(()) => Ok(()),
-            Err(_) => Err(Fault::NoMemory),
-        },
-        Err(_) => Err(Fault::NoMemory),
+    let Ok(made) = make(parts.alloc, name, kind, consumer, end) else {
+        return Err(Fault::NoMemory);
+    };
+    match parts.subscriptions.insert(place, made) {
+        Ok(()) => Ok(()),
+        Err(refused) => {
+            drop(refused);
+            Err(Fault::NoMemory)
+        }
     }
 }
 
@@ -107,7 +110,10 @@ fn begin_at(served: &mut Served, place: usize, kind: Kind) -> Result<(), Fault>
     match begin(&served.parts, place, kind) {
         Ok(begun) => match served.dispatchers.insert(place, begun) {
             Ok(()) => Ok(()),
-            Err(_) => Err(Fault::NoMemory),
+            Err(refused) => {
+                drop(refused);
+                Err(Fault::NoMemory)
+            }
         },
         Err(_) => Err(Fault::NoMemory),
     }
@@ -150,7 +156,7 @@ fn remove_dispatch(dispatchers: &mut Vec<Dispatch>, place: usize)
     requires { place < length dispatchers.old.items }
     ensures { dispatchers.new.items ≡ remove dispatchers.old.items place }
 {
-    dispatchers.remove(place);
+    drop(dispatchers.remove(place));
 }
 
 /// Takes the subscription at the place out.

@@ -184,8 +184,14 @@ fn next_letter(
             letter.ordinal,
         ) {
             Ok(true) => Ok(Some(letter)),
-            Ok(false) => Ok(None),
-            Err(e) => Err(e),
+            Ok(false) => {
+                drop(letter);
+                Ok(None)
+            }
+            Err(e) => {
+                drop(letter);
+                Err(e)
+            }
         },
         Ok(None) => Ok(None),
         Err(e) => Err(e),
@@ -250,7 +256,7 @@ pub(crate) fn letters_in<'a>(
 {
     let mut letters = Vec::new(alloc);
     let mut places = AckSet::new(alloc);
-    match put_letters(
+    let put = put_letters(
         alloc,
         name,
         rows,
@@ -258,9 +264,17 @@ pub(crate) fn letters_in<'a>(
         &mut places,
         ordinals,
         &mut letters,
-    ) {
+    );
+    drop(places);
+    match put {
         Ok(Some(rest)) => Ok(Some((letters, rest))),
-        Ok(None) => Ok(None),
-        Err(e) => Err(e),
+        Ok(None) => {
+            drop(letters);
+            Ok(None)
+        }
+        Err(e) => {
+            drop(letters);
+            Err(e)
+        }
     }
 }

@@ -247,7 +247,13 @@ pub(crate) fn log_in(alloc: Global, rows: &[Row], head: Head) -> Result<Option<P
     let mut log = Pieces::new(alloc);
     match put_rows(alloc, rows, &head, &mut log) {
         Ok(true) => Ok(Some(log)),
-        Ok(false) => Ok(None),
-        Err(e) => Err(e),
+        Ok(false) => {
+            drop(log);
+            Ok(None)
+        }
+        Err(e) => {
+            drop(log);
+            Err(e)
+        }
     }
 }

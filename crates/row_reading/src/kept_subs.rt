@@ -83,6 +83,7 @@ fn put_sub(subs: &mut Vec<KeptSubscription>, sub: KeptSubscription) -> Result<bo
         subs.push(sub)?;
         Ok(true)
     } else {
+        drop(sub);
         Ok(false)
     }
 }
@@ -149,7 +150,13 @@ pub(crate) fn subs_in(
     let mut ordinals = AckSet::new(alloc);
     match put_subs(alloc, rows, others, deaths, &mut ordinals, &mut subs) {
         Ok(true) => Ok(Some(subs)),
-        Ok(false) => Ok(None),
-        Err(e) => Err(e),
+        Ok(false) => {
+            drop(subs);
+            Ok(None)
+        }
+        Err(e) => {
+            drop(subs);
+            Err(e)
+        }
     }
 }

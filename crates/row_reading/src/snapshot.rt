@@ -83,8 +83,14 @@ fn parts_in(
     };
     match subs_with(alloc, name, raw, &log, next_ordinal) {
         Ok(Some(subs)) => Ok(Some((log, subs))),
-        Ok(None) => Ok(None),
-        Err(e) => Err(e),
+        Ok(None) => {
+            drop(log);
+            Ok(None)
+        }
+        Err(e) => {
+            drop(log);
+            Err(e)
+        }
     }
 }
 
@@ -107,7 +113,11 @@ fn snapshot_of(
             log,
             subs,
         )),
-        Err(e) => Err(e),
+        Err(e) => {
+            drop(log);
+            drop(subs);
+            Err(e)
+        }
     }
 }
 

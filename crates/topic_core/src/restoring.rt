@@ -68,18 +68,36 @@ fn parts_of(alloc: Global, snapshot: &Snapshot) -> Result<Parts, AllocError>
     ensures numbers { IfOk result (λ parts. AgreesWith (log_of parts) parts.log.numbers) }
 {
     let name = snapshot.name().clone()?;
-    let pieces = snapshot.log().clone()?;
+    let pieces = match snapshot.log().clone() {
+        Ok(pieces) => pieces,
+        Err(e) => {
+            drop(name);
+            return Err(e);
+        }
+    };
     let ledger = ledger_after(snapshot);
-    let log = TopicLog::restored(alloc, pieces, ledger, snapshot.ledger_size())?;
-    let subscriptions = subscriptions_over(alloc, &log, snapshot.subscriptions())?;
-    Ok(Parts {
-        alloc,
-        name,
-        next_ordinal: snapshot.next_ordinal(),
-        log,
-        members: Members::new(alloc),
-        subscriptions,
-    })
+    let log = match TopicLog::restored(alloc, pieces, ledger, snapshot.ledger_size()) {
+        Ok(log) => log,
+        Err(e) => {
+            drop(name);
+            return Err(e);
+        }
+    };
+    match subscriptions_over(alloc, &log, snapshot.subscriptions()) {
+        Ok(subscriptions) => Ok(Parts {
+            alloc,
+            name,
+            next_ordinal: snapshot.next_ordinal(),
+            log,
+            members: Members::new(alloc),
+            subscriptions,
+        }),
+        Err(e) => {
+            drop(name);
+            drop(log);
+            Err(e)
+        }
+    }
 }
 
 /// A dispatcher for the subscription at the place, at which nobody is.
@@ -108,11 +126,18 @@ fn dispatchers_of(parts: &Parts) -> Result<Vec<Dispatch>, Fault>
     for place in 0..parts.subscriptions.len() {
         let begun = match begun_at(parts, place) {
             Ok(begun) => begun,
-            Err(fault) => return Err(fault),
+            Err(fault) => {
+                drop(dispatchers);
+                return Err(fault);
+            }
         };
         match dispatchers.push(begun) {
             Ok(()) => (),
-            Err(_) => return Err(Fault::NoMemory),
+            Err(refused) => {
+                drop(refused);
+                drop(dispatchers);
+                return Err(Fault::NoMemory);
+            }
         }
     }
     Ok(dispatchers)
@@ -131,6 +156,9 @@ pub(crate) fn restored(alloc: Global, snapshot: &Snapshot) -> Result<Served, Fau
     };
     match dispatchers_of(&parts) {
         Ok(dispatchers) => Ok(Served { parts, dispatchers }),
-        Err(fault) => Err(fault),
+        Err(fault) => {
+            drop(parts);
+            Err(fault)
+        }
     }
 }

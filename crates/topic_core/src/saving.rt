@@ -33,14 +33,26 @@ pub(crate) fn snapshot(served: &Served) -> Result<Snapshot, AllocError>
     let parts = &served.parts;
     let _length = parts.log.len();
     let name = parts.name.clone()?;
-    let log = parts.log.pieces()?;
-    let subscriptions = kept_of_all(parts.alloc, &parts.subscriptions)?;
-    Ok(Snapshot::of(
-        name,
-        parts.log.ledger_size(),
-        parts.log.ledger(),
-        parts.next_ordinal,
-        log,
-        subscriptions,
-    ))
+    let log = match parts.log.pieces() {
+        Ok(log) => log,
+        Err(e) => {
+            drop(name);
+            return Err(e);
+        }
+    };
+    match kept_of_all(parts.alloc, &parts.subscriptions) {
+        Ok(subscriptions) => Ok(Snapshot::of(
+            name,
+            parts.log.ledger_size(),
+            parts.log.ledger(),
+            parts.next_ordinal,
+            log,
+            subscriptions,
+        )),
+        Err(e) => {
+            drop(name);
+            drop(log);
+            Err(e)
+        }
+    }
 }

@@ -158,10 +158,10 @@ returns-in-Ok-entered-clause-bound c =
     record {
       numbers = subst (λ (w : Written). AgreesWith w.log.log w.numbers) (sym c.in-Ok-entered.ensures.ok.log) c.requires.bound.numbers;
       tied = c.in-Ok-entered.ensures.ok.tied;
-      told = subst (λ (xs : List Dispatch). AreTold xs (state_of new)) (set_twice ds place begun told)
+      told = subst (λ (d : Dispatch). AreTold (set ds place d) (state_of new)) (sym c.replace.ensures.after) (subst (λ (xs : List Dispatch). AreTold xs (state_of new)) (set_twice ds place begun told)
           (told_there (set ds place begun) now new new (entered (state_of now) m) place (Joined m.number) (sub_in (log_of t) y) (machine.joining y.kind m.number (sub_in (log_of t) y)) v.0 begun told
           (told_kind t place name c.args.kind x y c.requires.may at is ds begun c.requires.bound.told (c.in-Ok.ensures.ok y there))
-          (happens_entered now place m y may refl at_y) c.in-Ok-entered.ensures.ok.state refl v.1 here (c.in-Ok-entered.ensures.ok.told v.0 v.1));
+          (happens_entered now place m y may refl at_y) c.in-Ok-entered.ensures.ok.state refl v.1 here (c.in-Ok-entered.ensures.ok.told v.0 v.1)));
     }
 
 pub returns-in-Err-clause-names : goal.returns-in-Err-clause-names

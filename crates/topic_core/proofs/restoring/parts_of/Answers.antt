@@ -7,12 +7,12 @@ use Rattle.topic_core.proofs.Goes.{goes_on, over, sound_over}
 use Rattle.topic_core.proofs.restoring.parts_of.Goals as goal
 
 pub subscriptions_over-requires : goal.subscriptions_over-requires
-subscriptions_over-requires c = sound_over c.args.snapshot.now c.in_ok-log.log.log.log c.subscriptions.result.now c.log.ensures.restarts (search rules) c.subscriptions.ensures
+subscriptions_over-requires c = sound_over c.args.snapshot.now c.in-Ok-restored.log.log.log c.subscriptions.result.now c.log.ensures.restarts (search rules) c.subscriptions.ensures
 
-pub returns-clause-state : goal.returns-clause-state
-returns-clause-state c =
-    goes_on c.args.snapshot.now (record { alloc = c.args.alloc; name = c.in_ok-name.name; next_ordinal = c.next_ordinal.result; log = c.in_ok-log.log; members = c.new.result; subscriptions = c.in_ok-subscriptions.subscriptions }) (search rules) (search rules) (search rules) (search rules) (search rules) (search rules) (search rules) (search rules) (search rules) (search rules) (c.in_ok-subscriptions.ensures.state ∙ ap (λ (ks : List KeptPlaces). map (over c.in_ok-log.log.log.log) ks) c.subscriptions.ensures)
+pub returns-in-Ok-subscriptions_over-clause-state : goal.returns-in-Ok-subscriptions_over-clause-state
+returns-in-Ok-subscriptions_over-clause-state c =
+    goes_on c.args.snapshot.now (record { alloc = c.args.alloc; name = c.in_ok-name.name; next_ordinal = c.next_ordinal.result; log = c.in-Ok-restored.log; members = c.new.result; subscriptions = c.in-Ok-subscriptions_over.subscriptions }) (search rules) (search rules) (search rules) (search rules) (search rules) (search rules) (search rules) (search rules) (search rules) (search rules) (c.in-Ok-subscriptions_over.ensures.state ∙ ap (λ (ks : List KeptPlaces). map (over c.in-Ok-restored.log.log.log) ks) c.subscriptions.ensures)
 
-pub returns-clause-reached : goal.returns-clause-reached
-returns-clause-reached c =
-    subst (λ (s : State). IsReached s) (sym (returns-clause-state c)) (reached_restarted (snapshot_in c.args.snapshot.now) c.log.ensures.restarts.sound)
+pub returns-in-Ok-subscriptions_over-clause-reached : goal.returns-in-Ok-subscriptions_over-clause-reached
+returns-in-Ok-subscriptions_over-clause-reached c =
+    subst (λ (s : State). IsReached s) (sym (returns-in-Ok-subscriptions_over-clause-state c)) (reached_restarted (snapshot_in c.args.snapshot.now) c.log.ensures.restarts.sound)
