@@ -42,9 +42,20 @@ pub fn remember<J: Naming>(
             drop(write);
             return;
         };
-        let Ok(()) = known.push(Known::new(write.topic, write.snapshot, mark)) else {
-            return;
-        };
+        let Write {
+            snapshot,
+            topic,
+            change,
+            whole: _,
+        } = write;
+        drop(change);
+        match known.push(Known::new(topic, snapshot, mark)) {
+            Ok(()) => (),
+            Err(refused) => {
+                drop(refused);
+                return;
+            }
+        }
     }
 }
 

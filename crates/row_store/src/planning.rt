@@ -49,14 +49,25 @@ fn plan_whole(alloc: Global, snapshot: Snapshot) -> Result<Write, Fault>
     ensures fits { IfOk result (λ write. (db : Trees) → Fits db write) }
     ensures err { IfErr result (λ fault. fault ≡ NoMemory) }
 {
-    match (text_of(alloc, &snapshot), Change::whole(alloc, &snapshot)) {
-        (Ok(topic), Ok(change)) => Ok(Write {
+    let topic = match text_of(alloc, &snapshot) {
+        Ok(topic) => topic,
+        Err(fault) => {
+            drop(snapshot);
+            return Err(fault);
+        }
+    };
+    match Change::whole(alloc, &snapshot) {
+        Ok(change) => Ok(Write {
             snapshot,
             topic,
             change,
             whole: true,
         }),
-        _ => Err(Fault::NoMemory),
+        Err(_) => {
+            drop(topic);
+            drop(snapshot);
+            Err(Fault::NoMemory)
+        }
     }
 }
 
@@ -70,7 +81,10 @@ fn plan_over(alloc: Global, snapshot: Snapshot, base: &Snapshot) -> Result<Write
 {
     let topic = match text_of(alloc, &snapshot) {
         Ok(topic) => topic,
-        Err(fault) => return Err(fault),
+        Err(fault) => {
+            drop(snapshot);
+            return Err(fault);
+        }
     };
     match Change::between(alloc, base, &snapshot) {
         Ok(change) => Ok(Write {
@@ -79,7 +93,11 @@ fn plan_over(alloc: Global, snapshot: Snapshot, base: &Snapshot) -> Result<Write
             change,
             whole: false,
         }),
-        Err(_) => Err(Fault::NoMemory),
+        Err(_) => {
+            drop(topic);
+            drop(snapshot);
+            Err(Fault::NoMemory)
+        }
     }
 }
 

@@ -33,8 +33,8 @@ new-requires-clause-topic g c =
 pub returns-in_default-pop : goal.returns-in_default-pop
 returns-in_default-pop g c = λ db olds news. (c.loop-write.invariant.stands db olds news).0
 
-pub returns-in_default-push : goal.returns-in_default-push
-returns-in_default-push g c = λ db olds news.
+pub returns-in-Err : goal.returns-in-Err
+returns-in-Err g c = λ db olds news.
     let same : c.push.new.self.items ≡ c.loop-write.known.items = search rules in
     subst (All (λ (kept : KeptTopic). Stands kept db)) (sym same) (c.loop-write.invariant.stands db olds news).0
 

@@ -1,4 +1,4 @@
-use Rattle.std.proofs.Common.{All, not, subst, sym}
+use Rattle.std.proofs.Common.{All, List, not, subst, sym}
 use Rattle.std.proofs.lemmas.List.Elements.{All-filter}
 use Rattle.position_core.specs.TopicName.{same_topic}
 use Rattle.sqlite.specs.Held.{state}
@@ -16,5 +16,5 @@ invariant_of-self g c =
       known = λ working clean shown.
           let db = (state g.S.Store k.conn).now.trees in
           let others = All-filter p (λ (kept : KeptTopic). Stands kept db) k.known.items (c.self.invariant.known working clean shown) in
-          subst (All (λ (kept : KeptTopic). Stands kept db)) (sym c.forget_topic.ensures) others;
+          subst (All (λ (kept : KeptTopic). Stands kept db)) (sym {A = List KeptTopic} c.forget_topic.ensures) others;
     }
