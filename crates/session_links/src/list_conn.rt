@@ -50,7 +50,11 @@ impl Told {
         let mut told = self;
         match told.received.push(incoming) {
             Ok(()) => Some(told),
-            Err(_) => None,
+            Err(refused) => {
+                drop(refused);
+                drop(told);
+                None
+            }
         }
     }
 
@@ -59,7 +63,10 @@ impl Told {
     {
         match copy_of(alloc, incoming) {
             Ok(copy) => self.and_came(copy),
-            Err(_) => None,
+            Err(_) => {
+                drop(self);
+                None
+            }
         }
     }
 
@@ -69,7 +76,11 @@ impl Told {
         let mut told = self;
         match told.sent.push(text) {
             Ok(()) => Some(told),
-            Err(_) => None,
+            Err(refused) => {
+                drop(refused);
+                drop(told);
+                None
+            }
         }
     }
 
@@ -78,7 +89,10 @@ impl Told {
     {
         match String::from_str(alloc, text) {
             Ok(copy) => self.and_text(copy),
-            Err(_) => None,
+            Err(_) => {
+                drop(self);
+                None
+            }
         }
     }
 
@@ -88,7 +102,11 @@ impl Told {
         let mut told = self;
         match told.closes.push(closed) {
             Ok(()) => Some(told),
-            Err(_) => None,
+            Err(refused) => {
+                drop(refused);
+                drop(told);
+                None
+            }
         }
     }
 
@@ -97,7 +115,10 @@ impl Told {
     {
         match String::from_str(alloc, reason) {
             Ok(reason) => self.and_end(Closed { code, reason }),
-            Err(_) => None,
+            Err(_) => {
+                drop(self);
+                None
+            }
         }
     }
 }

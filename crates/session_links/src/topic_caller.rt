@@ -38,7 +38,8 @@ impl Lines {
         let mut lines = self;
         match lines.items.push(line) {
             Ok(()) => Some(lines),
-            Err(_) => {
+            Err(refused) => {
+                drop(refused);
                 drop(lines);
                 None
             }

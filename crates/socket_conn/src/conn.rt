@@ -226,7 +226,7 @@ impl<S: Read + Write + Drop> SocketConn<S> {
             }
             Came::Closes => {
                 self.is_open = false;
-                let _ = self.socket.flush();
+                drop(self.socket.flush());
                 Ok(Incoming::Gone)
             }
             Came::Fails => {
@@ -249,12 +249,16 @@ impl<S: Read + Write + Drop> SocketConn<S> {
     {
         match self.socket.write(message) {
             Ok(()) => Ok(()),
-            Err(error) => if would_block(&error) {
-                self.is_blocked = true;
-                Ok(())
-            } else {
-                Err(ConnFault)
-            },
+            Err(error) => {
+                let would_block = would_block(&error);
+                drop(error);
+                if would_block {
+                    self.is_blocked = true;
+                    Ok(())
+                } else {
+                    Err(ConnFault)
+                }
+            }
         }
     }
 

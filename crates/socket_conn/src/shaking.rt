@@ -103,9 +103,17 @@ impl<S: Read + Write + Drop> Shaking<S> {
     pub fn advance(self) -> Shaken<S> {
         let Shaking { alloc, target, mid } = self;
         match mid.handshake() {
-            Ok(socket) => opened(alloc, &*target, socket),
+            Ok(socket) => {
+                let shaken = opened(alloc, &*target, socket);
+                drop(target);
+                shaken
+            }
             Err(HandshakeError::Interrupted(mid)) => Shaken::Waits(Shaking { alloc, target, mid }),
-            Err(HandshakeError::Failure(_)) => Shaken::Failed,
+            Err(HandshakeError::Failure(error)) => {
+                drop(error);
+                drop(target);
+                Shaken::Failed
+            }
         }
     }
 }

@@ -54,7 +54,7 @@ fn events_of<R: Abort + AllocGlobal>(rt: &R, lines: &str) -> Vec<Event> {
 /// Tells the topic of the events, whatever it answers.
 fn tell<T: Topic>(topic: &mut T, events: &[Event]) {
     for event in events {
-        let _ = topic.apply(event);
+        drop(topic.apply(event));
     }
 }
 

@@ -20,6 +20,7 @@ fn is_refused_memory(answer: &Result<Reply, Fault>) -> bool {
 fn ask<T: Opened + Drop>(topic: &mut Restartable<T>, event: &Event) -> Result<Reply, Fault> {
     let answer = topic.apply(event);
     if is_refused_memory(&answer) {
+        drop(answer);
         topic.apply(event)
     } else {
         answer

@@ -152,7 +152,9 @@ fn a_seat_is_taken_once(rt: HostRuntime) {
 
 fn messages_viewed<R: Abort, T: Opened + Drop>(rt: &R, cell: &Cell<T>) -> usize {
     let snapshot = cell.view().expect(rt, "no memory");
-    snapshot.log().count()
+    let count = snapshot.log().count();
+    drop(snapshot);
+    count
 }
 
 fn check_viewed<R: Abort, T: Opened + Drop>(rt: &R, cell: &Cell<T>, want: usize) {
@@ -167,7 +169,9 @@ fn is_three(reply: &Reply) -> bool {
 fn store_viewed<R: Abort, T: Opened + Drop>(rt: &R, cell: &mut Cell<T>) {
     assert!(rt; cell.ready().is_ok());
     check_viewed(rt, cell, 3);
-    assert!(rt; is_three(&cell.stored()));
+    let reply = cell.stored();
+    assert!(rt; is_three(&reply));
+    drop(reply);
 }
 
 fn check_unready<R: Abort, T: Opened + Drop>(rt: &R, cell: &mut Cell<T>) {
