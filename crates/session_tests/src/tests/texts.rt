@@ -10,25 +10,13 @@ mod publishes;
 mod routes;
 mod statistics;
 
+use super::{joined, push};
 use position_core::{Content, Fault, Position, Properties};
 use std::process::Abort;
 use wire_json::{PublishReading, SendError, error_text, read_publish};
 
-fn push<R: Abort>(rt: &R, out: &mut String, part: &str) {
-    out.push_str(part).expect(rt, "no memory");
-}
-
 const UNREAD: &str =
     "{\"errorMsg\":\"Failed to deserialize from JSON\",\"result\":\"send-error:3\"}";
-
-/// A text in parts.
-fn joined<R: Abort + AllocGlobal>(rt: &R, parts: &[&str]) -> String {
-    let mut out = String::new(rt.alloc());
-    for part in parts {
-        push(rt, &mut out, part);
-    }
-    out
-}
 
 /// The part so many times.
 fn repeated<R: Abort + AllocGlobal>(rt: &R, part: &str, count: usize) -> String {
@@ -135,7 +123,9 @@ fn answer_to<R: Abort + AllocGlobal>(rt: &R, reading: &PublishReading) -> String
 /// What a text says, or the text that answers its refusal.
 fn answer<R: Abort + AllocGlobal>(rt: &R, text: &str) -> String {
     let reading = read(rt, text.as_bytes());
-    answer_to(rt, &reading)
+    let answer = answer_to(rt, &reading);
+    drop(reading);
+    answer
 }
 
 fn check_answer<R: Abort + AllocGlobal>(rt: &R, text: &str, want: &str) {

@@ -1,5 +1,6 @@
 // Who is rung.
-use delivery_machine::{ConsumerNumber, Position, Reply, SubscriptionName};
+use crate::tests::{expect_count, this_subscription};
+use delivery_machine::{ConsumerNumber, Position, Reply};
 use session_bells::{Asked, Bell, Bells, Rest};
 use std::process::Abort;
 use std::sync::atomic::{AtomicU64, Ordering};
@@ -28,11 +29,6 @@ fn new_bell<R: Abort + AllocGlobal>(rt: &R) -> Arc<Counter> {
         rings: AtomicU64::new(0),
     };
     Arc::new(rt.alloc(), counter).expect(rt, "no memory")
-}
-
-fn name<R: Abort + AllocGlobal>(rt: &R) -> SubscriptionName {
-    let name = SubscriptionName::from_text(rt.alloc(), "s");
-    name.expect(rt, "no memory").expect(rt, "no name")
 }
 
 fn enter<R: Abort>(rt: &R, bells: &mut Bells<Counter>, seat: u64, bell: Arc<Counter>) {
@@ -66,7 +62,7 @@ fn join<R: Abort + AllocGlobal + Wait>(
     seat: u64,
     consumer: ConsumerNumber,
 ) {
-    let asked = Asked::Joins(name(rt));
+    let asked = Asked::Joins(this_subscription(rt));
     prepare(rt, bells, &asked);
     let reply = Reply::Subscribed { consumer };
     bells.answered(rt, seat, &asked, &reply);
@@ -115,7 +111,7 @@ fn check_rest<R: Abort + Wait>(
 }
 
 fn check_rings<R: Abort>(rt: &R, bell: &Counter, want: u64) {
-    assert_eq!(rt; bell.rings(), want);
+    expect_count(rt, bell.rings(), want);
 }
 
 const FOR_MESSAGES: Rest = Rest {
@@ -149,7 +145,9 @@ fn ring_all<R: Abort + Wait>(rt: &R, two: &mut Two) {
 
 #[test]
 fn a_store_rings_whoever_waits_for_it(rt: HostRuntime) {
-    ring_all(&rt, &mut two_seated(&rt));
+    let mut two = two_seated(&rt);
+    ring_all(&rt, &mut two);
+    drop(two);
 }
 
 /// The one at the seat sent a message to the consumer.
@@ -163,13 +161,14 @@ fn answer_sent<R: Wait>(rt: &R, bells: &mut Bells<Counter>, seat: u64, consumer:
         count: 0,
     };
     bells.answered(rt, seat, &Asked::Dispatches, &sent);
+    drop(sent);
 }
 
 fn ring_one<R: Abort + Wait>(rt: &R, two: &mut Two) {
     check_rest(rt, &mut two.bells, 1, FOR_MESSAGES, true);
     check_rest(rt, &mut two.bells, 2, FOR_MESSAGES, true);
     two.bells.stored(rt, 1);
-    assert_eq!(rt; two.one.rings().saturating_add(two.two.rings()), 1);
+    expect_count(rt, two.one.rings().saturating_add(two.two.rings()), 1);
     answer_sent(rt, &mut two.bells, 1, 2);
     check_rings(rt, &two.two, 1);
     check_rest(rt, &mut two.bells, 1, FOR_MESSAGES, false);
@@ -179,7 +178,9 @@ fn ring_one<R: Abort + Wait>(rt: &R, two: &mut Two) {
 
 #[test]
 fn a_store_rings_one_consumer(rt: HostRuntime) {
-    ring_one(&rt, &mut two_joined(&rt));
+    let mut two = two_joined(&rt);
+    ring_one(&rt, &mut two);
+    drop(two);
 }
 
 fn ring_for_room<R: Abort + Wait>(rt: &R, two: &mut Two) {
@@ -193,7 +194,9 @@ fn ring_for_room<R: Abort + Wait>(rt: &R, two: &mut Two) {
 
 #[test]
 fn a_consumer_without_room_has_an_heir(rt: HostRuntime) {
-    ring_for_room(&rt, &mut two_joined(&rt));
+    let mut two = two_joined(&rt);
+    ring_for_room(&rt, &mut two);
+    drop(two);
 }
 
 fn ring_heir<R: Abort + Wait>(rt: &R, two: &mut Two) {
@@ -206,5 +209,7 @@ fn ring_heir<R: Abort + Wait>(rt: &R, two: &mut Two) {
 
 #[test]
 fn one_who_goes_has_an_heir(rt: HostRuntime) {
-    ring_heir(&rt, &mut two_joined(&rt));
+    let mut two = two_joined(&rt);
+    ring_heir(&rt, &mut two);
+    drop(two);
 }

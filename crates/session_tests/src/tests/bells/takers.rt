@@ -2,6 +2,7 @@
 ghost use Rattle.std.specs.Prelude.{◌≡◌, [], ◌∷◌, ◌++◌, ◌+◌, ◌<◌, ◌≤◌, ◌^◌, IfOk, IfSome};
 ghost use Rattle.handover.specs.Passing.{Rises, TakenNext, last_of};
 
+use crate::tests::expect_count;
 use handover::{Handover, Taker};
 use std::alloc::{AllocError, Global};
 use std::process::Abort;
@@ -131,13 +132,18 @@ fn open(alloc: Global) -> Result<Ends, AllocError>
     ensures { IfOk result (λ ends. (ends.handover ≡ []) × (ends.one ≡ []) × (ends.two ≡ []) × (ends.three ≡ [])) }
 {
     let mut handover = Handover::open(alloc, 4)?;
-    let (one, two, three) = takers(&mut handover)?;
-    Ok(Ends {
-        handover,
-        one,
-        two,
-        three,
-    })
+    match takers(&mut handover) {
+        Ok((one, two, three)) => Ok(Ends {
+            handover,
+            one,
+            two,
+            three,
+        }),
+        Err(error) => {
+            drop(handover);
+            Err(error)
+        }
+    }
 }
 
 /// What a taker took.
@@ -238,7 +244,7 @@ fn are_each_once(all: &[u64]) -> bool {
 }
 
 fn expect_each_once<R: Abort>(rt: &R, all: &[u64]) {
-    assert_eq!(rt; all.len(), 2000);
+    expect_count(rt, all.len() as u64, 2000);
     assert!(rt; are_each_once(all));
 }
 

@@ -1,5 +1,6 @@
 // How sessions are closed.
-use super::stage::{check, check_front, joined};
+use super::stage::{check, check_front};
+use crate::tests::joined;
 use std::process::Abort;
 
 #[test]

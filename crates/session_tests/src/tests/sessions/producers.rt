@@ -1,5 +1,6 @@
 // Producers' sessions.
-use super::stage::{check, count, push};
+use super::stage::{check, count};
+use crate::tests::{expect_count, push};
 use std::process::Abort;
 
 #[test]
@@ -114,8 +115,8 @@ fn push_thousand<R: Abort>(rt: &R, script: &mut String) {
     push(rt, script, "room 3\nturn 1000\nroom 2000\nturn 1000");
 }
 
-fn check_count<R: Abort + AllocGlobal>(rt: &R, script: &str, want: usize) {
-    assert_eq!(rt; count(rt, script), want);
+fn check_count<R: Abort + AllocGlobal>(rt: &R, script: &str, want: u64) {
+    expect_count(rt, count(rt, script) as u64, want);
 }
 
 #[test]

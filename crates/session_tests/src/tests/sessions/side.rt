@@ -1,5 +1,6 @@
 // One session of a plain topic, with its connection.
-use delivery_machine::{Event, Moment, Reply, Topic, TopicName};
+use crate::tests::this_topic;
+use delivery_machine::{Event, Moment, Reply, Topic};
 use endpoint_core::{Endpoint, route};
 use plain_topic::PlainTopic;
 use position_core::LedgerSize;
@@ -12,8 +13,7 @@ pub(crate) type Desk = TopicCaller<PlainTopic>;
 
 /// A caller over a topic with nothing in it.
 pub(crate) fn desk<R: Abort + AllocGlobal>(rt: &R) -> Desk {
-    let name = TopicName::from_text(rt.alloc(), "persistent://public/default/t");
-    let name = name.expect(rt, "no memory").expect(rt, "a name");
+    let name = this_topic(rt);
     let size = LedgerSize::new(10).expect(rt, "a size");
     TopicCaller::new(rt.alloc(), PlainTopic::new(rt.alloc(), name, size))
 }

@@ -1,5 +1,6 @@
 // Plays a session over lists and a plain topic, from a text of lines.
 use super::side::{Desk, Side, asked, desk};
+use crate::tests::push;
 use delivery_machine::{Event, Moment};
 use position_core::{Body, Content, Fault, Payload, Properties};
 use session_links::Told;
@@ -11,6 +12,11 @@ struct Stage {
     side: Side,
     /// How many texts were looked at.
     seen: usize,
+}
+
+/// The first word of a line, and the rest.
+pub(super) fn words(line: &str) -> (&str, &str) {
+    line.split_once(' ').unwrap_or((line, ""))
 }
 
 pub(super) fn number<R: Abort>(rt: &R, word: &str) -> u64 {
@@ -76,19 +82,6 @@ fn does<R: Abort + AllocGlobal>(rt: &R, stage: &mut Stage, word: &str, rest: &st
     }
 }
 
-pub(super) fn push<R: Abort>(rt: &R, out: &mut String, part: &str) {
-    out.push_str(part).expect(rt, "no memory");
-}
-
-/// A text in parts.
-pub(super) fn joined<R: Abort + AllocGlobal>(rt: &R, parts: &[&str]) -> String {
-    let mut out = String::new(rt.alloc());
-    for part in parts {
-        push(rt, &mut out, part);
-    }
-    out
-}
-
 /// What was told of the connection.
 fn told<'a, R: Abort>(rt: &R, stage: &'a Stage) -> &'a Told {
     stage.side.conn.told().expect(rt, "no memory")
@@ -121,7 +114,7 @@ fn show_closes<R: Abort + AllocGlobal>(rt: &R, stage: &Stage, out: &mut String) 
 /// Does what the lines say, and writes what is sent, how the connection is closed, and whether the session is open.
 fn play<R: Abort + AllocGlobal>(rt: &R, stage: &mut Stage, out: &mut String, script: &str) {
     for line in script.lines() {
-        let (word, rest) = line.split_once(' ').unwrap_or((line, ""));
+        let (word, rest) = words(line);
         does(rt, stage, word, rest);
         show(rt, stage, out);
     }
@@ -154,8 +147,11 @@ pub(crate) fn count<R: Abort + AllocGlobal>(rt: &R, script: &str) -> usize {
     played(rt, script).as_str().lines().count()
 }
 
+pub(super) fn expect<R: Abort>(rt: &R, got: &str, want: &str) {
+    assert_eq!(rt; got, want);
+}
+
 /// What is sent, how the connection is closed, and whether the session is open at the end.
 pub(crate) fn check<R: Abort + AllocGlobal>(rt: &R, script: &str, want: &str) {
-    let got = played(rt, script);
-    assert_eq!(rt; got.as_str(), want);
+    expect(rt, played(rt, script).as_str(), want);
 }

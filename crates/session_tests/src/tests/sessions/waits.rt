@@ -1,7 +1,8 @@
 // A session that is served only when what it waits for has come sends the same texts as one that is served all the time.
 use super::side::{Desk, Side, asked, desk};
-use super::stage::{number, push};
-use delivery_machine::{Event, Reply, SubscriptionName};
+use super::stage::{expect, number, words};
+use crate::tests::{expect_count, push, this_subscription};
+use delivery_machine::{Event, Reply};
 use session_core::Waits;
 use std::process::Abort;
 
@@ -41,8 +42,7 @@ fn are_waiting(reply: &Reply) -> bool {
 
 /// Whether a message waits in the subscription `s`.
 fn has_waiting<R: Abort + AllocGlobal>(rt: &R, desk: &mut Desk) -> bool {
-    let name = SubscriptionName::from_text(rt.alloc(), "s").expect(rt, "no memory");
-    let subscription = name.expect(rt, "a name");
+    let subscription = this_subscription(rt);
     let reply = asked(desk, Event::Stats { subscription });
     let waiting = are_waiting(&reply);
     drop(reply);
@@ -94,9 +94,9 @@ fn does<R: Abort + AllocGlobal>(rt: &R, world: &mut World, word: &str, rest: &st
 /// Does what the lines say of this moment.
 fn comes<R: Abort + AllocGlobal>(rt: &R, world: &mut World, script: &str, now: u64) {
     for line in script.lines() {
-        let (at, rest) = line.split_once(' ').unwrap_or((line, ""));
-        let (word, rest) = rest.split_once(' ').unwrap_or((rest, ""));
+        let (at, rest) = words(line);
         if number(rt, at) == now {
+            let (word, rest) = words(rest);
             does(rt, world, word, rest);
         }
     }
@@ -164,9 +164,9 @@ fn played<R: Abort + AllocGlobal>(
     (out, turns)
 }
 
-fn check_texts<R: Abort>(rt: &R, woken: &str, always: &str, texts: usize) {
-    assert_eq!(rt; woken, always);
-    assert_eq!(rt; always.lines().count(), texts);
+fn check_texts<R: Abort>(rt: &R, woken: &str, always: &str, texts: u64) {
+    expect(rt, woken, always);
+    expect_count(rt, always.lines().count() as u64, texts);
 }
 
 fn check_turns<R: Abort>(rt: &R, turns: u64, most: u64) {
@@ -174,7 +174,7 @@ fn check_turns<R: Abort>(rt: &R, turns: u64, most: u64) {
 }
 
 /// The texts are the same, so many, and a session that waits is served in at most so many turns.
-fn check<R: Abort + AllocGlobal>(rt: &R, consumer: &str, script: &str, texts: usize, most: u64) {
+fn check<R: Abort + AllocGlobal>(rt: &R, consumer: &str, script: &str, texts: u64, most: u64) {
     let (always, _) = played(rt, consumer, script, true);
     let (woken, turns) = played(rt, consumer, script, false);
     check_texts(rt, woken.as_str(), always.as_str(), texts);

@@ -62,7 +62,9 @@ fn answer_in<R: Abort + AllocGlobal>(rt: &R, read: &Result<AdminCommand, Fault>)
 
 fn shown<R: Abort + AllocGlobal>(rt: &R, text: &[u8]) -> String {
     let read = read_admin(rt.alloc(), text).expect(rt, "no memory");
-    answer_in(rt, &read)
+    let shown = answer_in(rt, &read);
+    drop(read);
+    shown
 }
 
 fn check<R: Abort + AllocGlobal>(rt: &R, table: &[(&str, &str)]) {

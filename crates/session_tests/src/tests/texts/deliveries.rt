@@ -36,6 +36,7 @@ fn check<R: Abort + AllocGlobal>(rt: &R, text: &str, millis: u64, count: u32, wa
     let message = entry(rt, content_of(rt, text), millis);
     let mut sent = joined(rt, &["what stood before"]);
     delivery_text(&mut sent, &message, count).expect(rt, "no memory");
+    drop(message);
     expect(rt, sent.as_str(), want, text);
 }
 

@@ -1,15 +1,10 @@
 // Lines that stand for events, and lines that stand for nothing.
 use super::{joined, repeated};
+use crate::tests::this_topic;
 use delivery_machine::Event;
 use position_core::TopicName;
 use replay_lines::{Line, Unread, read_line};
 use std::process::Abort;
-
-/// `persistent://public/default/t`.
-fn this_topic<R: Abort + AllocGlobal>(rt: &R) -> TopicName {
-    let name = TopicName::from_text(rt.alloc(), "persistent://public/default/t");
-    name.expect(rt, "no memory").expect(rt, "no name")
-}
 
 /// What a line stands for.
 #[derive(Clone, Copy)]

@@ -5,13 +5,18 @@ use position_core::{Fault, Kind, Position};
 use std::process::Abort;
 use wire_json::{admin_text, end_of_topic_text};
 
-fn check<R: Abort + AllocGlobal>(rt: &R, reply: Reply, want: &str) {
+/// Whether the reply is written, and the text after that.
+fn check_written<R: Abort + AllocGlobal>(rt: &R, reply: Reply, is_written: bool, want: &str) {
     let mut text = joined(rt, &["what stood before"]);
     let written = admin_text(&mut text, &reply).expect(rt, "no memory");
-    assert!(rt; written);
+    assert!(rt; written == is_written);
     expect(rt, text.as_str(), want, want);
     drop(text);
     drop(reply);
+}
+
+fn check<R: Abort + AllocGlobal>(rt: &R, reply: Reply, want: &str) {
+    check_written(rt, reply, true, want);
 }
 
 #[test]
@@ -74,10 +79,7 @@ fn statistics_with_a_position(rt: HostRuntime) {
 
 #[test]
 fn other_replies_answer_no_administrator(rt: HostRuntime) {
-    let mut text = joined(&rt, &["what stood before"]);
-    let written = admin_text(&mut text, &Reply::Idle).expect(&rt, "no memory");
-    assert!(rt; !written);
-    assert!(rt; text.as_str() == "what stood before");
+    check_written(&rt, Reply::Idle, false, "what stood before");
 }
 
 #[test]
