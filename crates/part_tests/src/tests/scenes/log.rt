@@ -138,7 +138,9 @@ fn roll<R: Abort + AllocGlobal>(rt: &R, log: &mut EntryLog) {
 
 #[test]
 fn a_roll_begins_the_next_ledger(rt: HostRuntime) {
-    roll(&rt, &mut log_of(&rt, 3, 50));
+    let mut log = log_of(&rt, 3, 50);
+    roll(&rt, &mut log);
+    drop(log);
 }
 
 /// Ledgers that were left before they were full: three messages in the first, two in the second.

@@ -73,4 +73,5 @@ fn added_line<R: Abort + AllocGlobal>(rt: &R) -> Line {
 fn a_long_line(rt: HostRuntime) {
     let line = added_line(&rt);
     assert!(rt; !is_line(&line, 5, add_producer(), producer_added(None)));
+    drop(line);
 }

@@ -21,6 +21,7 @@ trait Case {
 fn check<C: Case, R: Abort + AllocGlobal>(rt: &R) {
     let mut subscription = subscription(rt);
     C::play(rt, &mut subscription);
+    drop(subscription);
 }
 
 fn letter<R: Abort + AllocGlobal>(rt: &R, place: u64) -> DeadLetter {
@@ -195,7 +196,9 @@ fn a_dead_message_is_moved(rt: HostRuntime) {
 /// It goes on from what is kept, with a dead message.
 fn again<R: Abort + AllocGlobal>(rt: &R, subscription: &Subscription) -> Subscription {
     let kept = subscription.kept(rt.alloc()).expect(rt, "no memory");
-    Subscription::restored(rt.alloc(), &kept, &[3]).expect(rt, "no memory")
+    let again = Subscription::restored(rt.alloc(), &kept, &[3]);
+    drop(kept);
+    again.expect(rt, "no memory")
 }
 
 fn check_again<R: Abort>(rt: &R, again: &Subscription) {
@@ -208,7 +211,9 @@ struct GoesOn;
 
 impl Case for GoesOn {
     fn play<R: Abort + AllocGlobal>(rt: &R, subscription: &mut Subscription) {
-        check_again(rt, &again(rt, subscription));
+        let again = again(rt, subscription);
+        check_again(rt, &again);
+        drop(again);
     }
 }
 

@@ -36,7 +36,11 @@ fn check_copy<R: Abort>(rt: &R, one: &Key, copy: &Key, other: &Key) {
 fn keys_are_compared_and_shared(rt: HostRuntime) {
     let kaese = key(&rt, "käse");
     let copy = kaese.clone().expect(&rt, "no memory");
-    check_copy(&rt, &kaese, &copy, &key(&rt, "kase"));
+    let other = key(&rt, "kase");
+    check_copy(&rt, &kaese, &copy, &other);
+    drop(other);
+    drop(copy);
+    drop(kaese);
 }
 
 /// Whether so many letters are a name.
@@ -88,7 +92,11 @@ fn check_order<R: Abort>(rt: &R, one: &Name, other: &Name, want: Ordering) {
 }
 
 fn check_names<R: Abort + AllocGlobal>(rt: &R, one: &str, other: &str, want: Ordering) {
-    check_order(rt, &name(rt, one), &name(rt, other), want);
+    let one = name(rt, one);
+    let other = name(rt, other);
+    check_order(rt, &one, &other, want);
+    drop(other);
+    drop(one);
 }
 
 #[test]

@@ -12,12 +12,17 @@ fn check_parts<R: Abort>(rt: &R, name: &TopicName) {
 #[test]
 fn reads_the_three_parts(rt: HostRuntime) {
     let name = topic_name(&rt, "persistent://public/b c/ö-DLQ");
-    check_parts(&rt, &name.clone().expect(&rt, "no memory"));
+    let copy = name.clone().expect(&rt, "no memory");
+    drop(name);
+    check_parts(&rt, &copy);
+    drop(copy);
 }
 
 fn is_topic<R: Abort + AllocGlobal>(rt: &R, text: &str) -> bool {
-    let name = TopicName::from_text(rt.alloc(), text);
-    name.expect(rt, "no memory").is_some()
+    let name = TopicName::from_text(rt.alloc(), text).expect(rt, "no memory");
+    let is_topic = name.is_some();
+    drop(name);
+    is_topic
 }
 
 #[test]
@@ -65,10 +70,18 @@ fn parts_have_255_bytes_at_most(rt: HostRuntime) {
     check_lengths(&rt, [1, 1, 256], false);
 }
 
-fn check_same<R: Abort + AllocGlobal>(rt: &R, text: &str, same: bool) {
+/// Whether the text is of the topic "persistent://a/b/c".
+fn is_same<R: Abort + AllocGlobal>(rt: &R, text: &str) -> bool {
     let name = topic_name(rt, "persistent://a/b/c");
-    let is_same = name.is(&topic_name(rt, text));
-    assert_eq!(rt; is_same, same, "at {text}");
+    let other = topic_name(rt, text);
+    let is_same = name.is(&other);
+    drop(other);
+    drop(name);
+    is_same
+}
+
+fn check_same<R: Abort + AllocGlobal>(rt: &R, text: &str, same: bool) {
+    assert_eq!(rt; is_same(rt, text), same, "at {text}");
 }
 
 #[test]
