@@ -131,8 +131,31 @@ fn enter_new(
     }
 }
 
-/// Lets the next consumer into the subscription, which is made where it is not there, and answers its place.
-/// Nothing changes where there is no memory.
+/// Lets the next consumer, for whom there is room, into the subscription, which is made where it is not there, and
+/// answers its place. Nothing changes where there is no memory.
+fn enter_named(
+    served: &mut Served,
+    kind: Kind,
+    name: SubscriptionName,
+    initial: Initial,
+    terms: Terms,
+    dead_topic: TopicName,
+) -> Result<usize, Fault>
+    requires { IsWelcome served.old name kind terms dead_topic }
+    ensures ok { OnOk result (state_in served.new ≡ with_member (state_in served.old) kind initial (joining (state_in served.old).next_consumer name terms dead_topic)) }
+    ensures place { IfOk result (λ at. Some at ≡ place_in (is_placed name) served.new.parts.subscriptions.items) }
+    ensures err { IfErr result (λ fault. fault ≡ NoMemory) }
+    ensures same { OnErr result (state_in served.new ≡ state_in served.old) }
+    ensures bound { IsBound served.new }
+{
+    match served.parts.place_of(&name) {
+        Some(place) => enter_there(served, place, kind, name, terms, dead_topic),
+        None => enter_new(served, kind, name, initial, terms, dead_topic),
+    }
+}
+
+/// Makes room for the next consumer and lets it into the subscription, which is made where it is not there, and
+/// answers its place. Nothing changes where there is no memory.
 fn come_in(
     served: &mut Served,
     name: &SubscriptionName,
@@ -161,10 +184,7 @@ fn come_in(
         drop(own_topic);
         return Err(Fault::NoMemory);
     };
-    match served.parts.place_of(name) {
-        Some(place) => enter_there(served, place, kind, own_name, terms, own_topic),
-        None => enter_new(served, kind, own_name, initial, terms, own_topic),
-    }
+    enter_named(served, kind, own_name, initial, terms, own_topic)
 }
 
 /// A consumer joins the subscription, which is made where it is not there, and then begins at `initial`; one
