@@ -18,21 +18,33 @@ fn refusal<J: Naming, R: Abort + AllocGlobal + Wait>(
         .err()
 }
 
+fn expect_fault<R: Abort>(rt: &R, got: Option<Fault>, want: Option<Fault>) {
+    assert_eq!(rt; got, want);
+}
+
+fn check_refusal<J: Naming, R: Abort + AllocGlobal + Wait>(
+    rt: &R,
+    topics: &Topics<J>,
+    create: bool,
+    want: Option<Fault>,
+) {
+    let got = refusal(rt, topics, "persistent://public/default/t", create);
+    expect_fault(rt, got, want);
+}
+
 #[derive(Clone, Copy)]
 struct Refusals;
 
 impl Scene for Refusals {
     fn play<J: Naming, R: Abort + AllocGlobal + Wait + Clock>(&self, rt: &R, keeper: Rows<J>) {
         let topics = open(rt, keeper, 1);
-        let t = "persistent://public/default/t";
-        let none = Some(Fault::NoSuchSubscription);
-        assert_eq!(rt; refusal(rt, &topics, t, false), none);
-        let seat = sit(rt, &topics, t);
-        assert_eq!(rt; refusal(rt, &topics, t, false), Some(Fault::NoRoom));
+        check_refusal(rt, &topics, false, Some(Fault::NoSuchSubscription));
+        let seat = sit(rt, &topics, "persistent://public/default/t");
+        check_refusal(rt, &topics, false, Some(Fault::NoRoom));
         topics.detach(rt, seat);
-        assert_eq!(rt; refusal(rt, &topics, t, false), None);
+        check_refusal(rt, &topics, false, None);
         topics.close(rt);
-        assert_eq!(rt; refusal(rt, &topics, t, true), Some(Fault::StoreFailed));
+        check_refusal(rt, &topics, true, Some(Fault::StoreFailed));
     }
 }
 
@@ -41,22 +53,47 @@ fn each_attach_that_cannot_be_is_refused(rt: HostRuntime) {
     with_rows(&rt, &Refusals);
 }
 
+fn numbered<R: Abort + AllocGlobal>(rt: &R, number: u32) -> String {
+    let name = format!(in rt.alloc(); "persistent://public/default/t{number}");
+    name.expect(rt, "no memory")
+}
+
+/// Whether there are too many topics for one more, of this number.
+fn is_too_many<J: Naming, R: Abort + AllocGlobal + Wait>(
+    rt: &R,
+    topics: &Topics<J>,
+    number: u32,
+) -> bool {
+    match refusal(rt, topics, numbered(rt, number).as_str(), true) {
+        Some(Fault::TooMany) => true,
+        fault => {
+            expect_fault(rt, fault, None);
+            false
+        }
+    }
+}
+
+fn count_refused<J: Naming, R: Abort + AllocGlobal + Wait>(rt: &R, topics: &Topics<J>) -> u32 {
+    let mut refused = 0u32;
+    for number in 0..258 {
+        if is_too_many(rt, topics, number) {
+            refused = refused.saturating_add(1);
+        }
+    }
+    refused
+}
+
+fn expect_refused<R: Abort>(rt: &R, got: u32, want: u32) {
+    assert_eq!(rt; got, want);
+}
+
 #[derive(Clone, Copy)]
 struct Many;
 
 impl Scene for Many {
     fn play<J: Naming, R: Abort + AllocGlobal + Wait + Clock>(&self, rt: &R, keeper: Rows<J>) {
         let topics = open(rt, keeper, 1);
-        let mut refused = 0u32;
-        for number in 0..258u32 {
-            let name = format!(in rt.alloc(); "persistent://public/default/t{number}");
-            let name = name.expect(rt, "no memory");
-            match refusal(rt, &topics, name.as_str(), true) {
-                Some(Fault::TooMany) => refused = refused.saturating_add(1),
-                fault => assert_eq!(rt; fault, None),
-            }
-        }
-        assert_eq!(rt; refused, 2);
+        expect_refused(rt, count_refused(rt, &topics), 2);
     }
 }
 

@@ -30,6 +30,8 @@ pub(super) type Rows<J> = Keeper<MemStore, J>;
 
 pub(super) type Topics<J> = Directory<TopicCore, MemStore, J, Silent>;
 
+pub(super) type Tasks<J> = Errands<TopicCore, J, Silent>;
+
 pub(super) type Seat<J> = Attached<TopicCore, J, Silent>;
 
 /// What is done over a database that has no rows.
@@ -106,13 +108,24 @@ pub(super) fn asked<J: Naming, R: Abort + AllocGlobal + Wait>(
     caller.call(event).ok().expect(rt, "no answer")
 }
 
+/// Whether nothing is left to do after a hundred tasks.
+fn is_settled<J: Naming, R: Wait + Clock>(
+    rt: &R,
+    topics: &Topics<J>,
+    errands: &mut Tasks<J>,
+) -> bool {
+    for _ in 0..100 {
+        if !topics.keep_once(rt, errands) {
+            return true;
+        }
+    }
+    false
+}
+
 /// All that waits is stored, and all couriers go as far as they can.
 pub(super) fn settle<J: Naming, R: Abort + AllocGlobal + Wait + Clock>(rt: &R, topics: &Topics<J>) {
     let mut errands = Errands::new(rt.alloc()).expect(rt, "no moment");
-    for _ in 0..100 {
-        if !topics.keep_once(rt, &mut errands) {
-            return;
-        }
-    }
-    panic!(rt; "it does not settle");
+    let is_settled = is_settled(rt, topics, &mut errands);
+    drop(errands);
+    assert!(rt; is_settled);
 }

@@ -20,17 +20,24 @@ impl RandomSource for Fives {
 
 pub(super) type Socket = WebSocket<TcpStream, RandomKeys<Fives>>;
 
+fn request_for<R: Abort + AllocGlobal>(rt: &R, target: &str) -> Request<()> {
+    let mut request = Request::new(rt.alloc(), ());
+    let uri = Uri::from_str(rt.alloc(), target)
+        .ok()
+        .expect(rt, "no target");
+    drop(std::mem::replace(request.uri_mut(), uri));
+    request
+}
+
 /// A connection to the target, once its handshake is done.
 pub(super) fn connect<R: Net<Listener = TcpListener, Stream = TcpStream> + Abort + AllocGlobal>(
     rt: &R,
     address: SocketAddr,
     target: &str,
 ) -> Socket {
-    let alloc = rt.alloc();
+    let request = request_for(rt, target);
     let stream = TcpStream::connect(rt, address).ok().expect(rt, "no stream");
-    let mut request = Request::new(alloc, ());
-    *request.uri_mut() = Uri::from_str(alloc, target).ok().expect(rt, "no target");
-    let (socket, response) = client(alloc, Fives, request, stream)
+    let (socket, response) = client(rt.alloc(), Fives, request, stream)
         .ok()
         .expect(rt, "no handshake");
     drop(response);
@@ -55,8 +62,8 @@ pub(super) fn say_bytes<R: Abort + AllocGlobal>(rt: &R, socket: &mut Socket, tex
     socket.send(message).ok().expect(rt, "not sent");
 }
 
-pub(super) fn hear<R: Abort + AllocGlobal>(rt: &R, socket: &mut Socket) -> Heard {
-    match socket.read().ok().expect(rt, "nothing came") {
+fn heard_in<R: Abort + AllocGlobal>(rt: &R, message: &Message) -> Heard {
+    match message {
         Message::Text(text) => {
             let text = String::from_str(rt.alloc(), text.as_str());
             Heard::Text(text.expect(rt, "no memory"))
@@ -66,16 +73,35 @@ pub(super) fn hear<R: Abort + AllocGlobal>(rt: &R, socket: &mut Socket) -> Heard
     }
 }
 
-/// Whether the text that comes next has this in it.
-pub(super) fn hears<R: Abort + AllocGlobal>(rt: &R, socket: &mut Socket, part: &str) -> bool {
-    match hear(rt, socket) {
+pub(super) fn hear<R: Abort + AllocGlobal>(rt: &R, socket: &mut Socket) -> Heard {
+    let message = socket.read().ok().expect(rt, "nothing came");
+    let heard = heard_in(rt, &message);
+    drop(message);
+    heard
+}
+
+fn has_part(heard: &Heard, part: &str) -> bool {
+    match heard {
         Heard::Text(text) => text.as_str().contains(part),
         Heard::Closed(_) => false,
     }
 }
 
+/// Whether the text that comes next has this in it.
+fn hears<R: Abort + AllocGlobal>(rt: &R, socket: &mut Socket, part: &str) -> bool {
+    let heard = hear(rt, socket);
+    let has_part = has_part(&heard, part);
+    drop(heard);
+    has_part
+}
+
+/// The text that comes next has this in it.
+pub(super) fn expect<R: Abort + AllocGlobal>(rt: &R, socket: &mut Socket, part: &str) {
+    assert!(rt; hears(rt, socket, part), "{part}");
+}
+
 /// Publishes the text as it is, and hears that it is stored.
 pub(super) fn publish<R: Abort + AllocGlobal>(rt: &R, socket: &mut Socket, text: &str) {
     say(rt, socket, text);
-    assert!(rt; hears(rt, socket, "\"result\":\"ok\""));
+    expect(rt, socket, "\"result\":\"ok\"");
 }

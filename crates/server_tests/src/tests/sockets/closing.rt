@@ -1,5 +1,5 @@
 // The codes with which sessions are closed that cannot begin.
-use super::client::{Heard, connect, hear, publish};
+use super::client::{Heard, Socket, connect, hear, publish};
 use super::world::{Visit, serve_all};
 use broker_dir::Open;
 use std::net::{Net, SocketAddr, TcpListener, TcpStream};
@@ -9,6 +9,8 @@ use std::sync::Wait;
 use std::test::*;
 
 const PRODUCER: &str = "ws://127.0.0.1/ws/v2/producer/persistent/public/default/t?producerName=p";
+
+const ADMIN: &str = "ws://127.0.0.1/ws/v2/admin/persistent/public/default/t";
 
 /// Targets, each with the code that it is closed with. Two sit at topic t.
 const CLOSED: [(&str, u16); 8] = [
@@ -46,6 +48,35 @@ const CLOSED: [(&str, u16); 8] = [
     ),
 ];
 
+fn code_in(heard: &Heard) -> Option<u16> {
+    match heard {
+        Heard::Closed(code) => Some(*code),
+        Heard::Text(_) => None,
+    }
+}
+
+fn expect_code<R: Abort>(rt: &R, got: Option<u16>, want: u16) {
+    assert_eq!(rt; got, Some(want));
+}
+
+fn check_closed<R: Abort + AllocGlobal>(rt: &R, socket: &mut Socket, want: u16) {
+    let heard = hear(rt, socket);
+    expect_code(rt, code_in(&heard), want);
+    drop(heard);
+}
+
+/// A session at the target is closed with the code.
+fn check_target<R: Net<Listener = TcpListener, Stream = TcpStream> + Abort + AllocGlobal>(
+    rt: &R,
+    address: SocketAddr,
+    target: &str,
+    want: u16,
+) {
+    let mut socket = connect(rt, address, target);
+    check_closed(rt, &mut socket, want);
+    drop(socket);
+}
+
 #[derive(Clone, Copy)]
 struct Refused;
 
@@ -61,22 +92,15 @@ impl Visit for Refused {
     ) {
         let mut first = connect(rt, address, PRODUCER);
         publish(rt, &mut first, "{\"payload\":\"aGk=\"}");
-        let mut second = connect(rt, address, PRODUCER);
-        assert!(rt; matches!(hear(rt, &mut second), Heard::Closed(4001)));
-        let mut third = connect(
-            rt,
-            address,
-            "ws://127.0.0.1/ws/v2/admin/persistent/public/default/t",
-        );
+        check_target(rt, address, PRODUCER, 4001);
+        let mut admin = connect(rt, address, ADMIN);
         for (target, code) in CLOSED {
-            let mut socket = connect(rt, address, target);
-            match hear(rt, &mut socket) {
-                Heard::Closed(closed) => assert_eq!(rt; closed, code),
-                Heard::Text(_) => panic!(rt; "it was not closed"),
-            }
+            check_target(rt, address, target, code);
         }
         publish(rt, &mut first, "{\"payload\":\"aGk=\"}");
-        let _ = third.close(None);
+        drop(admin.close(None));
+        drop(admin);
+        drop(first);
     }
 }
 

@@ -1,5 +1,5 @@
 // Publishes and their deliveries through real sockets, and a message that is given back.
-use super::client::{connect, hears, publish, say, say_bytes};
+use super::client::{connect, expect, publish, say, say_bytes};
 use super::world::{Visit, serve_all};
 use broker_dir::Open;
 use std::net::{Net, SocketAddr, TcpListener, TcpStream};
@@ -31,21 +31,17 @@ impl Visit for BothForms {
         let mut producer = connect(rt, address, PRODUCER);
         publish(rt, &mut producer, "{\"payload\":\"aGk=\"}");
         say_bytes(rt, &mut producer, "{\"payload\":\"aG8\"}");
-        assert!(rt; hears(rt, &mut producer, "\"messageId\":\"CAAQAQ==\""));
+        expect(rt, &mut producer, "\"messageId\":\"CAAQAQ==\"");
         let mut consumer = connect(rt, address, CONSUMER);
-        assert!(rt;
-            hears(
-                rt,
-                &mut consumer,
-                "\"messageId\":\"CAAQAA==\",\"payload\":\"aGk=\""
-            )
+        expect(
+            rt,
+            &mut consumer,
+            "\"messageId\":\"CAAQAA==\",\"payload\":\"aGk=\"",
         );
-        assert!(rt;
-            hears(
-                rt,
-                &mut consumer,
-                "\"messageId\":\"CAAQAQ==\",\"payload\":\"aG8=\""
-            )
+        expect(
+            rt,
+            &mut consumer,
+            "\"messageId\":\"CAAQAQ==\",\"payload\":\"aG8=\"",
         );
         say(rt, &mut consumer, "{\"messageId\":\"CAAQAA==\"}");
     }
@@ -58,6 +54,12 @@ fn what_is_published_is_delivered(rt: HostRuntime) {
 
 fn now<R: Clock + Abort>(rt: &R) -> Instant {
     Instant::now(rt).ok().expect(rt, "no clock")
+}
+
+/// No less than the delay, and little more.
+fn check_waited<R: Abort>(rt: &R, waited: Duration) {
+    assert!(rt; waited >= Duration::from_millis(199));
+    assert!(rt; waited < Duration::from_secs(5));
 }
 
 /// A message that is given back comes again after its delay, and soon after it.
@@ -77,17 +79,15 @@ impl Visit for GivenBack {
         let mut producer = connect(rt, address, PRODUCER);
         publish(rt, &mut producer, "{\"payload\":\"aGk=\"}");
         let mut consumer = connect(rt, address, CONSUMER);
-        assert!(rt; hears(rt, &mut consumer, "\"redeliveryCount\":0"));
+        expect(rt, &mut consumer, "\"redeliveryCount\":0");
         let before = now(rt);
         say(
             rt,
             &mut consumer,
             "{\"type\":\"negativeAcknowledge\",\"messageId\":\"CAAQAA==\"}",
         );
-        assert!(rt; hears(rt, &mut consumer, "\"redeliveryCount\":1"));
-        let waited = now(rt).duration_since(before);
-        assert!(rt; waited >= Duration::from_millis(199));
-        assert!(rt; waited < Duration::from_secs(5));
+        expect(rt, &mut consumer, "\"redeliveryCount\":1");
+        check_waited(rt, now(rt).duration_since(before));
     }
 }
 

@@ -30,6 +30,43 @@ pub(super) trait Visit {
     );
 }
 
+fn keeper_over<J: Naming, R: Abort + AllocGlobal>(
+    rt: &R,
+    history: Unnamed<Note>,
+) -> Keeper<MemStore, J>
+    requires { history ≡ J.book }
+{
+    let conn = Connection::open_in_memory(rt.alloc()).expect(rt, "no memory");
+    let keeper = Keeper::start(rt.alloc(), conn, Notes::new(history));
+    keeper.ok().expect(rt, "no tables")
+}
+
+fn terms<R: Abort>(rt: &R) -> Terms {
+    Terms {
+        ledger_size: LedgerSize::new(50_000).expect(rt, "no size"),
+        lines: LineLimit::new(1_000).expect(rt, "no limit"),
+        seats: SeatCount::new(2).expect(rt, "no seats"),
+    }
+}
+
+type Server<J, G> = Place<TopicCore, MemStore, J, G>;
+
+fn place_over<J: Naming, G: Gate + Drop, R: Abort + AllocGlobal>(
+    rt: &R,
+    history: Unnamed<Note>,
+    gate: G,
+) -> Arc<Server<J, G>>
+    requires { history ≡ J.book }
+{
+    let keeper = keeper_over(rt, history);
+    let place = Place::new(Directory::open(rt.alloc(), keeper, terms(rt)), gate);
+    Arc::new(rt.alloc(), place).ok().expect(rt, "no memory")
+}
+
+fn expect_served<R: Abort>(rt: &R, ended: Ended, count: u64) {
+    assert_eq!(rt; ended, Ended::Served(count));
+}
+
 fn run<
     R: Threads
         + Wait
@@ -49,36 +86,23 @@ fn run<
 >(rt: &R, history: Unnamed<Note>, gate: G, visit: X)
     requires { history ≡ J.book }
 {
-    let alloc = rt.alloc();
-    let conn = Connection::open_in_memory(alloc).expect(rt, "no memory");
-    let keeper: Keeper<MemStore, J> = Keeper::start(alloc, conn, Notes::new(history))
-        .ok()
-        .expect(rt, "no tables");
-    let terms = Terms {
-        ledger_size: LedgerSize::new(50_000).expect(rt, "no size"),
-        lines: LineLimit::new(1_000).expect(rt, "no limit"),
-        seats: SeatCount::new(2).expect(rt, "no seats"),
-    };
-    let place: Place<TopicCore, MemStore, J, G> = Place::new(
-        Directory::open(alloc, keeper, terms),
-        gate,
-    );
-    let place = Arc::new(alloc, place).ok().expect(rt, "no memory");
+    let place = place_over::<J, G, R>(rt, history, gate);
     let listener = TcpListener::bind(rt, "127.0.0.1:0")
         .ok()
         .expect(rt, "no listener");
     let address = listener.local_addr().ok().expect(rt, "no address");
+    let count = visit.connections();
     let limits = Limits {
         workers: 2,
-        connections: Some(visit.connections()),
+        connections: Some(count),
     };
     let handle = *rt;
     let client = thread::spawn(rt, move || visit.go(&handle, address))
         .ok()
         .expect(rt, "no thread");
-    let ended = serve(rt, alloc, listener, place, limits);
+    let ended = serve(rt, rt.alloc(), listener, place, limits);
     client.join(rt);
-    assert_eq!(rt; ended, Ended::Served(limits.connections.unwrap_or(0)));
+    expect_served(rt, ended, count);
 }
 
 /// Serves the client's connections, and ends once they have.
