@@ -1,22 +1,22 @@
 // A directory over a database in memory, and topics that are asked by lines.
 ghost use Rattle.std.specs.Prelude.{◌≡◌};
 
-use broker_dir::{Attached, Directory, Errands, Open, Terms};
+use crate::tests::base::{keeper_over, terms};
+use broker_dir::{Attached, Directory, Errands, Open};
 use delivery_machine::{Event, Reply};
 use marks::{Naming, Unnamed};
-use position_core::{LedgerSize, TopicName};
+use position_core::TopicName;
 use replay_lines::{Line, read_line};
 use row_store::Keeper;
 use session_bells::Bell;
 use session_links::Caller;
-use sqlite::{Connection, MemStore};
+use sqlite::MemStore;
 use std::marker::Brand;
 use std::process::Abort;
 use std::rt::Clock;
 use std::sync::{Arc, Wait};
-use stored_cell::{Note, Notes};
+use stored_cell::Note;
 use topic_core::TopicCore;
-use topic_shared::{LineLimit, SeatCount};
 
 /// A bell that nobody hears.
 #[derive(Drop)]
@@ -46,9 +46,7 @@ fn run<J: Naming, X: Scene, R: Abort + AllocGlobal + Wait + Clock>(
 )
     requires { history ≡ J.book }
 {
-    let conn = Connection::open_in_memory(rt.alloc()).expect(rt, "no memory");
-    let keeper = Keeper::start(rt.alloc(), conn, Notes::<J>::new(history));
-    scene.play::<J, R>(rt, keeper.ok().expect(rt, "no tables"));
+    scene.play::<J, R>(rt, keeper_over(rt, history));
 }
 
 /// Plays the scene over a database that has no rows.
@@ -62,12 +60,7 @@ pub(super) fn open<J: Naming, R: Abort + AllocGlobal>(
     keeper: Rows<J>,
     seats: u32,
 ) -> Topics<J> {
-    let terms = Terms {
-        ledger_size: LedgerSize::new(50_000).expect(rt, "no size"),
-        lines: LineLimit::new(1_000).expect(rt, "no limit"),
-        seats: SeatCount::new(seats).expect(rt, "no seats"),
-    };
-    Directory::open(rt.alloc(), keeper, terms)
+    Directory::open(rt.alloc(), keeper, terms(rt, seats))
 }
 
 pub(super) fn topic_name<R: Abort + AllocGlobal>(rt: &R, text: &str) -> TopicName {

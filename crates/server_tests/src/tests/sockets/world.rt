@@ -1,11 +1,10 @@
 // A server with two workers, and a client in a thread of its own.
 ghost use Rattle.std.specs.Prelude.{◌≡◌};
 
-use broker_dir::{Directory, Gate, Terms};
+use crate::tests::base::{keeper_over, terms};
+use broker_dir::{Directory, Gate};
 use marks::{Naming, Unnamed};
-use position_core::LedgerSize;
-use row_store::Keeper;
-use sqlite::{Connection, MemStore};
+use sqlite::MemStore;
 use std::io::Eprint;
 use std::marker::Brand;
 use std::net::{Net, SocketAddr, TcpListener, TcpStream};
@@ -14,9 +13,8 @@ use std::rt::Clock;
 use std::sync::{Arc, Wait};
 use std::thread;
 use std::thread::Threads;
-use stored_cell::{Note, Notes};
+use stored_cell::Note;
 use topic_core::TopicCore;
-use topic_shared::{LineLimit, SeatCount};
 use worker_pool::{Ended, Limits, Place, serve};
 
 /// What a client does, and over how many connections.
@@ -30,25 +28,6 @@ pub(super) trait Visit {
     );
 }
 
-fn keeper_over<J: Naming, R: Abort + AllocGlobal>(
-    rt: &R,
-    history: Unnamed<Note>,
-) -> Keeper<MemStore, J>
-    requires { history ≡ J.book }
-{
-    let conn = Connection::open_in_memory(rt.alloc()).expect(rt, "no memory");
-    let keeper = Keeper::start(rt.alloc(), conn, Notes::new(history));
-    keeper.ok().expect(rt, "no tables")
-}
-
-fn terms<R: Abort>(rt: &R) -> Terms {
-    Terms {
-        ledger_size: LedgerSize::new(50_000).expect(rt, "no size"),
-        lines: LineLimit::new(1_000).expect(rt, "no limit"),
-        seats: SeatCount::new(2).expect(rt, "no seats"),
-    }
-}
-
 type Server<J, G> = Place<TopicCore, MemStore, J, G>;
 
 fn place_over<J: Naming, G: Gate + Drop, R: Abort + AllocGlobal>(
@@ -59,7 +38,7 @@ fn place_over<J: Naming, G: Gate + Drop, R: Abort + AllocGlobal>(
     requires { history ≡ J.book }
 {
     let keeper = keeper_over(rt, history);
-    let place = Place::new(Directory::open(rt.alloc(), keeper, terms(rt)), gate);
+    let place = Place::new(Directory::open(rt.alloc(), keeper, terms(rt, 2)), gate);
     Arc::new(rt.alloc(), place).ok().expect(rt, "no memory")
 }
 
