@@ -15,13 +15,22 @@ use std::marker::Model;
 /// The acknowledged messages of a subscription, by their places in the log. A look-up or a change takes
 /// the logarithm of the number of ranges, and as much again for each range that goes; a copy and a
 /// comparison go over all ranges.
-#[derive(Drop)]
 pub struct AckSet {
     /// The first place that is not in the set.
     low: LogIndex,
     /// From the start of each range above `low` to its end.
     ranges: BTreeMap<LogIndex, LogIndex>,
     count: u64,
+}
+
+impl Drop for AckSet {
+    fn drop(self) {
+        let AckSet {
+            low: _,
+            ranges: _,
+            count: _,
+        } = self;
+    }
 }
 
 impl Model for AckSet {

@@ -12,10 +12,15 @@ use sqlite::Alter;
 use std::sync::{Arc, Wait};
 
 /// A seat at an open topic, until it is detached.
-#[derive(Drop)]
 pub struct Attached<T: Opened + Drop, J: Naming, B: Bell + Drop> {
     pub(crate) topic: Arc<Shared<T, J, B>>,
     pub(crate) seat: u64,
+}
+
+impl<T: Opened + Drop, J: Naming, B: Bell + Drop> Drop for Attached<T, J, B> {
+    fn drop(self) {
+        let Attached { topic: _, seat: _ } = self;
+    }
 }
 
 impl<T: Opened + Drop, J: Naming, B: Bell + Drop> Attached<T, J, B> {

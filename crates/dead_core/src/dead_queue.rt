@@ -25,10 +25,18 @@ fn queue_of(alloc: Global, letters: &[DeadLetter]) -> Result<VecDeque<DeadLetter
 /// The dead letters of a subscription, in the order of dying. The first of them are safe: their deaths are
 /// stored, so that they may be published. A call takes constant time, but for a growth, and only `push`
 /// takes memory.
-#[derive(Drop)]
 pub struct DeadQueue {
     letters: VecDeque<DeadLetter>,
     safe: usize,
+}
+
+impl Drop for DeadQueue {
+    fn drop(self) {
+        let DeadQueue {
+            letters: _,
+            safe: _,
+        } = self;
+    }
 }
 
 impl Model for DeadQueue {

@@ -16,9 +16,14 @@ use std::marker::Model;
 /// The last sequence number of each producer's name that has messages in the log. A call takes the
 /// logarithm of the number of names, and only `offer` takes memory. The name is shared, not copied. A name
 /// that has as many owners as it can have, some 2^63, is looked for among all.
-#[derive(Drop)]
 pub struct Sequences {
     table: Table,
+}
+
+impl Drop for Sequences {
+    fn drop(self) {
+        let Sequences { table: _ } = self;
+    }
 }
 
 impl Model for Sequences {

@@ -50,9 +50,14 @@ fn leave_out(items: &mut Vec<Delivery>, positions: &[Position])
 }
 
 /// Messages for a consumer, in the order in which they were sent.
-#[derive(Drop)]
 pub struct Deliveries {
     items: Vec<Delivery>,
+}
+
+impl Drop for Deliveries {
+    fn drop(self) {
+        let Deliveries { items: _ } = self;
+    }
 }
 
 impl Model for Deliveries {

@@ -12,7 +12,6 @@ use std::marker::Model;
 /// What is kept of a topic, from which a topic may go on. The messages are shared with the topic, and a
 /// clone shares them too: it takes a step for each segment of the log, each range of what is acknowledged
 /// and each dead letter.
-#[derive(Drop)]
 pub struct Snapshot {
     name: TopicName,
     ledger_size: LedgerSize,
@@ -20,6 +19,19 @@ pub struct Snapshot {
     next_ordinal: Ordinal,
     log: Pieces,
     subscriptions: Vec<KeptSubscription>,
+}
+
+impl Drop for Snapshot {
+    fn drop(self) {
+        let Snapshot {
+            name: _,
+            ledger_size: _,
+            ledger: _,
+            next_ordinal: _,
+            log: _,
+            subscriptions: _,
+        } = self;
+    }
 }
 
 impl Model for Snapshot {

@@ -16,7 +16,6 @@ use position_core::{ConsumerNumber, Fault, Kind, LogIndex};
 use std::alloc::Global;
 
 /// The dispatcher of a subscription, by its kind.
-#[derive(Drop)]
 pub enum Dispatch {
     /// Exclusive and Failover.
     InOrder(Single),
@@ -24,6 +23,14 @@ pub enum Dispatch {
     InTurn(Shared),
     /// Key_Shared.
     ByKey(Keyed),
+}
+
+impl Drop for Dispatch {
+    fn drop(self) {
+        match self {
+            Dispatch::InOrder(_) | Dispatch::InTurn(_) | Dispatch::ByKey(_) => {}
+        }
+    }
 }
 
 impl Dispatch {

@@ -11,9 +11,14 @@ use std::marker::Model;
 
 /// Slots in a row. The one that is due first is known at once; a change takes the logarithm of their
 /// number.
-#[derive(Drop)]
 pub struct DueTree {
     nodes: Vec<Node>,
+}
+
+impl Drop for DueTree {
+    fn drop(self) {
+        let DueTree { nodes: _ } = self;
+    }
 }
 
 impl Model for DueTree {

@@ -16,11 +16,16 @@ const HASHES: u32 = 65536;
 
 /// For each hash at most one number, in chunks of 256 hashes. Only `grow` takes memory, for the whole
 /// chunk of a hash. A call takes the logarithm of the number of hashes.
-#[derive(Drop)]
 pub struct HashFirsts {
     chunks: Vec<Tournament>,
     /// Has the least number of each chunk.
     top: Tournament,
+}
+
+impl Drop for HashFirsts {
+    fn drop(self) {
+        let HashFirsts { chunks: _, top: _ } = self;
+    }
 }
 
 impl Model for HashFirsts {

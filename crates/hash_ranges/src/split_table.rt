@@ -11,10 +11,15 @@ use std::marker::Model;
 
 /// The shares of the hashes that the consumers have, in the order of hashes. To find the owner of a
 /// hash takes the logarithm of their number; the other calls go over all. Only `join` takes memory.
-#[derive(Drop)]
 pub struct SplitTable {
     /// From the end of each share to its consumer.
     ends: BTreeMap<u32, ConsumerNumber>,
+}
+
+impl Drop for SplitTable {
+    fn drop(self) {
+        let SplitTable { ends: _ } = self;
+    }
 }
 
 impl Model for SplitTable {

@@ -7,7 +7,6 @@ use position_core::{ConsumerNumber, LogIndex};
 
 /// The messages of one hash, in the order of the log. Each call takes the logarithm of their number.
 /// Only `push` takes memory.
-#[derive(Drop)]
 pub struct Row {
     pub(crate) places: Vec<LogIndex>,
     /// The ranks, among the places, of those that wait.
@@ -21,4 +20,15 @@ pub struct Row {
     ghost held_room: { vec_len places ≤ held.room },
     ghost waiting_ranks: { AreRanksOf places.items waiting.places },
     ghost held_ranks: { AreRanksOf places.items held.places },
+}
+
+impl Drop for Row {
+    fn drop(self) {
+        let Row {
+            places: _,
+            waiting: _,
+            held: _,
+            keeper: _,
+        } = self;
+    }
 }

@@ -10,10 +10,15 @@ use std::alloc::{AllocError, Global};
 use std::marker::Model;
 
 /// What was asked at a seat, and what was answered.
-#[derive(Drop)]
 pub struct Line {
     seat: u64,
     call: Call,
+}
+
+impl Drop for Line {
+    fn drop(self) {
+        let Line { seat: _, call: _ } = self;
+    }
 }
 
 const _: () = prove!(size_of::<Line>() <= 96);

@@ -19,12 +19,21 @@ const SEGMENT: usize = 1024;
 
 /// Messages of which all but the last ones stand in segments. A clone shares them, and takes a step for each
 /// of 32 messages at most, but that it copies the moments.
-#[derive(Drop)]
 pub struct Pieces {
     sealed: Segments,
     loose: Loose,
     /// For each segment, the first moment after the times of all messages up to its end.
     moments: Vec<u64>,
+}
+
+impl Drop for Pieces {
+    fn drop(self) {
+        let Pieces {
+            sealed: _,
+            loose: _,
+            moments: _,
+        } = self;
+    }
 }
 
 impl Model for Pieces {

@@ -24,11 +24,20 @@ use std::marker::Model;
 /// redelivered. A position has a slot from the first `put` until it is removed. A call takes at most
 /// the logarithm of the number of slots, but for `clear`, for a growth, and where a consumer gets its
 /// first message or gives up its last: that moves those of the later consumers. Only `put` takes memory.
-#[derive(Drop)]
 pub struct PendingMap {
     kept: BTreeMap<Position, Kept>,
     slots: DueTree,
     seats: Seats,
+}
+
+impl Drop for PendingMap {
+    fn drop(self) {
+        let PendingMap {
+            kept: _,
+            slots: _,
+            seats: _,
+        } = self;
+    }
 }
 
 impl Model for PendingMap {

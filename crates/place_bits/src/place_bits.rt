@@ -15,9 +15,14 @@ type Tree = Summed<Summed<Summed<Top>>>;
 
 /// A set of places. A call looks at one or two words of each layer, and at all words of the top at
 /// most; only `grow` takes memory, one bit for each place that there is room for, and little more.
-#[derive(Drop)]
 pub struct PlaceBits {
     tree: Tree,
+}
+
+impl Drop for PlaceBits {
+    fn drop(self) {
+        let PlaceBits { tree: _ } = self;
+    }
 }
 
 impl Model for PlaceBits {

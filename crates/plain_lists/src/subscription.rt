@@ -20,7 +20,6 @@ use std::alloc::{AllocError, Global};
 use std::marker::Model;
 
 /// A subscription, and what became of each message in it.
-#[derive(Drop)]
 pub struct Subscription {
     pub(crate) name: SubscriptionName,
     pub(crate) kind: Kind,
@@ -33,6 +32,22 @@ pub struct Subscription {
     pub(crate) dead: Vec<DeadLetter>,
     /// So many of the first letters' deaths are stored.
     pub(crate) safe: usize,
+}
+
+impl Drop for Subscription {
+    fn drop(self) {
+        let Subscription {
+            name: _,
+            kind: _,
+            acknowledged: _,
+            pending: _,
+            counts: _,
+            shares: _,
+            last_served: _,
+            dead: _,
+            safe: _,
+        } = self;
+    }
 }
 
 impl Model for Subscription {

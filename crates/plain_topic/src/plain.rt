@@ -11,9 +11,14 @@ use std::marker::Model;
 
 /// A topic over lists. It is slow on purpose: each event looks through whole lists, as the machine's
 /// rules say it.
-#[derive(Drop)]
 pub struct PlainTopic {
     pub(crate) lists: Lists,
+}
+
+impl Drop for PlainTopic {
+    fn drop(self) {
+        let PlainTopic { lists: _ } = self;
+    }
 }
 
 impl Model for PlainTopic {

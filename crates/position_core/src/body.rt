@@ -40,9 +40,14 @@ impl Content {
 }
 
 /// A content that is shared. A clone is one more owner of the same bytes.
-#[derive(Drop)]
 pub struct Body {
     content: Arc<Content>,
+}
+
+impl Drop for Body {
+    fn drop(self) {
+        let Body { content: _ } = self;
+    }
 }
 
 impl Model for Body {

@@ -33,9 +33,14 @@ impl Entry {
 }
 
 /// An entry that is shared. A clone is one more owner of the same entry.
-#[derive(Drop)]
 pub struct Message {
     entry: Arc<Entry>,
+}
+
+impl Drop for Message {
+    fn drop(self) {
+        let Message { entry: _ } = self;
+    }
 }
 
 impl Model for Message {

@@ -12,9 +12,15 @@ use std::sync::ArcStr;
 
 /// A name: 1 to 255 bytes of UTF-8, without `/` and the characters U+0000 to U+001F and U+007F.
 /// A clone is one more owner of the same bytes.
-#[derive(Debug, Drop)]
+#[derive(Debug)]
 pub struct Name {
     text: ArcStr,
+}
+
+impl Drop for Name {
+    fn drop(self) {
+        let Name { text: _ } = self;
+    }
 }
 
 impl Model for Name {

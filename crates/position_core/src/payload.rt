@@ -4,9 +4,15 @@ ghost use Rattle.std.specs.Prelude.{◌≡◌, ℕ, ◌≤◌, ◌↔◌, List, 
 use std::marker::Model;
 
 /// A payload of at most 1,048,576 bytes.
-#[derive(Debug, Drop)]
+#[derive(Debug)]
 pub struct Payload {
     bytes: Vec<u8>,
+}
+
+impl Drop for Payload {
+    fn drop(self) {
+        let Payload { bytes: _ } = self;
+    }
 }
 
 impl Model for Payload {

@@ -9,9 +9,15 @@ use std::marker::Model;
 
 /// At most 64 properties: a name has at most 255 bytes and a value at most 1,024. Contracts see them
 /// as pairs, in the order of the names' bytes.
-#[derive(Debug, Drop)]
+#[derive(Debug)]
 pub struct Properties {
     values: BTreeMap<String, String>,
+}
+
+impl Drop for Properties {
+    fn drop(self) {
+        let Properties { values: _ } = self;
+    }
 }
 
 impl Model for Properties {

@@ -8,9 +8,15 @@ use std::marker::Model;
 use std::sync::ArcStr;
 
 /// A text of `LEAST` to `MOST` bytes of UTF-8. A clone is one more owner of the same bytes.
-#[derive(Debug, Drop)]
+#[derive(Debug)]
 pub struct Text<const LEAST: usize, const MOST: usize> {
     text: ArcStr,
+}
+
+impl<const LEAST: usize, const MOST: usize> Drop for Text<LEAST, MOST> {
+    fn drop(self) {
+        let Text { text: _ } = self;
+    }
 }
 
 impl<const LEAST: usize, const MOST: usize> Model for Text<LEAST, MOST> {

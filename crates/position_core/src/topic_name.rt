@@ -7,11 +7,21 @@ use crate::name::{Name, SubscriptionName};
 use std::alloc::{AllocError, Global};
 
 /// A topic's name: `persistent://tenant/namespace/topic`.
-#[derive(Clone, Debug, Drop)]
+#[derive(Clone, Debug)]
 pub struct TopicName {
     pub tenant: Name,
     pub namespace: Name,
     pub topic: Name,
+}
+
+impl Drop for TopicName {
+    fn drop(self) {
+        let TopicName {
+            tenant: _,
+            namespace: _,
+            topic: _,
+        } = self;
+    }
 }
 
 /// What follows the scheme.

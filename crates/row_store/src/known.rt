@@ -9,11 +9,20 @@ use std::marker::Model;
 use stored_cell::Note;
 
 /// A topic whose rows are known: what stands there of it, under its mark. Contracts see what stands.
-#[derive(Drop)]
 pub struct Known<J: Naming> {
     topic: String,
     snapshot: Snapshot,
     mark: Mark<Note, J>,
+}
+
+impl<J: Naming> Drop for Known<J> {
+    fn drop(self) {
+        let Known {
+            topic: _,
+            snapshot: _,
+            mark: _,
+        } = self;
+    }
 }
 
 impl<J: Naming> Model for Known<J> {

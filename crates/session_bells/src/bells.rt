@@ -9,7 +9,6 @@ use std::collections::VecDeque;
 use std::sync::{Arc, Wait};
 
 /// The bells of a topic's sessions, by their seats. They are kept under the lock of the topic.
-#[derive(Drop)]
 pub struct Bells<B: Drop> {
     alloc: Global,
     pub(crate) durable: u64,
@@ -19,6 +18,19 @@ pub struct Bells<B: Drop> {
     pub(crate) lines: Vec<Option<Line>>,
     /// The consumers with their seats' places, in the order of their numbers.
     consumers: Vec<(ConsumerNumber, usize)>,
+}
+
+impl<B: Drop> Drop for Bells<B> {
+    fn drop(self) {
+        let Bells {
+            alloc: _,
+            durable: _,
+            residents: _,
+            writers: _,
+            lines: _,
+            consumers: _,
+        } = self;
+    }
 }
 
 fn place_of(seat: u64) -> usize {

@@ -12,7 +12,6 @@ use std::collections::VecDeque;
 const MOST_UNANSWERED: usize = 1000;
 
 /// A session at rest: whose it is, and what it has not sent yet.
-#[derive(Drop)]
 pub struct Session {
     pub(crate) alloc: Global,
     pub(crate) party: Party,
@@ -31,6 +30,23 @@ pub struct Session {
     pub(crate) dues: Dues,
     /// Whether the connection had room when the last turn ended.
     pub(crate) had_room: bool,
+}
+
+impl Drop for Session {
+    fn drop(self) {
+        let Session {
+            alloc: _,
+            party: _,
+            next: _,
+            durable: _,
+            copies: _,
+            copies_sent: _,
+            waiting: _,
+            text: _,
+            dues: _,
+            had_room: _,
+        } = self;
+    }
 }
 
 impl Session {

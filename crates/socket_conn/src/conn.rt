@@ -18,7 +18,6 @@ const MOST_UNSENT: usize = 65_536;
 
 /// A connection over a WebSocket, on a stream that does not block. Output that the stream does not take is kept, and goes
 /// on when `flush` is called; meanwhile nothing is read.
-#[derive(Drop)]
 pub struct SocketConn<S: Read + Write + Drop> {
     alloc: Global,
     socket: WebSocket<S, NoMask>,
@@ -34,6 +33,21 @@ pub struct SocketConn<S: Read + Write + Drop> {
     unsent: usize,
     /// How many messages were received.
     received: u32,
+}
+
+impl<S: Read + Write + Drop> Drop for SocketConn<S> {
+    fn drop(self) {
+        let SocketConn {
+            alloc: _,
+            socket: _,
+            is_open: _,
+            is_lost: _,
+            is_readable: _,
+            is_blocked: _,
+            unsent: _,
+            received: _,
+        } = self;
+    }
 }
 
 /// What a read came to.

@@ -21,12 +21,22 @@ use topic_shared::{Cell, Receipt};
 /// A topic with its journal and with what of it is stored. Contracts see both. Unless a caller made
 /// something durable by its own word, by a `Stored` or a `StoredTo` at a seat, all that is durable stands
 /// in rows that were committed.
-#[derive(Drop)]
 pub struct StoredCell<T: Topic, J: Naming> {
     pub(crate) cell: Cell<T>,
     pub(crate) stored: Option<Stored<J>>,
     pub(crate) outstanding: Option<Viewed<J>>,
     pub(crate) by_word: bool,
+}
+
+impl<T: Topic + Drop, J: Naming> Drop for StoredCell<T, J> {
+    fn drop(self) {
+        let StoredCell {
+            cell: _,
+            stored: _,
+            outstanding: _,
+            by_word: _,
+        } = self;
+    }
 }
 
 impl<T: Topic, J: Naming> Model for StoredCell<T, J> {

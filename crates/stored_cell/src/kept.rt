@@ -8,10 +8,15 @@ use std::marker::Model;
 
 /// The proof that a snapshot stands in rows that were committed. It keeps the mark that the snapshot had.
 /// Contracts see the snapshot and the rows.
-#[derive(Drop)]
 pub struct Kept<J: Naming> {
     mark: Mark<Note, J>,
     rows: Mark<Note, J>,
+}
+
+impl<J: Naming> Drop for Kept<J> {
+    fn drop(self) {
+        let Kept { mark: _, rows: _ } = self;
+    }
 }
 
 impl<J: Naming> Model for Kept<J> {

@@ -15,9 +15,14 @@ use topic_served::Served;
 
 /// A topic over a log in segments and subscriptions by places in it. An event takes the logarithm of what the
 /// topic holds, and as much again for each message or member that it changes.
-#[derive(Drop)]
 pub struct TopicCore {
     served: Served,
+}
+
+impl Drop for TopicCore {
+    fn drop(self) {
+        let TopicCore { served: _ } = self;
+    }
 }
 
 impl Model for TopicCore {

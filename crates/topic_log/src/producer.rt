@@ -10,11 +10,20 @@ use position_core::{Base, ProducerName, ProducerNumber};
 use std::marker::Model;
 
 /// A connected producer.
-#[derive(Drop)]
 pub struct Producer {
     number: ProducerNumber,
     name: ProducerName,
     base: Base,
+}
+
+impl Drop for Producer {
+    fn drop(self) {
+        let Producer {
+            number: _,
+            name: _,
+            base: _,
+        } = self;
+    }
 }
 
 impl Model for Producer {

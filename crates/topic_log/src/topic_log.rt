@@ -24,7 +24,6 @@ use std::marker::Model;
 
 /// The messages of a topic with the last sequence number of each name, and the connected producers. A
 /// message is appended first and noted then, so the numbers agree with the log only where a clause says so.
-#[derive(Drop)]
 pub struct TopicLog {
     pub(crate) alloc: Global,
     pub(crate) entries: EntryLog,
@@ -36,6 +35,21 @@ pub struct TopicLog {
     /// those of connected producers without a message, as far as the last search saw them.
     pub(crate) first_auto: u64,
     pub(crate) gaps: Vec<u64>,
+}
+
+impl Drop for TopicLog {
+    fn drop(self) {
+        let TopicLog {
+            alloc: _,
+            entries: _,
+            sequences: _,
+            durable: _,
+            producers: _,
+            next_producer: _,
+            first_auto: _,
+            gaps: _,
+        } = self;
+    }
 }
 
 impl Model for TopicLog {

@@ -19,11 +19,20 @@ use std::marker::Model;
 
 /// The members of all subscriptions of a topic, in the order of joining. A call on one member takes the
 /// logarithm of their number, but for `remove`.
-#[derive(Drop)]
 pub struct Members {
     alloc: Global,
     list: Vec<Member>,
     next: ConsumerNumber,
+}
+
+impl Drop for Members {
+    fn drop(self) {
+        let Members {
+            alloc: _,
+            list: _,
+            next: _,
+        } = self;
+    }
 }
 
 impl Model for Members {

@@ -15,7 +15,6 @@ use std::alloc::{AllocError, Global};
 use std::marker::Model;
 
 /// A consumer at a subscription.
-#[derive(Drop)]
 pub struct Member {
     number: ConsumerNumber,
     subscription: SubscriptionName,
@@ -26,6 +25,22 @@ pub struct Member {
     max_redeliver: RedeliverLimit,
     dead_topic: TopicName,
     out: Deliveries,
+}
+
+impl Drop for Member {
+    fn drop(self) {
+        let Member {
+            number: _,
+            subscription: _,
+            level: _,
+            flow: _,
+            ack_timeout: _,
+            nack_delay: _,
+            max_redeliver: _,
+            dead_topic: _,
+            out: _,
+        } = self;
+    }
 }
 
 impl Model for Member {

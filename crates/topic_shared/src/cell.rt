@@ -62,7 +62,6 @@ fn note(
 }
 
 /// A topic with the journal of its calls, which leads from the opening state to the topic's.
-#[derive(Drop)]
 pub struct Cell<T: Topic> {
     pub(crate) alloc: Global,
     pub(crate) topic: T,
@@ -77,6 +76,26 @@ pub struct Cell<T: Topic> {
     pub(crate) promised: bool,
     pub(crate) settled: bool,
     unsaved: bool,
+}
+
+impl<T: Topic + Drop> Drop for Cell<T> {
+    fn drop(self) {
+        let Cell {
+            alloc: _,
+            topic: _,
+            opening: _,
+            viewed: _,
+            lines: _,
+            producers: _,
+            consumers: _,
+            limit: _,
+            taken: _,
+            own_line: _,
+            promised: _,
+            settled: _,
+            unsaved: _,
+        } = self;
+    }
 }
 
 impl<T: Topic> Model for Cell<T> {

@@ -14,7 +14,6 @@ use std::alloc::{AllocError, Global};
 use std::marker::Model;
 
 /// A subscription, and what became of each message in it.
-#[derive(Drop)]
 pub struct Subscription {
     pub(crate) name: SubscriptionName,
     pub(crate) kind: Kind,
@@ -24,6 +23,20 @@ pub struct Subscription {
     pub(crate) pending: PendingMap,
     pub(crate) shares: SplitTable,
     pub(crate) dead: DeadQueue,
+}
+
+impl Drop for Subscription {
+    fn drop(self) {
+        let Subscription {
+            name: _,
+            kind: _,
+            closed: _,
+            line: _,
+            pending: _,
+            shares: _,
+            dead: _,
+        } = self;
+    }
 }
 
 impl Model for Subscription {

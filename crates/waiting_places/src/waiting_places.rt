@@ -15,11 +15,19 @@ use std::marker::Model;
 /// those before it the ones that came back. As long as messages are sent as they are found here,
 /// none from the read index on is pending, so the view goes over none. Each call takes the time of a
 /// look into the set and of one call of the view at most.
-#[derive(Drop)]
 pub struct WaitingPlaces {
     read: LogIndex,
     /// What waits before `read`. It has room for all places there, so that a release takes no memory.
     returned: PlaceBits,
+}
+
+impl Drop for WaitingPlaces {
+    fn drop(self) {
+        let WaitingPlaces {
+            read: _,
+            returned: _,
+        } = self;
+    }
 }
 
 impl Model for WaitingPlaces {

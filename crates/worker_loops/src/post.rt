@@ -118,11 +118,20 @@ impl Post {
 }
 
 /// The bell of a connection, by its token at its worker.
-#[derive(Drop)]
 pub struct Doorbell {
     post: Arc<Post>,
     token: usize,
     is_rung: AtomicBool,
+}
+
+impl Drop for Doorbell {
+    fn drop(self) {
+        let Doorbell {
+            post: _,
+            token: _,
+            is_rung: _,
+        } = self;
+    }
 }
 
 impl Doorbell {
