@@ -22,7 +22,6 @@ use stored_cell::Terms;
 
 /// The topics of a broker: the open ones by name, and the keeper of all. Its locks are taken in this order: directory,
 /// keeper, topic.
-#[derive(Drop)]
 pub struct Directory<T: Opened + Drop, S: Alter, J: Naming, B: Bell + Drop> {
     pub(crate) alloc: Global,
     terms: Terms,
@@ -30,6 +29,19 @@ pub struct Directory<T: Opened + Drop, S: Alter, J: Naming, B: Bell + Drop> {
     pub(crate) keeper: Mutex<Keeper<S, J>>,
     pub(crate) board: Board<Arc<Shared<T, J, B>>>,
     pub(crate) is_closed: AtomicBool,
+}
+
+impl<T: Opened + Drop, S: Alter + Drop, J: Naming, B: Bell + Drop> Drop for Directory<T, S, J, B> {
+    fn drop(self) {
+        let Directory {
+            alloc: _,
+            terms: _,
+            table: _,
+            keeper: _,
+            board: _,
+            is_closed: _,
+        } = self;
+    }
 }
 
 /// A topic that was just made, the seat of the one who sits there, and whether the courier is to be sent there.

@@ -55,12 +55,21 @@ impl<J: Naming> Batch<J> {
 }
 
 /// What the thread that stores has between its tasks: the couriers that are under way.
-#[derive(Drop)]
 pub struct Errands<T: Opened + Drop, J: Naming, B: Bell + Drop> {
     couriers: Vec<Courier<T, J, B>>,
     now: Moment,
     /// Its last task was a store, so that it has the right to store still.
     has_stored: bool,
+}
+
+impl<T: Opened + Drop, J: Naming, B: Bell + Drop> Drop for Errands<T, J, B> {
+    fn drop(self) {
+        let Errands {
+            couriers: _,
+            now: _,
+            has_stored: _,
+        } = self;
+    }
 }
 
 impl<T: Opened + Drop, J: Naming, B: Bell + Drop> Errands<T, J, B> {

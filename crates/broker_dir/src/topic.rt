@@ -6,8 +6,13 @@ use session_bells::Bell;
 use std::sync::Mutex;
 
 /// An open topic. Its lock comes behind those of the directory and of the keeper.
-#[derive(Drop)]
 pub(crate) struct Shared<T: Opened + Drop, J: Naming, B: Bell + Drop> {
     pub(crate) name: TopicName,
     pub(crate) inside: Mutex<Inside<T, J, B>>,
+}
+
+impl<T: Opened + Drop, J: Naming, B: Bell + Drop> Drop for Shared<T, J, B> {
+    fn drop(self) {
+        let Shared { name: _, inside: _ } = self;
+    }
 }

@@ -65,11 +65,20 @@ type Sender<C> = RuledSender<Numbered<C>, View, Ordered>;
 type Receiver<C> = RuledReceiver<Numbered<C>, View, Ordered>;
 
 /// The end that puts. Contracts see the numbers that were put.
-#[derive(Drop)]
 pub struct Handover<C: Drop> {
     sender: Sender<C>,
     receiver: Receiver<C>,
     pass: Pass<Numbered<C>, View>,
+}
+
+impl<C: Drop> Drop for Handover<C> {
+    fn drop(self) {
+        let Handover {
+            sender: _,
+            receiver: _,
+            pass: _,
+        } = self;
+    }
 }
 
 impl<C: Drop> Model for Handover<C> {
@@ -86,10 +95,18 @@ impl<C: Drop> Model for Handover<C> {
 }
 
 /// An end that takes. Contracts see the numbers that it took.
-#[derive(Drop)]
 pub struct Taker<C: Drop> {
     receiver: Receiver<C>,
     pass: Pass<Numbered<C>, View>,
+}
+
+impl<C: Drop> Drop for Taker<C> {
+    fn drop(self) {
+        let Taker {
+            receiver: _,
+            pass: _,
+        } = self;
+    }
 }
 
 impl<C: Drop> Model for Taker<C> {

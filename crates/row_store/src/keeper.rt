@@ -21,7 +21,6 @@ use stored_cell::{Kept, Notes, Part};
 
 /// Keeps topics as rows of a database. After a store that failed it answers F16 until the database is
 /// adopted again. Contracts see its connection, and whether it failed.
-#[derive(Drop)]
 pub struct Keeper<S: Alter, J: Naming> {
     pub(crate) alloc: Global,
     pub(crate) conn: Connection<S>,
@@ -30,6 +29,20 @@ pub struct Keeper<S: Alter, J: Naming> {
     pub(crate) notes: Notes<J>,
     pub(crate) scratch: String,
     pub(crate) written: Written,
+}
+
+impl<S: Alter + Drop, J: Naming> Drop for Keeper<S, J> {
+    fn drop(self) {
+        let Keeper {
+            alloc: _,
+            conn: _,
+            failed: _,
+            known: _,
+            notes: _,
+            scratch: _,
+            written: _,
+        } = self;
+    }
 }
 
 impl<S: Alter, J: Naming> Model for Keeper<S, J> {
@@ -119,5 +132,21 @@ impl<S: Alter, J: Naming> Keeper<S, J> {
         ensures { result ≡ self.now.failed }
     {
         self.failed
+    }
+
+    /// The database and the history, as they are: so a database is adopted again.
+    pub fn into_parts(self) -> (Connection<S>, Notes<J>)
+        ensures { result.0 ≡ self.conn }
+    {
+        let Keeper {
+            alloc: _,
+            conn,
+            failed: _,
+            known: _,
+            notes,
+            scratch: _,
+            written: _,
+        } = self;
+        (conn, notes)
     }
 }

@@ -132,21 +132,3 @@ impl<S: Alter + Drop, J: Naming> Keeper<S, J> {
         }
     }
 }
-
-impl<S: Alter, J: Naming> Keeper<S, J> {
-    /// The database and the history, as they are: so a database is adopted again.
-    pub fn into_parts(self) -> (Connection<S>, Notes<J>)
-        ensures { result.0 ≡ self.conn }
-    {
-        let Keeper {
-            alloc: _,
-            conn,
-            failed: _,
-            known: _,
-            notes,
-            scratch: _,
-            written: _,
-        } = self;
-        (conn, notes)
-    }
-}

@@ -152,7 +152,6 @@ fn tell_closed(told: Option<Told>, alloc: Global, code: u16, reason: &str) -> Op
 
 /// A connection whose texts come from a list. It tells what was received, sent and closed, as long as there is memory
 /// for that.
-#[derive(Drop)]
 pub struct ListConn {
     /// What comes; nothing comes after it.
     pub incoming: VecDeque<Incoming>,
@@ -163,6 +162,19 @@ pub struct ListConn {
     alloc: Global,
     told: Option<Told>,
     is_open: bool,
+}
+
+impl Drop for ListConn {
+    fn drop(self) {
+        let ListConn {
+            incoming: _,
+            room: _,
+            calls: _,
+            alloc: _,
+            told: _,
+            is_open: _,
+        } = self;
+    }
 }
 
 impl ListConn {

@@ -73,12 +73,21 @@ fn tell(lines: Option<Lines>, event: Event, answer: &Result<Reply, Fault>) -> Op
 }
 
 /// Hands events to a topic of its own. It tells which, and what they were answered, as long as there is memory for that.
-#[derive(Drop)]
 pub struct TopicCaller<T: Drop> {
     pub topic: T,
     /// What each call is refused with, where it is.
     pub refusal: Option<Fault>,
     lines: Option<Lines>,
+}
+
+impl<T: Drop> Drop for TopicCaller<T> {
+    fn drop(self) {
+        let TopicCaller {
+            topic: _,
+            refusal: _,
+            lines: _,
+        } = self;
+    }
 }
 
 impl<T: Drop> TopicCaller<T> {

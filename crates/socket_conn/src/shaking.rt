@@ -16,10 +16,18 @@ const READ_SIZE: usize = 16_384;
 const MOST_BYTES: usize = 4_194_304;
 
 /// Notes the target of the request.
-#[derive(Drop)]
 pub struct Doorman {
     alloc: Global,
     target: Arc<OnceLock<String>>,
+}
+
+impl Drop for Doorman {
+    fn drop(self) {
+        let Doorman {
+            alloc: _,
+            target: _,
+        } = self;
+    }
 }
 
 /// The request's path and query.
@@ -47,11 +55,20 @@ impl Callback for Doorman {
 }
 
 /// A handshake on its way (RFC 6455, section 4.2).
-#[derive(Drop)]
 pub struct Shaking<S: Read + Write + Drop> {
     alloc: Global,
     target: Arc<OnceLock<String>>,
     mid: MidHandshake<ServerHandshake<S, Doorman>>,
+}
+
+impl<S: Read + Write + Drop> Drop for Shaking<S> {
+    fn drop(self) {
+        let Shaking {
+            alloc: _,
+            target: _,
+            mid: _,
+        } = self;
+    }
 }
 
 /// How far a handshake is.

@@ -59,9 +59,14 @@ impl<S: Alter> Asks<Connection<S>, Note> for Committed {
 
 /// Draws the marks of the history of `J`: of snapshots, and of what a database has committed. Nothing
 /// else is noted in it.
-#[derive(Drop)]
 pub struct Notes<J: Naming> {
     marker: Marker<Note, J>,
+}
+
+impl<J: Naming> Drop for Notes<J> {
+    fn drop(self) {
+        let Notes { marker: _ } = self;
+    }
 }
 
 impl<J: Naming> Notes<J> {

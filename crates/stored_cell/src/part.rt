@@ -9,11 +9,20 @@ use std::marker::Model;
 
 /// A snapshot that is to be stored, under its own mark. It goes on from the snapshot of the mark `base`,
 /// where there is one. Contracts see the snapshot.
-#[derive(Drop)]
 pub struct Part<J: Naming> {
     snapshot: Snapshot,
     mark: Mark<Note, J>,
     base: Option<Mark<Note, J>>,
+}
+
+impl<J: Naming> Drop for Part<J> {
+    fn drop(self) {
+        let Part {
+            snapshot: _,
+            mark: _,
+            base: _,
+        } = self;
+    }
 }
 
 impl<J: Naming> Model for Part<J> {

@@ -10,11 +10,20 @@ use position_core::Ordinal;
 use std::marker::Model;
 
 /// A snapshot that was viewed and is not confirmed. Contracts see the snapshot.
-#[derive(Drop)]
 pub struct Viewed<J: Naming> {
     mark: Mark<Note, J>,
     count: u64,
     ordinal: Ordinal,
+}
+
+impl<J: Naming> Drop for Viewed<J> {
+    fn drop(self) {
+        let Viewed {
+            mark: _,
+            count: _,
+            ordinal: _,
+        } = self;
+    }
 }
 
 impl<J: Naming> Model for Viewed<J> {
@@ -66,10 +75,15 @@ impl<J: Naming> Viewed<J> {
 }
 
 /// A snapshot that stands in rows that were committed. Contracts see both.
-#[derive(Drop)]
 pub struct Stored<J: Naming> {
     kept: Kept<J>,
     count: u64,
+}
+
+impl<J: Naming> Drop for Stored<J> {
+    fn drop(self) {
+        let Stored { kept: _, count: _ } = self;
+    }
 }
 
 impl<J: Naming> Model for Stored<J> {

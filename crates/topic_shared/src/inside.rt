@@ -15,13 +15,24 @@ use std::marker::Model;
 use std::sync::ledger::{Book, Share};
 
 /// What lies under the lock. Contracts see the cell.
-#[derive(Drop)]
 pub struct Inside<T: Topic, L: Opening> {
     pub(crate) cell: Cell<T>,
     pub(crate) book: Book<L>,
     pub(crate) spares: Vec<Spare>,
     pub(crate) pool: Share<L>,
     pub(crate) seats: u64,
+}
+
+impl<T: Topic + Drop, L: Opening> Drop for Inside<T, L> {
+    fn drop(self) {
+        let Inside {
+            cell: _,
+            book: _,
+            spares: _,
+            pool: _,
+            seats: _,
+        } = self;
+    }
 }
 
 impl<T: Topic, L: Opening> Model for Inside<T, L> {

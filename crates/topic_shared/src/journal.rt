@@ -8,9 +8,14 @@ use journal_lines::Line;
 use std::marker::Model;
 
 /// The lines of a topic, which count from 0 on.
-#[derive(Drop)]
 pub struct Journal {
     lines: Vec<Line>,
+}
+
+impl Drop for Journal {
+    fn drop(self) {
+        let Journal { lines: _ } = self;
+    }
 }
 
 impl Model for Journal {

@@ -16,9 +16,14 @@ use std::sync::{Mutex, Wait};
 use topic_seats::{LineLimit, SeatCount};
 
 /// A topic that threads share.
-#[derive(Drop)]
 pub struct SharedTopic<T: Topic + Drop, L: Opening> {
     inside: Mutex<Inside<T, L>>,
+}
+
+impl<T: Topic + Drop, L: Opening> Drop for SharedTopic<T, L> {
+    fn drop(self) {
+        let SharedTopic { inside: _ } = self;
+    }
 }
 
 impl<T: Topic + Drop, L: Opening> SharedTopic<T, L> {

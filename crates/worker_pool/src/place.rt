@@ -13,10 +13,18 @@ use std::sync::{Arc, Wait};
 use worker_loops::{Doorbell, House, Job, Start, Turned, work_at};
 
 /// What all workers share: the directory of topics, and the gate before each of them.
-#[derive(Drop)]
 pub struct Place<T: Opened + Drop, S: Alter, J: Naming, G: Drop> {
     pub(crate) directory: Directory<T, S, J, Doorbell>,
     pub(crate) gate: G,
+}
+
+impl<T: Opened + Drop, S: Alter + Drop, J: Naming, G: Drop> Drop for Place<T, S, J, G> {
+    fn drop(self) {
+        let Place {
+            directory: _,
+            gate: _,
+        } = self;
+    }
 }
 
 impl<T: Opened + Drop, S: Alter, J: Naming, G: Drop> Place<T, S, J, G> {
