@@ -1,18 +1,18 @@
 #!/bin/sh
 # Compares how long murmur3_32 takes with what a C body of the same hash takes, for keys of 8, 32 and 1,024 bytes.
-# Run from the repository, after crates/bench is built (`cd crates/bench && rt run`):
+# Run from the repository, after crates/session_tests is built (`cd crates/session_tests && rt test`):
 #   sh bench/murmur.sh
 # It prints the least of three runs of each, in nanoseconds a call, and our speed in parts of the C body's; it fails
 # where that is below 0.8.
 set -eu
 here="$(dirname "$0")"
-program="$here/../crates/bench/out/bench"
+program="$here/../crates/session_tests/out/session_tests_tests"
 work="$(mktemp -d)"
 trap 'rm -rf "$work"' EXIT
 cc -O2 -o "$work/murmur" "$here/murmur.c"
 
 ours() {
-    "$program" times | awk '
+    CALLS_TIMED=1 "$program" tests::costs::what_calls_cost | awk '
         / by bytes / { for (i = 6; i <= NF; i++) size[i] = $i }
         $2 == "murmur3_32" { for (i = 3; i <= NF; i++) print "ours", size[i + 3], $i }'
 }

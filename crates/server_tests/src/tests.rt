@@ -1,4 +1,5 @@
-// The directory over a database in memory, and the server over sockets.
+// The keeper of topics' rows, the directory over a database in memory, and the server over sockets.
 mod base;
 mod directory;
+mod keeper;
 mod sockets;

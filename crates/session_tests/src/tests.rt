@@ -1,5 +1,6 @@
-// Texts and targets, sessions, and bells.
+// Texts and targets, sessions, and bells; and what calls cost.
 mod bells;
+mod costs;
 mod sessions;
 mod texts;
 

@@ -1,4 +1,6 @@
-// Both topics, replays, and a topic under its lock.
+// Values and small structures, and dispatchers; both topics, replays, and a topic under its lock.
 mod both_topics;
 mod replays;
+mod scenes;
 mod shared_topic;
+mod values;

@@ -1,3 +1,0 @@
-// Values and small structures, and dispatchers.
-mod scenes;
-mod values;

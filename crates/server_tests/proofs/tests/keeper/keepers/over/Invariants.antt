@@ -1,0 +1,5 @@
+use Rattle.server_tests.proofs.tests.keeper.keepers.over.Given as goal
+
+-- the history that was just opened
+abbrev pub ghosts-run : goal.ghosts-run
+ghosts-run g a = record { book = a.history }

@@ -1,0 +1,226 @@
+// The keeper as what the tests see of it, and scenes over one.
+ghost use Rattle.std.specs.Prelude.{◌≡◌};
+
+use super::answers::{Answer, topic_name};
+use super::keeps::{Keeps, Scene};
+use super::same::{changed, same};
+use super::topics::Lone;
+use delivery_machine::{Event, Fault, Saved, Snapshot};
+use marks::{Naming, Unnamed};
+use row_store::{Keeper, Refused, Written};
+use sqlite::{Alter, Connection};
+use std::marker::Brand;
+use std::process::Abort;
+use stored_cell::{Kept, Note, Notes, Part};
+
+/// A database with the history of what was viewed and committed.
+#[derive(Drop)]
+pub(super) struct Database<S: Alter + Drop, J: Naming> {
+    pub(super) conn: Connection<S>,
+    notes: Notes<J>,
+}
+
+/// The keeper, or why there is none.
+fn taken<S: Alter + Drop, J: Naming>(
+    outcome: Result<Keeper<S, J>, Refused<S, J>>,
+) -> Result<Keeper<S, J>, Fault> {
+    match outcome {
+        Ok(keeper) => Ok(keeper),
+        Err(refused) => Err(refused.fault),
+    }
+}
+
+impl<S: Alter + Drop, J: Naming> Keeps for Keeper<S, J> {
+    type Topic = Lone<J>;
+
+    type Snapshot = Snapshot;
+
+    type Part = Part<J>;
+
+    type Kept = Kept<J>;
+
+    type Database = Database<S, J>;
+
+    fn fresh<R: Abort + AllocGlobal>(rt: &R, name: &str) -> Lone<J> {
+        Lone::fresh(rt, name)
+    }
+
+    fn ask<R: Abort + AllocGlobal>(rt: &R, topic: &mut Lone<J>, line: &str) -> Answer {
+        topic.ask(rt, line)
+    }
+
+    fn call<R: Abort>(rt: &R, topic: &mut Lone<J>, event: Event) -> Answer {
+        topic.call(rt, event)
+    }
+
+    fn snapshot_of<R: Abort>(rt: &R, topic: &Lone<J>) -> Snapshot {
+        topic.cell.view().expect(rt, "no memory")
+    }
+
+    fn confirm(topic: &mut Lone<J>, kept: Kept<J>) -> bool {
+        topic.cell.confirm(kept)
+    }
+
+    fn needs_storing(topic: &Lone<J>) -> bool {
+        topic.cell.cell().needs_storing()
+    }
+
+    fn is_stored(topic: &Lone<J>) -> bool {
+        topic.cell.stored().is_some()
+    }
+
+    fn is_by_word(topic: &Lone<J>) -> bool {
+        topic.cell.is_by_word()
+    }
+
+    fn is_same(one: &Snapshot, other: &Snapshot) -> bool {
+        same(one, other)
+    }
+
+    fn count(snapshot: &Snapshot) -> u64 {
+        snapshot.log().count() as u64
+    }
+
+    fn changed(before: &Snapshot, now: &Snapshot) -> u64 {
+        changed(before.subscriptions(), now.subscriptions())
+    }
+
+    fn view<R: Abort>(&mut self, rt: &R, topic: &mut Lone<J>) -> Part<J> {
+        self.view(&mut topic.cell).expect(rt, "no memory")
+    }
+
+    fn store(&mut self, parts: Vec<Part<J>>) -> Result<Vec<Kept<J>>, Fault> {
+        self.store(parts)
+    }
+
+    fn round(&mut self, topic: &mut Lone<J>) -> Result<u64, Fault> {
+        self.round(&mut topic.cell)
+    }
+
+    fn show<R: Abort + AllocGlobal>(
+        &mut self,
+        rt: &R,
+        name: &str,
+    ) -> Result<Option<Snapshot>, Fault> {
+        let name = topic_name(rt, name);
+        let loaded = self.load(&name);
+        drop(name);
+        match loaded {
+            Ok(Some(loaded)) => Ok(Some(loaded.snapshot)),
+            Ok(None) => Ok(None),
+            Err(fault) => Err(fault),
+        }
+    }
+
+    fn stands(&mut self, snapshot: &Snapshot) -> bool {
+        match self.load(snapshot.name()) {
+            Ok(Some(loaded)) => {
+                let is_same = same(&loaded.snapshot, snapshot);
+                drop(loaded);
+                is_same
+            }
+            _ => false,
+        }
+    }
+
+    fn resume<R: Abort + AllocGlobal>(
+        &mut self,
+        rt: &R,
+        name: &str,
+    ) -> Result<Option<(Snapshot, Lone<J>)>, Fault> {
+        let name = topic_name(rt, name);
+        let loaded = self.load(&name);
+        drop(name);
+        match loaded {
+            Ok(Some(loaded)) => Ok(Some(Lone::resumed(rt, loaded))),
+            Ok(None) => Ok(None),
+            Err(fault) => Err(fault),
+        }
+    }
+
+    fn forget<R: Abort + AllocGlobal>(&mut self, rt: &R, name: &str) {
+        let name = topic_name(rt, name);
+        self.forget(&name);
+        drop(name);
+    }
+
+    fn written(&self) -> Written {
+        self.written()
+    }
+
+    fn has_failed(&self) -> bool {
+        self.has_failed()
+    }
+
+    fn into_database(self) -> Database<S, J> {
+        let (conn, notes) = self.into_parts();
+        Database { conn, notes }
+    }
+
+    fn create<R: AllocGlobal>(rt: &R, database: Database<S, J>) -> Result<Self, Fault> {
+        let Database { conn, notes } = database;
+        taken(Keeper::create(rt.alloc(), conn, notes))
+    }
+
+    fn adopt<R: AllocGlobal>(rt: &R, database: Database<S, J>) -> Result<Self, Fault> {
+        let Database { conn, notes } = database;
+        taken(Keeper::adopt(rt.alloc(), conn, notes))
+    }
+
+    fn start<R: AllocGlobal>(rt: &R, database: Database<S, J>) -> Result<Self, Fault> {
+        let Database { conn, notes } = database;
+        taken(Keeper::start(rt.alloc(), conn, notes))
+    }
+
+    fn execute(database: &mut Database<S, J>, sql: &str) -> bool {
+        database.conn.execute_batch(sql).is_ok()
+    }
+
+    fn limit(database: &mut Database<S, J>, rows: u64) {
+        database.conn.set_step_limit(Some(rows));
+    }
+}
+
+/// A keeper over the database, or why there is none, with what the database stands on.
+pub(super) fn started<S: Alter + Drop, J: Naming, R: AllocGlobal>(
+    rt: &R,
+    conn: Connection<S>,
+    history: Unnamed<Note>,
+) -> Result<Keeper<S, J>, Refused<S, J>>
+    requires { history ≡ J.book }
+{
+    Keeper::start(rt.alloc(), conn, Notes::new(history))
+}
+
+/// What the database stands on.
+pub(super) fn store_of<S: Alter + Drop, J: Naming>(database: Database<S, J>) -> S {
+    let Database { conn, notes: _ } = database;
+    conn.into_store()
+}
+
+fn run<S: Alter + Drop, J: Naming, X: Scene, R: Abort + AllocGlobal>(
+    rt: &R,
+    conn: Connection<S>,
+    history: Unnamed<Note>,
+    scene: &X,
+)
+    requires { history ≡ J.book }
+{
+    let keeper = taken(started::<S, J, R>(rt, conn, history));
+    scene.play::<Keeper<S, J>, R>(rt, keeper.expect(rt, "no memory"));
+}
+
+/// Plays the scene over an empty database.
+pub(super) fn over<S: Alter + Drop, X: Scene, R: Abort + AllocGlobal>(
+    rt: &R,
+    conn: Connection<S>,
+    scene: &X,
+) {
+    run::<S, Brand, X, R>(rt, conn, Unnamed::new(), scene);
+}
+
+/// Plays the scene over an empty database in memory.
+pub(super) fn in_memory<X: Scene, R: Abort + AllocGlobal>(rt: &R, scene: &X) {
+    let conn = Connection::open_in_memory(rt.alloc());
+    over(rt, conn.expect(rt, "no memory"), scene);
+}
