@@ -141,14 +141,14 @@ impl Text {
         }
         watch.took(start)
     }
-}
 
-/// What stands in a text that was written.
-fn beginning(text: Text) -> &'static str {
-    match text {
-        Text::Ok => "{\"context\":\"5\",\"messageId\":\"CAAQAA==\",\"result\":\"ok\"}",
-        Text::Delivery => "{\"messageId\":\"CAAQAA==\",\"payload\":\"YWFh",
-        _ => "",
+    /// Whether that was written which is to be.
+    fn has_written(self, out: &str) -> bool {
+        match self {
+            Text::Ok => out == "{\"context\":\"5\",\"messageId\":\"CAAQAA==\",\"result\":\"ok\"}",
+            Text::Delivery => out.starts_with("{\"messageId\":\"CAAQAA==\",\"payload\":\"YWFh"),
+            _ => out.is_empty(),
+        }
     }
 }
 
@@ -158,7 +158,7 @@ impl Case for Text {
         let mut out = String::new(watch.rt.alloc());
         let took = self.again(watch, &parts, &mut out);
         drop(parts);
-        assert!(watch.rt; out.as_str().starts_with(beginning(*self)));
+        assert!(watch.rt; self.has_written(out.as_str()));
         took
     }
 }
