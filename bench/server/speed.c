@@ -1,5 +1,6 @@
 // How fast the broker is, by a client that costs little: publishes, deliveries, eight topics at once, and a backlog.
-// cc -O2 -pthread -o speed speed.c; pulsar_broker FOLDER/broker.db 127.0.0.1:PORT 4 & ./speed PORT FOLDER
+// cc -O2 -pthread -o speed speed.c; pulsar_broker FOLDER/broker.db 127.0.0.1:PORT 4 & ./speed PORT FOLDER [BYTES]
+// BYTES is the size of each payload, 1,024 where it is not said.
 #define _GNU_SOURCE
 #include <arpa/inet.h>
 #include <fcntl.h>
@@ -14,10 +15,11 @@
 #include <time.h>
 #include <unistd.h>
 
-enum { PAYLOAD = 1024, MOST = 4096, PAUSE = 5000, COUNT = 1000, EIGHT = 8, FRAME_ROOM = 8192 };
+enum { MOST_PAYLOAD = 5000, MOST = 4096, PAUSE = 5000, COUNT = 1000, FRAME_ROOM = 8192 };
+enum { EIGHT = 8, TURNS = 5, EACH = 3000 };
 enum { BACKLOG = 50000, UNANSWERED = 1000 };
 
-static int port;
+static int port, payload = 1024;
 
 // A connection, and what came on it that was not read yet.
 struct client {
@@ -126,7 +128,7 @@ static size_t publish_frame(char *out) {
     static const char digits[] = "ABCDEFGHIJKLMNOPQRSTUVWXYZabcdefghijklmnopqrstuvwxyz0123456789+/";
     char text[FRAME_ROOM];
     int at = snprintf(text, sizeof text, "{\"payload\":\"");
-    for (int i = 0; i < PAYLOAD / 3 * 4; i++) text[at++] = digits[rand() & 63];
+    for (int i = 0; i < payload / 3 * 4; i++) text[at++] = digits[rand() & 63];
     memcpy(text + at, "aA==\"}", 7);
     return frame(out, text);
 }
@@ -217,22 +219,35 @@ static void deliveries(double *times) {
 }
 
 static void *publish_many(void *topic) {
-    double times[COUNT];
-    publishes(topic, COUNT, 0, times);
+    double times[EACH];
+    publishes(topic, EACH, 0, times);
     return NULL;
 }
 
-// Publishes a second that wait for their answers, of one publisher to each topic.
-static double rate(int topics) {
+// Publishes a second that wait for their answers, of one publisher to each topic; the topics are new in each turn.
+static double rate(int topics, int turn) {
     pthread_t threads[EIGHT];
     char names[EIGHT][32];
     double before = now_us();
     for (int i = 0; i < topics; i++) {
-        snprintf(names[i], sizeof names[i], "of-%d-%d", topics, i);
+        snprintf(names[i], sizeof names[i], "%d-of-%d-in-%d", i, topics, turn);
         pthread_create(&threads[i], NULL, publish_many, names[i]);
     }
     for (int i = 0; i < topics; i++) pthread_join(threads[i], NULL);
-    return topics * COUNT * 1e6 / (now_us() - before);
+    return topics * EACH * 1e6 / (now_us() - before);
+}
+
+// One publisher and eight, in turn.
+static void rates(void) {
+    double one[TURNS], eight[TURNS], quotient[TURNS];
+    for (int i = 0; i < TURNS; i++) {
+        one[i] = rate(1, i);
+        eight[i] = rate(EIGHT, i);
+        quotient[i] = eight[i] / one[i];
+    }
+    double middle = part(quotient, TURNS, 50);
+    printf("1 publisher: %.0f a second; %d publishers on %d topics: %.0f a second, %.2f times (%.2f to %.2f)\n",
+           part(one, TURNS, 50), EIGHT, EIGHT, part(eight, TURNS, 50), middle, quotient[0], quotient[TURNS - 1]);
 }
 
 // Publishes a second of one publisher, of whose texts some may be unanswered.
@@ -280,8 +295,10 @@ static double drain(const char *topic) {
 }
 
 int main(int count, char **words) {
-    if (count != 3) fail("usage: speed PORT FOLDER");
+    if (count != 3 && count != 4) fail("usage: speed PORT FOLDER [BYTES]");
     port = atoi(words[1]);
+    if (count == 4) payload = atoi(words[3]);
+    if (payload < 1 || payload > MOST_PAYLOAD) fail("payloads have 1 to 5000 bytes");
     setvbuf(stdout, NULL, _IOLBF, 0);
     double times[MOST];
     syncs(words[2], COUNT, 0, times);
@@ -291,14 +308,12 @@ int main(int count, char **words) {
     publishes("warm", 200, 0, times);
     publishes("alone", COUNT, 0, times);
     double alone = part(times, COUNT, 50);
-    printf("publish of 1 KiB, answered: p50 %.0f us, %.0f us more than fdatasync\n", alone, alone - disk);
+    printf("publish of %d bytes, answered: p50 %.0f us, %.0f us more than fdatasync\n", payload, alone, alone - disk);
     publishes("paced", COUNT, PAUSE, times);
     printf("the same every 5 ms: p50 %.0f us\n", part(times, COUNT, 50));
     deliveries(times);
     printf("end to end at 200 a second: p50 %.0f us, p99 %.0f us\n", part(times, COUNT, 50), part(times, COUNT, 99));
-    double one = rate(1), eight = rate(EIGHT);
-    printf("1 publisher: %.0f a second; %d publishers on %d topics: %.0f a second, %.1f times\n", one, EIGHT, EIGHT,
-           eight, eight / one);
+    rates();
     printf("up to %d unanswered: %.0f publishes a second", UNANSWERED, fill("backlog"));
     printf("; a backlog of %d: %.0f messages a second\n", BACKLOG, drain("backlog"));
     return 0;
