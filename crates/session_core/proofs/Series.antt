@@ -12,6 +12,7 @@ use Rattle.delivery_machine.specs.declared.reply.Reply.TheVariants.{Refused}
 use Rattle.session_links.specs.Links.{Call, Tells, with_call}
 use Rattle.session_texts.specs.declared.close.Close.{Close}
 use Rattle.session_texts.specs.declared.party.Party.TheVariants.{Producer, Consumer, Admin}
+use Rattle.session_core.specs.declared.dues.Dues.{Dues}
 use Rattle.session_core.specs.declared.session.Session.{Session}
 use Rattle.session_core.specs.Held.{unsent_of}
 use Rattle.session_texts.specs.Outcomes.{own_close}
@@ -19,7 +20,7 @@ use Rattle.session_core.specs.declared.stop.Stop.{Stop}
 use Rattle.session_core.specs.declared.stop.Stop.TheVariants.{Closed}
 use Rattle.session_core.specs.Turns.{and_then}
 use Rattle.session_core.specs.Asking.{AllLeftMore, Asked, AsksAll, AsksAs, IsSeries, IsWhole, asked_nothing, close_after, close_of_asked, copies_in, copies_of, durable_after, leaves_more}
-use Rattle.session_core.specs.Steps.{AsksBoth, AsksCollect, AsksOne, AsksOwn, AsksProgress, AsksSeries, AsksSome, EndsAsking, EndsSeries, StopsSo, holds_nothing, may_send, wanting_memory}
+use Rattle.session_core.specs.Steps.{AsksBoth, AsksCollect, AsksOne, AsksOwn, AsksProgress, AsksSeries, AsksSome, EndsAsking, EndsSeries, Rests, StopsSo, holds_nothing, may_send, wanting_memory}
 use Rattle.session_core.proofs.Telling.{tells_nothing, tells_then}
 
 -- one was asked, and what follows is by its reply
@@ -234,29 +235,33 @@ own_nothing s now has_room c is = record {
   ends = (refl, subst (λ p. false ≡ may_send p s has_room) (sym is) refl, subst (λ p. AsksAll p false asked_nothing) (sym is) tt, inr refl);
 }
 
+-- a session is at rest but for what may be due
+pub other_dues : (s : Session) (dues : Dues) → Rests s (record s { dues = dues })
+other_dues s dues = record { keeps = record { party = refl; next = refl; durable = refl }; unsent = refl }
+
 -- ticks and dispatches alone were asked
-pub own_both : (s : Session) (now consumer : ℕ) (subscription : List ℕ) (has_room is_free : Bool) (c d : Option (List Call)) (result : Result Bool Stop) → s.party ≡ Consumer consumer subscription
+pub own_both : (s t : Session) (now consumer : ℕ) (subscription : List ℕ) (has_room is_free : Bool) (c d : Option (List Call)) (result : Result Bool Stop) → s.party ≡ Consumer consumer subscription → Rests s t
     → (k : AsksBoth subscription now is_free c result d)
     → EndsAsking s.party s has_room (record { ticks = k.ticks; dispatches = k.dispatches; last = None }) (close_of_asked (record { ticks = k.ticks; dispatches = k.dispatches; last = None })) result
-    → AsksOwn s now has_room c result s d
-own_both s now consumer subscription has_room is_free c d result is k ends =
+    → AsksOwn s now has_room c result t d
+own_both s t now consumer subscription has_room is_free c d result is rests k ends =
     let asked : Asked = record { ticks = k.ticks; dispatches = k.dispatches; last = None } in
     record {
       asked = asked;
       asks = subst (λ p. AsksAs p now asked) (sym is) (record { ticks = k.ticks_are; dispatches = k.dispatches_are; last = tt; ticks_first = k.ticks_first; dispatches_first = inl refl });
       calls = k.tells;
-      party = refl;
-      next = refl;
-      durable = subst (λ p. s.durable ≡ durable_after p s.durable None) (sym is) refl;
-      unsent = subst (λ p. unsent_of s ≡ unsent_of s ++ copies_of p None) (sym is) (sym (append-nil (unsent_of s)));
+      party = rests.keeps.party;
+      next = rests.keeps.next;
+      durable = subst (λ p. t.durable ≡ durable_after p s.durable None) (sym is) rests.keeps.durable;
+      unsent = subst (λ p. unsent_of t ≡ unsent_of s ++ copies_of p None) (sym is) (rests.unsent ∙ sym (append-nil (unsent_of s)));
       ends = ends;
     }
 
 -- a consumer's session that is not free to send more asked for ticks alone
-pub own_held : (s : Session) (now consumer : ℕ) (subscription : List ℕ) (has_room is_free : Bool) (c d : Option (List Call)) → s.party ≡ Consumer consumer subscription → is_free ≡ (holds_nothing s && has_room)
-    → AsksBoth subscription now is_free c (Ok false) d → AsksOwn s now has_room c (Ok false) s d
-own_held s now consumer subscription has_room is_free c d is free k =
-    own_both s now consumer subscription has_room is_free c d (Ok false) is k ends
+pub own_held : (s t : Session) (now consumer : ℕ) (subscription : List ℕ) (has_room is_free : Bool) (c d : Option (List Call)) → s.party ≡ Consumer consumer subscription → is_free ≡ (holds_nothing s && has_room) → Rests s t
+    → AsksBoth subscription now is_free c (Ok false) d → AsksOwn s now has_room c (Ok false) t d
+own_held s t now consumer subscription has_room is_free c d is free rests k =
+    own_both s t now consumer subscription has_room is_free c d (Ok false) is rests k ends
   where
     ends : EndsAsking s.party s has_room (record { ticks = k.ticks; dispatches = k.dispatches; last = None }) (close_of_asked (record { ticks = k.ticks; dispatches = k.dispatches; last = None })) (Ok false)
     ends = (
@@ -267,19 +272,19 @@ own_held s now consumer subscription has_room is_free c d is free k =
     )
 
 -- a series ended a consumer's session
-pub own_both_ends : (s : Session) (now consumer : ℕ) (subscription : List ℕ) (has_room is_free : Bool) (c d : Option (List Call)) (stop : Stop) → s.party ≡ Consumer consumer subscription → is_free ≡ (holds_nothing s && has_room)
-    → AsksBoth subscription now is_free c (Err stop) d → AsksOwn s now has_room c (Err stop) s d
-own_both_ends s now consumer subscription has_room is_free c d stop is free k =
-    own_both s now consumer subscription has_room is_free c d (Err stop) is k
+pub own_both_ends : (s t : Session) (now consumer : ℕ) (subscription : List ℕ) (has_room is_free : Bool) (c d : Option (List Call)) (stop : Stop) → s.party ≡ Consumer consumer subscription → is_free ≡ (holds_nothing s && has_room) → Rests s t
+    → AsksBoth subscription now is_free c (Err stop) d → AsksOwn s now has_room c (Err stop) t d
+own_both_ends s t now consumer subscription has_room is_free c d stop is free rests k =
+    own_both s t now consumer subscription has_room is_free c d (Err stop) is rests k
     (subst (λ x. StopsSo (option_or (close_after k.ticks) x) stop) (sym (or_none (close_after k.dispatches))) k.ends)
 
 -- a consumer's session asked all
-pub own_collected : (s t : Session) (now consumer : ℕ) (subscription : List ℕ) (has_room is_free : Bool) (c d e : Option (List Call)) (stop : Option Stop) (result : Result Bool Stop)
-    → s.party ≡ Consumer consumer subscription → is_free ≡ (holds_nothing s && has_room)
-    → (k : AsksBoth subscription now is_free c (Ok true) d) → (l : AsksCollect consumer s d stop t e)
+pub own_collected : (s u t : Session) (now consumer : ℕ) (subscription : List ℕ) (has_room is_free : Bool) (c d e : Option (List Call)) (stop : Option Stop) (result : Result Bool Stop)
+    → s.party ≡ Consumer consumer subscription → is_free ≡ (holds_nothing s && has_room) → Rests s u
+    → (k : AsksBoth subscription now is_free c (Ok true) d) → (l : AsksCollect consumer u d stop t e)
     → EndsAsking s.party s has_room (record { ticks = k.ticks; dispatches = k.dispatches; last = Some (record { event = Collect consumer; reply = l.reply }) }) (own_close l.reply) result
     → AsksOwn s now has_room c result t e
-own_collected s t now consumer subscription has_room is_free c d e stop result is free k l ends =
+own_collected s u t now consumer subscription has_room is_free c d e stop result is free rests k l ends =
     let call : Call = record { event = Collect consumer; reply = l.reply } in
     let asked : Asked = record { ticks = k.ticks; dispatches = k.dispatches; last = Some call } in
     let nothing : unsent_of s ≡ [] = nothing_unsent s (both_true (holds_nothing s) has_room (sym free ∙ k.ends.0)).0 in
@@ -287,25 +292,25 @@ own_collected s t now consumer subscription has_room is_free c d e stop result i
       asked = asked;
       asks = subst (λ p. AsksAs p now asked) (sym is) (record { ticks = k.ticks_are; dispatches = k.dispatches_are; last = refl; ticks_first = k.ticks_first; dispatches_first = inr (k.ends.3, k.ends.4) });
       calls = tells_then _ _ _ c d e k.tells l.calls (λ x. refl);
-      party = l.keeps.party;
-      next = l.keeps.next;
-      durable = subst (λ p. t.durable ≡ durable_after p s.durable (Some call)) (sym is) l.keeps.durable;
+      party = l.keeps.party ∙ rests.keeps.party;
+      next = l.keeps.next ∙ rests.keeps.next;
+      durable = subst (λ p. t.durable ≡ durable_after p s.durable (Some call)) (sym is) (l.keeps.durable ∙ rests.keeps.durable);
       unsent = subst (λ p. unsent_of t ≡ unsent_of s ++ copies_of p (Some call)) (sym is) (l.unsent ∙ ap (λ x. x ++ copies_in l.reply) (sym nothing));
       ends = subst (λ x. EndsAsking s.party s has_room asked (option_or x (option_or (close_after k.dispatches) (own_close l.reply))) result) (sym k.ends.2)
           (subst (λ x. EndsAsking s.party s has_room asked (option_or x (own_close l.reply)) result) (sym k.ends.4) ends);
     }
 
-pub own_collected_all : (s t : Session) (now consumer : ℕ) (subscription : List ℕ) (has_room is_free : Bool) (c d e : Option (List Call)) → s.party ≡ Consumer consumer subscription → is_free ≡ (holds_nothing s && has_room)
-    → AsksBoth subscription now is_free c (Ok true) d → AsksCollect consumer s d None t e → AsksOwn s now has_room c (Ok true) t e
-own_collected_all s t now consumer subscription has_room is_free c d e is free k l =
-    own_collected s t now consumer subscription has_room is_free c d e None (Ok true) is free k l (
+pub own_collected_all : (s u t : Session) (now consumer : ℕ) (subscription : List ℕ) (has_room is_free : Bool) (c d e : Option (List Call)) → s.party ≡ Consumer consumer subscription → is_free ≡ (holds_nothing s && has_room) → Rests s u
+    → AsksBoth subscription now is_free c (Ok true) d → AsksCollect consumer u d None t e → AsksOwn s now has_room c (Ok true) t e
+own_collected_all s u t now consumer subscription has_room is_free c d e is free rests k l =
+    own_collected s u t now consumer subscription has_room is_free c d e None (Ok true) is free rests k l (
       closes_none (own_close l.reply) l.stops,
       subst (λ p. true ≡ may_send p s has_room) (sym is) (sym k.ends.0 ∙ free),
       subst (λ p. AsksAll p true (record { ticks = k.ticks; dispatches = k.dispatches; last = Some (record { event = Collect consumer; reply = l.reply }) })) (sym is) (k.ends.1, k.ends.3, refl),
       inl refl,
     )
 
-pub own_collected_ends : (s t : Session) (now consumer : ℕ) (subscription : List ℕ) (has_room is_free : Bool) (c d e : Option (List Call)) (stop : Stop) → s.party ≡ Consumer consumer subscription → is_free ≡ (holds_nothing s && has_room)
-    → AsksBoth subscription now is_free c (Ok true) d → AsksCollect consumer s d (Some stop) t e → AsksOwn s now has_room c (Err stop) t e
-own_collected_ends s t now consumer subscription has_room is_free c d e stop is free k l =
-    own_collected s t now consumer subscription has_room is_free c d e (Some stop) (Err stop) is free k l (closes_some (own_close l.reply) stop l.stops)
+pub own_collected_ends : (s u t : Session) (now consumer : ℕ) (subscription : List ℕ) (has_room is_free : Bool) (c d e : Option (List Call)) (stop : Stop) → s.party ≡ Consumer consumer subscription → is_free ≡ (holds_nothing s && has_room) → Rests s u
+    → AsksBoth subscription now is_free c (Ok true) d → AsksCollect consumer u d (Some stop) t e → AsksOwn s now has_room c (Err stop) t e
+own_collected_ends s u t now consumer subscription has_room is_free c d e stop is free rests k l =
+    own_collected s u t now consumer subscription has_room is_free c d e (Some stop) (Err stop) is free rests k l (closes_some (own_close l.reply) stop l.stops)

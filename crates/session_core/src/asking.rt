@@ -6,6 +6,7 @@ ghost use Rattle.session_core.specs.Asking.{copies_in, durable_in, leaves_more};
 ghost use Rattle.session_core.specs.Held.{unsent_of};
 ghost use Rattle.session_core.specs.Steps.{AsksBoth, AsksCollect, AsksOne, AsksOwn, AsksProgress, AsksSeries, KeepsState, holds_nothing, series_event};
 
+use crate::dues::Dues;
 use crate::session::Session;
 use crate::stop::Stop;
 use delivery_machine::{ConsumerNumber, Event, Moment, Reply, SubscriptionName};
@@ -81,28 +82,29 @@ fn ask_one<K: Caller>(
     }
 }
 
-/// Asks until there is no more, up to 64 times.
+/// Asks until there is no more, up to 64 times. Whether there may be more then.
 fn ask_series<K: Caller>(
     caller: &mut K,
     series: Series,
     subscription: &SubscriptionName,
     now: Moment,
-) -> Result<(), Stop>
+) -> Result<bool, Stop>
     ensures { AsksSeries (series_event series subscription.now now) (K.calls caller.old) (result_err result) (K.calls caller.new) }
 {
     for _ in 0..MOST_ASKED {
         match ask_one(caller, series, subscription, now) {
             Ok(true) => {}
-            Ok(false) => return Ok(()),
+            Ok(false) => return Ok(false),
             Err(stop) => return Err(stop),
         }
     }
-    Ok(())
+    Ok(true)
 }
 
 /// Asks for ticks, and then for dispatches, where the session is free to send more.
 fn ask_both<K: Caller>(
     caller: &mut K,
+    dues: &mut Dues,
     subscription: &SubscriptionName,
     now: Moment,
     is_free: bool,
@@ -110,14 +112,14 @@ fn ask_both<K: Caller>(
     ensures { AsksBoth subscription.now now is_free (K.calls caller.old) result (K.calls caller.new) }
 {
     match ask_series(caller, Series::Ticks, subscription, now) {
-        Ok(()) => {}
+        Ok(is_behind) => dues.note_asked(is_behind),
         Err(stop) => return Err(stop),
     }
     if !is_free {
         return Ok(false);
     }
     match ask_series(caller, Series::Dispatches, subscription, now) {
-        Ok(()) => Ok(true),
+        Ok(_) => Ok(true),
         Err(stop) => Err(stop),
     }
 }
@@ -197,7 +199,7 @@ impl Session {
                 subscription,
             } => {
                 let number = *number;
-                match ask_both(caller, subscription, now, is_free) {
+                match ask_both(caller, &mut self.dues, subscription, now, is_free) {
                     Ok(true) => match self.collect(caller, number) {
                         Ok(()) => Ok(true),
                         Err(stop) => Err(stop),

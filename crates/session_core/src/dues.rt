@@ -12,6 +12,8 @@ pub(crate) struct Dues {
     nack_delay: Millis,
     /// Whether a message was refused in this turn.
     has_nacked: bool,
+    /// More was due in this turn than it asked for.
+    is_behind: bool,
     first: Option<DueMoment>,
     last: DueMoment,
 }
@@ -22,6 +24,7 @@ impl Dues {
             ack_timeout,
             nack_delay,
             has_nacked: false,
+            is_behind: false,
             first: None,
             last: 0,
         }
@@ -32,6 +35,11 @@ impl Dues {
         self.has_nacked = true;
     }
 
+    /// As much was due in this turn as it may ask for, or all.
+    pub(crate) fn note_asked(&mut self, is_behind: bool) {
+        self.is_behind = is_behind;
+    }
+
     fn note(&mut self, due: DueMoment) {
         self.first = match self.first {
             Some(first) => Some(first.min(due)),
@@ -40,20 +48,31 @@ impl Dues {
         self.last = self.last.max(due);
     }
 
-    /// A turn at the moment is over, in which messages were sent or none.
-    pub(crate) fn pass(&mut self, now: Moment, has_sent: bool) {
+    fn note_timeout(&mut self, now: DueMoment) {
+        if self.ack_timeout.get() > 0 {
+            self.note(now.saturating_add(u64::from(self.ack_timeout.get())));
+        }
+    }
+
+    /// A turn at the moment is over, in which messages were sent or none. Where the connection has no room, others may
+    /// have had messages sent to the consumer all the same, which it does not collect.
+    pub(crate) fn pass(&mut self, now: Moment, has_sent: bool, has_room: bool) {
         let now = now.millis();
+        let is_look = self.first.is_some_and(|first| first <= now);
         if self.has_nacked {
             self.has_nacked = false;
             self.note(now + u64::from(self.nack_delay.get()));
         }
-        if has_sent && self.ack_timeout.get() > 0 {
-            self.note(now + u64::from(self.ack_timeout.get()));
+        if has_sent || !(has_room || is_look) {
+            self.note_timeout(now);
         }
-        if let Some(first) = self.first
-            && first <= now
-        {
+        if is_look {
             self.first = self.next_look(now);
+        }
+        if self.is_behind {
+            self.first = Some(now);
+        } else if !has_room && self.first.is_none() {
+            self.note_timeout(now.saturating_add(NEXT_LOOK));
         }
     }
 

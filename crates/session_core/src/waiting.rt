@@ -12,6 +12,8 @@ const MOST_KEPT: usize = 512;
 /// served only when what it waits for has come sends the same texts as one that is served all the time.
 #[derive(Clone, Copy, Debug, PartialEq, Eq)]
 pub struct Waits {
+    /// It takes a text where one is there: fewer than 1,000 are unanswered.
+    pub texts: bool,
     /// The log is to be stored up to this length, for the first answer that is not sent yet.
     pub durable: Option<u64>,
     /// Messages may be dispatched to its consumer.
@@ -26,21 +28,25 @@ impl Session {
     /// What the session waits for, after a turn. A consumer's session that was sent 64 messages or more in a turn may
     /// have more to be sent at once.
     pub fn waits(&self) -> Waits {
+        let texts = !self.is_full();
         let has_unsent = self.has_copies();
         match self.waiting.front() {
             Some(answer) if answer.least_durable() > self.durable => Waits {
+                texts,
                 durable: Some(answer.least_durable()),
                 messages: false,
                 due: None,
                 room: has_unsent,
             },
             Some(_) => Waits {
+                texts,
                 durable: None,
                 messages: false,
                 due: self.dues.first(),
                 room: true,
             },
             None => Waits {
+                texts,
                 durable: None,
                 messages: self.is_consumers() && !has_unsent && self.had_room,
                 due: self.dues.first(),
@@ -64,7 +70,7 @@ impl Session {
         ensures { Rests self.old self.new }
     {
         self.had_room = has_room;
-        self.dues.pass(now, self.copies_sent > 0);
+        self.dues.pass(now, self.copies_sent > 0, has_room);
         if !self.has_copies() {
             self.copies = Deliveries::new(self.alloc);
             self.copies_sent = 0;

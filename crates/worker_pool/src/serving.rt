@@ -29,19 +29,16 @@ fn most_texts() -> TextCount {
 }
 
 impl<T: Opened + Drop, J: Naming> Guest<T, J> {
-    /// Whether it is to be served again at once: texts are there, or it has something to send and room for it; else it
-    /// has left its bell.
+    /// Whether it is to be served again at once: it takes texts, and some may be there, of which the socket does not tell
+    /// again; or it has something to send and room for it. Else it has left its bell.
     fn goes_on<S: Alter, G: Gate + Drop, R: Wait>(
         &mut self,
         rt: &R,
         place: &Place<T, S, J, G>,
-        received: u32,
     ) -> bool {
         let waits = self.session.waits();
-        if self.conn.is_readable() && received > 0 {
-            return true;
-        }
-        if waits.room && !self.conn.is_blocked() {
+        let has_texts = waits.texts && self.conn.is_readable();
+        if (has_texts || waits.room) && !self.conn.is_blocked() {
             return true;
         }
         let rest = Rest {
@@ -58,7 +55,7 @@ impl<T: Opened + Drop, J: Naming> Guest<T, J> {
         place: &Place<T, S, J, G>,
         received: u32,
     ) -> Turned {
-        let after = if self.goes_on(rt, place, received) {
+        let after = if self.goes_on(rt, place) {
             After::Again
         } else {
             After::Rest

@@ -2,12 +2,15 @@
 use super::side::{Desk, Side, asked, desk};
 use super::stage::{expect, number, words};
 use crate::tests::{expect_count, push, this_subscription};
-use delivery_machine::{Event, Reply};
+use delivery_machine::{Event, Moment, Reply};
 use session_core::Waits;
 use std::process::Abort;
 
 /// So many milliseconds are played.
 const END: u64 = 600;
+
+/// So often a session may be served in one of them.
+const ROUNDS: u64 = 3;
 
 /// A producer and a consumer of one topic.
 #[derive(Drop)]
@@ -62,12 +65,13 @@ fn is_over<R: Abort + AllocGlobal>(
         || (waits.messages && has_waiting(rt, desk))
 }
 
-/// Whether a text came, or what the session waits for.
+/// Whether a text came that the session takes, or what it waits for.
 fn is_woken<R: Abort + AllocGlobal>(rt: &R, side: &Side, desk: &mut Desk, now: u64) -> bool {
     match &side.session {
         Some(session) => {
-            !side.conn.incoming.is_empty()
-                || is_over(rt, session.waits(), side.conn.room > 0, desk, now)
+            let waits = session.waits();
+            (waits.texts && !side.conn.incoming.is_empty())
+                || is_over(rt, waits, side.conn.room > 0, desk, now)
         }
         None => false,
     }
@@ -79,8 +83,19 @@ fn publishes<R: Abort + AllocGlobal>(rt: &R, producer: &mut Side, count: u64) {
     }
 }
 
-fn does<R: Abort + AllocGlobal>(rt: &R, world: &mut World, word: &str, rest: &str) {
+/// Another consumer has a message sent to this one, and rings it.
+fn is_sent<R: Abort + AllocGlobal>(rt: &R, world: &mut World, now: u64) {
+    let dispatch = Event::Dispatch {
+        subscription: this_subscription(rt),
+        now: Moment::new(now).expect(rt, "a moment"),
+    };
+    drop(asked(&mut world.desk, dispatch));
+    world.consumer.serve(rt, &mut world.desk, 64, now);
+}
+
+fn does<R: Abort + AllocGlobal>(rt: &R, world: &mut World, word: &str, rest: &str, now: u64) {
     match word {
+        "sent" => is_sent(rt, world, now),
         "publishes" => publishes(rt, &mut world.producer, number(rt, rest)),
         "producer" => world.producer.comes(rt, rest),
         "consumer" => world.consumer.comes(rt, rest),
@@ -97,7 +112,7 @@ fn comes<R: Abort + AllocGlobal>(rt: &R, world: &mut World, script: &str, now: u
         let (at, rest) = words(line);
         if number(rt, at) == now {
             let (word, rest) = words(rest);
-            does(rt, world, word, rest);
+            does(rt, world, word, rest, now);
         }
     }
 }
@@ -111,6 +126,21 @@ fn serves<R: Abort + AllocGlobal>(rt: &R, world: &mut World, is_eager: bool, now
         world.consumer.serve(rt, &mut world.desk, 64, now);
         world.turns = world.turns.saturating_add(1);
     }
+}
+
+/// Writes how the subscription `s` stands.
+fn show_stats<R: Abort + AllocGlobal>(rt: &R, reply: &Reply, out: &mut String) {
+    if let Reply::Stats { live, pending, .. } = reply {
+        let line = format!(in rt.alloc(); "{live} live, {pending} pending\n");
+        push(rt, out, line.expect(rt, "no memory").as_str());
+    }
+}
+
+fn show_end<R: Abort + AllocGlobal>(rt: &R, desk: &mut Desk, out: &mut String) {
+    let subscription = this_subscription(rt);
+    let reply = asked(desk, Event::Stats { subscription });
+    show_stats(rt, &reply, out);
+    drop(reply);
 }
 
 /// Writes the texts that were sent.
@@ -127,7 +157,7 @@ fn open<R: AllocGlobal>(rt: &R, world: &mut World, consumer: &str) {
     world.consumer.open(rt, &mut world.desk, consumer);
 }
 
-/// Plays the script, and writes what is sent.
+/// Plays the script, and writes what is sent, and how the subscription stands in the end.
 fn play<R: Abort + AllocGlobal>(
     rt: &R,
     world: &mut World,
@@ -137,13 +167,16 @@ fn play<R: Abort + AllocGlobal>(
 ) {
     for now in 0..END {
         comes(rt, world, script, now);
-        serves(rt, world, is_eager || now == 0, now);
+        for _ in 0..ROUNDS {
+            serves(rt, world, is_eager || now == 0, now);
+        }
     }
     show(rt, &world.producer, out);
     show(rt, &world.consumer, out);
+    show_end(rt, &mut world.desk, out);
 }
 
-/// What is sent, and in how many turns.
+/// What is sent, how the subscription stands in the end, and in how many turns.
 fn played<R: Abort + AllocGlobal>(
     rt: &R,
     consumer: &str,
@@ -164,20 +197,29 @@ fn played<R: Abort + AllocGlobal>(
     (out, turns)
 }
 
-fn check_texts<R: Abort>(rt: &R, woken: &str, always: &str, texts: u64) {
+fn check_texts<R: Abort>(rt: &R, woken: &str, always: &str, texts: u64, end: &str) {
     expect(rt, woken, always);
-    expect_count(rt, always.lines().count() as u64, texts);
+    expect_count(rt, always.lines().count() as u64, texts.saturating_add(1));
+    expect(rt, always.lines().last().unwrap_or(""), end);
 }
 
 fn check_turns<R: Abort>(rt: &R, turns: u64, most: u64) {
     assert!(rt; turns <= most, "{turns}");
 }
 
-/// The texts are the same, so many, and a session that waits is served in at most so many turns.
-fn check<R: Abort + AllocGlobal>(rt: &R, consumer: &str, script: &str, texts: u64, most: u64) {
+/// The texts are the same, so many, the subscription stands so in the end, and a session that waits is served in at most
+/// so many turns.
+fn check<R: Abort + AllocGlobal>(
+    rt: &R,
+    consumer: &str,
+    script: &str,
+    texts: u64,
+    end: &str,
+    most: u64,
+) {
     let (always, _) = played(rt, consumer, script, true);
     let (woken, turns) = played(rt, consumer, script, false);
-    check_texts(rt, woken.as_str(), always.as_str(), texts);
+    check_texts(rt, woken.as_str(), always.as_str(), texts, end);
     check_turns(rt, turns, most);
 }
 
@@ -195,6 +237,7 @@ fn answers_wait_for_the_store_and_for_room(rt: HostRuntime) {
 91 stored
 200 producer_room 9",
         13,
+        "6 live, 6 pending",
         40,
     );
 }
@@ -211,6 +254,7 @@ fn messages_come_again_at_their_moments(rt: HostRuntime) {
 300 consumer {\"messageId\":\"CAAQAQ==\"}
 301 consumer {\"messageId\":\"CAAQAg==\"}",
         11,
+        "0 live, 0 pending",
         80,
     );
 }
@@ -227,6 +271,7 @@ fn more_than_a_turn_sends_comes_in_several(rt: HostRuntime) {
 210 stored
 300 consumer_room 500",
         306,
+        "153 live, 153 pending",
         40,
     );
 }
@@ -244,6 +289,51 @@ fn a_consumer_that_pulls_waits_for_its_permits(rt: HostRuntime) {
 500 publishes 1
 510 stored",
         9,
-        600,
+        "4 live, 4 pending",
+        1_800,
+    );
+}
+
+#[test]
+fn a_producer_reads_on_once_its_publishes_are_answered(rt: HostRuntime) {
+    check(
+        &rt,
+        "/ws/v2/consumer/persistent/public/default/t/s?receiverQueueSize=2000",
+        "0 publishes 1100
+100 stored
+200 stored",
+        2_200,
+        "1100 live, 1100 pending",
+        60,
+    );
+}
+
+#[test]
+fn many_messages_that_fall_due_together_are_all_free_again(rt: HostRuntime) {
+    check(
+        &rt,
+        "/ws/v2/consumer/persistent/public/default/t/s?subscriptionType=Shared&pullMode=true&ackTimeoutMillis=100",
+        "0 publishes 150
+10 stored
+20 consumer {\"type\":\"permit\",\"permitMessages\":150}",
+        300,
+        "150 live, 0 pending",
+        1_800,
+    );
+}
+
+#[test]
+fn what_is_not_collected_falls_due_too(rt: HostRuntime) {
+    check(
+        &rt,
+        "/ws/v2/consumer/persistent/public/default/t/s?subscriptionType=Shared&ackTimeoutMillis=100",
+        "0 consumer_room 0
+1 publishes 2
+10 stored
+15 sent
+16 sent",
+        2,
+        "2 live, 0 pending",
+        40,
     );
 }
