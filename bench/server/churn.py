@@ -1,8 +1,8 @@
 #!/usr/bin/env python3
 # Clients of all kinds come and go, read or do not, acknowledge, give back or forget: in the end a quiet consumer of each
-# subscription gets all that is left, so no wake-up was lost on the way.
+# subscription gets all that is left, so no wake-up was lost on the way. Each message was acknowledged then, or stands in
+# the topic of dead letters, once.
 # churn.py PROGRAM [rounds] [port] [first round]
-import base64
 import json
 import random
 import socket
@@ -19,7 +19,8 @@ first = int(sys.argv[4]) if len(sys.argv) > 4 else 0
 TOPICS, PRODUCERS, CONSUMERS, CHURN = 3, 2, 4, 4.0
 # How many messages a quiet consumer forgets, and how long it may be sent nothing although messages are left, in seconds.
 FORGOTTEN, STILL = 20, 3.0
-KINDS = ['Exclusive', 'Failover', 'Shared', 'Key_Shared']
+IN_ORDER = ['Exclusive', 'Failover']
+KINDS = [*IN_ORDER, 'Shared', 'Key_Shared']
 
 
 class Round:
@@ -27,13 +28,17 @@ class Round:
         self.number = number
         self.until = time.time() + CHURN
         self.lock = threading.Lock()
-        self.answered = {}
-        self.seen = {}
+        # What was published, by topic, and what was acknowledged, by topic and subscription.
+        self.published, self.acknowledged, self.letters = {}, {}, 0
         self.faults = []
 
     def note(self, table, key, value):
         with self.lock:
             table.setdefault(key, set()).add(value)
+
+    def acknowledge(self, client, place, kind, message):
+        self.note(self.acknowledged, (place, kind), message['payload'])
+        client.send(json.dumps({'messageId': message['messageId']}))
 
     def topic(self, place):
         return f'churn-{self.number}-{place}'
@@ -42,28 +47,29 @@ class Round:
         return time.time() < self.until
 
     def publish(self, place, dice):
-        """Publishes in bursts, and waits for the answers of each, or goes without."""
+        """Publishes in bursts, and waits for the answers of each."""
         while self.goes_on():
             client = producer(port, self.topic(place))
             client.sock.settimeout(10)
             for _ in range(dice.randint(1, 8)):
-                count = dice.choice([1, 1, 3, 20, 200])
-                texts = []
-                for _ in range(count):
-                    text = json.loads(text_of(dice.randbytes(dice.choice([0, 10, 1000]))))
-                    if dice.random() < 0.7:
-                        text['key'] = f'key-{dice.randint(0, 9)}'
-                    texts.append(json.dumps(text))
+                texts = [self.text(dice) for _ in range(dice.choice([1, 1, 3, 20, 200]))]
                 for text in texts:
-                    client.send(text)
-                for _ in range(count):
+                    client.send(json.dumps(text))
+                for text in texts:
                     answer = client.receive()
                     assert answer['result'] == 'ok', answer
-                    self.note(self.answered, place, answer['messageId'])
+                    self.note(self.published, place, text['payload'])
                 time.sleep(dice.choice([0, 0, 0.01, 0.1]))
                 if not self.goes_on():
                     break
             client.close()
+
+    def text(self, dice):
+        """A publish whose payload is like no other."""
+        text = json.loads(text_of(dice.randbytes(dice.choice([16, 16, 1000]))))
+        if dice.random() < 0.7:
+            text['key'] = f'key-{dice.randint(0, 9)}'
+        return text
 
     def consume(self, place, kind, dice):
         """Joins, takes for a while what comes, and goes."""
@@ -72,7 +78,7 @@ class Round:
             query = (f'?subscriptionType={kind}&subscriptionInitialPosition=Earliest'
                      f'&receiverQueueSize={dice.choice([1, 3, 100, 1000])}&pullMode={str(pulls).lower()}'
                      f'&ackTimeoutMillis={dice.choice([0, 50, 300])}&negativeAckRedeliveryDelay={dice.choice([0, 20, 200])}'
-                     f'&priorityLevel={dice.choice([0, 0, 1])}')
+                     f'&priorityLevel={dice.choice([0, 0, 1])}&maxRedeliverCount={dice.choice([0, 0, 1, 3])}')
             client = consumer(port, self.topic(place), kind, query)
             client.sock.settimeout(0.1)
             end = min(self.until, time.time() + dice.choice([0.01, 0.2, 1.0]))
@@ -82,12 +88,12 @@ class Round:
                         client.send(json.dumps({'type': 'permit', 'permitMessages': dice.choice([1, 10, 100])}))
                     if dice.random() < 0.01:
                         time.sleep(dice.choice([0.1, 0.5]))
-                    self.take(client, kind, dice)
+                    self.take(client, place, kind, dice)
             except (ConnectionError, BrokenPipeError):
                 pass
             client.close()
 
-    def take(self, client, kind, dice):
+    def take(self, client, place, kind, dice):
         try:
             message = client.receive()
         except socket.timeout:
@@ -100,10 +106,10 @@ class Round:
             raise ConnectionError
         which, at = dice.random(), message['messageId']
         if which < 0.7:
-            client.send(json.dumps({'messageId': at}))
+            self.acknowledge(client, place, kind, message)
         elif which < 0.8:
             client.send(json.dumps({'type': 'negativeAcknowledge', 'messageId': at}))
-        elif which < 0.85 and kind in ('Exclusive', 'Failover'):
+        elif which < 0.85 and kind in IN_ORDER:
             client.send(json.dumps({'type': 'acknowledgeCumulative', 'messageId': at}))
 
     def drain(self, place, kind, dice):
@@ -113,29 +119,49 @@ class Round:
                           f'&ackTimeoutMillis={timeout}&receiverQueueSize={dice.choice([1, 10, 1000])}')
         client.sock.settimeout(0.2)
         admin = Client(port, f'/ws/v2/admin/persistent/public/default/{self.topic(place)}')
-        end, forgotten = time.time() + STILL, set()
+        end, forgotten, dead = time.time() + STILL, set(), None
         while True:
             try:
-                at = client.receive()['messageId']
+                message = client.receive()
                 end = time.time() + STILL
                 if timeout and len(forgotten) < FORGOTTEN and dice.random() < 0.2:
-                    forgotten.add(at)
+                    forgotten.add(message['messageId'])
                 else:
-                    client.send(json.dumps({'messageId': at}))
+                    self.acknowledge(client, place, kind, message)
                 continue
             except socket.timeout:
                 pass
             admin.send(json.dumps({'type': 'stats', 'subscription': kind}))
             stats = admin.receive()
-            if stats['live'] == 0:
+            if stats['dead'] != dead:
+                end, dead = time.time() + STILL, stats['dead']
+            if stats['live'] == stats['dead'] == 0 or time.time() > end:
                 break
-            if time.time() > end:
-                self.faults.append((self.topic(place), kind, stats))
-                break
-        if stats['acknowledged'] < len(self.answered.get(place, ())):
-            self.faults.append((self.topic(place), kind, stats, len(self.answered[place])))
         client.close()
         admin.close()
+        count = len(self.published.get(place, ()))
+        if stats['live'] or stats['dead'] or stats['acknowledged'] != count:
+            self.faults.append((self.topic(place), kind, stats, count))
+        elif kind not in IN_ORDER:
+            self.account(place, kind)
+
+    def account(self, place, kind):
+        """Each message was acknowledged, or is a dead letter; each of these is there once."""
+        letters = []
+        client = consumer(port, f'{self.topic(place)}-{kind}-DLQ', 's', '?subscriptionInitialPosition=Earliest')
+        client.sock.settimeout(0.5)
+        try:
+            while True:
+                message = client.receive()
+                client.send(json.dumps({'messageId': message['messageId']}))
+                letters.append(message['payload'])
+        except socket.timeout:
+            client.close()
+        lost = self.published.get(place, set()) - self.acknowledged.get((place, kind), set()) - set(letters)
+        if lost or len(letters) > len(set(letters)):
+            self.faults.append((self.topic(place), kind, f'{len(lost)} are lost', f'{len(letters)} letters, {len(set(letters))} apart'))
+        with self.lock:
+            self.letters += len(letters)
 
     def all_do(self, jobs):
         def guarded(job, *words):
@@ -160,7 +186,7 @@ class Round:
                     jobs.append((self.consume, place, kind, random.Random(dice.random())))
         self.all_do(jobs)
         self.all_do([(self.drain, place, kind, random.Random(dice.random())) for place in range(TOPICS) for kind in KINDS])
-        return sum(len(ids) for ids in self.answered.values())
+        return sum(len(texts) for texts in self.published.values())
 
 
 broker = Broker(program, port)
@@ -169,6 +195,6 @@ try:
         play = Round(number)
         count = play.play()
         assert not play.faults, play.faults
-        print(f'round {number}: {count} messages were published, and none is left in any subscription', flush=True)
+        print(f'round {number}: {count} messages were published, {play.letters} letters died, and nothing is left', flush=True)
 finally:
     broker.kill()

@@ -71,25 +71,29 @@ impl<X: Drop> Queue<X> {
         Some(taken)
     }
 
-    fn task(&mut self, alloc: Global) -> Option<Task<X>> {
+    /// What the thread does now. An errand has its turn after each store, however many topics wait: else letters would lie
+    /// for as long as others publish.
+    fn task(&mut self, alloc: Global, has_stored: bool) -> Option<Task<X>> {
         if self.is_closed {
             return Some(Task::End);
         }
-        if self.is_led {
-            return None;
+        let may_store = !self.is_led && !self.topics.is_empty();
+        if (has_stored || !may_store) && !self.is_ending {
+            let errand = self.errands.pop_front();
+            if let Some(topic) = errand {
+                return Some(Task::Errand(topic));
+            }
         }
-        if !self.topics.is_empty() {
+        if may_store {
             return match self.take(alloc) {
                 Some(topics) => Some(Task::Store(topics)),
                 None => None,
             };
         }
-        if self.is_ending {
-            return Some(Task::End);
-        }
-        match self.errands.pop_front() {
-            Some(topic) => Some(Task::Errand(topic)),
-            None => None,
+        if self.is_ending && !self.is_led {
+            Some(Task::End)
+        } else {
+            None
         }
     }
 
@@ -190,7 +194,7 @@ impl<X: Drop> Board<X> {
             queue.end();
         }
         for _ in rt.forever() {
-            if let Some(task) = queue.task(self.alloc) {
+            if let Some(task) = queue.task(self.alloc, ends) {
                 return task;
             }
             queue.thread_waits = true;
@@ -206,7 +210,7 @@ impl<X: Drop> Board<X> {
         if ends {
             queue.end();
         }
-        queue.task(self.alloc)
+        queue.task(self.alloc, ends)
     }
 
     /// The thread ends once nothing waits to be stored.

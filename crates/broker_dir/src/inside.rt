@@ -16,8 +16,33 @@ const LONG: u64 = 65_536;
 #[derive(Drop)]
 pub(crate) struct Grave {
     pub(crate) name: SubscriptionName,
-    /// Letters lie in it that the courier was not sent for.
+    /// A letter died in it since the topic was viewed.
+    has_died: bool,
+    /// A letter died in it before the topic was viewed, and what was viewed is not stored yet.
+    is_viewed: bool,
+    /// Letters lie in it that are stored, and the courier was not sent for them.
     pub(crate) is_open: bool,
+}
+
+impl Grave {
+    fn new(name: SubscriptionName, is_open: bool) -> Grave {
+        Grave {
+            name,
+            has_died: false,
+            is_viewed: false,
+            is_open,
+        }
+    }
+
+    fn view(&mut self) {
+        self.is_viewed |= self.has_died;
+        self.has_died = false;
+    }
+
+    fn store(&mut self) {
+        self.is_open |= self.is_viewed;
+        self.is_viewed = false;
+    }
 }
 
 /// What a topic's lock guards.
@@ -154,7 +179,7 @@ impl<T: Opened + Drop, J: Naming, B: Bell + Drop> Inside<T, J, B> {
     fn answered<R: Wait>(&mut self, rt: &R, seat: u64, asked: &Asked, reply: &Reply) {
         self.bells.answered(rt, seat, asked, reply);
         if let Reply::Died { .. } = reply {
-            self.open_own_grave(seat);
+            self.bury_own(seat);
         }
         self.roll_if_long();
     }
@@ -191,32 +216,39 @@ impl<T: Opened + Drop, J: Naming, B: Bell + Drop> Inside<T, J, B> {
         let Ok(name) = name.clone() else {
             return Err(Fault::NoMemory);
         };
-        match self.graves.push(Grave { name, is_open }) {
+        match self.graves.push(Grave::new(name, is_open)) {
             Ok(()) => Ok(()),
             Err(_) => Err(Fault::NoMemory),
         }
     }
 
     /// A letter died in the subscription of the one at the seat.
-    fn open_own_grave(&mut self, seat: u64) {
+    fn bury_own(&mut self, seat: u64) {
         let found = match self.bells.subscription(seat) {
             Some(name) => self.grave_of(name),
             None => None,
         };
-        self.open_grave_at(found);
+        if let Some(place) = found
+            && let Some(grave) = self.graves.get_mut(place)
+        {
+            grave.has_died = true;
+        }
     }
 
     /// The courier is to be sent to the subscription, once more of the topic is stored.
     pub(crate) fn open_grave(&mut self, name: &SubscriptionName) {
         let found = self.grave_of(name);
-        self.open_grave_at(found);
-    }
-
-    fn open_grave_at(&mut self, found: Option<usize>) {
         if let Some(place) = found
             && let Some(grave) = self.graves.get_mut(place)
         {
             grave.is_open = true;
+        }
+    }
+
+    /// The topic was viewed, to be stored: what has died so far is in it.
+    pub(crate) fn viewed(&mut self) {
+        for grave in self.graves.iter_mut() {
+            grave.view();
         }
     }
 
@@ -267,6 +299,9 @@ impl<T: Opened + Drop, J: Naming, B: Bell + Drop> Inside<T, J, B> {
         let _ = self.cell.confirm(kept);
         self.is_queued = false;
         self.is_behind = false;
+        for grave in self.graves.iter_mut() {
+            grave.store();
+        }
         self.roll_if_long();
         self.bells.stored(rt, length);
     }

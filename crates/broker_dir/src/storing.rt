@@ -292,7 +292,13 @@ fn viewed<T: Opened + Drop, S: Alter, J: Naming, B: Bell + Drop, R: Wait>(
     topic: &Arc<Shared<T, J, B>>,
 ) -> Result<Part<J>, Fault> {
     let mut inside = topic.inside.lock(rt);
-    keeper.view(&mut inside.cell)
+    match keeper.view(&mut inside.cell) {
+        Ok(part) => {
+            inside.viewed();
+            Ok(part)
+        }
+        Err(fault) => Err(fault),
+    }
 }
 
 /// They are stored later: with the next of their calls.

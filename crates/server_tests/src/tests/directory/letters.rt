@@ -1,5 +1,5 @@
 // A death, its move, and a broker that is stopped on the way.
-use super::world::{Rows, Scene, Topics, asked, open, settle, sit, with_rows};
+use super::world::{Rows, Scene, Seat, Topics, asked, open, settle, sit, with_rows};
 use broker_dir::Errands;
 use delivery_machine::Reply;
 use marks::Naming;
@@ -12,6 +12,8 @@ use std::test::*;
 const T: &str = "persistent://public/default/t";
 
 const GRAVE: &str = "persistent://public/default/t-s-DLQ";
+
+const OTHER: &str = "persistent://public/default/u";
 
 /// A message that has died once it is stored.
 const BEFORE: [&str; 3] = [
@@ -36,16 +38,14 @@ fn check_answered<R: Abort>(rt: &R, reply: &Reply, line: &str) {
 fn play<J: Naming, R: Abort + AllocGlobal + Wait>(
     rt: &R,
     topics: &Topics<J>,
-    name: &str,
+    seat: &Seat<J>,
     lines: &[&str],
 ) {
-    let seat = sit(rt, topics, name);
     for line in lines {
-        let reply = asked(rt, topics, &seat, line);
+        let reply = asked(rt, topics, seat, line);
         check_answered(rt, &reply, line);
         drop(reply);
     }
-    topics.detach(rt, seat);
 }
 
 /// A subscription whose member is sent what waits, up to three messages.
@@ -100,11 +100,13 @@ fn do_tasks<J: Naming, R: Abort + AllocGlobal + Wait + Clock>(
     drop(errands);
 }
 
-/// A message dies once it is stored.
+/// A message dies once it is stored, and its consumer goes.
 fn die<J: Naming, R: Abort + AllocGlobal + Wait + Clock>(rt: &R, topics: &Topics<J>) {
-    play(rt, topics, T, &BEFORE);
+    let seat = sit(rt, topics, T);
+    play(rt, topics, &seat, &BEFORE);
     settle(rt, topics);
-    play(rt, topics, T, &DEATH);
+    play(rt, topics, &seat, &DEATH);
+    topics.detach(rt, seat);
 }
 
 /// The broker that is started again.
@@ -115,6 +117,20 @@ fn again<J: Naming, R: Abort + AllocGlobal>(rt: &R, topics: Topics<J>) -> Topics
 }
 
 /// No letter is left, and the dead-letter topic has it, where the message has died.
+fn check_letters<J: Naming, R: Abort + AllocGlobal + Wait>(
+    rt: &R,
+    topics: &Topics<J>,
+    has_died: bool,
+) {
+    let seat = sit(rt, topics, T);
+    let left = asked(rt, topics, &seat, "deadnext s");
+    assert!(rt; matches!(left, Reply::NoDead));
+    drop(left);
+    topics.detach(rt, seat);
+    expect_letters(rt, letters(rt, topics), has_died);
+}
+
+/// The same, once all couriers have gone as far as they can.
 fn check_moved<J: Naming, R: Abort + AllocGlobal + Wait + Clock>(
     rt: &R,
     topics: &Topics<J>,
@@ -122,11 +138,8 @@ fn check_moved<J: Naming, R: Abort + AllocGlobal + Wait + Clock>(
 ) {
     let seat = sit(rt, topics, T);
     settle(rt, topics);
-    let left = asked(rt, topics, &seat, "deadnext s");
-    assert!(rt; matches!(left, Reply::NoDead));
-    drop(left);
     topics.detach(rt, seat);
-    expect_letters(rt, letters(rt, topics), has_died);
+    check_letters(rt, topics, has_died);
 }
 
 impl Scene for StoppedAfter {
@@ -145,4 +158,49 @@ fn a_letter_is_moved_once_wherever_the_broker_stops(rt: HostRuntime) {
     for tasks in 0..8 {
         with_rows(&rt, &StoppedAfter { tasks });
     }
+}
+
+/// A broker at which others publish all the time, so that some topic always waits to be stored.
+struct UnderLoad;
+
+fn publish<J: Naming, R: Abort + AllocGlobal + Wait>(
+    rt: &R,
+    topics: &Topics<J>,
+    seat: &Seat<J>,
+    number: u32,
+) {
+    let line = format!(in rt.alloc(); "publish 1 {number} - aGk= 2000").expect(rt, "no memory");
+    drop(asked(rt, topics, seat, line.as_str()));
+}
+
+/// So many tasks of the thread, before each of which another topic has one message more.
+fn do_under_load<J: Naming, R: Abort + AllocGlobal + Wait + Clock>(
+    rt: &R,
+    topics: &Topics<J>,
+    tasks: u32,
+) {
+    let seat = sit(rt, topics, OTHER);
+    drop(asked(rt, topics, &seat, "producer q -"));
+    let mut errands = Errands::new(rt.alloc()).expect(rt, "no moment");
+    for number in 0..tasks {
+        publish(rt, topics, &seat, number);
+        topics.keep_once(rt, &mut errands);
+    }
+    drop(errands);
+    topics.detach(rt, seat);
+}
+
+impl Scene for UnderLoad {
+    fn play<J: Naming, R: Abort + AllocGlobal + Wait + Clock>(&self, rt: &R, keeper: Rows<J>) {
+        let topics = open(rt, keeper, 8);
+        die(rt, &topics);
+        do_under_load(rt, &topics, 8);
+        check_letters(rt, &topics, true);
+        drop(topics);
+    }
+}
+
+#[test]
+fn a_letter_is_moved_while_others_publish(rt: HostRuntime) {
+    with_rows(&rt, &UnderLoad);
 }
