@@ -312,13 +312,13 @@ fn a_producer_reads_on_once_its_publishes_are_answered(rt: HostRuntime) {
 fn many_messages_that_fall_due_together_are_all_free_again(rt: HostRuntime) {
     check(
         &rt,
-        "/ws/v2/consumer/persistent/public/default/t/s?subscriptionType=Shared&pullMode=true&ackTimeoutMillis=100",
+        "/ws/v2/consumer/persistent/public/default/t/s?subscriptionType=Shared&ackTimeoutMillis=200",
         "0 publishes 150
 10 stored
-20 consumer {\"type\":\"permit\",\"permitMessages\":150}",
+50 consumer_room 0",
         300,
         "150 live, 0 pending",
-        1_800,
+        40,
     );
 }
 
