@@ -101,7 +101,7 @@ fn ask_series<K: Caller>(
     Ok(true)
 }
 
-/// Asks for ticks, and then for dispatches, where the session is free to send more.
+/// Asks for ticks, and then for dispatches, where the session is free to send more. Whether more may be due is noted.
 fn ask_both<K: Caller>(
     caller: &mut K,
     dues: &mut Dues,

@@ -12,7 +12,7 @@ pub(crate) struct Dues {
     nack_delay: Millis,
     /// Whether a message was refused in this turn.
     has_nacked: bool,
-    /// More was due in this turn than it asked for.
+    /// More may be due than the last turn asked for.
     is_behind: bool,
     first: Option<DueMoment>,
     last: DueMoment,
@@ -35,7 +35,7 @@ impl Dues {
         self.has_nacked = true;
     }
 
-    /// As much was due in this turn as it may ask for, or all.
+    /// Whether more may be due than this turn has asked for.
     pub(crate) fn note_asked(&mut self, is_behind: bool) {
         self.is_behind = is_behind;
     }
