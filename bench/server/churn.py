@@ -1,7 +1,7 @@
 #!/usr/bin/env python3
-# Clients of all kinds come and go, read or do not, acknowledge, give back or forget: in the end a quiet consumer of each
-# subscription gets all that is left, so no wake-up was lost on the way. Each message was acknowledged then, or stands in
-# the topic of dead letters, once.
+# Clients of all kinds come and go, read or do not, acknowledge, give back or forget: in the end a quiet consumer of
+# each subscription gets all that is left, so no wake-up was lost on the way. Each message was acknowledged then, or
+# stands in the topic of dead letters, once.
 # churn.py PROGRAM [rounds] [port] [first round]
 import json
 import random
@@ -17,7 +17,7 @@ rounds = int(sys.argv[2]) if len(sys.argv) > 2 else 10
 port = int(sys.argv[3]) if len(sys.argv) > 3 else 18087
 first = int(sys.argv[4]) if len(sys.argv) > 4 else 0
 TOPICS, PRODUCERS, CONSUMERS, CHURN = 3, 2, 4, 4.0
-# How many messages a quiet consumer forgets, and how long it may be sent nothing although messages are left, in seconds.
+# How many messages a quiet consumer forgets, and how many seconds it may be sent nothing although some are left.
 FORGOTTEN, STILL = 20, 3.0
 IN_ORDER = ['Exclusive', 'Failover']
 KINDS = [*IN_ORDER, 'Shared', 'Key_Shared']
@@ -77,7 +77,8 @@ class Round:
             pulls = dice.random() < 0.3
             query = (f'?subscriptionType={kind}&subscriptionInitialPosition=Earliest'
                      f'&receiverQueueSize={dice.choice([1, 3, 100, 1000])}&pullMode={str(pulls).lower()}'
-                     f'&ackTimeoutMillis={dice.choice([0, 50, 300])}&negativeAckRedeliveryDelay={dice.choice([0, 20, 200])}'
+                     f'&ackTimeoutMillis={dice.choice([0, 50, 300])}'
+                     f'&negativeAckRedeliveryDelay={dice.choice([0, 20, 200])}'
                      f'&priorityLevel={dice.choice([0, 0, 1])}&maxRedeliverCount={dice.choice([0, 0, 1, 3])}')
             client = consumer(port, self.topic(place), kind, query)
             client.sock.settimeout(0.1)
@@ -115,8 +116,9 @@ class Round:
     def drain(self, place, kind, dice):
         """One consumer takes and acknowledges all that is left; it forgets some of it where that comes again."""
         timeout = dice.choice([0, 200])
-        client = consumer(port, self.topic(place), kind, f'?subscriptionType={kind}&subscriptionInitialPosition=Earliest'
-                          f'&ackTimeoutMillis={timeout}&receiverQueueSize={dice.choice([1, 10, 1000])}')
+        query = (f'?subscriptionType={kind}&subscriptionInitialPosition=Earliest'
+                 f'&ackTimeoutMillis={timeout}&receiverQueueSize={dice.choice([1, 10, 1000])}')
+        client = consumer(port, self.topic(place), kind, query)
         client.sock.settimeout(0.2)
         admin = Client(port, f'/ws/v2/admin/persistent/public/default/{self.topic(place)}')
         end, forgotten, dead = time.time() + STILL, set(), None
@@ -159,7 +161,8 @@ class Round:
             client.close()
         lost = self.published.get(place, set()) - self.acknowledged.get((place, kind), set()) - set(letters)
         if lost or len(letters) > len(set(letters)):
-            self.faults.append((self.topic(place), kind, f'{len(lost)} are lost', f'{len(letters)} letters, {len(set(letters))} apart'))
+            apart = f'{len(letters)} letters, {len(set(letters))} of them apart'
+            self.faults.append((self.topic(place), kind, f'{len(lost)} are lost', apart))
         with self.lock:
             self.letters += len(letters)
 
@@ -185,16 +188,22 @@ class Round:
                 for _ in range(CONSUMERS):
                     jobs.append((self.consume, place, kind, random.Random(dice.random())))
         self.all_do(jobs)
-        self.all_do([(self.drain, place, kind, random.Random(dice.random())) for place in range(TOPICS) for kind in KINDS])
+        self.all_do([(self.drain, place, kind, random.Random(dice.random()))
+                     for place in range(TOPICS) for kind in KINDS])
         return sum(len(texts) for texts in self.published.values())
 
 
 broker = Broker(program, port)
 try:
     for number in range(first, first + rounds):
+        if number > first and (number - first) % 20 == 0:
+            # A round opens nine topics, and 256 are open at most.
+            broker.kill()
+            broker.start()
         play = Round(number)
         count = play.play()
         assert not play.faults, play.faults
-        print(f'round {number}: {count} messages were published, {play.letters} letters died, and nothing is left', flush=True)
+        print(f'round {number}: {count} messages were published, {play.letters} letters died, and nothing is left',
+              flush=True)
 finally:
     broker.kill()

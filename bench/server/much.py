@@ -1,6 +1,6 @@
 #!/usr/bin/env python3
-# Much at once for one session: publishes beyond the thousand that may be unanswered, messages that fall due together, and
-# messages for a consumer that does not read. Nobody waits for what nobody would do: all is answered and given back.
+# Much at once for one session: publishes beyond the thousand that may be unanswered, messages that fall due together,
+# and messages for a consumer that does not read. Nobody waits for what nobody would do: all is answered and given back.
 # much.py PROGRAM [port]
 import json
 import sys
