@@ -39,7 +39,7 @@ def drawn(dice):
     """Bytes for the broker, of some kind."""
     text = dice.choice(TEXTS).encode()
     cut = dice.randrange(len(text) + 1)
-    noise = os.urandom(dice.randrange(100))
+    noise = dice.randbytes(dice.randrange(100))
     begun = bytearray(frame(1, text[:cut]))
     begun[0] &= 127
     odd = bytearray(frame(dice.randrange(16), noise))
@@ -55,7 +55,7 @@ def drawn(dice):
         frame(1, noise),
         frame(2, text),
         bytes(odd),
-        bytes([129, len(text) & 125]) + text,
+        bytes([129, len(noise)]) + noise,
         noise,
         b'\x81\xff' + struct.pack('>Q', dice.choice([5_000_000, 2**31, 2**62, 2**63])) + noise,
         frame(1, text)[:cut],
@@ -63,7 +63,8 @@ def drawn(dice):
 
 
 def is_answered(client):
-    """Reads to the end. Whether it ended with a close, behind which nothing came."""
+    """Reads to the end. Whether it ended with a close, behind which nothing came. Where the broker has reset the
+    connection, what it sent may be cut off; else there are whole frames, and it ends before long."""
     try:
         while True:
             kind, body = client.frame()
@@ -72,13 +73,16 @@ def is_answered(client):
                 json.loads(body)
             if kind == 8:
                 break
-    except OSError:
+    except (ConnectionResetError, BrokenPipeError):
+        return False
+    except ConnectionError:
+        assert not client.rest, client.rest
         return False
     code = struct.unpack('>H', body[:2])[0] if body else 1000
     assert 1000 <= code < 5000 and code not in UNSAID, code
     try:
         client.rest += client.more()
-    except OSError:
+    except ConnectionError:
         pass
     assert not client.rest, client.rest
     return True
