@@ -1,5 +1,5 @@
 -- A turn goes on with the session's run.
-use Rattle.std.proofs.Common.{◌≡◌, ℕ, ◌≤◌, ℤ, List, [], ◌∷◌, ◌++◌, length, map, All, Bool, true, false, Option, Some, None, IsSome, is_some, ◌⊎◌, inl, inr, refl, sym, ap, ◌∙◌, subst, arith, append_assoc, option_map}
+use Rattle.std.proofs.Common.{◌≡◌, ℕ, ◌≤◌, ℤ, List, [], ◌∷◌, ◌++◌, length, map, All, Bool, false, Option, Some, None, is_some, refl, sym, ap, ◌∙◌, subst, append_assoc}
 use Rattle.std.proofs.lemmas.List.{map-append}
 use Rattle.std.proofs.lemmas.List.Elements.{All-append}
 use Rattle.session_links.specs.Links.{Call, Exchange, Tells, with_close}
@@ -12,13 +12,15 @@ use Rattle.session_core.specs.declared.session.Session.{Session}
 use Rattle.session_core.specs.declared.stop.Stop.{Stop}
 use Rattle.session_core.specs.declared.stop.Stop.TheVariants.{Gone as Left, Closed}
 use Rattle.session_core.specs.Held.{unsent_of}
-use Rattle.session_core.specs.Turns.{Taken, Turn, and_one, called, calls_of_asked, calls_of_texts, closed, exchanged, texts_received}
+use Rattle.session_core.specs.Turns.{Taken, Turn, and_one, calls_of_asked, calls_of_texts, closed, exchanged, texts_received, without_stop}
 use Rattle.session_core.specs.Texts.{AreTaken, answered, answer_to, next_after}
 use Rattle.session_core.specs.Asking.{AsksAs, copies_of, durable_after}
 use Rattle.session_core.specs.Sending.{Gone, IsSent, Sends}
-use Rattle.session_core.specs.Runs.{GoesOn, IsOpen, IsRun, IsServed, IsSession, IsTurn, ReceivesNoMore, SaysFarewell, StopsBy, all_of, close_of, durable_of, next_of, sent_of}
-use Rattle.session_core.specs.Steps.{CanClose, ClosesBy, Rests, SaysLast, Serves, without_stop}
-use Rattle.session_core.proofs.Telling.{tells_nothing, tells_then}
+use Rattle.session_core.specs.Runs.{GoesOn, IsRun, IsServed, IsSession, IsTurn, Leaves, ReceivesNoMore, SaysFarewell, SendsBeforeClose, StopsBy, all_of, close_of, durable_of, next_of, sent_of}
+use Rattle.session_core.specs.Steps.{ClosesBy, Rests, SaysLast}
+use Rattle.session_core.specs.Closing.{ServesLast, ServesOpen}
+use Rattle.session_core.proofs.Closing.{stops_still}
+use Rattle.session_core.proofs.Telling.{tells_then}
 use Rattle.session_core.proofs.Turning.{durable_grows, ready_later}
 
 -- what there was to be sent before stays before the answers
@@ -32,14 +34,14 @@ abbrev pub with_farewell : Turn → Option Call → Turn
 with_farewell t farewell = record t { farewell = farewell }
 
 -- a turn stops for the same reason, whatever its last event is
-pub stops_same : (close : Option Close) (t : Turn) (farewell : Option Call) → StopsBy close t → StopsBy close (with_farewell t farewell)
-stops_same None t farewell k = k
-stops_same (Some close) t farewell k = k
+pub stops_same : (close : Option Close) (t : Turn) (farewell : Option Call) (durable : ℕ) (left : List Unsent) → StopsBy close t durable left → StopsBy close (with_farewell t farewell) durable left
+stops_same None t farewell durable left k = k
+stops_same (Some close) t farewell durable left k = k
 
 -- a turn of a session is the next turn of its run
 pub is_turn : (s t : Session) (before : List Turn) (now most : ℕ) (e f : Option Exchange) (c d : Option (List Call)) (stop : Option Stop) (is_open has_room : Bool) (farewell : Option Call)
-    → (run : IsSession s before) → (k : Serves s now most e c stop t f d is_open has_room) → SaysFarewell s.party stop farewell → IsTurn s.party before (with_farewell k.turn farewell)
-is_turn s t before now most e f c d stop is_open has_room farewell run k last = record {
+    → (run : IsSession s before) → (all : ServesLast s now most e c stop t f d is_open has_room) → SaysFarewell s.party stop farewell → IsTurn s.party before (with_farewell all.serves.turn farewell)
+is_turn s t before now most e f c d stop is_open has_room farewell run all last = let k = all.serves in record {
   texts = subst (λ (x : ℕ × Option ℤ). AreTaken s.party x.0 x.1 k.turn.taken) (λ i. (sym k.is_now i, run.next i)) k.texts;
   most = subst (λ n. length k.turn.taken ≤ n) (sym k.is_most) k.at_most;
   held = unsent_of s;
@@ -64,102 +66,111 @@ is_turn s t before now most e f c d stop is_open has_room farewell run k last = 
         (ready_later (durable_of s.party before) (durable_of s.party (k.turn ∷ before)) run.sends.gone (durable_grows s.party (durable_of s.party before) k.turn.asked.last) run.sends.ready)
         (subst (λ n. All (IsSent n) k.gone) durable k.ready);
   };
-  stops = stops_same (close_of k.turn) k.turn farewell k.stops;
+  stops = stops_same (close_of k.turn) k.turn farewell (durable_of s.party (k.turn ∷ before)) (unsent_of t) (subst (λ n. StopsBy (close_of k.turn) k.turn n (unsent_of t)) durable all.stops);
   farewell = subst (λ x. SaysFarewell s.party x farewell) (sym k.is_stop) last;
   goes_on = λ none. subst (λ n. GoesOn s.party (with_farewell k.turn farewell) n (unsent_of t)) durable (k.goes_on (sym k.is_stop ∙ none));
+  closes = subst (λ n. SendsBeforeClose (with_farewell k.turn farewell) n (unsent_of t)) durable all.closes;
 }
   where
-    durable : t.durable ≡ durable_of s.party (k.turn ∷ before)
-    durable = k.durable ∙ ap (λ n. durable_after s.party n k.turn.asked.last) run.durable
+    durable : t.durable ≡ durable_of s.party (all.serves.turn ∷ before)
+    durable = all.serves.durable ∙ ap (λ n. durable_after s.party n all.serves.turn.asked.last) run.durable
 
 -- a session at rest was served as well
-pub rested : (s t u : Session) (now most : ℕ) (e f : Option Exchange) (c d : Option (List Call)) (stop : Option Stop) (is_open has_room : Bool)
-    → Serves s now most e c stop t f d is_open has_room → Rests t u → Serves s now most e c stop u f d is_open has_room
-rested s t u now most e f c d stop is_open has_room k r = record {
-  turn = k.turn;
-  is_now = k.is_now;
-  is_most = k.is_most;
-  is_stop = k.is_stop;
-  no_farewell = k.no_farewell;
-  opens = k.opens;
-  roomy = k.roomy;
-  texts = k.texts;
-  at_most = k.at_most;
-  receives = k.receives;
-  asks = k.asks;
-  is_over = k.is_over;
-  party = r.keeps.party ∙ k.party;
-  next = r.keeps.next ∙ k.next;
-  durable = r.keeps.durable ∙ k.durable;
-  gone = k.gone;
-  parts = ap (λ l. map (λ (g : Gone). g.item) k.gone ++ l) r.unsent ∙ k.parts;
-  sent = k.sent;
-  ready = subst (λ n. All (IsSent n) k.gone) (sym r.keeps.durable) k.ready;
-  exchange = k.exchange;
-  calls = k.calls;
-  stops = k.stops;
-  goes_on = λ none. subst (λ (x : ℕ × List Unsent). GoesOn s.party k.turn x.0 x.1) (λ i. (sym r.keeps.durable i, sym r.unsent i)) (k.goes_on none);
-  stays_open = k.stays_open;
-  can_close = k.can_close;
+pub rested : (s t u : Session) (now most : ℕ) (e f : Option Exchange) (c d : Option (List Call)) (is_open has_room : Bool)
+    → ServesOpen s now most e c None t f d is_open has_room → Rests t u → ServesLast s now most e c None u f d is_open has_room
+rested s t u now most e f c d is_open has_room first r = let k = first.serves in record {
+  serves = record {
+    turn = k.turn;
+    is_now = k.is_now;
+    is_most = k.is_most;
+    is_stop = k.is_stop;
+    no_farewell = k.no_farewell;
+    opens = k.opens;
+    roomy = k.roomy;
+    texts = k.texts;
+    at_most = k.at_most;
+    receives = k.receives;
+    asks = k.asks;
+    is_over = k.is_over;
+    party = r.keeps.party ∙ k.party;
+    next = r.keeps.next ∙ k.next;
+    durable = r.keeps.durable ∙ k.durable;
+    gone = k.gone;
+    parts = ap (λ l. map (λ (g : Gone). g.item) k.gone ++ l) r.unsent ∙ k.parts;
+    sent = k.sent;
+    ready = subst (λ n. All (IsSent n) k.gone) (sym r.keeps.durable) k.ready;
+    exchange = k.exchange;
+    calls = k.calls;
+    goes_on = λ none. subst (λ (x : ℕ × List Unsent). GoesOn s.party k.turn x.0 x.1) (λ i. (sym r.keeps.durable i, sym r.unsent i)) (k.goes_on none);
+    stays_open = k.stays_open;
+    can_close = k.can_close;
+  };
+  stops = stops_still (close_of k.turn) k.turn u.durable (unsent_of u) first.stops;
+  closes = λ close is. absurd (other close (sym k.is_stop ∙ is));
 }
+  where
+    other : (close : Close) → None ≡ Some (Closed close) → ⊥
+    other close e = cc
 
 -- A session that goes on.
 pub goes_on : (s t : Session) (before : List Turn) (now most : ℕ) (e f : Option Exchange) (c d : Option (List Call)) (is_open has_room : Bool)
-    → IsSession s before → Serves s now most e c None t f d is_open has_room → (given : ℕ) → most ≡ given → IsServed s now given before e c (Some t) f d is_open has_room
+    → IsSession s before → ServesLast s now most e c None t f d is_open has_room → (given : ℕ) → most ≡ given
+    → (served : IsServed s now given before e c (Some t) f d is_open has_room) × Leaves served.turn e f is_open has_room
 unfolding is_turn
-goes_on s t before now most e f c d is_open has_room run k given same =
+goes_on s t before now most e f c d is_open has_room run all given same =
+    let k = all.serves in
     let turn : Turn = with_farewell k.turn None in
-    let is : IsTurn s.party before turn = is_turn s t before now most e f c d None is_open has_room None run k refl in
-    let none : turn.stop ≡ None = k.is_stop in
-    record {
-      turn = turn;
-      is_now = k.is_now;
-      is_most = k.is_most ∙ same;
-      is_turn = is;
-      exchange = subst (λ x. Tells (λ (y : Exchange). record { received = and_one (texts_received y.received k.turn.taken) k.turn.silence; sent = y.sent ++ k.turn.sent; closes = closed x y.closes }) e f) (sym k.is_stop) k.exchange;
-      calls = subst (λ x. Tells (λ calls. and_one (calls_of_asked (calls_of_texts calls k.turn.taken) k.turn.asked) x) c d) k.no_farewell k.calls;
-      fails = λ fails. sym k.opens ∙ fails;
-      session = (
-        none,
-        k.party,
-        record {
-          run = subst (λ p. IsRun p (turn ∷ before)) (sym k.party) (run.run, run.goes_on, is);
-          goes_on = none;
-          next = k.next ∙ ap (λ n. next_after n k.turn.taken) run.next ∙ ap (λ p. next_of p (turn ∷ before)) (sym k.party);
-          durable = k.durable ∙ ap (λ n. durable_after s.party n k.turn.asked.last) run.durable ∙ ap (λ p. durable_of p (turn ∷ before)) (sym k.party);
-          sends = subst (λ p. Sends (durable_of p (turn ∷ before)) (all_of p (turn ∷ before)) (sent_of (turn ∷ before)) (unsent_of t)) (sym k.party) is.sends;
-        },
-        k.stays_open refl,
-        k.roomy,
-      );
-    }
+    let is : IsTurn s.party before turn = is_turn s t before now most e f c d None is_open has_room None run all refl in
+    let none : turn.stop ≡ None = k.is_stop in (
+      record {
+        turn = turn;
+        is_now = k.is_now;
+        is_most = k.is_most ∙ same;
+        is_turn = is;
+        exchange = subst (λ x. Tells (λ (y : Exchange). record { received = and_one (texts_received y.received k.turn.taken) k.turn.silence; sent = y.sent ++ k.turn.sent; closes = closed x y.closes }) e f) (sym k.is_stop) k.exchange;
+        calls = subst (λ x. Tells (λ calls. and_one (calls_of_asked (calls_of_texts calls k.turn.taken) k.turn.asked) x) c d) k.no_farewell k.calls;
+        fails = λ fails. sym k.opens ∙ fails;
+        session = (
+          none,
+          k.party,
+          record {
+            run = subst (λ p. IsRun p (turn ∷ before)) (sym k.party) (run.run, run.goes_on, is);
+            goes_on = none;
+            next = k.next ∙ ap (λ n. next_after n k.turn.taken) run.next ∙ ap (λ p. next_of p (turn ∷ before)) (sym k.party);
+            durable = k.durable ∙ ap (λ n. durable_after s.party n k.turn.asked.last) run.durable ∙ ap (λ p. durable_of p (turn ∷ before)) (sym k.party);
+            sends = subst (λ p. Sends (durable_of p (turn ∷ before)) (all_of p (turn ∷ before)) (sent_of (turn ∷ before)) (unsent_of t)) (sym k.party) is.sends;
+          },
+          k.stays_open refl,
+          k.roomy,
+        );
+      },
+      record { exchange = k.exchange; opens = k.opens; roomy = k.roomy },
+    )
 
 -- A session that has ended.
 pub ends : (s t : Session) (before : List Turn) (now most : ℕ) (e f h : Option Exchange) (c d i : Option (List Call)) (stop : Stop) (was room is_open has_room : Bool)
-    → IsSession s before → Serves s now most e c (Some stop) t f d was room → ClosesBy stop f h → (was ≡ false → is_open ≡ false) → SaysLast t.party d i
-    → (given : ℕ) → most ≡ given → IsServed s now given before e c None h i is_open has_room
-ends s t before now most e f h c d i stop was room is_open has_room run k closes fails last given same =
-    let turn : Turn = with_farewell k.turn last.farewell in
-    record {
-      turn = turn;
-      is_now = k.is_now;
-      is_most = k.is_most ∙ same;
-      is_turn = is_turn s t before now most e f c d (Some stop) was room last.farewell run k (last.event ∙ ap farewell_of k.party);
-      exchange = by_stop stop k.is_stop closes;
-      calls = tells_then _ _ _ c d i (subst (λ x. Tells (λ calls. and_one (calls_of_asked (calls_of_texts calls k.turn.taken) k.turn.asked) x) c d) k.no_farewell k.calls) last.calls (λ x. refl);
-      fails = λ failed. fails (sym k.opens ∙ failed);
-      session = ap is_some k.is_stop;
-    }
+    → IsSession s before → ServesLast s now most e c (Some stop) t f d was room → ClosesBy stop f h → (was ≡ false → is_open ≡ false) → SaysLast t.party d i
+    → (given : ℕ) → most ≡ given → (served : IsServed s now given before e c None h i is_open has_room) × Leaves served.turn e f was room
+ends s t before now most e f h c d i stop was room is_open has_room run all closes fails last given same =
+    let k = all.serves in
+    let turn : Turn = with_farewell k.turn last.farewell in (
+      record {
+        turn = turn;
+        is_now = k.is_now;
+        is_most = k.is_most ∙ same;
+        is_turn = is_turn s t before now most e f c d (Some stop) was room last.farewell run all (last.event ∙ ap farewell_of k.party);
+        exchange = by_stop stop k.is_stop closes;
+        calls = tells_then _ _ _ c d i (subst (λ x. Tells (λ calls. and_one (calls_of_asked (calls_of_texts calls k.turn.taken) k.turn.asked) x) c d) k.no_farewell k.calls) last.calls (λ x. refl);
+        fails = λ failed. fails (sym k.opens ∙ failed);
+        session = ap is_some k.is_stop;
+      },
+      record { exchange = k.exchange; opens = k.opens; roomy = k.roomy },
+    )
   where
-    by_stop : (reason : Stop) → k.turn.stop ≡ Some reason → ClosesBy reason f h → Tells (exchanged (with_farewell k.turn last.farewell)) e h
+    by_stop : (reason : Stop) → all.serves.turn.stop ≡ Some reason → ClosesBy reason f h → Tells (exchanged (with_farewell all.serves.turn last.farewell)) e h
     by_stop Left is stays =
-        subst (λ x. Tells (λ (y : Exchange). record { received = and_one (texts_received y.received k.turn.taken) k.turn.silence; sent = y.sent ++ k.turn.sent; closes = closed x y.closes }) e h) (sym is)
-        (subst (Tells (exchanged (without_stop k.turn)) e) (sym stays) k.exchange)
+        subst (λ x. Tells (λ (y : Exchange). record { received = and_one (texts_received y.received all.serves.turn.taken) all.serves.turn.silence; sent = y.sent ++ all.serves.turn.sent; closes = closed x y.closes }) e h) (sym is)
+        (subst (Tells (exchanged (without_stop all.serves.turn)) e) (sym stays) all.serves.exchange)
     by_stop (Closed close) is told =
-        subst (λ x. Tells (λ (y : Exchange). record { received = and_one (texts_received y.received k.turn.taken) k.turn.silence; sent = y.sent ++ k.turn.sent; closes = closed x y.closes }) e h) (sym is)
-        (tells_then (exchanged (without_stop k.turn)) (with_close close.code (reason_of close.fault)) _ e f h k.exchange told (λ x. refl))
-
--- a session that is to be closed can be
-pub can_close : (stop : Stop) (is_open : Bool) → ((close : Close) → Some stop ≡ Some (Closed close) → is_open ≡ true) → CanClose stop is_open
-can_close Left is_open k = tt
-can_close (Closed close) is_open k = k close refl
+        subst (λ x. Tells (λ (y : Exchange). record { received = and_one (texts_received y.received all.serves.turn.taken) all.serves.turn.silence; sent = y.sent ++ all.serves.turn.sent; closes = closed x y.closes }) e h) (sym is)
+        (tells_then (exchanged (without_stop all.serves.turn)) (with_close close.code (reason_of close.fault)) _ e f h all.serves.exchange told (λ x. refl))

@@ -3,4 +3,5 @@ pub mod Taking
 pub mod Series
 pub mod Unsent
 pub mod Turning
+pub mod Closing
 pub mod Going

@@ -2,7 +2,7 @@
 use Rattle.std.proofs.lemmas.Bool.{eqb-true, leb-true}
 use Rattle.std.proofs.lemmas.List.{drop_all, nil_from_length}
 use Rattle.session_texts.specs.Unsent.{collected, answering}
-use Rattle.std.proofs.Common.{ℤ, Result, ◌&&◌, ◌==◌, nat_le, map, drop, append-nil, ◌≡◌, ℕ, ◌+◌, ◌≤◌, ◌<◌, List, [], ◌∷◌, ◌++◌, length, Bool, true, false, Option, Some, None, Ok, Err, ◌⊎◌, inl, inr, refl, sym, ap, ◌∙◌, subst, arith, option_map}
+use Rattle.std.proofs.Common.{ℤ, Result, ◌&&◌, ◌==◌, nat_le, map, drop, append-nil, ◌≡◌, ℕ, ◌+◌, ◌≤◌, ◌<◌, List, [], ◌∷◌, ◌++◌, length, Bool, true, false, Option, Some, None, Ok, Err, inl, inr, refl, sym, ap, ◌∙◌, subst, arith, option_map}
 use Rattle.std.specs.Option.{option_or}
 use Rattle.std.specs.Prelude.{IfErr, IfOk}
 use Rattle.delivery_machine.specs.declared.event.Event.{Event}
@@ -20,7 +20,7 @@ use Rattle.session_core.specs.declared.stop.Stop.{Stop}
 use Rattle.session_core.specs.declared.stop.Stop.TheVariants.{Closed}
 use Rattle.session_core.specs.Turns.{and_then}
 use Rattle.session_core.specs.Asking.{AllLeftMore, Asked, AsksAll, AsksAs, IsSeries, IsWhole, asked_nothing, close_after, close_of_asked, copies_in, copies_of, durable_after, leaves_more}
-use Rattle.session_core.specs.Steps.{AsksBoth, AsksCollect, AsksOne, AsksOwn, AsksProgress, AsksSeries, AsksSome, EndsAsking, EndsSeries, Rests, StopsSo, holds_nothing, may_send, wanting_memory}
+use Rattle.session_core.specs.Steps.{AsksBoth, AsksCollect, AsksOne, AsksOwn, AsksProgress, AsksSeries, AsksSome, EndsAsking, EndsSeries, Rests, StopsSo, holds_nothing, may_send}
 use Rattle.session_core.proofs.Telling.{tells_nothing, tells_then}
 
 -- one was asked, and what follows is by its reply

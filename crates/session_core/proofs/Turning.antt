@@ -1,5 +1,5 @@
 -- The parts of a turn make a turn.
-use Rattle.std.proofs.Common.{is_some, nat_le, eq-eqb, length-drop, ◌≡◌, ℕ, ◌+◌, ◌≤◌, ◌<◌, max, List, [], ◌∷◌, ◌++◌, length, map, drop, All, Bool, true, false, ◌&&◌, Option, Some, None, Ok, Err, Result, IsSome, ◌⊎◌, inl, inr, refl, sym, ap, ◌∙◌, subst, arith, append-nil, append_assoc}
+use Rattle.std.proofs.Common.{is_some, nat_le, eq-eqb, length-drop, ◌≡◌, ℕ, ◌≤◌, List, [], ◌∷◌, ◌++◌, length, map, drop, All, Bool, true, false, ◌&&◌, Option, Some, None, Ok, Err, IsSome, ◌⊎◌, inl, inr, refl, sym, ap, ◌∙◌, subst, arith, append-nil, append_assoc}
 use Rattle.std.specs.Option.{option_or}
 use Rattle.std.proofs.lemmas.Bool.{le-leb}
 use Rattle.std.proofs.lemmas.List.{length-map, map-append}
@@ -13,12 +13,13 @@ use Rattle.session_core.specs.declared.session.Session.{Session}
 use Rattle.session_core.specs.declared.stop.Stop.{Stop}
 use Rattle.session_core.specs.declared.stop.Stop.TheVariants.{Gone as Left, Closed}
 use Rattle.session_core.specs.Held.{unsent_of}
-use Rattle.session_core.specs.Turns.{Taken, Turn, calls_of_asked, called, exchanged}
+use Rattle.session_core.specs.Turns.{Taken, Turn, calls_of_asked}
 use Rattle.session_core.specs.Texts.{answered, closed_by}
 use Rattle.session_core.specs.Asking.{Asked, AsksAll, AsksAs, asked_nothing, close_of_asked, copies_of, durable_after}
 use Rattle.session_core.specs.Sending.{Gone, IsBlocked, IsSent}
-use Rattle.session_core.specs.Runs.{GoesOn, IsFull, ReceivesNoMore, StopsBy, close_of, is_free}
-use Rattle.session_core.specs.Steps.{AsksOwn, EndsSending, EndsTexts, EndsTextsBy, SendsReady, SendsSome, Serves, StopsSo, TakesAll, TakesTexts, holds_nothing, may_send, received_with, sent_with, wanting_memory, without_stop}
+use Rattle.session_core.specs.Closing.{ServesOpen, StopsAtOnce}
+use Rattle.session_core.specs.Runs.{GoesOn, IsFull, ReceivesNoMore, close_of, is_free}
+use Rattle.session_core.specs.Steps.{AsksOwn, EndsSending, EndsTextsBy, SendsReady, SendsSome, StopsSo, TakesAll, TakesTexts, holds_nothing, may_send, received_with, sent_with, wanting_memory}
 use Rattle.session_core.proofs.Telling.{tells_nothing, tells_then}
 
 -- the turn of its parts
@@ -55,9 +56,9 @@ pub served : (s s1 s2 s3 s4 : Session) (now most : ℕ) (e e1 e2 e3 : Option Exc
     → s3.durable ≡ durable_after s.party s2.durable asked.last → unsent_of s3 ≡ unsent_of s2 ++ copies_of s.party asked.last
     → (second : SendsSome s3 e2 s4 e3)
     → (let t : Turn = turn_of now most taken silence asked (map (λ (g : Gone). g.text) (first.gone ++ second.gone)) is_open has_room stop in
-    ReceivesNoMore t (answered s.party now s.next (unsent_of s) taken) → ((closed_by taken ≡ None) ⊎ (asked ≡ asked_nothing)) → StopsBy (close_of t) t
+    ReceivesNoMore t (answered s.party now s.next (unsent_of s) taken) → ((closed_by taken ≡ None) ⊎ (asked ≡ asked_nothing)) → StopsAtOnce (close_of t) t
     → (stop ≡ None → GoesOn s.party t s4.durable (unsent_of s4)) → (stop ≡ None → is_open ≡ true) → ((close : Close) → stop ≡ Some (Closed close) → is_open ≡ true)
-    → Serves s now most e c stop s4 e3 c2 is_open has_room)
+    → ServesOpen s now most e c stop s4 e3 c2 is_open has_room)
 served s s1 s2 s3 s4 now most e e1 e2 e3 c c1 c2 taken silence asked stop is_open has_room k few first asks calls party next durable unsent second receives over stops goes stays can =
     let at_first : s1.durable ≡ s.durable = k.keeps.durable in
     let at_second : s2.durable ≡ s.durable = first.keeps.durable ∙ at_first in
@@ -65,40 +66,42 @@ served s s1 s2 s3 s4 now most e e1 e2 e3 c c1 c2 taken silence asked stop is_ope
     let grows : s.durable ≤ durable_after s.party s.durable asked.last = durable_grows s.party s.durable asked.last in
     let last : s4.durable ≡ s3.durable = second.keeps.durable in
     record {
-      turn = turn_of now most taken silence asked (map (λ (g : Gone). g.text) (first.gone ++ second.gone)) is_open has_room stop;
-      is_now = refl;
-      is_most = refl;
-      is_stop = refl;
-      no_farewell = refl;
-      opens = refl;
-      roomy = refl;
-      texts = k.texts;
-      at_most = few;
-      receives = receives;
-      asks = asks;
-      is_over = over;
-      party = second.keeps.party ∙ party ∙ first.keeps.party ∙ k.keeps.party;
-      next = second.keeps.next ∙ next ∙ first.keeps.next ∙ k.next;
-      durable = last ∙ later;
-      gone = first.gone ++ second.gone;
-      parts = ap (λ l. l ++ unsent_of s4) (map-append (λ (g : Gone). g.item) first.gone second.gone)
-          ∙ append_assoc (map (λ (g : Gone). g.item) first.gone) (map (λ (g : Gone). g.item) second.gone) (unsent_of s4)
-          ∙ ap (λ l. map (λ (g : Gone). g.item) first.gone ++ l) (second.parts ∙ unsent)
-          ∙ sym (append_assoc (map (λ (g : Gone). g.item) first.gone) (unsent_of s2) (copies_of s.party asked.last))
-          ∙ ap (λ l. l ++ copies_of s.party asked.last) (first.parts ∙ k.unsent);
-      sent = refl;
-      ready = All-append (IsSent s4.durable) first.gone second.gone
-          (ready_later s1.durable s4.durable first.gone (omega (arith, at_first, last, later, grows)) first.ready)
-          (ready_later s3.durable s4.durable second.gone (omega (arith, last)) second.ready);
-      exchange = tells_then (λ x. sent_with (map (λ (g : Gone). g.text) first.gone) (received_with taken silence x)) (sent_with (map (λ (g : Gone). g.text) second.gone)) _ e e2 e3
-          (tells_then (received_with taken silence) (sent_with (map (λ (g : Gone). g.text) first.gone)) _ e e1 e2 k.exchange first.exchange (λ x. refl)) second.exchange
-          (λ x. ap (λ l. sent_with l (received_with taken silence x)) (map-append (λ (g : Gone). g.text) first.gone second.gone)
-          ∙ ap (λ l. record (received_with taken silence x) { sent = l }) (sym (append_assoc x.sent (map (λ (g : Gone). g.text) first.gone) (map (λ (g : Gone). g.text) second.gone))));
-      calls = tells_then _ _ _ c c1 c2 k.calls calls (λ x. refl);
+      serves = record {
+        turn = turn_of now most taken silence asked (map (λ (g : Gone). g.text) (first.gone ++ second.gone)) is_open has_room stop;
+        is_now = refl;
+        is_most = refl;
+        is_stop = refl;
+        no_farewell = refl;
+        opens = refl;
+        roomy = refl;
+        texts = k.texts;
+        at_most = few;
+        receives = receives;
+        asks = asks;
+        is_over = over;
+        party = second.keeps.party ∙ party ∙ first.keeps.party ∙ k.keeps.party;
+        next = second.keeps.next ∙ next ∙ first.keeps.next ∙ k.next;
+        durable = last ∙ later;
+        gone = first.gone ++ second.gone;
+        parts = ap (λ l. l ++ unsent_of s4) (map-append (λ (g : Gone). g.item) first.gone second.gone)
+            ∙ append_assoc (map (λ (g : Gone). g.item) first.gone) (map (λ (g : Gone). g.item) second.gone) (unsent_of s4)
+            ∙ ap (λ l. map (λ (g : Gone). g.item) first.gone ++ l) (second.parts ∙ unsent)
+            ∙ sym (append_assoc (map (λ (g : Gone). g.item) first.gone) (unsent_of s2) (copies_of s.party asked.last))
+            ∙ ap (λ l. l ++ copies_of s.party asked.last) (first.parts ∙ k.unsent);
+        sent = refl;
+        ready = All-append (IsSent s4.durable) first.gone second.gone
+            (ready_later s1.durable s4.durable first.gone (omega (arith, at_first, last, later, grows)) first.ready)
+            (ready_later s3.durable s4.durable second.gone (omega (arith, last)) second.ready);
+        exchange = tells_then (λ x. sent_with (map (λ (g : Gone). g.text) first.gone) (received_with taken silence x)) (sent_with (map (λ (g : Gone). g.text) second.gone)) _ e e2 e3
+            (tells_then (received_with taken silence) (sent_with (map (λ (g : Gone). g.text) first.gone)) _ e e1 e2 k.exchange first.exchange (λ x. refl)) second.exchange
+            (λ x. ap (λ l. sent_with l (received_with taken silence x)) (map-append (λ (g : Gone). g.text) first.gone second.gone)
+            ∙ ap (λ l. record (received_with taken silence x) { sent = l }) (sym (append_assoc x.sent (map (λ (g : Gone). g.text) first.gone) (map (λ (g : Gone). g.text) second.gone))));
+        calls = tells_then _ _ _ c c1 c2 k.calls calls (λ x. refl);
+        goes_on = goes;
+        stays_open = stays;
+        can_close = can;
+      };
       stops = stops;
-      goes_on = goes;
-      stays_open = stays;
-      can_close = can;
     }
 
 -- nothing was sent
@@ -134,7 +137,7 @@ closed_is_open stop is_open (inr (wants, o)) close e = o
 
 -- The texts ended the turn.
 pub ends_with_texts : (s t : Session) (now most : ℕ) (e f : Option Exchange) (c d : Option (List Call)) (stop : Stop) (is_open has_room : Bool)
-    → TakesTexts s now most e c (Some stop) t f d is_open → Serves s now most e c (Some stop) t f d is_open has_room
+    → TakesTexts s now most e c (Some stop) t f d is_open → ServesOpen s now most e c (Some stop) t f d is_open has_room
 unfolding sends_nothing
 ends_with_texts s t now most e f c d stop is_open has_room k =
     served s t t t t now most e f f f c d d k.taken k.silence asked_nothing (Some stop) is_open has_room k.all k.at_most (sends_nothing t f) (asks_nothing s.party now) (tells_nothing _ d (λ x. refl)) refl refl
@@ -147,7 +150,7 @@ ends_with_texts s t now most e f c d stop is_open has_room k =
     receives None is (inr (inr (wants, o))) = inr (inr (inr (inr (inr wants))))
     receives (Some close) is (closes, o) = inr (inl (ap is_some is))
 
-    stops : (close : Option Close) → EndsTextsBy close k.taken k.silence most (unsent_of t) (Some stop) is_open → StopsBy (option_or close None) (turn_of now most k.taken k.silence asked_nothing [] is_open has_room (Some stop))
+    stops : (close : Option Close) → EndsTextsBy close k.taken k.silence most (unsent_of t) (Some stop) is_open → StopsAtOnce (option_or close None) (turn_of now most k.taken k.silence asked_nothing [] is_open has_room (Some stop))
     stops None (inl (none, o, why)) = absurd (cc)
     stops None (inr (inl (left, o))) = inr (inl (left, o))
     stops None (inr (inr (wants, o))) = inr (inr wants)
@@ -179,25 +182,25 @@ received_so t unanswered unsent is (inr (inr full)) = inr (inr (inr (inl (subst 
 -- a sending that did not end the session
 pub sending_goes_on : (durable : ℕ) (left : List Unsent) (is_open has_room : Bool) → EndsSending durable left None is_open has_room → (is_open ≡ true) × (has_room ≡ true → IsBlocked durable left)
 sending_goes_on durable left is_open has_room (inl (none, o, blocked)) = (o, blocked)
-sending_goes_on durable left is_open has_room (inr (inl (gone, o))) = absurd (cc)
-sending_goes_on durable left is_open has_room (inr (inr (wants, o))) = absurd (cc)
+sending_goes_on durable left is_open has_room (inr (ready, inl (gone, o))) = absurd (cc)
+sending_goes_on durable left is_open has_room (inr (ready, inr (wants, o, room))) = absurd (cc)
 
 pub sending_stops : (durable : ℕ) (left : List Unsent) (stop : Stop) (is_open has_room : Bool) → EndsSending durable left (Some stop) is_open has_room → ((stop ≡ Left) × (is_open ≡ false)) ⊎ ((stop ≡ wanting_memory) × (is_open ≡ true))
 sending_stops durable left stop is_open has_room (inl (none, o, blocked)) = absurd (cc)
-sending_stops durable left stop is_open has_room (inr (inl (gone, o))) = inl (cc, o)
-sending_stops durable left stop is_open has_room (inr (inr (wants, o))) = inr (cc, o)
+sending_stops durable left stop is_open has_room (inr (ready, inl (gone, o))) = inl (cc, o)
+sending_stops durable left stop is_open has_room (inr (ready, inr (wants, o, room))) = inr (cc, o)
 
 pub sends_open : (s t : Session) (e f : Option Exchange) (is_open has_room : Bool) → SendsReady s e None t f is_open has_room → is_open ≡ true
 sends_open s t e f is_open has_room k = (sending_goes_on s.durable (unsent_of t) is_open has_room k.ends).0
 
 -- how a turn stops by the sending
-pub stops_sending : (t : Turn) (stop : Stop) (is_open : Bool) → t.stop ≡ Some stop → t.is_open ≡ is_open → ((stop ≡ Left) × (is_open ≡ false)) ⊎ ((stop ≡ wanting_memory) × (is_open ≡ true)) → StopsBy None t
+pub stops_sending : (t : Turn) (stop : Stop) (is_open : Bool) → t.stop ≡ Some stop → t.is_open ≡ is_open → ((stop ≡ Left) × (is_open ≡ false)) ⊎ ((stop ≡ wanting_memory) × (is_open ≡ true)) → StopsAtOnce None t
 stops_sending t stop is_open is o (inl (left, f)) = inr (inl (is ∙ ap Some left, o ∙ f))
 stops_sending t stop is_open is o (inr (wants, f)) = inr (inr (is ∙ ap Some wants))
 
 -- The first sending ended the turn.
 pub ends_with_first : (s s1 t : Session) (now most : ℕ) (e e1 f : Option Exchange) (c d : Option (List Call)) (stop : Stop) (was is_open has_room : Bool)
-    → TakesTexts s now most e c None s1 e1 d was → SendsReady s1 e1 (Some stop) t f is_open has_room → Serves s now most e c (Some stop) t f d is_open has_room
+    → TakesTexts s now most e c None s1 e1 d was → SendsReady s1 e1 (Some stop) t f is_open has_room → ServesOpen s now most e c (Some stop) t f d is_open has_room
 unfolding sends_nothing
 ends_with_first s s1 t now most e e1 f c d stop was is_open has_room k first =
     let goes = texts_go_on (closed_by k.taken) k.taken k.silence most (unsent_of s1) was k.ends in
@@ -206,16 +209,16 @@ ends_with_first s s1 t now most e e1 f c d stop was is_open has_room k first =
     served s s1 t t t now most e e1 f f c d d k.taken k.silence asked_nothing (Some stop) is_open has_room k.all k.at_most first.sends (asks_nothing s.party now) (tells_nothing _ d (λ x. refl)) refl refl
     (durable_stays s.party t.durable) (no_copies s.party (unsent_of t)) (sends_nothing t f)
     (received_so turn (answered s.party now s.next (unsent_of s) k.taken) (unsent_of s1) k.all.unsent goes.2) (inl goes.0)
-    (subst (λ x. StopsBy (option_or x None) turn) (sym goes.0) (stops_sending turn stop is_open refl refl fails)) (λ e. absurd (cc)) (λ e. absurd (cc)) (closed_is_open stop is_open fails)
+    (subst (λ x. StopsAtOnce (option_or x None) turn) (sym goes.0) (stops_sending turn stop is_open refl refl fails)) (λ e. absurd (cc)) (λ e. absurd (cc)) (closed_is_open stop is_open fails)
 
 -- the asking closes the session, or wants memory
-pub stops_asking : (t : Turn) (close : Option Close) (stop : Stop) → t.stop ≡ Some stop → StopsSo close stop → StopsBy close t
+pub stops_asking : (t : Turn) (close : Option Close) (stop : Stop) → t.stop ≡ Some stop → StopsSo close stop → StopsAtOnce close t
 stops_asking t None stop is wants = inr (inr (is ∙ ap Some wants))
 stops_asking t (Some close) stop is closes = is ∙ ap Some closes
 
 -- The asking ended the turn.
 pub ends_with_asking : (s s1 s2 t : Session) (now most : ℕ) (e e1 f : Option Exchange) (c c1 d : Option (List Call)) (stop : Stop) (was is_open has_room room : Bool)
-    → TakesTexts s now most e c None s1 e1 c1 was → SendsReady s1 e1 None s2 f is_open has_room → AsksOwn s2 now room c1 (Err stop) t d → Serves s now most e c (Some stop) t f d is_open has_room
+    → TakesTexts s now most e c None s1 e1 c1 was → SendsReady s1 e1 None s2 f is_open has_room → AsksOwn s2 now room c1 (Err stop) t d → ServesOpen s now most e c (Some stop) t f d is_open has_room
 unfolding sends_nothing
 ends_with_asking s s1 s2 t now most e e1 f c c1 d stop was is_open has_room room k first own =
     let goes = texts_go_on (closed_by k.taken) k.taken k.silence most (unsent_of s1) was k.ends in
@@ -224,7 +227,7 @@ ends_with_asking s s1 s2 t now most e e1 f c c1 d stop was is_open has_room room
     served s s1 s2 t t now most e e1 f f c c1 d k.taken k.silence own.asked (Some stop) is_open has_room k.all k.at_most first.sends (subst (λ p. AsksAs p now own.asked) party own.asks) own.calls own.party own.next
     (subst (λ p. t.durable ≡ durable_after p s2.durable own.asked.last) party own.durable) (subst (λ p. unsent_of t ≡ unsent_of s2 ++ copies_of p own.asked.last) party own.unsent) (sends_nothing t f)
     (received_so turn (answered s.party now s.next (unsent_of s) k.taken) (unsent_of s1) k.all.unsent goes.2) (inl goes.0)
-    (subst (λ x. StopsBy (option_or x (close_of_asked own.asked)) turn) (sym goes.0) (stops_asking turn (close_of_asked own.asked) stop refl own.ends)) (λ e. absurd (cc)) (λ e. absurd (cc)) (λ close e. sends_open s1 s2 e1 f is_open has_room first)
+    (subst (λ x. StopsAtOnce (option_or x (close_of_asked own.asked)) turn) (sym goes.0) (stops_asking turn (close_of_asked own.asked) stop refl own.ends)) (λ e. absurd (cc)) (λ e. absurd (cc)) (λ close e. sends_open s1 s2 e1 f is_open has_room first)
 
 -- what is asked in full is asked in part
 pub asks_less : (party : Party) (asked : Asked) (b : Bool) → AsksAll party true asked → AsksAll party b asked
@@ -236,7 +239,7 @@ asks_less Admin asked b all = tt
 -- The turn went on to its second sending.
 pub goes_on_sent : (s s1 s2 s3 t : Session) (now most : ℕ) (e e1 e2 f : Option Exchange) (c c1 d : Option (List Call)) (stop : Option Stop) (was open1 room1 room is_open has_room : Bool)
     → TakesTexts s now most e c None s1 e1 c1 was → SendsReady s1 e1 None s2 e2 open1 room1 → AsksOwn s2 now room c1 (Ok true) s3 d → SendsReady s3 e2 stop t f is_open has_room
-    → Serves s now most e c stop t f d is_open has_room
+    → ServesOpen s now most e c stop t f d is_open has_room
 goes_on_sent s s1 s2 s3 t now most e e1 e2 f c c1 d None was open1 room1 room is_open has_room k first own second =
     let goes = texts_go_on (closed_by k.taken) k.taken k.silence most (unsent_of s1) was k.ends in
     let on = sending_goes_on s3.durable (unsent_of t) is_open has_room second.ends in
@@ -245,7 +248,7 @@ goes_on_sent s s1 s2 s3 t now most e e1 e2 f c c1 d None was open1 room1 room is
     served s s1 s2 s3 t now most e e1 e2 f c c1 d k.taken k.silence own.asked None is_open has_room k.all k.at_most first.sends (subst (λ p. AsksAs p now own.asked) party own.asks) own.calls own.party own.next
     (subst (λ p. s3.durable ≡ durable_after p s2.durable own.asked.last) party own.durable) (subst (λ p. unsent_of s3 ≡ unsent_of s2 ++ copies_of p own.asked.last) party own.unsent) second.sends
     (received_so turn (answered s.party now s.next (unsent_of s) k.taken) (unsent_of s1) k.all.unsent goes.2) (inl goes.0)
-    (subst (λ x. StopsBy (option_or x (close_of_asked own.asked)) turn) (sym goes.0) (subst (λ x. StopsBy x turn) (sym own.ends.0) (inl refl)))
+    (subst (λ x. StopsAtOnce (option_or x (close_of_asked own.asked)) turn) (sym goes.0) (subst (λ x. StopsAtOnce x turn) (sym own.ends.0) (inl refl)))
     (λ none. (asks_less s.party own.asked (is_free turn (unsent_of t)) (subst (λ p. AsksAll p true own.asked) party own.ends.2), λ room. subst (λ d. IsBlocked d (unsent_of t)) (sym second.sends.keeps.durable) (on.1 room)))
     (λ e. on.0) (λ close e. absurd (cc))
 goes_on_sent s s1 s2 s3 t now most e e1 e2 f c c1 d (Some stop) was open1 room1 room is_open has_room k first own second =
@@ -256,7 +259,7 @@ goes_on_sent s s1 s2 s3 t now most e e1 e2 f c c1 d (Some stop) was open1 room1 
     served s s1 s2 s3 t now most e e1 e2 f c c1 d k.taken k.silence own.asked (Some stop) is_open has_room k.all k.at_most first.sends (subst (λ p. AsksAs p now own.asked) party own.asks) own.calls own.party own.next
     (subst (λ p. s3.durable ≡ durable_after p s2.durable own.asked.last) party own.durable) (subst (λ p. unsent_of s3 ≡ unsent_of s2 ++ copies_of p own.asked.last) party own.unsent) second.sends
     (received_so turn (answered s.party now s.next (unsent_of s) k.taken) (unsent_of s1) k.all.unsent goes.2) (inl goes.0)
-    (subst (λ x. StopsBy (option_or x (close_of_asked own.asked)) turn) (sym goes.0) (subst (λ x. StopsBy x turn) (sym own.ends.0) (stops_sending turn stop is_open refl refl fails)))
+    (subst (λ x. StopsAtOnce (option_or x (close_of_asked own.asked)) turn) (sym goes.0) (subst (λ x. StopsAtOnce x turn) (sym own.ends.0) (stops_sending turn stop is_open refl refl fails)))
     (λ none. absurd (cc)) (λ none. absurd (cc)) (closed_is_open stop is_open fails)
 
 -- a session that has sent all holds nothing
@@ -285,7 +288,7 @@ asks_held Admin s t room may is all = tt
 
 -- The turn ended with its asking.
 pub goes_on_held : (s s1 s2 t : Session) (now most : ℕ) (e e1 f : Option Exchange) (c c1 d : Option (List Call)) (was is_open has_room room : Bool) → room ≡ has_room
-    → TakesTexts s now most e c None s1 e1 c1 was → SendsReady s1 e1 None s2 f is_open has_room → AsksOwn s2 now room c1 (Ok false) t d → Serves s now most e c None t f d is_open has_room
+    → TakesTexts s now most e c None s1 e1 c1 was → SendsReady s1 e1 None s2 f is_open has_room → AsksOwn s2 now room c1 (Ok false) t d → ServesOpen s now most e c None t f d is_open has_room
 unfolding sends_nothing
 goes_on_held s s1 s2 t now most e e1 f c c1 d was is_open has_room room same k first own =
     let goes = texts_go_on (closed_by k.taken) k.taken k.silence most (unsent_of s1) was k.ends in
@@ -298,7 +301,7 @@ goes_on_held s s1 s2 t now most e e1 f c c1 d was is_open has_room room same k f
     served s s1 s2 t t now most e e1 f f c c1 d k.taken k.silence own.asked None is_open has_room k.all k.at_most first.sends (subst (λ p. AsksAs p now own.asked) party own.asks) own.calls own.party own.next
     (subst (λ p. t.durable ≡ durable_after p s2.durable own.asked.last) party own.durable) (subst (λ p. unsent_of t ≡ unsent_of s2 ++ copies_of p own.asked.last) party own.unsent) (sends_nothing t f)
     (received_so turn (answered s.party now s.next (unsent_of s) k.taken) (unsent_of s1) k.all.unsent goes.2) (inl goes.0)
-    (subst (λ x. StopsBy (option_or x (close_of_asked own.asked)) turn) (sym goes.0) (subst (λ x. StopsBy x turn) (sym own.ends.0) (inl refl)))
+    (subst (λ x. StopsAtOnce (option_or x (close_of_asked own.asked)) turn) (sym goes.0) (subst (λ x. StopsAtOnce x turn) (sym own.ends.0) (inl refl)))
     (λ going. (
       subst (λ p. AsksAll p (is_free turn (unsent_of t)) own.asked) party
           (subst (λ l. AsksAll s2.party (is_free turn l) own.asked) (sym unsent) (asks_held s2.party s2 turn room own.ends.1 (sym same) own.ends.2)),

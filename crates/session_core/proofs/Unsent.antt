@@ -1,5 +1,5 @@
 -- What each step takes from what is to be sent.
-use Rattle.std.proofs.Common.{suc, ◌≡◌, ℕ, ◌+◌, ◌≤◌, ◌<◌, List, [], ◌∷◌, ◌++◌, length, map, drop, get_or, All, Bool, true, false, Option, Some, None, ◌⊎◌, inl, inr, refl, sym, ap, ◌∙◌, subst, arith, append-nil, append_assoc, drop-cons, add-one, nat_lt, ◌||◌}
+use Rattle.std.proofs.Common.{length-drop, suc, ◌≡◌, ℕ, ◌+◌, ◌≤◌, ◌<◌, List, [], ◌∷◌, ◌++◌, length, map, drop, get_or, Bool, true, false, Option, Some, None, ◌⊎◌, inl, inr, refl, sym, ap, ◌∙◌, subst, arith, append-nil, append_assoc, drop-cons, add-one, ◌||◌}
 use Rattle.std.proofs.lemmas.Bool.{leb-false, leb-true, ltb-true, ltb-false}
 use Rattle.std.proofs.lemmas.List.{drop_all, map-append}
 use Rattle.std.proofs.lemmas.List.Elements.{All-push}
@@ -9,9 +9,10 @@ use Rattle.session_texts.specs.declared.answer.Answer.{Answer}
 use Rattle.session_texts.specs.Unsent.{IsDeliveryText, Unsent, answer_text, answering, collected, least_durable}
 use Rattle.session_core.specs.declared.session.Session.{Session}
 use Rattle.session_core.specs.declared.stop.Stop.{Stop}
+use Rattle.session_core.specs.declared.stop.Stop.TheVariants.{Gone as Left}
 use Rattle.session_core.specs.Held.{unsent_of}
-use Rattle.session_core.specs.Sending.{Gone, IsBlocked, IsSent}
-use Rattle.session_core.specs.Steps.{EndsSending, FailsSending, KeepsState, SendsOne, SendsReady, SendsSome, can_send, first_ready, has_copies, is_ready, sent_with}
+use Rattle.session_core.specs.Sending.{Gone, IsBlocked, IsReady, IsSent}
+use Rattle.session_core.specs.Steps.{FailsSending, KeepsState, SendsOne, SendsReady, SendsSome, can_send, first_ready, has_copies, is_ready, wanting_memory}
 use Rattle.session_core.proofs.Telling.{tells_nothing, tells_then}
 
 -- a message that was sent is not to be sent any longer
@@ -27,11 +28,11 @@ copy_gone s t delivery some is copies sent waiting =
     ∙ ap (λ (l : List Delivery). map collected l ++ map answering s.waiting.items) (sym parted)
 
 -- a message was sent
-pub sends_copy : (s t : Session) (delivery : Delivery) (text : List ℕ) (e f : Option Exchange) (is_open : Bool)
+pub sends_copy : (s t : Session) (delivery : Delivery) (text : List ℕ) (e f : Option Exchange) (had_room is_open has_room : Bool)
     → has_copies s ≡ true → delivery ≡ get_or s.copies s.copies_sent delivery → IsDeliveryText delivery text
     → t.copies ≡ s.copies → t.copies_sent ≡ s.copies_sent + 1 → t.waiting.items ≡ s.waiting.items → KeepsState s t
-    → Tells (with_sent text) e f → is_open ≡ true → SendsOne s e None t f is_open
-sends_copy s t delivery text e f is_open some is written copies sent waiting keeps tells o =
+    → Tells (with_sent text) e f → is_open ≡ true → SendsOne s e had_room None t f is_open has_room
+sends_copy s t delivery text e f had_room is_open has_room some is written copies sent waiting keeps tells o =
     (record { item = collected delivery; text = text }, copy_gone s t delivery some is copies sent waiting, (omega arith, written), tells, keeps, o)
 
 -- an answer that was sent is not to be sent any longer
@@ -57,17 +58,17 @@ answer_gone s t answer none ready is copies sent waiting =
     by_items (first ∷ more) r i = (ap (λ x. answering x ∷ map answering more) i, subst (λ x. least_durable x ≤ s.durable) (sym i) (leb-true (least_durable first) s.durable r))
 
 -- an answer was sent
-pub sends_answer : (s t : Session) (answer : Answer) (text : List ℕ) (e f : Option Exchange) (is_open : Bool)
+pub sends_answer : (s t : Session) (answer : Answer) (text : List ℕ) (e f : Option Exchange) (had_room is_open has_room : Bool)
     → has_copies s ≡ false → is_ready s ≡ true → answer ≡ get_or s.waiting.items 0 answer → text ≡ answer_text answer
     → t.copies ≡ s.copies → t.copies_sent ≡ s.copies_sent → t.waiting.items ≡ drop 1 s.waiting.items → KeepsState s t
-    → Tells (with_sent text) e f → is_open ≡ true → SendsOne s e None t f is_open
-sends_answer s t answer text e f is_open none ready is written copies sent waiting keeps tells o =
+    → Tells (with_sent text) e f → is_open ≡ true → SendsOne s e had_room None t f is_open has_room
+sends_answer s t answer text e f had_room is_open has_room none ready is written copies sent waiting keeps tells o =
     let k = answer_gone s t answer none ready is copies sent waiting in
     (record { item = answering answer; text = text }, k.0, (k.1, written), tells, keeps, o)
 
 -- what was sent first, and what was sent then
-pub sent_one : (s t u : Session) (e f h : Option Exchange) (is_open : Bool) → SendsSome s e t f → SendsOne t f None u h is_open → SendsSome s e u h
-sent_one s t u e f h is_open k (gone, parts, ready, tells, keeps, o) = record {
+pub sent_one : (s t u : Session) (e f h : Option Exchange) (had_room is_open has_room : Bool) → SendsSome s e t f → SendsOne t f had_room None u h is_open has_room → SendsSome s e u h
+sent_one s t u e f h had_room is_open has_room k (gone, parts, ready, tells, keeps, o) = record {
   gone = k.gone ++ gone ∷ [];
   parts = ap (λ l. l ++ unsent_of u) (map-append (λ (g : Gone). g.item) k.gone (gone ∷ [])) ∙ append_assoc (map (λ (g : Gone). g.item) k.gone) (gone.item ∷ []) (unsent_of u)
       ∙ ap (λ l. map (λ (g : Gone). g.item) k.gone ++ l) parts ∙ k.parts;
@@ -110,9 +111,29 @@ sent_all s t e f is_open has_room k o blocked = record {
   ends = inl (refl, o, λ room. subst (λ d. IsBlocked d (unsent_of t)) k.keeps.durable (blocked room));
 }
 
+-- what may be sent is ready
+pub is_ready_left : (s : Session) → can_send s ≡ true → IsReady s.durable (unsent_of s)
+is_ready_left s e = by_copies (drop s.copies_sent s.copies) refl
+  where
+    by_items : (items : List Answer) → first_ready s.durable items ≡ true → IsReady s.durable (map answering items)
+    by_items [] r = absurd (cc)
+    by_items (first ∷ more) r = leb-true (least_durable first) s.durable r
+
+    by_copies : (copies : List Delivery) → drop s.copies_sent s.copies ≡ copies → IsReady s.durable (map collected copies ++ map answering s.waiting.items)
+    by_copies [] is = by_items s.waiting.items (by_case (has_copies s) refl e)
+      where
+        by_case : (some : Bool) → has_copies s ≡ some → (some || is_ready s) ≡ true → is_ready s ≡ true
+        by_case false none r = r
+        by_case true some r =
+            let within : s.copies_sent < length s.copies = ltb-true s.copies_sent (length s.copies) some in
+            let none : length s.copies ≤ s.copies_sent = omega (arith, ap length is, length-drop s.copies_sent s.copies) in
+            absurd (omega (arith, within, none))
+    by_copies (delivery ∷ more) is = omega arith
+
 -- the sending ended the session
-pub sent_end : (s t u : Session) (e f h : Option Exchange) (stop : Stop) (is_open has_room : Bool) → SendsSome s e t f → SendsOne t f (Some stop) u h is_open → SendsReady s e (Some stop) u h is_open has_room
-sent_end s t u e f h stop is_open has_room k (stays, tells, keeps, fails) = record {
+pub sent_end : (s t u : Session) (e f h : Option Exchange) (stop : Stop) (had_room is_open has_room : Bool) → SendsSome s e t f → can_send t ≡ true → had_room ≡ true → SendsOne t f had_room (Some stop) u h is_open has_room
+    → SendsReady s e (Some stop) u h is_open has_room
+sent_end s t u e f h stop had_room is_open has_room k some room (stays, tells, keeps, fails) = record {
   sends = record {
     gone = k.gone;
     parts = ap (λ l. map (λ (g : Gone). g.item) k.gone ++ l) stays ∙ k.parts;
@@ -120,12 +141,12 @@ sent_end s t u e f h stop is_open has_room k (stays, tells, keeps, fails) = reco
     exchange = tells_then _ _ _ e f h k.exchange tells (λ x. refl);
     keeps = record { party = keeps.party ∙ k.keeps.party; next = keeps.next ∙ k.keeps.next; durable = keeps.durable ∙ k.keeps.durable };
   };
-  ends = by_case fails;
+  ends = inr (subst (λ (x : ℕ × List Unsent). IsReady x.0 x.1) (λ i. (k.keeps.durable i, sym stays i)) (is_ready_left t some), by_case fails);
 }
   where
-    by_case : FailsSending stop is_open → EndsSending s.durable (unsent_of u) (Some stop) is_open has_room
-    by_case (inl (left, o)) = inr (inl (ap Some left, o))
-    by_case (inr (wants, o)) = inr (inr (ap Some wants, o))
+    by_case : FailsSending stop had_room is_open has_room → (((Some stop ≡ Some Left) × (is_open ≡ false)) ⊎ ((Some stop ≡ Some wanting_memory) × (is_open ≡ true) × (has_room ≡ true)))
+    by_case (inl (left, o)) = inl (ap Some left, o)
+    by_case (inr (wants, o, same)) = inr (ap Some wants, o, same ∙ room)
 
 -- one less is to be sent
 pub smaller : (s t : Session) (item : Unsent) → item ∷ unsent_of t ≡ unsent_of s → length (unsent_of t) < length (unsent_of s)

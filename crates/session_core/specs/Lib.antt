@@ -5,4 +5,5 @@ pub mod Sending
 pub mod Held
 pub mod Runs
 pub mod Steps
+pub mod Closing
 pub mod Opening

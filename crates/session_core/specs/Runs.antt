@@ -1,8 +1,7 @@
 -- A session's run: its turns, the latest first.
-use Rattle.std.specs.Prelude.{◌≡◌, ◌⊎◌, ℕ, ℤ, ◌≤◌, List, [], ◌∷◌, ◌++◌, length, count_by, max, Bool, true, false, ◌&&◌, Option, Some, None, IsSome, MatchOption, option_map}
+use Rattle.std.specs.Prelude.{◌≡◌, ◌⊎◌, ℕ, ℤ, ◌≤◌, List, [], ◌∷◌, ◌++◌, length, count_by, Bool, true, false, Option, Some, None, IsSome, MatchOption, option_map}
 use Rattle.std.specs.Option.{option_or}
 use Rattle.position_core.specs.declared.fault.Fault.TheVariants.{NoMemory}
-use Rattle.delivery_machine.specs.declared.event.Event.{Event}
 use Rattle.session_links.specs.Links.{Call, Exchange, Tells}
 use Rattle.session_texts.specs.declared.party.Party.{Party}
 use Rattle.session_texts.specs.declared.close.Close.{Close}
@@ -11,10 +10,10 @@ use Rattle.session_texts.specs.Outcomes.{farewell_of, first_of}
 use Rattle.session_texts.specs.Unsent.{Unsent, is_answer}
 use Rattle.session_core.specs.declared.stop.Stop.{Stop}
 use Rattle.session_core.specs.declared.stop.Stop.TheVariants.{Gone, Closed}
-use Rattle.session_core.specs.Turns.{Turn, called, exchanged}
+use Rattle.session_core.specs.Turns.{Turn, called, exchanged, without_stop}
 use Rattle.session_core.specs.Texts.{AreTaken, answered, closed_by, next_after}
 use Rattle.session_core.specs.Asking.{AsksAll, AsksAs, asked_nothing, close_of_asked, copies_of, durable_after}
-use Rattle.session_core.specs.Sending.{IsBlocked, Sends}
+use Rattle.session_core.specs.Sending.{IsBlocked, IsReady, Sends}
 use Rattle.session_core.specs.Held.{unsent_of}
 use Rattle.session_core.specs.declared.session.Session.{Session}
 
@@ -52,12 +51,23 @@ ReceivesNoMore t unanswered =
 abbrev pub close_of : Turn → Option Close
 close_of t = option_or (closed_by t.taken) (close_of_asked t.asked)
 
--- the turn ends the session where a text or a call does; else where the connection is gone or has failed; or where memory is
--- wanted for what the session does itself
-abbrev pub StopsBy : Option Close → Turn → Type 0
-StopsBy (Some close) t = t.stop ≡ Some (Closed close)
-StopsBy None t =
+-- no text and no call ends the session: it goes on; or the connection is gone or has failed; or memory is wanted for what the
+-- session does itself
+abbrev pub StopsItself : Turn → Type 0
+StopsItself t =
     (t.stop ≡ None) ⊎ (((t.stop ≡ Some Gone) × (t.is_open ≡ false)) ⊎ (t.stop ≡ Some (Closed (refusing NoMemory))))
+
+-- the sending before a close failed: the connection did, or there was no memory to write a text that it had room for
+abbrev pub FailsBeforeClose : Turn → Type 0
+FailsBeforeClose t =
+    ((t.stop ≡ Some Gone) × (t.is_open ≡ false))
+    ⊎ ((t.stop ≡ Some (Closed (refusing NoMemory))) × (t.is_open ≡ true) × (t.has_room ≡ true))
+
+-- the turn ends the session where a text or a call does, as that has it; or, where something is left that is ready to be sent, as
+-- the sending of it failed
+abbrev pub StopsBy : Option Close → Turn → ℕ → List Unsent → Type 0
+StopsBy (Some close) t durable left = (t.stop ≡ Some (Closed close)) ⊎ (IsReady durable left × FailsBeforeClose t)
+StopsBy None t durable left = StopsItself t
 
 -- the session ends with its last event, and only then
 abbrev pub SaysFarewell : Party → Option Stop → Option Call → Type 0
@@ -72,6 +82,13 @@ is_free t (item ∷ left) = false
 -- a turn that goes on asks all and sends all that is ready, as long as the connection has room
 abbrev pub GoesOn : Party → Turn → ℕ → List Unsent → Type 0
 GoesOn party t durable left = AsksAll party (is_free t left) t.asked × (t.has_room ≡ true → IsBlocked durable left)
+
+-- A turn that closes an open connection sends all that is ready before, as long as the connection has room. One that closes it
+-- for want of memory may have had none to write a text.
+abbrev pub SendsBeforeClose : Turn → ℕ → List Unsent → Type 0
+SendsBeforeClose t durable left =
+    (close : Close) → t.stop ≡ Some (Closed close)
+    → (t.is_open ≡ true) × (t.has_room ≡ true → IsBlocked durable left ⊎ (close ≡ refusing NoMemory))
 
 -- A turn after these turns.
 pub record IsTurn (party : Party) (before : List Turn) (t : Turn) : Type 0 where
@@ -88,9 +105,10 @@ pub record IsTurn (party : Party) (before : List Turn) (t : Turn) : Type 0 where
   pub left : List Unsent
   pub sends : Sends (durable_of party (t ∷ before)) (all_of party (t ∷ before)) (sent_of (t ∷ before)) left
   -- whether and how the session ends
-  pub stops : StopsBy (close_of t) t
+  pub stops : StopsBy (close_of t) t (durable_of party (t ∷ before)) left
   pub farewell : SaysFarewell party t.stop t.farewell
   pub goes_on : t.stop ≡ None → GoesOn party t (durable_of party (t ∷ before)) left
+  pub closes : SendsBeforeClose t (durable_of party (t ∷ before)) left
 
 -- the session has not ended
 abbrev pub IsOpen : List Turn → Type 0
@@ -121,3 +139,9 @@ pub record IsServed (s : Session) (now most : ℕ) (before : List Turn) (e : Opt
   -- a connection that failed, or whose client has gone, is not open, and neither is one that was closed
   pub fails : turn.is_open ≡ false → is_open ≡ false
   pub session : MatchOption result (IsSome turn.stop) (λ t. (turn.stop ≡ None) × (t.party ≡ s.party) × IsSession t (turn ∷ before) × (is_open ≡ true) × (turn.has_room ≡ has_room))
+
+-- How a turn left its connection, before it closed it: what the connection told, whether it was open, and whether it had room.
+pub record Leaves (t : Turn) (e f : Option Exchange) (is_open has_room : Bool) : Type 0 where
+  pub exchange : Tells (exchanged (without_stop t)) e f
+  pub opens : t.is_open ≡ is_open
+  pub roomy : t.has_room ≡ has_room

@@ -22,3 +22,8 @@ pub record Sends (durable : ℕ) (all : List Unsent) (sent : List (List ℕ)) (l
 abbrev pub IsBlocked : ℕ → List Unsent → Type 0
 IsBlocked durable [] = Unit {0}
 IsBlocked durable (first ∷ more) = durable < needs first
+
+-- something is left, and the first of it is ready
+abbrev pub IsReady : ℕ → List Unsent → Type 0
+IsReady durable [] = ⊥
+IsReady durable (first ∷ more) = needs first ≤ durable

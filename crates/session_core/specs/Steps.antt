@@ -1,5 +1,5 @@
 -- The steps of a turn, as its private functions tell them: what each adds to the turn, and to what the session holds.
-use Rattle.std.specs.Prelude.{◌≡◌, ◌⊎◌, ℕ, ◌≤◌, nat_le, List, [], ◌∷◌, ◌++◌, length, drop, map, All, Bool, true, false, ◌&&◌, ◌||◌, ◌==◌, nat_lt, Option, Some, None, IsSome, Result, Ok, Err, option_map, max, not}
+use Rattle.std.specs.Prelude.{◌≡◌, ◌⊎◌, ℕ, ◌≤◌, nat_le, List, [], ◌∷◌, ◌++◌, length, map, All, Bool, true, false, ◌&&◌, ◌||◌, ◌==◌, nat_lt, Option, Some, None, IsSome, Result, Ok, Err, option_map, max}
 use Rattle.std.specs.Option.{option_or}
 use Rattle.position_core.specs.declared.fault.Fault.TheVariants.{NoMemory}
 use Rattle.delivery_machine.specs.declared.event.Event.{Event}
@@ -21,11 +21,11 @@ use Rattle.session_core.specs.declared.asking.Series.{Series}
 use Rattle.session_core.specs.declared.asking.Series.TheVariants.{Ticks, Dispatches}
 use Rattle.session_core.specs.declared.texts.Received.{Received}
 use Rattle.session_core.specs.declared.texts.Received.TheVariants.{Text, Nothing}
-use Rattle.session_core.specs.Turns.{Taken, Turn, and_one, and_then, calls_of_asked, calls_of_texts, called, exchanged, texts_received}
+use Rattle.session_core.specs.Turns.{Taken, Turn, and_one, and_then, calls_of_asked, calls_of_texts, called, exchanged, texts_received, without_stop}
 use Rattle.session_core.specs.Texts.{AreTaken, IsTakenAs, IsUnread, answer_in, answer_to, answered, close_in, closed_by, next_after, number_after_call}
 use Rattle.session_core.specs.Asking.{AllLeftMore, Asked, AsksAll, AsksAs, IsSeries, IsWhole, asked_nothing, close_after, close_of_asked, copies_in, copies_of, durable_after, durable_in, leaves_more}
-use Rattle.session_core.specs.Sending.{Gone, IsBlocked, IsSent}
-use Rattle.session_core.specs.Runs.{GoesOn, IsFull, ReceivesNoMore, StopsBy, close_of}
+use Rattle.session_core.specs.Sending.{Gone, IsBlocked, IsReady, IsSent}
+use Rattle.session_core.specs.Runs.{GoesOn, IsFull, ReceivesNoMore}
 use Rattle.session_core.specs.Held.{unsent_of}
 
 -- it holds as many answers as it may
@@ -200,11 +200,12 @@ pub record AsksOwn (s : Session) (now : ℕ) (has_room : Bool) (c : Option (List
 abbrev pub sent_with : List (List ℕ) → Exchange → Exchange
 sent_with texts e = record e { sent = e.sent ++ texts }
 
--- why the sending ended: nothing more is ready, or the connection has no room; or the connection failed, or there was no memory
+-- why the sending ended: nothing more is ready, or the connection has no room; or, with something left that is ready, the connection
+-- failed, or there was no memory for what it had room for
 abbrev pub EndsSending : ℕ → List Unsent → Option Stop → Bool → Bool → Type 0
 EndsSending durable left stop is_open has_room =
     ((stop ≡ None) × (is_open ≡ true) × (has_room ≡ true → IsBlocked durable left))
-    ⊎ (((stop ≡ Some Left) × (is_open ≡ false)) ⊎ ((stop ≡ Some wanting_memory) × (is_open ≡ true)))
+    ⊎ (IsReady durable left × (((stop ≡ Some Left) × (is_open ≡ false)) ⊎ ((stop ≡ Some wanting_memory) × (is_open ≡ true) × (has_room ≡ true))))
 
 -- what a session knows stays as it is
 pub record KeepsState (s t : Session) : Type 0 where
@@ -225,11 +226,7 @@ pub record SendsReady (s : Session) (e : Option Exchange) (stop : Option Stop) (
   pub sends : SendsSome s e t f
   pub ends : EndsSending s.durable (unsent_of t) stop is_open has_room
 
--- without its stop, a turn tells the connection nothing of a close
-abbrev pub without_stop : Turn → Turn
-without_stop t = record t { stop = None }
-
--- a turn but for its end
+-- a turn but for its end, and for why it stops
 pub record Serves (s : Session) (now most : ℕ) (e : Option Exchange) (c : Option (List Call)) (stop : Option Stop) (t : Session) (f : Option Exchange) (d : Option (List Call)) (is_open has_room : Bool) : Type 0 where
   pub turn : Turn
   pub is_now : turn.now ≡ now
@@ -252,7 +249,6 @@ pub record Serves (s : Session) (now most : ℕ) (e : Option Exchange) (c : Opti
   pub ready : All (IsSent t.durable) gone
   pub exchange : Tells (exchanged (without_stop turn)) e f
   pub calls : Tells (called turn) c d
-  pub stops : StopsBy (close_of turn) turn
   pub goes_on : stop ≡ None → GoesOn s.party turn t.durable (unsent_of t)
   pub stays_open : stop ≡ None → is_open ≡ true
   -- a session that is to be closed has a connection to close
@@ -308,15 +304,15 @@ is_ready s = first_ready s.durable s.waiting.items
 abbrev pub can_send : Session → Bool
 can_send s = has_copies s || is_ready s
 
--- how the sending of one failed
-abbrev pub FailsSending : Stop → Bool → Type 0
-FailsSending stop is_open = ((stop ≡ Left) × (is_open ≡ false)) ⊎ ((stop ≡ wanting_memory) × (is_open ≡ true))
+-- how the sending of one failed: the connection did, or there was no memory, and the connection has the room that it had
+abbrev pub FailsSending : Stop → Bool → Bool → Bool → Type 0
+FailsSending stop had_room is_open has_room = ((stop ≡ Left) × (is_open ≡ false)) ⊎ ((stop ≡ wanting_memory) × (is_open ≡ true) × (has_room ≡ had_room))
 
 -- the first of what the session holds was sent, or the session stays as it is
-abbrev pub SendsOne : Session → Option Exchange → Option Stop → Session → Option Exchange → Bool → Type 0
-SendsOne s e None t f is_open =
+abbrev pub SendsOne : Session → Option Exchange → Bool → Option Stop → Session → Option Exchange → Bool → Bool → Type 0
+SendsOne s e had_room None t f is_open has_room =
     (gone : Gone) × (gone.item ∷ unsent_of t ≡ unsent_of s) × IsSent s.durable gone × Tells (with_sent gone.text) e f × KeepsState s t × (is_open ≡ true)
-SendsOne s e (Some stop) t f is_open = (unsent_of t ≡ unsent_of s) × Tells same e f × KeepsState s t × FailsSending stop is_open
+SendsOne s e had_room (Some stop) t f is_open has_room = (unsent_of t ≡ unsent_of s) × Tells same e f × KeepsState s t × FailsSending stop had_room is_open has_room
 
 -- a session that is to be closed has a connection to close
 abbrev pub CanClose : Stop → Bool → Type 0

@@ -1,10 +1,9 @@
 -- Which texts a turn takes, what each leads to, and what answers it.
-use Rattle.std.specs.Prelude.{◌≡◌, ◌⊎◌, ℕ, ℤ, ◌≤◌, List, [], ◌∷◌, ◌++◌, length, count_by, Option, Some, None, IsSome, is_some, if◌then◌else◌}
+use Rattle.std.specs.Prelude.{◌≡◌, ◌⊎◌, ℕ, ℤ, List, [], ◌∷◌, ◌++◌, Option, Some, None, is_some, if◌then◌else◌}
 use Rattle.position_core.specs.declared.fault.Fault.TheVariants.{NoMemory}
 use Rattle.delivery_machine.specs.declared.reply.Reply.{Reply}
 use Rattle.session_links.specs.Links.{Call}
 use Rattle.session_texts.specs.declared.party.Party.{Party}
-use Rattle.session_texts.specs.declared.party.Party.TheVariants.{Producer, Consumer, Admin}
 use Rattle.session_texts.specs.declared.close.Close.{Close}
 use Rattle.session_texts.specs.declared.asking.Asking.{Asking}
 use Rattle.session_texts.specs.declared.asking.Asking.TheVariants.{Asks, Answers, Closes}
@@ -13,7 +12,7 @@ use Rattle.session_texts.specs.declared.outcome.Outcome.TheVariants.{Answers as 
 use Rattle.session_texts.specs.Numbers.{number_after}
 use Rattle.session_texts.specs.Asking.{asks, refusing}
 use Rattle.session_texts.specs.Outcomes.{outcome_of}
-use Rattle.session_texts.specs.Unsent.{Unsent, answering, is_answer}
+use Rattle.session_texts.specs.Unsent.{Unsent, answering}
 use Rattle.session_core.specs.Turns.{Taken}
 
 -- each publish takes the next number, whatever it is answered

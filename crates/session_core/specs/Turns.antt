@@ -66,6 +66,10 @@ closed None closes = closes
 closed (Some Gone) closes = closes
 closed (Some (Closed close)) closes = closes ++ (record { code = close.code; reason = reason_of close.fault }) ∷ []
 
+-- without its stop, a turn tells the connection nothing of a close
+abbrev pub without_stop : Turn → Turn
+without_stop t = record t { stop = None }
+
 -- what the connection was told, and what the turn told it
 abbrev pub exchanged : Turn → Exchange → Exchange
 exchanged t e = record {

@@ -1,8 +1,9 @@
 // A turn of a session.
 ghost use Rattle.std.specs.Prelude.{◌≡◌, List, OnSome, true, false};
 ghost use Rattle.std.specs.Result.{result_err};
-ghost use Rattle.session_core.specs.Runs.{IsServed, IsSession};
-ghost use Rattle.session_core.specs.Steps.{CanClose, ClosesBy, SaysLast, Serves};
+ghost use Rattle.session_core.specs.Closing.{SendsLast, ServesOpen};
+ghost use Rattle.session_core.specs.Runs.{IsServed, IsSession, Leaves};
+ghost use Rattle.session_core.specs.Steps.{CanClose, ClosesBy, SaysLast};
 ghost use Rattle.session_core.specs.Turns.{Turn};
 
 use crate::session::Session;
@@ -25,7 +26,7 @@ impl Session {
         most: u32,
     ) -> Result<(), Stop>
         requires { C.is_open conn.old ≡ true }
-        ensures { Serves self.old now most (C.exchange conn.old) (K.calls caller.old) (result_err result) self.new (C.exchange conn.new) (K.calls caller.new) (C.is_open conn.new) (C.has_room conn.new) }
+        ensures { ServesOpen self.old now most (C.exchange conn.old) (K.calls caller.old) (result_err result) self.new (C.exchange conn.new) (K.calls caller.new) (C.is_open conn.new) (C.has_room conn.new) }
     {
         match self.take_texts(conn, caller, now, most) {
             Ok(()) => {}
@@ -40,6 +41,20 @@ impl Session {
             Ok(true) => self.send_ready(conn),
             Ok(false) => Ok(()),
             Err(stop) => Err(stop),
+        }
+    }
+
+    /// Sends what is ready before a close, and tells how the session ends: as it should, or as the sending failed.
+    fn send_last<C: Conn>(&mut self, conn: &mut C, stop: Stop) -> Stop
+        requires { CanClose stop (C.is_open conn.old) }
+        ensures { SendsLast self.old stop (C.exchange conn.old) (C.is_open conn.old) (C.has_room conn.old) result self.new (C.exchange conn.new) (C.is_open conn.new) (C.has_room conn.new) }
+    {
+        match stop {
+            Stop::Gone => Stop::Gone,
+            Stop::Closed(_) => match self.send_ready(conn) {
+                Ok(()) => stop,
+                Err(failed) => failed,
+            },
         }
     }
 }
@@ -69,7 +84,9 @@ fn say_last<K: Caller>(party: &Party, caller: &mut K)
 /// Serves a session for one turn that takes up to so many texts: what came is handled, until nothing comes, 1,000
 /// texts are not answered, or the session ends; then the session asks and sends all that a turn does, once.
 ///
-/// None where the session has ended. The connection is closed then, or is gone, and is not called again.
+/// None where the session has ended. The connection is closed then, or is gone, and is not called again. Before a close
+/// what is ready is sent, as long as the connection has room, and the last event is said: whoever sees the close may come
+/// again at once under the same name.
 pub fn serve<C: Conn, K: Caller>(
     session: Session,
     conn: &mut C,
@@ -79,7 +96,7 @@ pub fn serve<C: Conn, K: Caller>(
 ) -> Option<Session>
     requires { C.is_open conn.old ≡ true }
     ensures stays { OnSome result (C.is_open conn.new ≡ true) }
-    ensures run { (before : List Turn) → IsSession session before → IsServed session now most before (C.exchange conn.old) (K.calls caller.old) result (C.exchange conn.new) (K.calls caller.new) (C.is_open conn.new) (C.has_room conn.new) }
+    ensures run { (before : List Turn) → IsSession session before → (served : IsServed session now most before (C.exchange conn.old) (K.calls caller.old) result (C.exchange conn.new) (K.calls caller.new) (C.is_open conn.new) (C.has_room conn.new)) × (last : C) × Leaves served.turn (C.exchange conn.old) (C.exchange last) (C.is_open last) (C.has_room last) }
 {
     let mut session = session;
     match session.serve_open(conn, caller, now, most.get()) {
@@ -88,8 +105,9 @@ pub fn serve<C: Conn, K: Caller>(
             Some(session)
         }
         Err(stop) => {
-            close_conn(conn, stop);
+            let last = session.send_last(conn, stop);
             say_last(&session.party, caller);
+            close_conn(conn, last);
             drop(session);
             None
         }
@@ -105,7 +123,7 @@ pub fn turn<C: Conn, K: Caller>(
 ) -> Option<Session>
     requires { C.is_open conn.old ≡ true }
     ensures stays { OnSome result (C.is_open conn.new ≡ true) }
-    ensures run { (before : List Turn) → IsSession session before → IsServed session now 1 before (C.exchange conn.old) (K.calls caller.old) result (C.exchange conn.new) (K.calls caller.new) (C.is_open conn.new) (C.has_room conn.new) }
+    ensures run { (before : List Turn) → IsSession session before → (served : IsServed session now 1 before (C.exchange conn.old) (K.calls caller.old) result (C.exchange conn.new) (K.calls caller.new) (C.is_open conn.new) (C.has_room conn.new)) × (last : C) × Leaves served.turn (C.exchange conn.old) (C.exchange last) (C.is_open last) (C.has_room last) }
 {
     match TextCount::new(1) {
         Some(one) => serve(session, conn, caller, now, one),

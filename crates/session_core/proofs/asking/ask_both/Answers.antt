@@ -1,4 +1,4 @@
-use Rattle.session_core.proofs.Series.{both_end_first, both_end_second, both_held, both_whole}
+use Rattle.session_core.proofs.Series.{both_end_first, both_end_second}
 use Rattle.session_core.proofs.asking.ask_both.Goals as goal
 
 pub returns-in-Err : goal.returns-in-Err

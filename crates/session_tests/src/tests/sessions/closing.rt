@@ -192,3 +192,46 @@ turn 1000",
         "",
     );
 }
+
+#[test]
+fn a_close_comes_after_the_answers_that_are_ready(rt: HostRuntime) {
+    check(
+        &rt,
+        "open /ws/v2/producer/persistent/public/default/t
+text {\"payload\":\"aGk=\"}
+text {\"payload\":\"aGk=\"}
+serve 1000
+stored
+open /ws/v2/consumer/persistent/public/default/t/s?subscriptionInitialPosition=Earliest
+open /ws/v2/admin/persistent/public/default/t
+text {\"type\":\"skip\",\"subscription\":\"s\",\"messages\":2}
+text {\"type\":\"stats\",\"subscription\":\"s\"}
+text {\"type\":\"seek\",\"subscription\":\"s\",\"position\":\"earliest\"}
+text [
+serve 1000",
+        "{\"result\":\"ok\"}
+{\"acknowledged\":2,\"dead\":0,\"kind\":\"Exclusive\",\"live\":0,\"markDelete\":\"CAAQAQ==\",\"members\":1,\"pending\":0,\"result\":\"ok\"}
+{\"result\":\"ok\"}
+closed 4003 F18
+",
+    );
+}
+
+/// A session whose first publish is answered once it has room, and whose last one is refused.
+fn last_is_refused<R: Abort + AllocGlobal>(rt: &R, lines: &str, want: &str) {
+    let start =
+        "open /ws/v2/producer/persistent/public/default/t\nroom 0\ntext {\"payload\":\"aGk=\"}\n";
+    let end = "\nrefuse F15\ntext {\"payload\":\"aGk=\"}\nserve 1002";
+    check(rt, joined(rt, &[start, lines, end]).as_str(), want);
+}
+
+#[test]
+fn what_was_seen_to_be_stored_is_answered_before_a_close(rt: HostRuntime) {
+    let answer = "{\"messageId\":\"CAAQAA==\",\"result\":\"ok\"}\nclosed 4008 F15\n";
+    last_is_refused(&rt, "turn 1000\nstored\nturn 1001\nroom 1", answer);
+    // No session asks in its last turn how much is stored.
+    last_is_refused(&rt, "turn 1000\nstored\nroom 1", "closed 4008 F15\n");
+    // A connection without room is sent nothing.
+    let no_room = "turn 1000\nstored\nturn 1001";
+    last_is_refused(&rt, no_room, "closed 4008 F15\n");
+}

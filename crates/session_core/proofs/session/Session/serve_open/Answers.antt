@@ -1,5 +1,4 @@
-use Rattle.std.proofs.Common.{sym}
-use Rattle.session_core.proofs.Turning.{ends_with_asking, ends_with_first, ends_with_texts, goes_on_held, goes_on_sent, sends_open, texts_open}
+use Rattle.session_core.proofs.Turning.{ends_with_asking, ends_with_first, ends_with_texts, goes_on_held, goes_on_sent, texts_open}
 use Rattle.session_core.proofs.session.Session.serve_open.Goals as goal
 
 pub returns-in-Err : goal.returns-in-Err
