@@ -1,2 +1,3 @@
 -- What the contracts of the directory cite.
+pub mod Ends
 pub mod Listing

@@ -1,31 +1,10 @@
 // The board: which topics wait to be stored, and who may store them.
+use crate::clock::instant;
+use crate::queue::{Queue, Task, Turn};
 use std::alloc::Global;
-use std::collections::VecDeque;
-use std::sync::{Condvar, Mutex, Wait};
-
-/// How many publishes and other changes a worker stores itself; more are the storing thread's, so that the worker goes on
-/// reading.
-const SMALL: u64 = 16;
-
-/// How many topics one store takes.
-const MOST_STORED: usize = 64;
-
-#[derive(Drop)]
-struct Queue<X: Drop> {
-    topics: VecDeque<X>,
-    /// Topics in which letters lie dead that are stored.
-    errands: VecDeque<X>,
-    /// What was made since the last store began.
-    made: u64,
-    /// Somebody stores.
-    is_led: bool,
-    /// Several topics were stored together, or some waited until others were stored: so more come soon.
-    is_busy: bool,
-    thread_waits: bool,
-    /// The thread ends once nothing waits.
-    is_ending: bool,
-    is_closed: bool,
-}
+use std::rt::Clock;
+use std::sync::{Condvar, CondvarTimeouts, Mutex, MutexGuard, Wait};
+use std::time::Duration;
 
 /// What waits to be stored, and the right to store it: both under one lock, so that the last look and letting go are one.
 #[derive(Drop)]
@@ -35,90 +14,11 @@ pub(crate) struct Board<X: Drop> {
     news: Condvar,
 }
 
-/// What the storing thread is to do.
-#[derive(Drop)]
-pub(crate) enum Task<X: Drop> {
-    Store(Vec<X>),
-    Errand(X),
-    End,
-}
-
-impl<X: Drop> Queue<X> {
-    /// Whether a worker stores it itself: it is little, and nobody else has something to be stored meanwhile.
-    fn is_for_worker(&self) -> bool {
-        self.made <= SMALL && !self.is_busy
-    }
-
-    /// Who stored has ended.
-    fn end(&mut self) {
-        self.is_led = false;
-        self.is_busy |= !self.topics.is_empty();
-    }
-
-    /// The right to store, with the topics that have waited longest. None where there is no memory.
-    fn take(&mut self, alloc: Global) -> Option<Vec<X>> {
-        let count = self.topics.len().min(MOST_STORED);
-        let mut taken = Vec::with_capacity(alloc, count).ok()?;
-        for _ in 0..count {
-            let Some(topic) = self.topics.pop_front() else {
-                break;
-            };
-            let _ = taken.push(topic);
-        }
-        self.is_led = true;
-        self.is_busy = count > 1;
-        self.made = 0;
-        Some(taken)
-    }
-
-    /// What the thread does now. An errand has its turn after each store, however many topics wait: else letters would lie
-    /// for as long as others publish.
-    fn task(&mut self, alloc: Global, has_stored: bool) -> Option<Task<X>> {
-        if self.is_closed {
-            return Some(Task::End);
-        }
-        let may_store = !self.is_led && !self.topics.is_empty();
-        if (has_stored || !may_store) && !self.is_ending {
-            let errand = self.errands.pop_front();
-            if let Some(topic) = errand {
-                return Some(Task::Errand(topic));
-            }
-        }
-        if may_store {
-            return match self.take(alloc) {
-                Some(topics) => Some(Task::Store(topics)),
-                None => None,
-            };
-        }
-        if self.is_ending && !self.is_led {
-            Some(Task::End)
-        } else {
-            None
-        }
-    }
-
-    /// Whether the thread is to be woken, which counts as awake then.
-    fn wakes(&mut self) -> bool {
-        let wakes = self.thread_waits;
-        self.thread_waits = false;
-        wakes
-    }
-}
-
 impl<X: Drop> Board<X> {
     pub(crate) fn new(alloc: Global) -> Self {
         Board {
             alloc,
-            queue: Mutex::new(Queue {
-                topics: VecDeque::new(alloc),
-                errands: VecDeque::new(alloc),
-                made: 0,
-                is_led: false,
-                is_busy: false,
-                thread_waits: false,
-                is_ending: false,
-                is_closed: false,
-            }),
+            queue: Mutex::new(Queue::new(alloc)),
             news: Condvar::new(),
         }
     }
@@ -126,10 +26,7 @@ impl<X: Drop> Board<X> {
     /// Room for so many topics, each of which waits here once at most. False for want of memory.
     pub(crate) fn make_room<R: Wait>(&self, rt: &R, topics: usize) -> bool {
         let mut queue = self.queue.lock(rt);
-        let queue = &mut *queue;
-        let more = topics.saturating_sub(queue.topics.len());
-        let errands = topics.saturating_sub(queue.errands.len());
-        queue.topics.reserve(more).is_ok() && queue.errands.reserve(errands).is_ok()
+        queue.make_room(topics)
     }
 
     /// The topic waits to be stored. Whoever says so asks to lead later, or leads, or wakes the thread.
@@ -150,8 +47,20 @@ impl<X: Drop> Board<X> {
         }
     }
 
+    /// There was no memory to store the topic: the thread is to, after a pause. Whoever says so has the right to store.
+    pub(crate) fn put_off<R: Wait>(&self, rt: &R, topic: X) {
+        let mut queue = self.queue.lock(rt);
+        queue.late.add(topic);
+    }
+
+    /// There was no memory for a courier to the topic: the thread, which says so, is to send one after a pause.
+    pub(crate) fn put_off_errand<R: Wait>(&self, rt: &R, topic: X) {
+        let mut queue = self.queue.lock(rt);
+        queue.late.add_errand(topic);
+    }
+
     /// The topics that the caller is to store now; none where another stores, where the thread is to, or where nothing
-    /// waits.
+    /// waits. Where there is no memory for a list of them, the thread is to.
     pub(crate) fn lead<R: Wait>(&self, rt: &R, made: u64) -> Option<Vec<X>> {
         let mut guard = self.queue.lock(rt);
         let queue = &mut *guard;
@@ -163,8 +72,10 @@ impl<X: Drop> Board<X> {
             queue.made = 0;
             return None;
         }
-        if queue.is_for_worker() {
-            return queue.take(self.alloc);
+        if queue.is_for_worker()
+            && let Some(topics) = queue.take(self.alloc)
+        {
+            return Some(topics);
         }
         let wakes = queue.wakes();
         drop(guard);
@@ -179,38 +90,49 @@ impl<X: Drop> Board<X> {
         let mut guard = self.queue.lock(rt);
         let queue = &mut *guard;
         queue.end();
-        let waits = !(queue.topics.is_empty() && queue.errands.is_empty());
-        let wakes = waits && queue.wakes();
+        let wakes = queue.has_news() && queue.wakes();
         drop(guard);
         if wakes {
             self.news.notify_one();
         }
     }
 
-    /// What the thread is to do next; it waits until there is something. `ends` where it has stored.
-    pub(crate) fn next<R: Wait>(&self, rt: &R, ends: bool) -> Task<X> {
+    /// What the thread is to do next; it waits until there is something.
+    pub(crate) fn next<R: Wait + Clock>(&self, rt: &R, turn: Turn) -> Task<X> {
         let mut queue = self.queue.lock(rt);
-        if ends {
-            queue.end();
-        }
+        queue.begin(turn);
         for _ in rt.forever() {
-            if let Some(task) = queue.task(self.alloc, ends) {
+            let time = instant(rt);
+            if let Some(task) = queue.task(self.alloc, turn, time) {
                 return task;
             }
+            let left = queue.left(turn, time);
             queue.thread_waits = true;
-            queue = self.news.wait(rt, queue);
+            queue = self.wait(rt, queue, left);
         }
         Task::End
     }
 
+    /// Waits for news, and no longer than so long where that is said.
+    fn wait<'b, R: Wait + Clock>(
+        &self,
+        rt: &R,
+        queue: MutexGuard<'b, Queue<X>>,
+        most: Option<Duration>,
+    ) -> MutexGuard<'b, Queue<X>> {
+        match most {
+            Some(most) => self.news.wait_timeout(rt, queue, most).0,
+            None => self.news.wait(rt, queue),
+        }
+    }
+
     /// What the thread is to do now, where there is something.
-    pub(crate) fn try_next<R: Wait>(&self, rt: &R, ends: bool) -> Option<Task<X>> {
+    pub(crate) fn try_next<R: Wait + Clock>(&self, rt: &R, turn: Turn) -> Option<Task<X>> {
+        let time = instant(rt);
         let mut guard = self.queue.lock(rt);
         let queue = &mut *guard;
-        if ends {
-            queue.end();
-        }
-        queue.task(self.alloc, ends)
+        queue.begin(turn);
+        queue.task(self.alloc, turn, time)
     }
 
     /// The thread ends once nothing waits to be stored.

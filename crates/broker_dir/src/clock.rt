@@ -1,7 +1,7 @@
-// The time of day, in milliseconds.
+// The time of day, in milliseconds, and the clock that never goes back.
 use delivery_machine::Moment;
 use std::rt::Clock;
-use std::time::{SystemTime, UNIX_EPOCH};
+use std::time::{Instant, SystemTime, UNIX_EPOCH};
 
 /// The moment that it is; none where the clock tells none.
 fn read<R: Clock>(rt: &R) -> Option<Moment> {
@@ -17,4 +17,9 @@ pub fn moment<R: Clock>(rt: &R, last: Moment) -> Moment {
         Some(moment) => moment,
         None => last,
     }
+}
+
+/// What the clock shows that never goes back; none where it cannot be read.
+pub(crate) fn instant<R: Clock>(rt: &R) -> Option<Instant> {
+    Instant::now(rt).ok()
 }

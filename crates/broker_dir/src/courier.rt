@@ -1,23 +1,43 @@
-// The courier at work: it moves dead letters, one at a time, with one topic's lock at a time.
+// A courier at work: it moves dead letters, one at a time, with one topic's lock at a time.
 use crate::directory::Directory;
-use crate::inside::Inside;
+use crate::graves::Grave;
+use crate::pause::{Due, Pause};
 use crate::topic::Shared;
 use dead_courier::{Hand, Move, Route, Side, after, next_move};
-use delivery_machine::{Event, Fault, Moment, Opened, Reply, SubscriptionName, TopicName};
+use delivery_machine::{Event, Fault, Moment, Opened, Reply};
 use marks::Naming;
 use session_bells::Bell;
 use sqlite::Alter;
 use std::mem;
 use std::sync::{Arc, Wait};
+use std::time::Instant;
+
+/// When a courier goes on.
+#[derive(Clone, Copy)]
+pub(crate) enum Stay {
+    /// At once: it was just sent.
+    Sent,
+    /// Once more of its target is stored.
+    Stores,
+    /// After a pause: it was refused.
+    Pauses(Due),
+    /// Never: it has ended.
+    Over,
+}
 
 /// A courier under way.
 #[derive(Drop)]
 pub(crate) struct Courier<T: Opened + Drop, J: Naming, B: Bell + Drop> {
     route: Route,
     pub(crate) hand: Hand,
-    source: Arc<Shared<T, J, B>>,
+    pub(crate) source: Arc<Shared<T, J, B>>,
     /// The topic that the letter in its hand goes to, once it is open.
     target: Option<Arc<Shared<T, J, B>>>,
+    /// The number of the grave that it was sent to.
+    pub(crate) grave: u64,
+    pub(crate) stay: Stay,
+    /// The pause after the next refusal.
+    pause: Pause,
 }
 
 /// What a step came to.
@@ -28,7 +48,7 @@ pub(crate) enum Stepped {
     Waits,
     /// No letter is left that may be moved.
     Ends,
-    /// A topic refused, so the letter stays where it is.
+    /// A topic refused, or there was no memory, so the letter stays where it is.
     Fails,
 }
 
@@ -39,6 +59,22 @@ enum Aim {
     Moving,
     Waiting,
     Ending,
+}
+
+/// The length up to which its target is to be stored, where it waits for that.
+fn awaited_by(hand: &Hand) -> Option<u64> {
+    match hand {
+        Hand::Waits { letter: _, length } => Some(*length),
+        _ => None,
+    }
+}
+
+/// Whether less is stored than is waited for.
+fn is_short(answer: &Result<Reply, Fault>, awaited: Option<u64>) -> bool {
+    match (answer, awaited) {
+        (Ok(Reply::Progress { durable, length: _ }), Some(length)) => *durable < length,
+        _ => false,
+    }
 }
 
 fn aim_of(hand: &Hand) -> Aim {
@@ -75,18 +111,74 @@ impl<T: Opened + Drop, J: Naming, B: Bell + Drop> Courier<T, J, B> {
         if now == Aim::Looking {
             drop(self.target.take());
         }
-        outcome_of(before, now, is_done)
+        let stepped = outcome_of(before, now, is_done);
+        if before == Aim::Ending && stepped == Stepped::GoesOn {
+            self.pause = Pause::first();
+        }
+        stepped
+    }
+
+    /// The topic that the letter goes to cannot be opened.
+    fn refuse(&mut self, fault: Fault) -> Stepped {
+        let before = aim_of(&self.hand);
+        self.take(before, Reply::Refused(fault))
+    }
+
+    /// It was refused: it goes on after a pause.
+    pub(crate) fn begin_pause(&mut self, time: Option<Instant>) {
+        self.stay = Stay::Pauses(self.pause.begin(time));
+    }
+
+    /// It has nothing in its hand, and no producer is connected for it.
+    pub(crate) fn is_free(&self) -> bool {
+        aim_of(&self.hand) == Aim::Looking
+    }
+
+    pub(crate) fn is_over(&self) -> bool {
+        matches!(self.stay, Stay::Over)
+    }
+
+    /// When its pause is over, where it has one.
+    pub(crate) fn due(&self) -> Option<Due> {
+        match self.stay {
+            Stay::Pauses(due) => Some(due),
+            _ => None,
+        }
+    }
+
+    /// Whether its pause is over.
+    pub(crate) fn is_due(&self, time: Option<Instant>) -> bool {
+        match self.stay {
+            Stay::Pauses(due) => due.left(time).is_none(),
+            _ => false,
+        }
+    }
+
+    /// Whether it goes on now that the thread comes to the topic.
+    pub(crate) fn is_called_by(&self, topic: &Shared<T, J, B>) -> bool {
+        match self.stay {
+            Stay::Sent => true,
+            Stay::Stores => self.goes_to(topic),
+            Stay::Pauses(_) | Stay::Over => false,
+        }
+    }
+
+    fn goes_to(&self, topic: &Shared<T, J, B>) -> bool {
+        match &self.target {
+            Some(target) => target.name.is(&topic.name),
+            None => false,
+        }
     }
 }
 
 impl<T: Opened + Drop, S: Alter, J: Naming, B: Bell + Drop> Directory<T, S, J, B> {
-    /// A courier for the letters that died in the subscription.
+    /// A courier for the letters that died in the subscription. None for want of memory.
     pub(crate) fn courier_for(
         &self,
         source: &Arc<Shared<T, J, B>>,
-        subscription: &SubscriptionName,
+        grave: &Grave,
     ) -> Option<Courier<T, J, B>> {
-        let Ok(route) = Route::new(self.alloc, &source.name, subscription) else {
+        let Ok(route) = Route::new(self.alloc, &source.name, &grave.name) else {
             return None;
         };
         match Arc::try_clone(source) {
@@ -95,6 +187,9 @@ impl<T: Opened + Drop, S: Alter, J: Naming, B: Bell + Drop> Directory<T, S, J, B
                 hand: Hand::Empty,
                 source,
                 target: None,
+                grave: grave.number,
+                stay: Stay::Sent,
+                pause: Pause::first(),
             }),
             Err(_) => {
                 drop(route);
@@ -103,18 +198,19 @@ impl<T: Opened + Drop, S: Alter, J: Naming, B: Bell + Drop> Directory<T, S, J, B
         }
     }
 
-    /// One event of one who sits at the topic for it alone. `awaits` where the courier is to be sent again once more of
-    /// the topic is stored.
+    /// One event of one who sits at the topic for it alone. Where less is stored than is awaited, the thread comes to the
+    /// topic once more of it is stored.
     fn visit<R: Wait>(
         &self,
         rt: &R,
         topic: &Arc<Shared<T, J, B>>,
         event: Event,
-        awaits: bool,
+        awaited: Option<u64>,
     ) -> Result<Reply, Fault> {
         let mut inside = topic.inside.lock(rt);
-        inside.is_awaited = inside.is_awaited || awaits;
         let answer = inside.visit(rt, event);
+        let awaits = is_short(&answer, awaited);
+        inside.is_awaited = inside.is_awaited || awaits;
         let tells = inside.wants_storing();
         drop(inside);
         if tells {
@@ -141,20 +237,13 @@ impl<T: Opened + Drop, S: Alter, J: Naming, B: Bell + Drop> Directory<T, S, J, B
         }
     }
 
-    fn ask<R: Wait>(
-        &self,
-        rt: &R,
-        courier: &Courier<T, J, B>,
-        side: Side,
-        event: Event,
-        awaits: bool,
-    ) -> Reply {
+    fn ask<R: Wait>(&self, rt: &R, courier: &Courier<T, J, B>, side: Side, event: Event) -> Reply {
         let topic = match side {
             Side::Source => Some(&courier.source),
             Side::Target => courier.target.as_ref(),
         };
         match topic {
-            Some(topic) => self.reply(rt, topic, event, awaits && side == Side::Target),
+            Some(topic) => self.reply(rt, topic, event, awaited_by(&courier.hand)),
             None => {
                 drop(event);
                 Reply::Refused(Fault::NoSession)
@@ -167,15 +256,15 @@ impl<T: Opened + Drop, S: Alter, J: Naming, B: Bell + Drop> Directory<T, S, J, B
         rt: &R,
         topic: &Arc<Shared<T, J, B>>,
         event: Event,
-        awaits: bool,
+        awaited: Option<u64>,
     ) -> Reply {
-        match self.visit(rt, topic, event, awaits) {
+        match self.visit(rt, topic, event, awaited) {
             Ok(reply) => reply,
             Err(fault) => Reply::Refused(fault),
         }
     }
 
-    /// One step of a move: one event at one of the two topics.
+    /// One step of a move: one event at one of the two topics. A target that cannot be opened is one that refused.
     pub(crate) fn step<R: Wait>(
         &self,
         rt: &R,
@@ -184,10 +273,11 @@ impl<T: Opened + Drop, S: Alter, J: Naming, B: Bell + Drop> Directory<T, S, J, B
     ) -> Stepped {
         match self.find_target(rt, courier) {
             Ok(()) => self.make_next(rt, courier, now),
-            Err(_) => Stepped::Fails,
+            Err(fault) => courier.refuse(fault),
         }
     }
 
+    /// Without memory for its next step the courier stays at this one.
     fn make_next<R: Wait>(&self, rt: &R, courier: &mut Courier<T, J, B>, now: Moment) -> Stepped {
         match next_move(&courier.route, &courier.hand, now) {
             Ok(next) => self.make(rt, courier, next),
@@ -197,106 +287,7 @@ impl<T: Opened + Drop, S: Alter, J: Naming, B: Bell + Drop> Directory<T, S, J, B
 
     fn make<R: Wait>(&self, rt: &R, courier: &mut Courier<T, J, B>, next: Move) -> Stepped {
         let before = aim_of(&courier.hand);
-        let reply = self.ask(rt, courier, next.side, next.event, before == Aim::Waiting);
+        let reply = self.ask(rt, courier, next.side, next.event);
         courier.take(before, reply)
-    }
-
-    /// The courier goes as far as it can. Given back where it waits for a copy to be stored.
-    fn go<R: Wait>(
-        &self,
-        rt: &R,
-        courier: Courier<T, J, B>,
-        now: Moment,
-    ) -> Option<Courier<T, J, B>> {
-        let mut courier = courier;
-        if self.comes_to_wait(rt, &mut courier, now) {
-            Some(courier)
-        } else {
-            drop(courier);
-            None
-        }
-    }
-
-    /// The courier goes as far as it can: whether it waits then for a copy to be stored.
-    fn comes_to_wait<R: Wait>(&self, rt: &R, courier: &mut Courier<T, J, B>, now: Moment) -> bool {
-        for _ in rt.forever() {
-            match self.step(rt, courier, now) {
-                Stepped::GoesOn => {}
-                Stepped::Waits => return true,
-                Stepped::Ends => return false,
-                Stepped::Fails => {
-                    come_back(rt, courier);
-                    return false;
-                }
-            }
-        }
-        false
-    }
-
-    /// Couriers are sent to the subscriptions of the topic in which letters lie, and all that are under way go on.
-    pub(crate) fn run_errand<R: Wait>(
-        &self,
-        rt: &R,
-        topic: &Arc<Shared<T, J, B>>,
-        couriers: &mut Vec<Courier<T, J, B>>,
-        now: Moment,
-    ) {
-        self.send_couriers(rt, topic, couriers);
-        let under_way = mem::replace(couriers, Vec::new(self.alloc));
-        for courier in under_way {
-            put(couriers, self.go(rt, courier, now));
-        }
-    }
-
-    fn send_couriers<R: Wait>(
-        &self,
-        rt: &R,
-        topic: &Arc<Shared<T, J, B>>,
-        couriers: &mut Vec<Courier<T, J, B>>,
-    ) {
-        let mut guard = topic.inside.lock(rt);
-        let inside = &mut *guard;
-        inside.is_sent = false;
-        inside.is_awaited = false;
-        for _ in 0..inside.graves.len() {
-            self.send_one(inside, topic, couriers);
-        }
-    }
-
-    /// A courier is sent to the next subscription in which letters lie.
-    fn send_one(
-        &self,
-        inside: &mut Inside<T, J, B>,
-        topic: &Arc<Shared<T, J, B>>,
-        couriers: &mut Vec<Courier<T, J, B>>,
-    ) {
-        match inside.take_grave() {
-            Ok(Some(subscription)) => put(couriers, self.courier_for(topic, &subscription)),
-            Ok(None) | Err(_) => {}
-        }
-    }
-}
-
-/// The letter stays where it is, and another courier is sent for it later.
-fn come_back<T: Opened + Drop, J: Naming, B: Bell + Drop, R: Wait>(
-    rt: &R,
-    courier: &Courier<T, J, B>,
-) {
-    let mut inside = courier.source.inside.lock(rt);
-    inside.open_grave(&courier.route.subscription);
-}
-
-/// Without memory for one more, that one is gone: a later death sends another.
-fn put<T: Opened + Drop, J: Naming, B: Bell + Drop>(
-    couriers: &mut Vec<Courier<T, J, B>>,
-    courier: Option<Courier<T, J, B>>,
-) {
-    let Some(courier) = courier else {
-        return;
-    };
-    if couriers.reserve(1).is_ok() {
-        couriers.push_reserved(courier);
-    } else {
-        drop(courier);
     }
 }

@@ -332,10 +332,25 @@ impl<T: Opened + Drop, S: Alter, J: Naming, B: Bell + Drop> Directory<T, S, J, B
     pub(crate) fn tell<R: Wait>(&self, rt: &R, topic: &Arc<Shared<T, J, B>>) {
         match Arc::try_clone(topic) {
             Ok(topic) => self.board.tell(rt, topic),
+            Err(_) => fall_behind(rt, topic),
+        }
+    }
+
+    /// Puts the topic on the board again, which found no memory to be stored.
+    pub(crate) fn put_off<R: Wait>(&self, rt: &R, topic: &Arc<Shared<T, J, B>>) {
+        match Arc::try_clone(topic) {
+            Ok(topic) => self.board.put_off(rt, topic),
+            Err(_) => fall_behind(rt, topic),
+        }
+    }
+
+    /// The thread that stores is told to send couriers to the topic.
+    pub(crate) fn send<R: Wait>(&self, rt: &R, topic: &Arc<Shared<T, J, B>>) {
+        match Arc::try_clone(topic) {
+            Ok(topic) => self.board.send(rt, topic),
             Err(_) => {
                 let mut inside = topic.inside.lock(rt);
-                inside.is_queued = false;
-                inside.is_behind = true;
+                inside.is_sent = false;
             }
         }
     }
@@ -365,6 +380,15 @@ fn shared<T: Opened + Drop, J: Naming, B: Bell + Drop>(
         Ok(topic) => Ok(topic),
         Err(_) => Err(Fault::NoMemory),
     }
+}
+
+/// The topic has too many owners for one more, so that it is no place on the board: its next call puts it there.
+fn fall_behind<T: Opened + Drop, J: Naming, B: Bell + Drop, R: Wait>(
+    rt: &R,
+    topic: &Arc<Shared<T, J, B>>,
+) {
+    let mut inside = topic.inside.lock(rt);
+    inside.fall_behind();
 }
 
 fn clone_of<X>(topic: &Arc<X>) -> Result<Arc<X>, Fault> {

@@ -1,8 +1,11 @@
 // What a topic's lock guards: the topic with what is stored of it, and the bells of those who sit at it.
-ghost use Rattle.std.specs.Prelude.{◌≡◌, ◌-◌, ◌<◌, IfOk, set, true};
+ghost use Rattle.std.specs.Prelude.{◌≡◌, ◌-◌, ◌<◌, ◌⊎◌, IfOk, IfErr, IsOk, set, true};
+ghost use Rattle.topic_shared.specs.Kept.{is_end};
+ghost use Rattle.broker_dir.specs.Ends.{is_ending};
 ghost use Rattle.topic_seats.specs.Seats.{IsFree};
 
-use delivery_machine::{Event, Fault, KeptSubscription, Opened, Reply, Saved, SubscriptionName};
+use crate::graves::{Change, Graves};
+use delivery_machine::{Event, Fault, KeptSubscription, Opened, Reply, Saved};
 use marks::Naming;
 use session_bells::{Asked, Bell, Bells};
 use std::alloc::Global;
@@ -10,39 +13,16 @@ use std::sync::{Arc, Wait};
 use stored_cell::{Kept, StoredCell};
 
 /// After how many lines a journal begins anew, so that its memory is bounded.
-const LONG: u64 = 65_536;
+const LONG: u64 = 4_096;
 
-/// A subscription in which letters may lie dead.
-#[derive(Drop)]
-pub(crate) struct Grave {
-    pub(crate) name: SubscriptionName,
-    /// A letter died in it since the topic was viewed.
-    has_died: bool,
-    /// A letter died in it before the topic was viewed, and what was viewed is not stored yet.
-    is_viewed: bool,
-    /// Letters lie in it that are stored, and the courier was not sent for them.
-    pub(crate) is_open: bool,
-}
+/// By this number an event is asked for which nobody sits down: no seat has it.
+const VISITOR: u64 = u64::MAX;
 
-impl Grave {
-    fn new(name: SubscriptionName, is_open: bool) -> Grave {
-        Grave {
-            name,
-            has_died: false,
-            is_viewed: false,
-            is_open,
-        }
-    }
-
-    fn view(&mut self) {
-        self.is_viewed |= self.has_died;
-        self.has_died = false;
-    }
-
-    fn store(&mut self) {
-        self.is_open |= self.is_viewed;
-        self.is_viewed = false;
-    }
+/// Whether the event ends a producer or a consumer.
+fn is_ending(event: &Event) -> bool
+    ensures { result ≡ is_ending event.now }
+{
+    matches!(event, Event::DropProducer { .. } | Event::Leave { .. })
 }
 
 /// What a topic's lock guards.
@@ -55,7 +35,7 @@ pub(crate) struct Inside<T: Opened + Drop, J: Naming, B: Bell + Drop> {
     pub(crate) is_queued: bool,
     /// A store of it found no memory: it is to be stored although it has not changed since it was viewed.
     pub(crate) is_behind: bool,
-    pub(crate) graves: Vec<Grave>,
+    pub(crate) graves: Graves,
     /// The thread that stores was told to send the courier here, and has not come yet.
     pub(crate) is_sent: bool,
     /// A courier waits until more of the topic is stored.
@@ -70,7 +50,7 @@ impl<T: Opened + Drop, J: Naming, B: Bell + Drop> Inside<T, J, B> {
             bells: Bells::new(alloc, 0),
             is_queued: false,
             is_behind: false,
-            graves: Vec::new(alloc),
+            graves: Graves::new(alloc),
             is_sent: false,
             is_awaited: false,
         }
@@ -97,23 +77,13 @@ impl<T: Opened + Drop, J: Naming, B: Bell + Drop> Inside<T, J, B> {
         subscriptions: &[KeptSubscription],
     ) -> Result<Self, Fault> {
         let mut inside = Inside::new(alloc, cell);
-        match inside.know_graves(subscriptions) {
+        match inside.graves.know(subscriptions) {
             Ok(()) => Ok(inside),
             Err(fault) => {
                 drop(inside);
                 Err(fault)
             }
         }
-    }
-
-    fn know_graves(&mut self, subscriptions: &[KeptSubscription]) -> Result<(), Fault> {
-        for subscription in subscriptions {
-            match self.know_grave(&subscription.name, !subscription.dead.is_empty()) {
-                Ok(()) => {}
-                Err(fault) => return Err(fault),
-            }
-        }
-        Ok(())
     }
 
     /// Takes a free seat, and leaves the bell there. Refused (F21) where none is free, and (F1) for want of memory.
@@ -149,8 +119,8 @@ impl<T: Opened + Drop, J: Naming, B: Bell + Drop> Inside<T, J, B> {
         asked: &Asked,
         event: Event,
     ) -> Result<Reply, Fault> {
-        match self.make_room(seat, asked) {
-            Ok(()) => self.answer_with_room(rt, seat, asked, event),
+        match self.make_room(seat, asked, &event) {
+            Ok(change) => self.answer_with_room(rt, seat, asked, event, change),
             Err(fault) => {
                 drop(event);
                 Err(fault)
@@ -164,106 +134,101 @@ impl<T: Opened + Drop, J: Naming, B: Bell + Drop> Inside<T, J, B> {
         seat: u64,
         asked: &Asked,
         event: Event,
+        change: Change,
     ) -> Result<Reply, Fault>
         requires { 0 < seat }
+        ensures ends { is_end self.old.cell.cell event ≡ true → IsOk result }
+        ensures faults { IfErr result (λ fault. (fault ≡ Fault.NoMemory) ⊎ (fault ≡ Fault.JournalFull)) }
     {
         match self.cell.call(seat, event) {
             Ok(receipt) => {
-                self.answered(rt, seat, asked, &receipt.reply);
+                self.answered(rt, seat, asked, change, &receipt.reply);
                 Ok(receipt.reply)
             }
-            Err(fault) => Err(fault),
+            Err(fault) => {
+                drop(change);
+                self.refused(rt, seat, asked, fault);
+                Err(fault)
+            }
         }
     }
 
-    fn answered<R: Wait>(&mut self, rt: &R, seat: u64, asked: &Asked, reply: &Reply) {
+    /// The room is given back that one would have had who did not join.
+    fn refused<R: Wait>(&mut self, rt: &R, seat: u64, asked: &Asked, fault: Fault) {
+        if let Asked::Joins(_) = asked {
+            let reply = Reply::Refused(fault);
+            self.bells.answered(rt, seat, asked, &reply);
+            drop(reply);
+        }
+    }
+
+    fn answered<R: Wait>(
+        &mut self,
+        rt: &R,
+        seat: u64,
+        asked: &Asked,
+        change: Change,
+        reply: &Reply,
+    ) {
         self.bells.answered(rt, seat, asked, reply);
-        if let Reply::Died { .. } = reply {
-            self.bury_own(seat);
+        self.graves.answered(change, reply);
+        if let Reply::Died { .. } = reply
+            && let Some(name) = self.bells.subscription(seat)
+        {
+            self.graves.bury(name);
         }
         self.roll_if_long();
     }
 
     /// Room for what the one at the seat asked. Nobody sits at 0.
-    fn make_room(&mut self, seat: u64, asked: &Asked) -> Result<(), Fault>
+    fn make_room(&mut self, seat: u64, asked: &Asked, event: &Event) -> Result<Change, Fault>
         ensures { IfOk result (λ _. 0 < seat) }
     {
         if seat == 0 {
             return Err(Fault::NoRoom);
         }
-        let Asked::Joins(name) = asked else {
-            return Ok(());
+        let change = match self.graves.prepare(event) {
+            Ok(change) => change,
+            Err(fault) => return Err(fault),
         };
-        match self.know_grave(name, false) {
-            Ok(()) => self.bells.prepare(asked),
-            Err(fault) => Err(fault),
-        }
-    }
-
-    fn grave_of(&self, name: &SubscriptionName) -> Option<usize> {
-        self.graves.iter().position(|grave| grave.name.is(name))
-    }
-
-    /// Letters may die in the subscription.
-    pub(crate) fn know_grave(
-        &mut self,
-        name: &SubscriptionName,
-        is_open: bool,
-    ) -> Result<(), Fault> {
-        if self.grave_of(name).is_some() {
-            return Ok(());
-        }
-        let Ok(name) = name.clone() else {
-            return Err(Fault::NoMemory);
-        };
-        match self.graves.push(Grave::new(name, is_open)) {
-            Ok(()) => Ok(()),
-            Err(_) => Err(Fault::NoMemory),
-        }
-    }
-
-    /// A letter died in the subscription of the one at the seat.
-    fn bury_own(&mut self, seat: u64) {
-        let found = match self.bells.subscription(seat) {
-            Some(name) => self.grave_of(name),
-            None => None,
-        };
-        if let Some(place) = found
-            && let Some(grave) = self.graves.get_mut(place)
-        {
-            grave.has_died = true;
-        }
-    }
-
-    /// The courier is to be sent to the subscription, once more of the topic is stored.
-    pub(crate) fn open_grave(&mut self, name: &SubscriptionName) {
-        let found = self.grave_of(name);
-        if let Some(place) = found
-            && let Some(grave) = self.graves.get_mut(place)
-        {
-            grave.is_open = true;
+        match self.bells.prepare(asked) {
+            Ok(()) => Ok(change),
+            Err(fault) => {
+                drop(change);
+                Err(fault)
+            }
         }
     }
 
     /// The topic was viewed, to be stored: what has died so far is in it.
     pub(crate) fn viewed(&mut self) {
-        for grave in self.graves.iter_mut() {
-            grave.view();
-        }
+        self.graves.viewed();
     }
 
     /// Whether the thread that stores is to be told now to send the courier. It counts as told then.
     pub(crate) fn wants_courier(&mut self) -> bool {
-        let has_letters = self.graves.iter().any(|grave| grave.is_open);
-        let wants = !self.is_sent && (has_letters || self.is_awaited);
+        let has_open = self.graves.first_open().is_some();
+        let wants = !self.is_sent && (has_open || self.is_awaited);
         if wants {
             self.is_sent = true;
         }
         wants
     }
 
-    /// One event of one who takes a free seat for it alone.
-    pub(crate) fn visit<R: Wait>(&mut self, rt: &R, event: Event) -> Result<Reply, Fault> {
+    /// One event of one who takes a free seat for it alone. An end needs none, so that nothing is left behind where all
+    /// are taken: where it detaches one who is attached it is always answered.
+    pub(crate) fn visit<R: Wait>(&mut self, rt: &R, event: Event) -> Result<Reply, Fault>
+        ensures ends { is_end self.old.cell.cell event ≡ true → IsOk result }
+        ensures faults { is_ending event ≡ true → IfErr result (λ fault. (fault ≡ Fault.NoMemory) ⊎ (fault ≡ Fault.JournalFull)) }
+    {
+        if is_ending(&event) {
+            self.answer_with_room(rt, VISITOR, &Asked::Nothing, event, Change::Nothing)
+        } else {
+            self.visit_seated(rt, event)
+        }
+    }
+
+    fn visit_seated<R: Wait>(&mut self, rt: &R, event: Event) -> Result<Reply, Fault> {
         match self.cell.enter() {
             Ok(seat) => {
                 let answer = self.answer(rt, seat, &Asked::Nothing, event);
@@ -277,33 +242,23 @@ impl<T: Opened + Drop, J: Naming, B: Bell + Drop> Inside<T, J, B> {
         }
     }
 
-    /// The first subscription that the courier is to be sent to; it is sent there now.
-    pub(crate) fn take_grave(&mut self) -> Result<Option<SubscriptionName>, Fault> {
-        let Some(place) = self.graves.iter().position(|grave| grave.is_open) else {
-            return Ok(None);
-        };
-        let Some(grave) = self.graves.get_mut(place) else {
-            return Ok(None);
-        };
-        match grave.name.clone() {
-            Ok(name) => {
-                grave.is_open = false;
-                Ok(Some(name))
-            }
-            Err(_) => Err(Fault::NoMemory),
+    /// What was viewed, with so many messages, is stored: those are rung whose answers are ready. Where it is not what was
+    /// viewed last nobody is rung, and the topic is to be stored again.
+    pub(crate) fn confirmed<R: Wait>(&mut self, rt: &R, length: u64, kept: Kept<J>) {
+        let is_done = self.cell.confirm(kept);
+        self.is_queued = false;
+        self.is_behind = !is_done;
+        if is_done {
+            self.graves.stored();
+            self.roll_if_long();
+            self.bells.stored(rt, length);
         }
     }
 
-    /// What was viewed, with so many messages, is stored: those are rung whose answers are ready.
-    pub(crate) fn confirmed<R: Wait>(&mut self, rt: &R, length: u64, kept: Kept<J>) {
-        let _ = self.cell.confirm(kept);
+    /// No place was left on the board: it is put there with the next call.
+    pub(crate) fn fall_behind(&mut self) {
         self.is_queued = false;
-        self.is_behind = false;
-        for grave in self.graves.iter_mut() {
-            grave.store();
-        }
-        self.roll_if_long();
-        self.bells.stored(rt, length);
+        self.is_behind = true;
     }
 
     fn roll_if_long(&mut self) {

@@ -1,10 +1,9 @@
 // Storing: topics are viewed, each under its lock, stored together with all locks free, and confirmed, each under its lock.
-use crate::board::Task;
-use crate::clock::moment;
-use crate::courier::Courier;
 use crate::directory::Directory;
+use crate::errand::Errands;
+use crate::queue::Task;
 use crate::topic::Shared;
-use delivery_machine::{Fault, Moment, Opened};
+use delivery_machine::{Fault, Opened};
 use marks::Naming;
 use row_store::Keeper;
 use session_bells::Bell;
@@ -54,35 +53,6 @@ impl<J: Naming> Batch<J> {
     }
 }
 
-/// What the thread that stores has between its tasks: the couriers that are under way.
-pub struct Errands<T: Opened + Drop, J: Naming, B: Bell + Drop> {
-    couriers: Vec<Courier<T, J, B>>,
-    now: Moment,
-    /// Its last task was a store, so that it has the right to store still.
-    has_stored: bool,
-}
-
-impl<T: Opened + Drop, J: Naming, B: Bell + Drop> Drop for Errands<T, J, B> {
-    fn drop(self) {
-        let Errands {
-            couriers: _,
-            now: _,
-            has_stored: _,
-        } = self;
-    }
-}
-
-impl<T: Opened + Drop, J: Naming, B: Bell + Drop> Errands<T, J, B> {
-    /// None are under way.
-    pub fn new(alloc: Global) -> Option<Self> {
-        Some(Errands {
-            couriers: Vec::new(alloc),
-            now: Moment::new(0)?,
-            has_stored: false,
-        })
-    }
-}
-
 impl<T: Opened + Drop, S: Alter, J: Naming, B: Bell + Drop> Directory<T, S, J, B> {
     /// A worker, which has made so many changes, stores what waits where that is little and nobody else stores, or has
     /// lately. Else the thread does.
@@ -101,7 +71,7 @@ impl<T: Opened + Drop, S: Alter, J: Naming, B: Bell + Drop> Directory<T, S, J, B
             return;
         };
         for _ in rt.forever() {
-            let task = self.board.next(rt, errands.has_stored);
+            let task = self.board.next(rt, errands.turn());
             if !self.do_task(rt, task, &mut errands) {
                 return;
             }
@@ -110,7 +80,7 @@ impl<T: Opened + Drop, S: Alter, J: Naming, B: Bell + Drop> Directory<T, S, J, B
 
     /// One task of that thread, where there is one now. False where there is none.
     pub fn keep_once<R: Wait + Clock>(&self, rt: &R, errands: &mut Errands<T, J, B>) -> bool {
-        let task = self.board.try_next(rt, errands.has_stored);
+        let task = self.board.try_next(rt, errands.turn());
         errands.has_stored = false;
         match task {
             Some(task) => self.do_task(rt, task, errands),
@@ -133,8 +103,12 @@ impl<T: Opened + Drop, S: Alter, J: Naming, B: Bell + Drop> Directory<T, S, J, B
             }
             Task::Errand(topic) => {
                 errands.has_stored = false;
-                errands.now = moment(rt, errands.now);
-                self.run_errand(rt, &topic, &mut errands.couriers, errands.now);
+                self.run_errand(rt, topic, errands);
+                true
+            }
+            Task::Retry => {
+                errands.has_stored = false;
+                self.run_due(rt, errands);
                 true
             }
             Task::End => false,
@@ -161,13 +135,13 @@ impl<T: Opened + Drop, S: Alter, J: Naming, B: Bell + Drop> Directory<T, S, J, B
         }
     }
 
-    /// Where there is no memory for all, there may be for one.
+    /// Where there is no memory for all, there may be for one. Those for which there is none are stored later.
     fn store_each<R: Wait>(&self, rt: &R, topics: &[Arc<Shared<T, J, B>>]) {
         for place in 0..topics.len() {
             let one = &topics[place..place + 1];
             match self.store_together(rt, one) {
                 Ok(()) => {}
-                Err(Fault::NoMemory) => put_off(rt, one),
+                Err(Fault::NoMemory) => self.put_off(rt, &topics[place]),
                 Err(_) => {
                     self.close(rt);
                     return;
@@ -250,8 +224,8 @@ impl<T: Opened + Drop, S: Alter, J: Naming, B: Bell + Drop> Directory<T, S, J, B
         if tells {
             self.tell(rt, topic);
         }
-        if sends && let Ok(topic) = Arc::try_clone(topic) {
-            self.board.send(rt, topic);
+        if sends {
+            self.send(rt, topic);
         }
     }
 }
@@ -298,17 +272,5 @@ fn viewed<T: Opened + Drop, S: Alter, J: Naming, B: Bell + Drop, R: Wait>(
             Ok(part)
         }
         Err(fault) => Err(fault),
-    }
-}
-
-/// They are stored later: with the next of their calls.
-fn put_off<T: Opened + Drop, J: Naming, B: Bell + Drop, R: Wait>(
-    rt: &R,
-    topics: &[Arc<Shared<T, J, B>>],
-) {
-    for topic in topics {
-        let mut inside = topic.inside.lock(rt);
-        inside.is_queued = false;
-        inside.is_behind = true;
     }
 }

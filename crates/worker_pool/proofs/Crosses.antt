@@ -12,14 +12,13 @@ use Rattle.topic_shared.proofs.Crosses.{Cell-send}
 use Rattle.stored_cell.proofs.viewed.Stored.TheSendSync.{the_send as stored_send}
 use Rattle.stored_cell.proofs.viewed.Viewed.TheSendSync.{the_send as viewed_send}
 use Rattle.session_bells.proofs.bells.Bells.TheSendSync.{the_send as bells_send}
-use Rattle.broker_dir.proofs.inside.Grave.TheSendSync.{the_send as grave_send}
+use Rattle.broker_dir.proofs.graves.Graves.TheSendSync.{the_send as graves_send}
 use Rattle.broker_dir.proofs.board.Board.TheSendSync.{the_send as board_send, the_sync as board_sync}
 use Rattle.broker_dir.proofs.table.Table.TheSendSync.{the_send as table_send}
 use Rattle.stored_cell.proofs.opening.Terms.TheSendSync.{the_send as terms_send, the_sync as terms_sync}
 use Rattle.row_store.proofs.keeper.Keeper.TheSendSync.{the_send as keeper_send}
 use Rattle.worker_loops.proofs.post.Doorbell.TheSendSync.{the_send as doorbell_send, the_sync as doorbell_sync}
 use Rattle.std.specs.contracts.option.Option as Option
-use Rattle.std.specs.contracts.vec.Vec as Vec
 use Rattle.std.specs.contracts.sync.Mutex as Mutex
 use Rattle.std.specs.contracts.sync.Arc as Arc
 use Rattle.std.specs.contracts.alloc.Global as Global
@@ -28,7 +27,6 @@ use Rattle.stored_cell.specs.contracts.viewed.Stored as Stored
 use Rattle.stored_cell.specs.contracts.viewed.Viewed as Viewed
 use Rattle.stored_cell.specs.contracts.cell.StoredCell as StoredCell
 use Rattle.stored_cell.specs.contracts.cell.StoredCell.TheInside as StoredFields
-use Rattle.broker_dir.specs.contracts.inside.Grave as Grave
 use Rattle.broker_dir.specs.contracts.inside.Inside as Inside
 use Rattle.broker_dir.specs.contracts.table.Table as Table
 use Rattle.broker_dir.specs.contracts.topic.Shared as Shared
@@ -57,7 +55,7 @@ Inside-send T I B g n s b c = let cell = StoredCell-send T I g n s in let bells 
         search sendable,
         (
           search sendable,
-          (as_row_send (Vec.the_field Grave.the_row Global.the_row ghosts) (search (sendable, crosses, grave_send) depth 20), (search sendable, (search sendable, tt))),
+          (graves_send, (search sendable, (search sendable, tt))),
         ),
       ),
     ),

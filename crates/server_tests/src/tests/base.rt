@@ -19,7 +19,7 @@ pub(super) fn keeper_over<J: Naming, R: Abort + AllocGlobal>(
 {
     let conn = Connection::open_in_memory(rt.alloc()).expect(rt, "no memory");
     let keeper = Keeper::start(rt.alloc(), conn, Notes::new(history));
-    keeper.ok().expect(rt, "no tables")
+    keeper.ok().expect(rt, "no memory for the tables")
 }
 
 /// So many may sit at a topic.

@@ -1,4 +1,6 @@
 // The server over a database in memory.
 mod attaching;
 mod letters;
+mod memory;
+mod retries;
 mod world;

@@ -9,20 +9,20 @@ use std::rt::Clock;
 use std::sync::Wait;
 use std::test::*;
 
-const T: &str = "persistent://public/default/t";
+pub(super) const T: &str = "persistent://public/default/t";
 
-const GRAVE: &str = "persistent://public/default/t-s-DLQ";
+pub(super) const GRAVE: &str = "persistent://public/default/t-s-DLQ";
 
 const OTHER: &str = "persistent://public/default/u";
 
 /// A message that has died once it is stored.
-const BEFORE: [&str; 3] = [
+pub(super) const BEFORE: [&str; 3] = [
     "producer p -",
     "subscribe s Shared 0 push:10 0 100 1 - Earliest",
     "publish 1 0 - aGk= 1000",
 ];
 
-const DEATH: [&str; 6] = [
+pub(super) const DEATH: [&str; 6] = [
     "dispatch s 1000",
     "nack 1 CAAQAA== 1000",
     "tick s 1100",
@@ -35,7 +35,7 @@ fn check_answered<R: Abort>(rt: &R, reply: &Reply, line: &str) {
     assert!(rt; !matches!(reply, Reply::Refused(_)), "{}", line);
 }
 
-fn play<J: Naming, R: Abort + AllocGlobal + Wait>(
+pub(super) fn play<J: Naming, R: Abort + AllocGlobal + Wait>(
     rt: &R,
     topics: &Topics<J>,
     seat: &Seat<J>,
@@ -101,7 +101,7 @@ fn do_tasks<J: Naming, R: Abort + AllocGlobal + Wait + Clock>(
 }
 
 /// A message dies once it is stored, and its consumer goes.
-fn die<J: Naming, R: Abort + AllocGlobal + Wait + Clock>(rt: &R, topics: &Topics<J>) {
+pub(super) fn die<J: Naming, R: Abort + AllocGlobal + Wait + Clock>(rt: &R, topics: &Topics<J>) {
     let seat = sit(rt, topics, T);
     play(rt, topics, &seat, &BEFORE);
     settle(rt, topics);
@@ -117,7 +117,7 @@ fn again<J: Naming, R: Abort + AllocGlobal>(rt: &R, topics: Topics<J>) -> Topics
 }
 
 /// No letter is left, and the dead-letter topic has it, where the message has died.
-fn check_letters<J: Naming, R: Abort + AllocGlobal + Wait>(
+pub(super) fn check_letters<J: Naming, R: Abort + AllocGlobal + Wait>(
     rt: &R,
     topics: &Topics<J>,
     has_died: bool,

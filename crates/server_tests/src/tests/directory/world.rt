@@ -14,25 +14,36 @@ use sqlite::MemStore;
 use std::marker::Brand;
 use std::process::Abort;
 use std::rt::Clock;
+use std::sync::atomic::{AtomicBool, Ordering};
 use std::sync::{Arc, Wait};
 use stored_cell::Note;
 use topic_core::TopicCore;
 
-/// A bell that nobody hears.
+/// A bell that shows whether it was rung.
 #[derive(Drop)]
-pub(super) struct Silent;
+pub(super) struct Chime {
+    rung: AtomicBool,
+}
 
-impl Bell for Silent {
-    fn ring<R: Wait>(&self, _rt: &R) {}
+impl Chime {
+    pub(super) fn is_rung(&self) -> bool {
+        self.rung.load(Ordering::SeqCst)
+    }
+}
+
+impl Bell for Chime {
+    fn ring<R: Wait>(&self, _rt: &R) {
+        self.rung.store(true, Ordering::SeqCst);
+    }
 }
 
 pub(super) type Rows<J> = Keeper<MemStore, J>;
 
-pub(super) type Topics<J> = Directory<TopicCore, MemStore, J, Silent>;
+pub(super) type Topics<J> = Directory<TopicCore, MemStore, J, Chime>;
 
-pub(super) type Tasks<J> = Errands<TopicCore, J, Silent>;
+pub(super) type Tasks<J> = Errands<TopicCore, J, Chime>;
 
-pub(super) type Seat<J> = Attached<TopicCore, J, Silent>;
+pub(super) type Seat<J> = Attached<TopicCore, J, Chime>;
 
 /// What is done over a database that has no rows.
 pub(super) trait Scene {
@@ -68,7 +79,7 @@ pub(super) fn topic_name<R: Abort + AllocGlobal>(rt: &R, text: &str) -> TopicNam
     name.expect(rt, "no memory").expect(rt, "no name")
 }
 
-pub(super) fn bell<R: Abort + AllocGlobal>(rt: &R) -> Arc<Silent> {
+pub(super) fn bell<R: Abort + AllocGlobal>(rt: &R) -> Arc<Chime> {
     Arc::new(rt.alloc(), Silent).expect(rt, "no memory")
 }
 
@@ -79,10 +90,10 @@ pub(super) fn sit<J: Naming, R: Abort + AllocGlobal + Wait>(
     name: &str,
 ) -> Seat<J> {
     let attached = topics.attach(rt, &topic_name(rt, name), true, bell(rt));
-    attached.ok().expect(rt, "no seat")
+    attached.ok().expect(rt, "no seat, or no memory")
 }
 
-fn event_in<R: AllocGlobal>(rt: &R, name: &TopicName, line: &str) -> Option<Event> {
+pub(super) fn event_in<R: AllocGlobal>(rt: &R, name: &TopicName, line: &str) -> Option<Event> {
     match read_line(rt.alloc(), name, line.as_bytes()) {
         Ok(Line::Event(event)) => Some(event),
         _ => None,
@@ -96,9 +107,9 @@ pub(super) fn asked<J: Naming, R: Abort + AllocGlobal + Wait>(
     seat: &Seat<J>,
     line: &str,
 ) -> Reply {
-    let event = event_in(rt, seat.topic(), line).expect(rt, "no event");
+    let event = event_in(rt, seat.topic(), line).expect(rt, "no event, or no memory");
     let mut caller = topics.caller(rt, seat, &Open);
-    caller.call(event).ok().expect(rt, "no answer")
+    caller.call(event).ok().expect(rt, "no answer, or no memory")
 }
 
 /// Whether nothing is left to do after a hundred tasks.

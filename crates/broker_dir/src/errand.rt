@@ -1,0 +1,242 @@
+// Errands of the storing thread: couriers are sent, go on, pause where they were refused, and end.
+use crate::clock::{instant, moment};
+use crate::courier::{Courier, Stay, Stepped};
+use crate::directory::Directory;
+use crate::inside::Inside;
+use crate::pause::Due;
+use crate::queue::Turn;
+use crate::topic::Shared;
+use delivery_machine::{Fault, Moment, Opened};
+use marks::Naming;
+use session_bells::Bell;
+use sqlite::Alter;
+use std::alloc::Global;
+use std::rt::Clock;
+use std::sync::{Arc, Wait};
+use std::time::Instant;
+
+/// What the thread that stores has between its tasks: the couriers that are under way. One is made for as long as the
+/// directory is used, since the couriers go with it.
+pub struct Errands<T: Opened + Drop, J: Naming, B: Bell + Drop> {
+    couriers: Vec<Courier<T, J, B>>,
+    now: Moment,
+    time: Option<Instant>,
+    /// When the first pause of a courier is over, where one pauses.
+    due: Option<Due>,
+    /// Its last task was a store, so that it has the right to store still.
+    pub(crate) has_stored: bool,
+}
+
+impl<T: Opened + Drop, J: Naming, B: Bell + Drop> Drop for Errands<T, J, B> {
+    fn drop(self) {
+        let Errands {
+            couriers: _,
+            now: _,
+            time: _,
+            due: _,
+            has_stored: _,
+        } = self;
+    }
+}
+
+/// The earlier one, where there is one.
+fn earlier(one: Option<Due>, other: Option<Due>) -> Option<Due> {
+    match (one, other) {
+        (Some(one), Some(other)) => Some(one.or(other)),
+        (Some(one), None) => Some(one),
+        (None, other) => other,
+    }
+}
+
+impl<T: Opened + Drop, J: Naming, B: Bell + Drop> Errands<T, J, B> {
+    /// None are under way.
+    pub fn new(alloc: Global) -> Option<Self> {
+        Some(Errands {
+            couriers: Vec::new(alloc),
+            now: Moment::new(0)?,
+            time: None,
+            due: None,
+            has_stored: false,
+        })
+    }
+
+    /// What the board is to know.
+    pub(crate) fn turn(&self) -> Turn {
+        Turn {
+            has_stored: self.has_stored,
+            due: self.due,
+        }
+    }
+
+    fn read_clocks<R: Clock>(&mut self, rt: &R) {
+        self.now = moment(rt, self.now);
+        self.time = instant(rt);
+    }
+
+    /// Those that have ended go, and the first pause is that of those that are left.
+    fn tidy(&mut self) {
+        self.couriers.retain(|courier| !courier.is_over());
+        let mut due = None;
+        for courier in self.couriers.iter() {
+            due = earlier(due, courier.due());
+        }
+        self.due = due;
+    }
+}
+
+impl<T: Opened + Drop, S: Alter, J: Naming, B: Bell + Drop> Directory<T, S, J, B> {
+    /// Couriers are sent to the subscriptions of the topic in which letters lie, and those go on that wait for more of it
+    /// to be stored. Without memory for a courier the thread comes again after a pause.
+    pub(crate) fn run_errand<R: Wait + Clock>(
+        &self,
+        rt: &R,
+        topic: Arc<Shared<T, J, B>>,
+        errands: &mut Errands<T, J, B>,
+    ) {
+        errands.read_clocks(rt);
+        let is_sent = self.send_couriers(rt, &topic, &mut errands.couriers);
+        self.call_couriers(rt, &topic, errands);
+        errands.tidy();
+        if is_sent {
+            drop(topic);
+        } else {
+            self.board.put_off_errand(rt, topic);
+        }
+    }
+
+    /// Couriers whose pause is over go on.
+    pub(crate) fn run_due<R: Wait + Clock>(&self, rt: &R, errands: &mut Errands<T, J, B>) {
+        errands.read_clocks(rt);
+        let (now, time) = (errands.now, errands.time);
+        for courier in errands.couriers.iter_mut() {
+            if courier.is_due(time) {
+                self.go(rt, courier, now, time);
+            }
+        }
+        errands.tidy();
+    }
+
+    fn call_couriers<R: Wait>(
+        &self,
+        rt: &R,
+        topic: &Arc<Shared<T, J, B>>,
+        errands: &mut Errands<T, J, B>,
+    ) {
+        let (now, time) = (errands.now, errands.time);
+        for courier in errands.couriers.iter_mut() {
+            if courier.is_called_by(topic) {
+                self.go(rt, courier, now, time);
+            }
+        }
+    }
+
+    /// The courier goes as far as it can.
+    fn go<R: Wait>(
+        &self,
+        rt: &R,
+        courier: &mut Courier<T, J, B>,
+        now: Moment,
+        time: Option<Instant>,
+    ) {
+        for _ in rt.forever() {
+            match self.step(rt, courier, now) {
+                Stepped::GoesOn => {}
+                Stepped::Waits => {
+                    courier.stay = Stay::Stores;
+                    return;
+                }
+                Stepped::Ends => {
+                    self.end_courier(rt, courier);
+                    return;
+                }
+                Stepped::Fails => {
+                    pause_courier(rt, courier, time);
+                    return;
+                }
+            }
+        }
+    }
+
+    /// No letter is left. Where one was stored meanwhile, another courier is to be sent.
+    fn end_courier<R: Wait>(&self, rt: &R, courier: &mut Courier<T, J, B>) {
+        courier.stay = Stay::Over;
+        let mut inside = courier.source.inside.lock(rt);
+        inside.graves.release(courier.grave);
+        let sends = inside.wants_courier();
+        drop(inside);
+        if sends {
+            self.send(rt, &courier.source);
+        }
+    }
+
+    /// Sends a courier to each subscription that wants one. False for want of memory: the topic counts still as one that
+    /// the thread was told of.
+    fn send_couriers<R: Wait>(
+        &self,
+        rt: &R,
+        topic: &Arc<Shared<T, J, B>>,
+        couriers: &mut Vec<Courier<T, J, B>>,
+    ) -> bool {
+        let mut guard = topic.inside.lock(rt);
+        let inside = &mut *guard;
+        inside.is_awaited = false;
+        for _ in 0..inside.graves.count() {
+            match self.send_one(inside, topic, couriers) {
+                Ok(()) => {}
+                Err(_) => return false,
+            }
+        }
+        inside.is_sent = false;
+        true
+    }
+
+    /// A courier is sent to the next subscription that wants one. All that may be refused comes before it counts as sent.
+    fn send_one(
+        &self,
+        inside: &mut Inside<T, J, B>,
+        topic: &Arc<Shared<T, J, B>>,
+        couriers: &mut Vec<Courier<T, J, B>>,
+    ) -> Result<(), Fault> {
+        let Some(place) = inside.graves.first_open() else {
+            return Ok(());
+        };
+        if couriers.reserve(1).is_err() {
+            return Err(Fault::NoMemory);
+        }
+        let courier = match inside.graves.at(place) {
+            Some(grave) => self.courier_for(topic, grave),
+            None => return Ok(()),
+        };
+        match courier {
+            Some(courier) => {
+                couriers.push_reserved(courier);
+                inside.graves.close(place);
+                Ok(())
+            }
+            None => Err(Fault::NoMemory),
+        }
+    }
+}
+
+/// The letter stays where it is. The courier tries again after a pause, if its subscription is there still, or if it has
+/// something in its hand that it is to put back first.
+fn pause_courier<T: Opened + Drop, J: Naming, B: Bell + Drop, R: Wait>(
+    rt: &R,
+    courier: &mut Courier<T, J, B>,
+    time: Option<Instant>,
+) {
+    if courier.is_free() && !has_grave(rt, courier) {
+        courier.stay = Stay::Over;
+    } else {
+        courier.begin_pause(time);
+    }
+}
+
+/// Whether the subscription is there still whose letters the courier moves.
+fn has_grave<T: Opened + Drop, J: Naming, B: Bell + Drop, R: Wait>(
+    rt: &R,
+    courier: &Courier<T, J, B>,
+) -> bool {
+    let inside = courier.source.inside.lock(rt);
+    inside.graves.has(courier.grave)
+}

@@ -1,0 +1,218 @@
+// What waits at the board: topics to be stored, errands of the storing thread, and what found no memory.
+use crate::late::{Late, has_room};
+use crate::pause::{Due, shorter};
+use std::alloc::Global;
+use std::collections::VecDeque;
+use std::time::{Duration, Instant};
+
+/// How many publishes and other changes a worker stores itself; more are the storing thread's, so that the worker goes on
+/// reading.
+const SMALL: u64 = 16;
+
+/// How many topics one store takes.
+const MOST_STORED: usize = 64;
+
+/// What waits, and who stores.
+#[derive(Drop)]
+pub(crate) struct Queue<X: Drop> {
+    pub(crate) topics: VecDeque<X>,
+    /// Topics in which letters lie dead that are stored.
+    pub(crate) errands: VecDeque<X>,
+    pub(crate) late: Late<X>,
+    /// What was made since the last store began.
+    pub(crate) made: u64,
+    /// Somebody stores.
+    pub(crate) is_led: bool,
+    /// Several topics were stored together, or some waited until others were stored: so more come soon.
+    pub(crate) is_busy: bool,
+    pub(crate) thread_waits: bool,
+    /// The thread ends once nothing waits.
+    pub(crate) is_ending: bool,
+    pub(crate) is_closed: bool,
+}
+
+/// What the storing thread is to do.
+#[derive(Drop)]
+pub(crate) enum Task<X: Drop> {
+    Store(Vec<X>),
+    Errand(X),
+    /// Couriers whose pause is over go on.
+    Retry,
+    End,
+}
+
+/// What the thread knows as it asks for a task.
+#[derive(Clone, Copy)]
+pub(crate) struct Turn {
+    /// It has stored, so that it had the right to.
+    pub(crate) has_stored: bool,
+    /// When the first of its couriers goes on that were refused.
+    pub(crate) due: Option<Due>,
+}
+
+impl Turn {
+    fn is_due(self, time: Option<Instant>) -> bool {
+        match self.due {
+            Some(due) => due.left(time).is_none(),
+            None => false,
+        }
+    }
+
+    /// How long it is until then; none where there is nothing to wait for.
+    fn left(self, time: Option<Instant>) -> Option<Duration> {
+        match self.due {
+            Some(due) => due.left(time),
+            None => None,
+        }
+    }
+}
+
+impl<X: Drop> Queue<X> {
+    pub(crate) fn new(alloc: Global) -> Self {
+        Queue {
+            topics: VecDeque::new(alloc),
+            errands: VecDeque::new(alloc),
+            late: Late::new(alloc),
+            made: 0,
+            is_led: false,
+            is_busy: false,
+            thread_waits: false,
+            is_ending: false,
+            is_closed: false,
+        }
+    }
+
+    /// Room for so many topics, each of which waits here once at most. False for want of memory.
+    pub(crate) fn make_room(&mut self, topics: usize) -> bool {
+        has_room(&mut self.topics, topics)
+            && has_room(&mut self.errands, topics)
+            && self.late.make_room(topics)
+    }
+
+    /// Whether a worker stores it itself: it is little, and nobody else has something to be stored meanwhile.
+    pub(crate) fn is_for_worker(&self) -> bool {
+        self.made <= SMALL && !self.is_busy
+    }
+
+    /// Who stored has ended.
+    pub(crate) fn end(&mut self) {
+        self.is_led = false;
+        self.is_busy |= !self.topics.is_empty();
+    }
+
+    /// The thread asks for a task. Where it has stored, that has ended.
+    pub(crate) fn begin(&mut self, turn: Turn) {
+        if turn.has_stored {
+            self.end();
+        }
+    }
+
+    /// Whether something waits that the thread does not know of.
+    pub(crate) fn has_news(&self) -> bool {
+        let has_some = !(self.topics.is_empty() && self.errands.is_empty());
+        has_some || self.late.is_new() || self.is_ending
+    }
+
+    /// The right to store, with the topics that have waited longest. None where there is no memory.
+    pub(crate) fn take(&mut self, alloc: Global) -> Option<Vec<X>> {
+        let count = self.topics.len().min(MOST_STORED);
+        let mut taken = Vec::with_capacity(alloc, count).ok()?;
+        for _ in 0..count {
+            let Some(topic) = self.topics.pop_front() else {
+                break;
+            };
+            let _ = taken.push(topic);
+        }
+        self.is_led = true;
+        self.is_busy = count > 1;
+        self.made = 0;
+        Some(taken)
+    }
+
+    /// What the thread stores now, where it may and there is memory.
+    fn store(&mut self, alloc: Global) -> Option<Task<X>> {
+        if self.is_led || self.topics.is_empty() || self.late.is_short() {
+            return None;
+        }
+        match self.take(alloc) {
+            Some(topics) => Some(Task::Store(topics)),
+            None => {
+                self.late.fall_short();
+                None
+            }
+        }
+    }
+
+    /// An errand of the thread, where there is one.
+    fn errand(&mut self, is_due: bool) -> Option<Task<X>> {
+        if self.is_ending {
+            return None;
+        }
+        if is_due {
+            return Some(Task::Retry);
+        }
+        match self.errands.pop_front() {
+            Some(topic) => Some(Task::Errand(topic)),
+            None => None,
+        }
+    }
+
+    /// What the thread does of the two. An errand has its turn after each store, however many topics wait: else letters
+    /// would lie for as long as others publish.
+    fn work(&mut self, alloc: Global, has_stored: bool, is_due: bool) -> Option<Task<X>> {
+        if has_stored {
+            return match self.errand(is_due) {
+                Some(task) => Some(task),
+                None => self.store(alloc),
+            };
+        }
+        match self.store(alloc) {
+            Some(task) => Some(task),
+            None => self.errand(is_due),
+        }
+    }
+
+    /// What the thread does now. It ends once nothing waits to be stored.
+    pub(crate) fn task(
+        &mut self,
+        alloc: Global,
+        turn: Turn,
+        time: Option<Instant>,
+    ) -> Option<Task<X>> {
+        if self.is_closed {
+            return Some(Task::End);
+        }
+        self.resume(time);
+        let work = self.work(alloc, turn.has_stored, turn.is_due(time));
+        let waits = self.is_led || self.late.has_topics() || !self.topics.is_empty();
+        if work.is_none() && self.is_ending && !waits {
+            Some(Task::End)
+        } else {
+            work
+        }
+    }
+
+    /// What found no memory is tried again once its pause is over.
+    fn resume(&mut self, time: Option<Instant>) {
+        if !self.late.is_empty() && self.late.left(time).is_none() {
+            self.late.leave(&mut self.topics, &mut self.errands);
+        }
+    }
+
+    /// How long the thread is to wait where it has no task, if nothing comes; none for without an end.
+    pub(crate) fn left(&mut self, turn: Turn, time: Option<Instant>) -> Option<Duration> {
+        let late = self.late.left(time);
+        if self.is_ending {
+            late
+        } else {
+            shorter(late, turn.left(time))
+        }
+    }
+
+    /// Whether the thread is to be woken, which counts as awake then.
+    pub(crate) fn wakes(&mut self) -> bool {
+        let wakes = self.thread_waits;
+        self.thread_waits = false;
+        wakes
+    }
+}
