@@ -80,7 +80,10 @@ pub(super) fn topic_name<R: Abort + AllocGlobal>(rt: &R, text: &str) -> TopicNam
 }
 
 pub(super) fn bell<R: Abort + AllocGlobal>(rt: &R) -> Arc<Chime> {
-    Arc::new(rt.alloc(), Silent).expect(rt, "no memory")
+    let chime = Chime {
+        rung: AtomicBool::new(false),
+    };
+    Arc::new(rt.alloc(), chime).expect(rt, "no memory")
 }
 
 /// A seat at the topic, which is made where it is not known.
