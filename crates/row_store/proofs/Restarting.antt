@@ -1,5 +1,5 @@
 -- What was loaded opens as it should.
-use Rattle.std.proofs.Common.{◌≡◌, inl, inr, sym, ap, ◌∙◌, subst, Option, Some, None, MatchOption, IfSome, Result, Ok, Err, IfOk}
+use Rattle.std.proofs.Common.{◌≡◌, ◌⊎◌, inl, inr, sym, ap, ◌∙◌, subst, Option, Some, None, MatchOption, IfSome, Result, Ok, Err, IfOk}
 use Rattle.position_core.specs.declared.topic_name.TopicName.{TopicName}
 use Rattle.position_core.specs.TopicName.{topic_text}
 use Rattle.position_core.specs.declared.fault.Fault.{Fault}
@@ -14,7 +14,7 @@ use Rattle.stored_cell.specs.Held.{Held}
 use Rattle.stored_cell.specs.declared.opening.Loaded.{Loaded}
 use Rattle.stored_cell.specs.declared.opening.Terms.{Terms}
 use Rattle.stored_cell.specs.Opening.{GoesOn, Opens, opened}
-use Rattle.row_store.specs.Keeping.{stored_in}
+use Rattle.row_store.specs.Keeping.{MayLeave, stored_in}
 
 going_on : (name : TopicName) (terms : Terms) (db : Trees) (cell : Held) (kept : KeptTopic) (stored : Noted) → stored.kept ≡ kept → kept.name ≡ name → Stands kept db → cell ≡ opened (restarted (snapshot_in kept)) terms (Some stored) → GoesOn name terms db cell
 going_on name terms db cell kept stored is its stands e = record {
@@ -33,3 +33,8 @@ pub opens_found : {J : Type 0} (name : TopicName) (terms : Terms) (db : Trees) (
 opens_found name terms db s None (Ok cell) none kept e = inr (record { has_none = none; nothing = e })
 opens_found name terms db s (Some l) (Ok cell) stands kept e = inl (going_on name terms db cell l.snapshot l.kept (ap (λ (n : Noted). n.kept) kept) stands.0 stands.1 e)
 opens_found name terms db s found (Err fault) stands kept e = tt
+
+-- what a database may leave that is opened again is among what a start may leave
+pub left_again : (s : State) (db : Trees) → s.may_leave db ⊎ (db ≡ s.committed.trees) → MayLeave s db
+left_again s db (inl left) = inl left
+left_again s db (inr done) = inr (inl done)

@@ -1,11 +1,12 @@
 // The keeper, and a store of several snapshots in one transaction.
-ghost use Rattle.std.specs.Prelude.{◌≡◌, ◌⊎◌, map, true, false, IfOk, IfErr, OnOk, OnErr, Err, IsTrue};
+ghost use Rattle.std.specs.Prelude.{◌≡◌, ◌⊎◌, map, true, false, is_some, IfOk, IfErr, IsSome, OnOk, OnErr, Err, IsTrue};
 ghost use Rattle.position_core.specs.declared.fault.Fault.TheVariants.{NoMemory, StoreFailed};
 ghost use Rattle.sqlite.specs.State.{HasCleanDisk, Survives};
 ghost use Rattle.sqlite.specs.Held.{state};
 ghost use Rattle.row_store.specs.Counting.{Counts};
 ghost use Rattle.row_store.specs.Keeping.{StoresAll, known_without, stored_in};
 
+use crate::cause::Cause;
 use crate::knowing::{forget, forget_topic, keep_all, marks_of, remember};
 use crate::known::Known;
 use crate::planning::{are_apart, plan_all};
@@ -20,7 +21,7 @@ use std::marker::Model;
 use stored_cell::{Kept, Notes, Part};
 
 /// Keeps topics as rows of a database. After a store that failed it answers F16 until the database is
-/// adopted again. Contracts see its connection, and whether it failed.
+/// adopted again, and says why. Contracts see its connection, and whether it failed.
 pub struct Keeper<S: Alter, J: Naming> {
     pub(crate) alloc: Global,
     pub(crate) conn: Connection<S>,
@@ -29,6 +30,12 @@ pub struct Keeper<S: Alter, J: Naming> {
     pub(crate) notes: Notes<J>,
     pub(crate) scratch: String,
     pub(crate) written: Written,
+    /// Why it failed.
+    pub(crate) cause: Option<Cause>,
+    /// Why a call was refused by F16 that changed nothing, the last of them.
+    pub(crate) refusal: Option<Cause>,
+    /// The topic whose rows were none, the last of them.
+    pub(crate) spoilt: Option<String>,
 }
 
 impl<S: Alter + Drop, J: Naming> Drop for Keeper<S, J> {
@@ -41,11 +48,15 @@ impl<S: Alter + Drop, J: Naming> Drop for Keeper<S, J> {
             notes: _,
             scratch: _,
             written: _,
+            cause: _,
+            refusal: _,
+            spoilt: _,
         } = self;
     }
 }
 
 impl<S: Alter, J: Naming> Model for Keeper<S, J> {
+    ghost use Rattle.std.specs.Prelude.{◌≡◌, is_some};
     ghost use Rattle.sqlite.specs.Held.{held_code};
     ghost use Rattle.std.specs.Coded.{codes};
     ghost use Rattle.delivery_machine.specs.Codes.{coded_places};
@@ -57,7 +68,7 @@ impl<S: Alter, J: Naming> Model for Keeper<S, J> {
 
     ghost view = { λ k. record { conn = k.conn; failed = k.failed; known = k.known.items; written = k.written } };
 
-    ghost invariant = { λ k. IsKept S.Store (record { conn = k.conn; failed = k.failed; known = k.known.items; written = k.written }) };
+    ghost invariant = { λ k. IsKept S.Store (record { conn = k.conn; failed = k.failed; known = k.known.items; written = k.written }) × (is_some k.cause ≡ k.failed) };
 }
 
 impl<S: Alter, J: Naming> Keeper<S, J> {
@@ -91,6 +102,7 @@ impl<S: Alter, J: Naming> Keeper<S, J> {
             Err(fault) => return Err(fault),
         };
         if !are_apart(&writes) {
+            self.refusal = Some(Cause::Twice);
             return Err(Fault::StoreFailed);
         }
         let Ok(()) = room_for(&writes, &mut self.scratch) else {
@@ -98,10 +110,15 @@ impl<S: Alter, J: Naming> Keeper<S, J> {
         };
         let written = Written::by(&writes);
         self.failed = true;
-        let Ok(()) = save(&mut self.conn, &writes, &mut self.scratch) else {
-            return Err(Fault::StoreFailed);
-        };
+        match save(&mut self.conn, &writes, &mut self.scratch) {
+            Ok(()) => {}
+            Err(error) => {
+                self.cause = Some(Cause::of(error, self.refusal));
+                return Err(Fault::StoreFailed);
+            }
+        }
         let Some(rows) = self.notes.commit(&self.conn) else {
+            self.cause = Some(Cause::NoMark);
             return Err(Fault::StoreFailed);
         };
         keep_all(&rows, &marks, &mut kept);
@@ -134,6 +151,32 @@ impl<S: Alter, J: Naming> Keeper<S, J> {
         self.failed
     }
 
+    /// Why the keeper failed; none where it has not.
+    pub fn cause(&self) -> Option<Cause>
+        ensures { is_some result ≡ self.now.failed }
+    {
+        self.cause
+    }
+
+    /// Why a call of this keeper was refused by F16, the last that was: why it failed, where it has; and else why it
+    /// could not load, view or store a topic, and changed nothing.
+    pub fn refusal(&self) -> Option<Cause>
+        ensures { self.now.failed ≡ true → IsSome result }
+    {
+        match self.cause {
+            Some(cause) => Some(cause),
+            None => self.refusal,
+        }
+    }
+
+    /// The topic whose rows a load found to be none, the last of them: that of a refusal for bad rows.
+    pub fn spoilt(&self) -> Option<&str> {
+        match &self.spoilt {
+            Some(topic) => Some(topic.as_str()),
+            None => None,
+        }
+    }
+
     /// The database and the history, as they are: so a database is adopted again.
     pub fn into_parts(self) -> (Connection<S>, Notes<J>)
         ensures { result.0 ≡ self.conn }
@@ -146,6 +189,9 @@ impl<S: Alter, J: Naming> Keeper<S, J> {
             notes,
             scratch: _,
             written: _,
+            cause: _,
+            refusal: _,
+            spoilt: _,
         } = self;
         (conn, notes)
     }

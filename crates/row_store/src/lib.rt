@@ -2,6 +2,7 @@
 //! changed since the one before it.
 #![tactic(auto)]
 
+mod cause;
 mod keeper;
 mod knowing;
 mod known;
@@ -12,6 +13,7 @@ mod rounds;
 mod topics;
 mod written;
 
+pub use cause::Cause;
 pub use keeper::Keeper;
 pub use opening::Refused;
 pub use topics::open_cell;

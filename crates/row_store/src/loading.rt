@@ -7,6 +7,7 @@ ghost use Rattle.sqlite.specs.Held.{state};
 ghost use Rattle.row_forms.specs.Standing.{Stands, HasNone};
 ghost use Rattle.row_store.specs.Keeping.{stored_in};
 
+use crate::cause::Cause;
 use crate::keeper::Keeper;
 use crate::knowing::{forget_topic, know};
 use delivery_machine::{Fault, Snapshot};
@@ -37,9 +38,13 @@ impl<S: Alter, J: Naming> Keeper<S, J> {
         let Ok(topic) = topic_text(self.alloc, name) else {
             return Err(Fault::NoMemory);
         };
-        let Ok(raw) = read(&mut self.conn, topic.as_str()) else {
-            drop(topic);
-            return Err(Fault::StoreFailed);
+        let raw = match read(&mut self.conn, topic.as_str()) {
+            Ok(raw) => raw,
+            Err(error) => {
+                drop(topic);
+                self.refusal = Some(Cause::of(error, self.refusal));
+                return Err(Fault::StoreFailed);
+            }
         };
         if raw.is_empty() {
             drop(topic);
@@ -54,7 +59,8 @@ impl<S: Alter, J: Naming> Keeper<S, J> {
                 Err(fault) => Err(fault),
             },
             Ok(None) => {
-                drop(topic);
+                self.refusal = Some(Cause::BadRows);
+                self.spoilt = Some(topic);
                 Err(Fault::StoreFailed)
             }
             Err(_) => {
@@ -96,10 +102,14 @@ impl<S: Alter, J: Naming> Keeper<S, J> {
                 Some(rows) => Ok(Kept::new(mark, rows)),
                 None => {
                     drop(mark);
+                    self.refusal = Some(Cause::NoMark);
                     Err(Fault::StoreFailed)
                 }
             },
-            None => Err(Fault::StoreFailed),
+            None => {
+                self.refusal = Some(Cause::NoMark);
+                Err(Fault::StoreFailed)
+            }
         }
     }
 

@@ -1,5 +1,5 @@
 // How a keeper comes by its database: it makes the tables, or takes those that are there.
-ghost use Rattle.std.specs.Prelude.{[], ◌≡◌, ◌≢◌, ◌⊎◌, false, IfOk, IfErr, IsTrue};
+ghost use Rattle.std.specs.Prelude.{[], ◌≡◌, ◌≢◌, ◌⊎◌, ◌↔◌, true, false, IfOk, IfErr, IsTrue};
 ghost use Rattle.position_core.specs.declared.fault.Fault.TheVariants.{StoreFailed};
 ghost use Rattle.sqlite.specs.Tree.{Trees};
 ghost use Rattle.sqlite.specs.State.{HasCleanDisk};
@@ -7,14 +7,16 @@ ghost use Rattle.sqlite.specs.Held.{state};
 ghost use Rattle.sqlite_trees.specs.View.{IsClean};
 ghost use Rattle.row_forms.specs.Schema.{schema_0};
 ghost use Rattle.row_tables.specs.Ready.{IsReady, IsBlank};
+ghost use Rattle.row_store.specs.declared.cause.Cause.TheVariants.{NotOurs, UnderWay};
 ghost use Rattle.row_store.specs.Keeping.{MayLeave};
 
+use crate::cause::Cause;
 use crate::keeper::Keeper;
 use crate::written::Written;
 use delivery_machine::Fault;
 use marks::Naming;
 use row_schema::{create, has_no_schema, is_version_1, reopen};
-use sqlite::{Alter, Connection};
+use sqlite::{Alter, Connection, Error, ErrorCode};
 use std::alloc::Global;
 use stored_cell::Notes;
 
@@ -22,6 +24,7 @@ use stored_cell::Notes;
 #[derive(Drop)]
 pub struct Refused<S: Alter + Drop, J: Naming> {
     pub fault: Fault,
+    pub cause: Cause,
     pub store: S,
     pub notes: Notes<J>,
 }
@@ -35,13 +38,19 @@ fn is_empty<S: Alter>(conn: &Connection<S>) -> bool
     conn.is_autocommit() && has_no_schema(conn)
 }
 
-fn given_back<S: Alter + Drop, J: Naming>(conn: Connection<S>, notes: Notes<J>) -> Refused<S, J>
+fn given_back<S: Alter + Drop, J: Naming>(
+    conn: Connection<S>,
+    notes: Notes<J>,
+    cause: Cause,
+) -> Refused<S, J>
     ensures fault { result.fault ≡ StoreFailed }
+    ensures cause { result.cause ≡ cause }
     ensures clean { IsClean (S.Store.view result.store) → HasCleanDisk (state S.Store conn) }
     ensures left { (db : Trees) → S.Store.recovers result.store db → (state S.Store conn).may_leave db }
 {
     Refused {
         fault: Fault::StoreFailed,
+        cause,
         store: conn.into_store(),
         notes,
     }
@@ -65,6 +74,9 @@ fn keeper_over<S: Alter, J: Naming>(
         notes,
         scratch: String::new(alloc),
         written: Written::none(),
+        cause: None,
+        refusal: None,
+        spoilt: None,
     }
 }
 
@@ -81,13 +93,18 @@ impl<S: Alter + Drop, J: Naming> Keeper<S, J> {
         ensures crash { IfOk result (λ k. HasCleanDisk (state S.Store k.conn) → (db : Trees) → (state S.Store k.conn).may_leave db → MayLeave (state S.Store conn) db) }
         ensures given_back { IfErr result (λ e. IsClean (S.Store.view e.store) → (db : Trees) → S.Store.recovers e.store db → MayLeave (state S.Store conn) db) }
         ensures fault { IfErr result (λ e. e.fault ≡ StoreFailed) }
+        ensures not_ours { IfErr result (λ e. e.cause ≡ NotOurs → (state S.Store conn).now.schema ≢ schema_0) }
+        ensures under_way { IfErr result (λ e. (e.cause ≡ UnderWay) ↔ (conn.in_transaction ≡ true)) }
     {
-        if !is_empty(&conn) {
-            return Err(given_back(conn, notes));
+        if !conn.is_autocommit() {
+            return Err(given_back(conn, notes, Cause::UnderWay));
+        }
+        if !has_no_schema(&conn) {
+            return Err(given_back(conn, notes, Cause::NotOurs));
         }
         match create(&mut conn) {
             Ok(()) => Ok(keeper_over(alloc, conn, notes)),
-            Err(_) => Err(given_back(conn, notes)),
+            Err(error) => Err(given_back(conn, notes, Cause::Store(error))),
         }
     }
 
@@ -102,9 +119,11 @@ impl<S: Alter + Drop, J: Naming> Keeper<S, J> {
     {
         let mut conn = match reopen(alloc, conn) {
             Ok(conn) => conn,
-            Err((_, store)) => {
+            Err((error, store)) => {
+                let error = error.unwrap_or(Error::SqliteFailure(ErrorCode::Closed));
                 return Err(Refused {
                     fault: Fault::StoreFailed,
+                    cause: Cause::Store(error),
                     store,
                     notes,
                 });
@@ -112,7 +131,8 @@ impl<S: Alter + Drop, J: Naming> Keeper<S, J> {
         };
         match is_version_1(&mut conn) {
             Ok(true) => Ok(keeper_over(alloc, conn, notes)),
-            _ => Err(given_back(conn, notes)),
+            Ok(false) => Err(given_back(conn, notes, Cause::NotOurs)),
+            Err(error) => Err(given_back(conn, notes, Cause::Store(error))),
         }
     }
 
@@ -124,6 +144,7 @@ impl<S: Alter + Drop, J: Naming> Keeper<S, J> {
         ensures crash { IfOk result (λ k. HasCleanDisk (state S.Store k.conn) → (db : Trees) → (state S.Store k.conn).may_leave db → MayLeave (state S.Store conn) db) }
         ensures given_back { IfErr result (λ e. IsClean (S.Store.view e.store) → (db : Trees) → S.Store.recovers e.store db → MayLeave (state S.Store conn) db) }
         ensures fault { IfErr result (λ e. e.fault ≡ StoreFailed) }
+        ensures not_ours { conn.in_transaction ≡ false → IfErr result (λ e. e.cause ≡ NotOurs → (state S.Store conn).now.schema ≢ schema_0) }
     {
         if is_empty(&conn) {
             Self::create(alloc, conn, notes)

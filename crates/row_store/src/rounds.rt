@@ -11,6 +11,7 @@ ghost use Rattle.stored_cell.specs.Noted.{Noted, GoesOn};
 ghost use Rattle.stored_cell.specs.Held.{SameButPromise};
 ghost use Rattle.row_store.specs.Keeping.{StoresAll, StoresState, stored_in};
 
+use crate::cause::Cause;
 use crate::keeper::Keeper;
 use delivery_machine::{Fault, Opened, Saved, Snapshot};
 use marks::{Mark, Naming};
@@ -57,7 +58,11 @@ impl<S: Alter, J: Naming> Keeper<S, J> {
         ensures full { (result ≡ Err JournalFull) ↔ HasNoLine cell.old.cell }
         ensures faults { IfErr result (λ fault. (fault ≡ NoMemory) ⊎ (fault ≡ JournalFull) ⊎ (fault ≡ StoreFailed)) }
     {
-        cell.ready_view(&mut self.notes)
+        let viewed = cell.ready_view(&mut self.notes);
+        if let Err(Fault::StoreFailed) = &viewed {
+            self.refusal = Some(Cause::NoMark);
+        }
+        viewed
     }
 
     /// The snapshot that the topic has now, under its mark.
@@ -84,6 +89,7 @@ impl<S: Alter, J: Naming> Keeper<S, J> {
             None => {
                 drop(snapshot);
                 drop(base);
+                self.refusal = Some(Cause::NoMark);
                 Err(Fault::StoreFailed)
             }
         }

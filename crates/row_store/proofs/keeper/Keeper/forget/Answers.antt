@@ -10,11 +10,14 @@ pub invariant_of-self : goal.invariant_of-self
 invariant_of-self g c =
     let k = c.self.inside in
     let p = λ (kept : KeptTopic). not (same_topic kept.name c.args.name.now) in
-    record {
-      autocommit = c.self.invariant.autocommit;
-      ready = c.self.invariant.ready;
-      known = λ working clean shown.
-          let db = (state g.S.Store k.conn).now.trees in
-          let others = All-filter p (λ (kept : KeptTopic). Stands kept db) k.known.items (c.self.invariant.known working clean shown) in
-          subst (All (λ (kept : KeptTopic). Stands kept db)) (sym {A = List KeptTopic} c.forget_topic.ensures) others;
-    }
+    let holds = c.self.invariant.0 in (
+      record {
+        autocommit = holds.autocommit;
+        ready = holds.ready;
+        known = λ working clean shown.
+            let db = (state g.S.Store k.conn).now.trees in
+            let others = All-filter p (λ (kept : KeptTopic). Stands kept db) k.known.items (holds.known working clean shown) in
+            subst (All (λ (kept : KeptTopic). Stands kept db)) (sym {A = List KeptTopic} c.forget_topic.ensures) others;
+      },
+      c.self.invariant.1,
+    )

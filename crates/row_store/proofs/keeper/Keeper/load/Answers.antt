@@ -13,34 +13,34 @@ use Rattle.row_store.proofs.keeper.Keeper.load.Goals as goal
 pub invariant_of-self : goal.invariant_of-self
 invariant_of-self g c =
     let k = c.self.inside in
-    kept_through g.S.Store k.conn c.read.new.conn k.failed k.known.items k.written c.self.invariant c.read.ensures.autocommit c.read.ensures.crash.clean c.read.ensures.kept c.read.ensures.was_open
+    (kept_through g.S.Store k.conn c.read.new.conn k.failed k.known.items k.written c.self.invariant.0 c.read.ensures.autocommit c.read.ensures.crash.clean c.read.ensures.kept c.read.ensures.was_open, c.self.invariant.1)
 
 pub invariant_of-self-then-is_empty : goal.invariant_of-self-then-is_empty
 invariant_of-self-then-is_empty g c =
     let k = c.self.inside in
-    kept_through g.S.Store k.conn c.read.new.conn k.failed k.known.items k.written c.self.invariant c.read.ensures.autocommit c.read.ensures.crash.clean c.read.ensures.kept c.read.ensures.was_open
+    (kept_through g.S.Store k.conn c.read.new.conn k.failed k.known.items k.written c.self.invariant.0 c.read.ensures.autocommit c.read.ensures.crash.clean c.read.ensures.kept c.read.ensures.was_open, c.self.invariant.1)
 
 pub invariant_of-self-in-Ok-Some : goal.invariant_of-self-in-Ok-Some
 invariant_of-self-in-Ok-Some g c =
     let k = c.self.inside in
-    kept_through g.S.Store k.conn c.read.new.conn k.failed k.known.items k.written c.self.invariant c.read.ensures.autocommit c.read.ensures.crash.clean c.read.ensures.kept c.read.ensures.was_open
+    (kept_through g.S.Store k.conn c.read.new.conn k.failed k.known.items k.written c.self.invariant.0 c.read.ensures.autocommit c.read.ensures.crash.clean c.read.ensures.kept c.read.ensures.was_open, c.self.invariant.1)
 
 pub invariant_of-self-in-Ok-None : goal.invariant_of-self-in-Ok-None
 invariant_of-self-in-Ok-None g c =
     let k = c.self.inside in
-    kept_through g.S.Store k.conn c.read.new.conn k.failed k.known.items k.written c.self.invariant c.read.ensures.autocommit c.read.ensures.crash.clean c.read.ensures.kept c.read.ensures.was_open
+    (kept_through g.S.Store k.conn c.read.new.conn k.failed k.known.items k.written c.self.invariant.0 c.read.ensures.autocommit c.read.ensures.crash.clean c.read.ensures.kept c.read.ensures.was_open, c.self.invariant.1)
 
-pub invariant_of-self-in-Err : goal.invariant_of-self-in-Err
-invariant_of-self-in-Err g c =
+pub invariant_of-self-in-Err-found : goal.invariant_of-self-in-Err-found
+invariant_of-self-in-Err-found g c =
     let k = c.self.inside in
-    kept_through g.S.Store k.conn c.read.new.conn k.failed k.known.items k.written c.self.invariant c.read.ensures.autocommit c.read.ensures.crash.clean c.read.ensures.kept c.read.ensures.was_open
+    (kept_through g.S.Store k.conn c.read.new.conn k.failed k.known.items k.written c.self.invariant.0 c.read.ensures.autocommit c.read.ensures.crash.clean c.read.ensures.kept c.read.ensures.was_open, c.self.invariant.1)
 
 pub returns-then-is_empty-clause-rows : goal.returns-then-is_empty-clause-rows
 returns-then-is_empty-clause-rows g c = λ clean.
     let k = c.self.inside in
     let old = state g.S.Store k.conn in
     let early : HasCleanDisk old = omega (arith, c.read.ensures.crash.clean, clean) in
-    let ready = c.self.invariant.ready c.if-self.false early (c.in-Ok-read.ensures.shown clean) in
+    let ready = c.self.invariant.0.ready c.if-self.false early (c.in-Ok-read.ensures.shown clean) in
     let text = c.as_str.ensures.value ∙ c.in-Ok.ensures in
     let none = c.is_empty.ensures.none (subst IsTrue (sym c.if-is_empty.true) refl) in
     rw (← c.self.view_is) (none_read c.args.name.now c.as_str.result.now c.in-Ok-read.raw old.now.trees text none (c.in-Ok-read.ensures.loaded clean ready))
@@ -50,7 +50,7 @@ know_loaded-requires-clause-stands g c = λ clean shown.
     let k = c.self.inside in
     let old = state g.S.Store k.conn in
     let early : HasCleanDisk old = omega (arith, c.read.ensures.crash.clean, clean) in
-    let ready = c.self.invariant.ready c.if-self.false early (c.in-Ok-read.ensures.shown clean) in
+    let ready = c.self.invariant.0.ready c.if-self.false early (c.in-Ok-read.ensures.shown clean) in
     let text = c.as_str.ensures.value ∙ c.in-Ok.ensures in
     let found : c.in-Ok-Some.field-0 ≡ Some c.in-Ok-Some.snapshot = search rules in
     let named = subst (λ o. IfSome o (λ kept. kept.name ≡ c.args.name.now)) found c.in-Ok-Some.ensures.name in
@@ -64,7 +64,7 @@ returns-in-Ok-know_loaded-clause-rows g c = λ clean.
     let old = state g.S.Store k.conn in
     let late = subst (λ v. HasCleanDisk (state g.S.Store v)) c.know_loaded.ensures.same.0 clean in
     let early : HasCleanDisk old = omega (arith, c.read.ensures.crash.clean, late) in
-    let ready = c.self.invariant.ready c.if-self.false early (c.in-Ok-read.ensures.shown late) in
+    let ready = c.self.invariant.0.ready c.if-self.false early (c.in-Ok-read.ensures.shown late) in
     let text = c.as_str.ensures.value ∙ c.in-Ok.ensures in
     let found : c.in-Ok-Some.field-0 ≡ Some c.in-Ok-Some.snapshot = search rules in
     let named = subst (λ o. IfSome o (λ kept. kept.name ≡ c.args.name.now)) found c.in-Ok-Some.ensures.name in
