@@ -59,9 +59,17 @@ class Client:
                 return json.loads(body)
             if kind == 8:
                 return struct.unpack('>H', body[:2])[0], body[2:].decode()
+            if kind == 9:
+                self.sock.sendall(frame(10, body))
 
     def close(self):
         self.sock.close()
+
+    def leave(self):
+        """Closes as RFC 6455 has it, and waits until the broker has answered."""
+        self.sock.sendall(frame(8, struct.pack('>H', 1000)))
+        while self.frame()[0] != 8:
+            pass
 
 
 def frame(kind, body):

@@ -12,7 +12,7 @@ use crate::topic::Shared;
 use delivery_machine::{Fault, Opened, TopicName};
 use marks::Naming;
 use row_forms::topic_text;
-use row_store::{Keeper, open_cell};
+use row_store::{Cause, Keeper, open_cell};
 use session_bells::{Bell, Rest};
 use sqlite::Alter;
 use std::alloc::Global;
@@ -81,6 +81,24 @@ impl<T: Opened + Drop, S: Alter, J: Naming, B: Bell + Drop> Directory<T, S, J, B
     /// Whether the store failed, so that all is refused (F16).
     pub fn is_closed(&self) -> bool {
         self.is_closed.load(Ordering::SeqCst)
+    }
+
+    /// Why the store failed, or refused last where it has not; none where it never did.
+    pub fn cause<R: Wait>(&self, rt: &R) -> Option<Cause> {
+        let keeper = self.keeper.lock(rt);
+        keeper.refusal()
+    }
+
+    /// Why the topic could not be opened (F16), where that is known still.
+    pub fn why_unopened<R: Wait>(&self, rt: &R, name: &TopicName) -> Option<Cause> {
+        let Ok(text) = topic_text(self.alloc, name) else {
+            return None;
+        };
+        let keeper = self.keeper.lock(rt);
+        match keeper.refusal() {
+            Some(Cause::BadRows) if keeper.spoilt() != Some(text.as_str()) => None,
+            cause => cause,
+        }
     }
 
     /// Takes a seat at the topic, which is opened where it is not open, and leaves the bell there. Refused in this order:

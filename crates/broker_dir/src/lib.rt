@@ -22,5 +22,5 @@ pub use clock::moment;
 pub use directory::Directory;
 pub use errand::Errands;
 pub use gate::{Gate, Open};
-pub use row_store::open_cell;
+pub use row_store::{Cause, open_cell};
 pub use stored_cell::Terms;

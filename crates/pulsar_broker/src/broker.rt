@@ -2,6 +2,7 @@
 ghost use Rattle.std.specs.Prelude.{◌≡◌};
 
 use crate::arguments::Asked;
+use crate::causes::{Why, say_why};
 use broker_dir::{Directory, Open, Terms};
 use marks::{Naming, Unnamed};
 use position_core::LedgerSize;
@@ -54,6 +55,20 @@ fn fate_of(ended: Ended) -> Fate {
     }
 }
 
+/// Says why serving ended, where the store failed.
+fn say_end<S: Alter, J: Naming, R: Wait + Eprint>(
+    rt: &R,
+    asked: &Asked<'_>,
+    place: &Place<TopicCore, S, J, Open>,
+    ended: Ended,
+) {
+    if ended == Ended::StoreFailed
+        && let Some(cause) = place.cause(rt)
+    {
+        say_why(rt, asked.database, Why::Store(cause));
+    }
+}
+
 /// Serves the topics of a database, whose history is that of `J`.
 fn serve_named<
     R: Threads
@@ -75,8 +90,12 @@ fn serve_named<
 {
     let alloc = rt.alloc();
     let notes: Notes<J> = Notes::new(history);
-    let Ok(keeper) = Keeper::start(alloc, conn, notes) else {
-        return Fate::StoreFailed;
+    let keeper = match Keeper::start(alloc, conn, notes) {
+        Ok(keeper) => keeper,
+        Err(refused) => {
+            say_why(rt, asked.database, Why::Store(refused.cause));
+            return Fate::StoreFailed;
+        }
     };
     let Some(terms) = terms() else {
         return Fate::CannotServe;
@@ -84,6 +103,9 @@ fn serve_named<
     let directory = Directory::open(alloc, keeper, terms);
     let place: Place<TopicCore, S, J, Open> = Place::new(directory, Open);
     let Ok(place) = Arc::new(alloc, place) else {
+        return Fate::CannotServe;
+    };
+    let Ok(served) = Arc::try_clone(&place) else {
         return Fate::CannotServe;
     };
     let Ok(listener) = TcpListener::bind(rt, asked.address) else {
@@ -94,7 +116,9 @@ fn serve_named<
         workers: asked.workers,
         connections: asked.connections,
     };
-    fate_of(serve(rt, alloc, listener, place, limits))
+    let ended = serve(rt, alloc, listener, place, limits);
+    say_end(rt, asked, &served, ended);
+    fate_of(ended)
 }
 
 /// Serves the topics of a database: makes its tables where it has none, then listens, and ends when as many connections

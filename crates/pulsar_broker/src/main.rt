@@ -3,9 +3,11 @@
 
 mod arguments;
 mod broker;
+mod causes;
 
 use arguments::read_arguments;
 use broker::{Fate, serve_over};
+use causes::{say_why, why_unopened};
 use sqlite::Connection;
 use std::env;
 use std::io::ErrorKind;
@@ -72,7 +74,11 @@ fn main(rt: HostRuntime) -> ExitCode {
     } else {
         match Connection::open(&rt, asked.database) {
             Ok(conn) => serve_over(&rt, &asked, conn),
-            Err(_) => Fate::StoreFailed,
+            Err(error) => {
+                let why = why_unopened(&rt, asked.database, error);
+                say_why(&rt, asked.database, why);
+                Fate::StoreFailed
+            }
         }
     };
     ending(&rt, fate)

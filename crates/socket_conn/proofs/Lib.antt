@@ -1,1 +1,2 @@
 pub mod TalksLemmas
+mod HeldLemmas

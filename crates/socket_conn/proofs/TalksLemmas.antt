@@ -1,7 +1,7 @@
 -- What a call of the socket comes to.
 use Rattle.std.proofs.Common.{◌≡◌, ◌++◌, ◌∙◌, [], ℕ, List, Option, None, Some, Result, Ok, Err, refl, sym, ap, subst, inl, inr, append_assoc}
 use Rattle.std.specs.Io.KnownBytes.{Appends, append_known}
-use Rattle.socket_conn.specs.Talks.{SendsText, IsTextFrame, ComesTo, Takes, ReadsOnce, Receives, WouldWait}
+use Rattle.socket_conn.specs.Talks.{SendsText, IsTextFrame, ComesTo, Takes, ReadsOnce, Receives, WouldWait, SaysClosed, Notes, breach_of}
 use Rattle.socket_conn.specs.declared.conn.Came.{Came}
 use Rattle.socket_conn.specs.declared.conn.SocketConn.{SocketConn}
 use Rattle.session_links.specs.declared.conn.ConnFault.{ConnFault}
@@ -12,6 +12,7 @@ use Rattle.tungstenite.specs.declared.error.Error.TheVariants as Why
 use Rattle.tungstenite.specs.declared.message.Message.{Message}
 use Rattle.tungstenite.specs.Socket.{Socket, Runs, Replies, Writes, Flushed, Reads}
 use Rattle.websocket.specs.View.{Leaves}
+use Rattle.websocket.specs.declared.protocol.frame.coding.CloseCode.{CloseCode}
 use Rattle.websocket.specs.Content.{text}
 use Rattle.websocket.specs.Connection.{Connection, IsMaskOf, write_step, write_active, check_can_write}
 use Rattle.websocket.specs.Frame.{after_check}
@@ -82,6 +83,26 @@ wait-is-io Why.OutOfMemory h = absurd h
 
 -- ---- of a read
 
+-- a breach is none of the others
+breach-waits : (error : Error) (code : CloseCode) → breach_of error ≡ Some code → ¬ (WouldWait error)
+breach-waits (Why.Protocol cause) code h = λ w. w
+breach-waits Why.Utf8 code h = λ w. w
+breach-waits (Why.Capacity cause) code h = λ w. w
+breach-waits error code h = cc
+
+breach-is-no-close : (error : Error) (code : CloseCode) → breach_of error ≡ Some code → ¬ (SaysClosed error)
+breach-is-no-close (Why.Protocol cause) code h = λ w. w
+breach-is-no-close Why.Utf8 code h = λ w. w
+breach-is-no-close (Why.Capacity cause) code h = λ w. w
+breach-is-no-close error code h = cc
+
+module _ {S : Type 0} where
+  noted : (error : Error) (code : CloseCode) (old new : SocketConn S) → breach_of error ≡ Some code → new.breach ≡ Some code → Notes (breach_of error) old new
+  noted error code old new is h = subst (λ c. Notes c old new) (sym is) h
+
+  unnoted : (error : Error) (old new : SocketConn S) → breach_of error ≡ None → new.breach ≡ old.breach → Notes (breach_of error) old new
+  unnoted error old new is h = subst (λ c. Notes c old new) (sym is) h
+
 module _ {S : Type 0} where
   -- a read after the flush is a read from the state and the bytes before it
   pub reads-once : (remaining contents : S → Option (List ℕ)) (old idle new : Socket S) (given : Result Message Error)
@@ -99,24 +120,28 @@ module _ {S : Type 0} where
 
   -- what the connection answers to a read, by what the read came to
   pub answered : (remaining contents : S → Option (List ℕ)) (old mid new : SocketConn S) (given : Result Message Error) (came : Came) (answer : Result Incoming ConnFault)
-      → ReadsOnce remaining contents old.socket mid.socket given → ComesTo given came → Takes contents came mid new answer
+      → ReadsOnce remaining contents old.socket mid.socket given → ComesTo given came → mid.breach ≡ old.breach → Takes contents came mid new answer
       → Receives remaining contents old new answer
-  answered remaining contents old mid new (Ok message) (Came.Text bytes) answer reads comes takes =
+  answered remaining contents old mid new (Ok message) (Came.Text bytes) answer reads comes kept takes =
       rw takes.0 (message, rw takes.1 reads, comes)
-  answered remaining contents old mid new (Ok message) Came.Control answer reads comes takes =
+  answered remaining contents old mid new (Ok message) Came.Control answer reads comes kept takes =
       rw takes.0 (inr (inl (message, rw takes.1 reads, comes)))
-  answered remaining contents old mid new (Ok message) Came.Nothing answer reads comes takes = absurd comes
-  answered remaining contents old mid new (Ok message) Came.Closes answer reads comes takes =
-      rw takes.0 (mid.socket, takes.1, inl (message, reads, comes))
-  answered remaining contents old mid new (Ok message) Came.Fails (Ok incoming) reads comes takes = cc
-  answered remaining contents old mid new (Ok message) Came.Fails (Err fault) reads comes takes =
+  answered remaining contents old mid new (Ok message) Came.Nothing answer reads comes kept takes = absurd comes
+  answered remaining contents old mid new (Ok message) Came.Closes answer reads comes kept takes =
+      rw takes.0 (inl (message, rw takes.1 reads, comes))
+  answered remaining contents old mid new (Ok message) (Came.Breaks code) answer reads comes kept takes = absurd comes
+  answered remaining contents old mid new (Ok message) Came.Fails (Ok incoming) reads comes kept takes = cc
+  answered remaining contents old mid new (Ok message) Came.Fails (Err fault) reads comes kept takes =
       inr (inl (message, rw takes.1 reads, comes))
-  answered remaining contents old mid new (Err error) (Came.Text bytes) answer reads comes takes = absurd comes
-  answered remaining contents old mid new (Err error) Came.Control answer reads comes takes = absurd comes
-  answered remaining contents old mid new (Err error) Came.Nothing answer reads comes takes =
+  answered remaining contents old mid new (Err error) (Came.Text bytes) answer reads comes kept takes = absurd comes
+  answered remaining contents old mid new (Err error) Came.Control answer reads comes kept takes = absurd comes
+  answered remaining contents old mid new (Err error) Came.Nothing answer reads comes kept takes =
       rw takes.0 (inr (inr (error, rw takes.1 reads, comes, takes.2)))
-  answered remaining contents old mid new (Err error) Came.Closes answer reads comes takes =
-      rw takes.0 (mid.socket, takes.1, inr (error, reads, comes))
-  answered remaining contents old mid new (Err error) Came.Fails (Ok incoming) reads comes takes = cc
-  answered remaining contents old mid new (Err error) Came.Fails (Err fault) reads comes takes =
-      inr (inr (error, rw takes.1 reads, comes.0, comes.1))
+  answered remaining contents old mid new (Err error) Came.Closes answer reads comes kept takes =
+      rw takes.0 (inr (error, rw takes.1 reads, comes))
+  answered remaining contents old mid new (Err error) (Came.Breaks code) (Ok incoming) reads comes kept takes = cc
+  answered remaining contents old mid new (Err error) (Came.Breaks code) (Err fault) reads comes kept takes =
+      inr (inr (error, rw takes.1 reads, breach-waits error code comes, breach-is-no-close error code comes, noted error code old new comes takes.2))
+  answered remaining contents old mid new (Err error) Came.Fails (Ok incoming) reads comes kept takes = cc
+  answered remaining contents old mid new (Err error) Came.Fails (Err fault) reads comes kept takes =
+      inr (inr (error, rw takes.1 reads, comes.0, comes.1, unnoted error old new comes.2 (takes.2 ∙ kept)))

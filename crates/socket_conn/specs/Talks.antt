@@ -1,5 +1,5 @@
 -- What the calls of a connection do with its socket: a receive reads one message of it, and a send writes one.
-use Rattle.std.specs.Prelude.{◌≡◌, ◌⊎◌, ◌++◌, ⊤, ℕ, List, [], true, false, Option, Result, Ok, Err, IsErr}
+use Rattle.std.specs.Prelude.{◌≡◌, ◌⊎◌, ◌++◌, ⊤, ℕ, List, [], true, false, Option, Some, None, MatchOption, Result, Ok, Err, IsErr}
 use Rattle.std.specs.IoError.{error_kind}
 use Rattle.std.specs.Io.KnownBytes.{Appends, Consumes, append_known}
 use Rattle.std.specs.declared.io.ErrorKind.TheVariants.{WouldBlock}
@@ -14,6 +14,8 @@ use Rattle.tungstenite.specs.declared.message.Message.{Message}
 use Rattle.tungstenite.specs.declared.message.Message.TheVariants as Kind
 use Rattle.tungstenite.specs.Socket.{Socket, Run, Runs, Replies, EndsWith, Flushed, Reads, content_of}
 use Rattle.websocket.specs.declared.protocol.config.Role.{Role}
+use Rattle.websocket.specs.declared.protocol.frame.coding.CloseCode.{CloseCode}
+use Rattle.websocket.specs.declared.protocol.frame.coding.CloseCode.TheVariants.{Protocol, Invalid, Size}
 use Rattle.websocket.specs.declared.protocol.frame.coding.Data.TheVariants as Data
 use Rattle.websocket.specs.declared.protocol.frame.coding.OpCode.TheVariants as Op
 use Rattle.websocket.specs.declared.protocol.state.WebSocketState.TheVariants.{Active}
@@ -64,18 +66,28 @@ SaysClosed Why.ConnectionClosed = ⊤
 SaysClosed Why.AlreadyClosed = ⊤
 SaysClosed error = ⊥
 
+-- the code that a breach of the protocol is closed with (RFC 6455, section 7.4.1): broken framing, a text that is no UTF-8,
+-- or a message that is too long
+abbrev pub breach_of : Error → Option CloseCode
+breach_of (Why.Protocol cause) = Some Protocol
+breach_of Why.Utf8 = Some Invalid
+breach_of (Why.Capacity cause) = Some Size
+breach_of error = None
+
 -- what a read comes to
 abbrev pub ComesTo : Result Message Error → Came → Type 0
 ComesTo (Ok message) (Came.Text bytes) = HasBytes bytes.items message
 ComesTo (Ok message) Came.Control = IsPingOrPong message
 ComesTo (Ok message) Came.Nothing = ⊥
 ComesTo (Ok message) Came.Closes = IsClose message
+ComesTo (Ok message) (Came.Breaks code) = ⊥
 ComesTo (Ok message) Came.Fails = IsData message
 ComesTo (Err error) (Came.Text bytes) = ⊥
 ComesTo (Err error) Came.Control = ⊥
 ComesTo (Err error) Came.Nothing = WouldWait error
 ComesTo (Err error) Came.Closes = SaysClosed error
-ComesTo (Err error) Came.Fails = (¬ WouldWait error) × (¬ SaysClosed error)
+ComesTo (Err error) (Came.Breaks code) = breach_of error ≡ Some code
+ComesTo (Err error) Came.Fails = (¬ WouldWait error) × (¬ SaysClosed error) × (breach_of error ≡ None)
 
 module _ {S : Type 0} where
   -- all that waited to be sent left, and then one message was read: the bytes that the stream gave, behind those kept from
@@ -114,13 +126,18 @@ module _ {S : Type 0} where
   Takes contents (Came.Text bytes) old new answer = (answer ≡ Ok (Said.Text bytes)) × (new.socket ≡ old.socket)
   Takes contents Came.Control old new answer = (answer ≡ Ok Said.Nothing) × (new.socket ≡ old.socket)
   Takes contents Came.Nothing old new answer = (answer ≡ Ok Said.Nothing) × (new.socket ≡ old.socket) × (new.is_readable ≡ false)
-  Takes contents Came.Closes old new answer = (answer ≡ Ok Said.Gone) × Flushed contents old.socket new.socket
-  Takes contents Came.Fails old new answer = IsErr answer × (new.socket ≡ old.socket)
+  Takes contents Came.Closes old new answer = (answer ≡ Ok Said.Gone) × (new.socket ≡ old.socket)
+  Takes contents (Came.Breaks code) old new answer = IsErr answer × (new.socket ≡ old.socket) × (new.breach ≡ Some code)
+  Takes contents Came.Fails old new answer = IsErr answer × (new.socket ≡ old.socket) × (new.breach ≡ old.breach)
+
+  -- the code is noted where there is one, and else nothing
+  abbrev pub Notes : Option CloseCode → SocketConn S → SocketConn S → Type 0
+  Notes code old new = MatchOption code (new.breach ≡ old.breach) (λ code. new.breach ≡ Some code)
 
   -- what the socket did where the connection, before and after, gave this answer. A text: it read one message, of these bytes.
-  -- Nothing: it was not read, or read a ping or a pong, or would have had to wait, which is noted. Gone: it read a close, or
-  -- said that the client has closed. A fault: the connection was lost before, or there was no memory for a copy of the
-  -- message, or the read failed in another way
+  -- Nothing: it was not read, or read a ping or a pong, or would have had to wait, which is noted. Gone: it read a close, whose
+  -- reply waits, or said that the client has closed. A fault: the connection was lost before, or there was no memory for a copy
+  -- of the message, or the read failed in another way, of which a breach of the protocol is noted
   abbrev pub Receives : (remaining contents : S → Option (List ℕ)) → SocketConn S → SocketConn S → Result Incoming ConnFault → Type 0
   Receives remaining contents old new (Ok (Said.Text bytes)) =
       (message : Message) × ReadsMessage remaining contents old.socket new.socket message × HasBytes bytes.items message
@@ -129,13 +146,12 @@ module _ {S : Type 0} where
       ⊎ ((message : Message) × ReadsMessage remaining contents old.socket new.socket message × IsPingOrPong message)
       ⊎ ((error : Error) × ReadsError remaining contents old.socket new.socket error × WouldWait error × (new.is_readable ≡ false))
   Receives remaining contents old new (Ok Said.Gone) =
-      (last : Socket S) × Flushed contents last new.socket
-      × (((message : Message) × ReadsMessage remaining contents old.socket last message × IsClose message)
-      ⊎ ((error : Error) × ReadsError remaining contents old.socket last error × SaysClosed error))
+      ((message : Message) × ReadsMessage remaining contents old.socket new.socket message × IsClose message)
+      ⊎ ((error : Error) × ReadsError remaining contents old.socket new.socket error × SaysClosed error)
   Receives remaining contents old new (Err fault) =
       ((old.is_lost ≡ true) × (new.socket ≡ old.socket))
       ⊎ ((message : Message) × ReadsMessage remaining contents old.socket new.socket message × IsData message)
-      ⊎ ((error : Error) × ReadsError remaining contents old.socket new.socket error × (¬ WouldWait error) × (¬ SaysClosed error))
+      ⊎ ((error : Error) × ReadsError remaining contents old.socket new.socket error × (¬ WouldWait error) × (¬ SaysClosed error) × Notes (breach_of error) old new)
 
 -- ---- what was sent
 

@@ -1,12 +1,14 @@
 // A session's connection over a WebSocket.
-ghost use Rattle.std.specs.Prelude.{◌≡◌, ◌⊎◌, IfOk, OnOk, OnErr, Ok, Err, [], true, false, IsErr, IsTrue, ◌↔◌};
+ghost use Rattle.std.specs.Prelude.{◌≡◌, ◌⊎◌, IfOk, IfSome, OnOk, OnErr, Ok, Err, Some, None, [], true, false, IsErr, IsTrue, ◌↔◌};
 ghost use Rattle.session_links.specs.Links.{Tells, goes_on, receipt_of, same, with_receipt, with_sent};
 ghost use Rattle.tungstenite.specs.Content.{text as Text};
 ghost use Rattle.tungstenite.specs.Socket.{Flushed, Writes, content_of};
-ghost use Rattle.websocket.specs.Connection.{write_step};
+ghost use Rattle.websocket.specs.Connection.{close_step, write_step};
+ghost use Rattle.websocket.specs.Content.{ping};
 ghost use Rattle.socket_conn.specs.Talks.{Brings, ComesTo, Receives, SendsText, Takes, WouldWait};
 
-use bytes::ByteStr;
+use crate::held::Held;
+use bytes::{ByteStr, Bytes};
 use session_links::{Conn, ConnFault, Incoming};
 use std::alloc::{AllocError, Global};
 use std::io::{ErrorKind, Read, Write};
@@ -33,6 +35,8 @@ pub struct SocketConn<S: Read + Write + Drop> {
     unsent: usize,
     /// How many messages were received.
     received: u32,
+    /// The code that the client's breach of the protocol is closed with, once that was met.
+    breach: Option<CloseCode>,
 }
 
 impl<S: Read + Write + Drop> Drop for SocketConn<S> {
@@ -46,6 +50,7 @@ impl<S: Read + Write + Drop> Drop for SocketConn<S> {
             is_blocked: _,
             unsent: _,
             received: _,
+            breach: _,
         } = self;
     }
 }
@@ -60,6 +65,8 @@ enum Came {
     Nothing,
     /// The client closes.
     Closes,
+    /// The client broke the protocol, which is closed with the code.
+    Breaks(CloseCode),
     Fails,
 }
 
@@ -99,6 +106,9 @@ fn failure_of(error: &Error) -> Came
     match error {
         Error::ConnectionClosed => Came::Closes,
         Error::AlreadyClosed => Came::Closes,
+        Error::Protocol(_) => Came::Breaks(CloseCode::Protocol),
+        Error::Utf8 => Came::Breaks(CloseCode::Invalid),
+        Error::Capacity(_) => Came::Breaks(CloseCode::Size),
         _ => Came::Fails,
     }
 }
@@ -124,6 +134,7 @@ impl<S: Read + Write + Drop> SocketConn<S> {
             is_blocked: false,
             unsent: 0,
             received: 0,
+            breach: None,
         }
     }
 
@@ -169,6 +180,7 @@ impl<S: Read + Write + Drop> SocketConn<S> {
         ensures open { self.new.is_open ≡ self.old.is_open }
         ensures same { self.new.socket ≡ self.old.socket }
         ensures lost { self.new.is_lost ≡ true }
+        ensures breach { self.new.breach ≡ self.old.breach }
     {
         self.is_lost = true;
         self.is_readable = true;
@@ -181,6 +193,7 @@ impl<S: Read + Write + Drop> SocketConn<S> {
         ensures sent { Flushed S.contents self.old.socket self.new.socket }
         ensures all { result ≡ true → self.new.socket.output ≡ [] }
         ensures noted { result ≡ false → (self.new.is_blocked ≡ true) ⊎ (self.new.is_lost ≡ true) }
+        ensures breach { self.new.breach ≡ self.old.breach }
     {
         match self.socket.flush() {
             Ok(()) => {
@@ -201,6 +214,7 @@ impl<S: Read + Write + Drop> SocketConn<S> {
         ensures open { self.new.is_open ≡ self.old.is_open }
         ensures same { self.new.socket ≡ self.old.socket }
         ensures noted { (self.new.is_blocked ≡ true) ⊎ (self.new.is_lost ≡ true) }
+        ensures breach { self.new.breach ≡ self.old.breach }
     {
         if would_block(error) {
             self.is_blocked = true;
@@ -240,8 +254,12 @@ impl<S: Read + Write + Drop> SocketConn<S> {
             }
             Came::Closes => {
                 self.is_open = false;
-                drop(self.socket.flush());
                 Ok(Incoming::Gone)
+            }
+            Came::Breaks(code) => {
+                self.is_open = false;
+                self.breach = Some(code);
+                Err(ConnFault)
             }
             Came::Fails => {
                 self.is_open = false;
@@ -286,19 +304,70 @@ impl<S: Read + Write + Drop> SocketConn<S> {
         }
     }
 
-    fn frame(&self, code: u16, reason: &str) -> Option<CloseFrame> {
+    fn frame(&self, code: CloseCode, reason: &str) -> Option<CloseFrame>
+        ensures { IfSome result (λ frame. (frame.code ≡ code) × (frame.reason ≡ reason.now)) }
+    {
         match ByteStr::copy_from_str(self.alloc, reason) {
-            Ok(reason) => Some(CloseFrame {
-                code: CloseCode::from(code),
-                reason,
-            }),
+            Ok(reason) => Some(CloseFrame { code, reason }),
             Err(_) => None,
         }
     }
 }
 
+impl<S: Read + Write + Drop> SocketConn<S> {
+    /// Asks the client for a sign of life (RFC 6455, section 5.5.2), which goes out with the next flush.
+    pub fn ping(&mut self) -> Result<(), ConnFault>
+        ensures open { self.new.is_open ≡ self.old.is_open }
+        ensures wrote { OnOk result (Writes S.contents self.old.socket self.new.socket (write_step self.old.socket.conn (ping []))) }
+    {
+        self.write(Message::Ping(Bytes::new()))
+    }
+
+    /// Tells a client that broke the protocol so, by a close with the code (RFC 6455, section 7.4.1): 1002 for broken
+    /// framing, 1007 for a text that is no UTF-8, 1009 for a message that is too long. Nothing is told twice, nor to a
+    /// client that broke nothing.
+    pub fn tell_breach(&mut self) -> Result<(), ConnFault>
+        ensures open { self.new.is_open ≡ self.old.is_open }
+        ensures once { self.new.breach ≡ None }
+        ensures nothing { self.old.breach ≡ None → (result ≡ Ok tt) × (self.new.socket ≡ self.old.socket) }
+        ensures told { IfSome self.old.breach (λ code. OnOk result (Writes S.contents self.old.socket self.new.socket (close_step self.old.socket.conn (Some (code, []))))) }
+    {
+        match self.breach.take() {
+            Some(code) => self.say_code(code),
+            None => Ok(()),
+        }
+    }
+
+    fn say_code(&mut self, code: CloseCode) -> Result<(), ConnFault>
+        ensures same { self.new ≡ record self.old { socket = self.new.socket } }
+        ensures wrote { OnOk result (Writes S.contents self.old.socket self.new.socket (close_step self.old.socket.conn (Some (code, [])))) }
+    {
+        let frame = self.frame(code, "");
+        if frame.is_none() {
+            return Err(ConnFault);
+        }
+        match self.socket.close(frame) {
+            Ok(()) => Ok(()),
+            Err(error) => {
+                drop(error);
+                Err(ConnFault)
+            }
+        }
+    }
+}
+
+impl<S: Read + Write + Drop> SocketConn<Held<S>> {
+    /// What waits may go out, the answer to the request first.
+    pub fn let_go(&mut self)
+        ensures { self.new.is_open ≡ self.old.is_open }
+    {
+        self.socket.get_mut().let_go();
+        self.is_blocked = false;
+    }
+}
+
 impl<S: Read + Write + Drop> Conn for SocketConn<S> {
-    ghost use Rattle.std.specs.Prelude.{None, ◌&&◌, not, nat_lt};
+    ghost use Rattle.std.specs.Prelude.{◌&&◌, not, nat_lt};
 
     // A socket tells nothing of its exchange.
     ghost exchange = { λ c. None };
@@ -354,7 +423,7 @@ impl<S: Read + Write + Drop> Conn for SocketConn<S> {
 
     fn close(&mut self, code: u16, reason: &str) {
         self.is_open = false;
-        let frame = self.frame(code, reason);
+        let frame = self.frame(CloseCode::from(code), reason);
         let _ = self.socket.close(frame);
     }
 }

@@ -2,7 +2,11 @@
 #![tactic(auto)]
 
 mod conn;
+mod head;
+mod held;
 mod shaking;
 
 pub use conn::SocketConn;
-pub use shaking::{Doorman, Shaken, Shaking};
+pub use head::{Head, Upgrade, read_head};
+pub use held::Held;
+pub use shaking::{Shaken, Shaking};

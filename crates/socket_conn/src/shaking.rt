@@ -1,13 +1,10 @@
-// The handshake of a connection, which does not block.
+// A connection whose request is on its way (RFC 6455, section 4.2), on a stream that does not block.
 use crate::conn::SocketConn;
-use http::{Request, Response};
+use crate::head::{Head, Upgrade, read_head};
+use crate::held::{Held, socket_of};
 use std::alloc::{AllocError, Global};
-use std::io::{Read, Write};
-use std::sync::{Arc, OnceLock};
-use tungstenite::handshake::server::{ErrorResponse, start};
-use tungstenite::{
-    Callback, HandshakeError, MidHandshake, NoMask, ServerHandshake, WebSocket, WebSocketConfig,
-};
+use std::io::{ErrorKind, Read, Write};
+use tungstenite::WebSocketConfig;
 
 /// How many bytes one read asks for. Each connection keeps so many, so they decide the memory of an idle one.
 const READ_SIZE: usize = 16_384;
@@ -15,122 +12,137 @@ const READ_SIZE: usize = 16_384;
 /// The longest message. A text may have 2,097,152 bytes; a longer one is answered, not cut off, up to this.
 const MOST_BYTES: usize = 4_194_304;
 
-/// Notes the target of the request.
-pub struct Doorman {
-    alloc: Global,
-    target: Arc<OnceLock<String>>,
-}
+/// How many bytes one read of a head asks for, and how many a head may have with what came behind it.
+const CHUNK: usize = 2_048;
 
-impl Drop for Doorman {
-    fn drop(self) {
-        let Doorman {
-            alloc: _,
-            target: _,
-        } = self;
-    }
-}
+const MOST_HEAD: usize = 16_384;
 
-/// The request's path and query.
-fn target_of(alloc: Global, request: &Request<()>) -> Result<String, AllocError> {
-    let uri = request.uri();
-    let mut target = String::from_str(alloc, uri.path())?;
-    if let Some(query) = uri.query() {
-        target.push_str("?")?;
-        target.push_str(query)?;
-    }
-    Ok(target)
-}
+/// In how many reads a head has to come, since each of them looks at it from its beginning.
+const MOST_READS: u32 = 64;
 
-impl Callback for Doorman {
-    fn on_request(
-        self,
-        request: &Request<()>,
-        response: Response<()>,
-    ) -> Result<Response<()>, ErrorResponse> {
-        if let Ok(target) = target_of(self.alloc, request) {
-            let _ = self.target.try_set(target);
-        }
-        Ok(response)
-    }
-}
-
-/// A handshake on its way (RFC 6455, section 4.2).
+/// A connection whose request has not come whole.
+#[derive(Drop)]
 pub struct Shaking<S: Read + Write + Drop> {
     alloc: Global,
-    target: Arc<OnceLock<String>>,
-    mid: MidHandshake<ServerHandshake<S, Doorman>>,
+    stream: S,
+    head: Vec<u8>,
+    reads: u32,
 }
 
-impl<S: Read + Write + Drop> Drop for Shaking<S> {
-    fn drop(self) {
-        let Shaking {
-            alloc: _,
-            target: _,
-            mid: _,
-        } = self;
-    }
-}
-
-/// How far a handshake is.
+/// How far a connection is.
 #[derive(Drop)]
 pub enum Shaken<S: Read + Write + Drop> {
-    /// The connection, and the target of its request.
-    Open(SocketConn<S>, String),
+    /// It asks for a WebSocket with this target. Nothing has been sent: the answer goes out once the connection is let go.
+    Open(SocketConn<Held<S>>, String),
     /// The stream is to be ready first.
     Waits(Shaking<S>),
+    /// It asks for none, or has ended, or there is no memory.
     Failed,
 }
 
-/// What was asked for; an empty target where there was no memory for it.
-fn asked_for(alloc: Global, target: &OnceLock<String>) -> Result<String, AllocError> {
-    match target.get() {
-        Some(text) => String::from_str(alloc, text.as_str()),
-        None => Ok(String::new(alloc)),
-    }
+/// What one read came to.
+#[derive(Clone, Copy, Debug, PartialEq, Eq)]
+enum Heard {
+    More,
+    Nothing,
+    Ends,
 }
 
 fn opened<S: Read + Write + Drop>(
     alloc: Global,
-    target: &OnceLock<String>,
-    socket: WebSocket<S, NoMask>,
+    stream: S,
+    upgrade: Upgrade,
+    rest: Vec<u8>,
 ) -> Shaken<S> {
-    match asked_for(alloc, target) {
-        Ok(text) => Shaken::Open(SocketConn::new(alloc, socket), text),
-        Err(_) => Shaken::Failed,
-    }
+    let Upgrade {
+        target,
+        answer,
+        len: _,
+    } = upgrade;
+    let config = WebSocketConfig::default()
+        .read_buffer_size(READ_SIZE)
+        .max_message_size(Some(MOST_BYTES))
+        .max_frame_size(Some(MOST_BYTES));
+    let socket = socket_of(alloc, stream, answer, rest, config);
+    Shaken::Open(SocketConn::new(alloc, socket), target)
 }
 
 impl<S: Read + Write + Drop> Shaking<S> {
-    /// Begins the handshake on a stream that does not block.
-    pub fn start(alloc: Global, stream: S) -> Result<Shaking<S>, AllocError> {
-        let target = Arc::new(alloc, OnceLock::new())?;
-        let doorman = Doorman {
+    /// Nothing was read yet.
+    pub fn start(alloc: Global, stream: S) -> Shaking<S> {
+        Shaking {
             alloc,
-            target: Arc::try_clone(&target)?,
+            stream,
+            head: Vec::new(alloc),
+            reads: 0,
+        }
+    }
+
+    /// Reads once.
+    fn read(&mut self) -> Result<Heard, AllocError> {
+        let len = self.head.len();
+        if len >= MOST_HEAD || self.reads >= MOST_READS {
+            return Ok(Heard::Ends);
+        }
+        self.head.resize(len + CHUNK, 0)?;
+        let got = self.stream.read(&mut self.head[len..]);
+        match got {
+            Ok(0) => Ok(Heard::Ends),
+            Ok(count) => {
+                self.head.truncate(len + count);
+                self.reads += 1;
+                Ok(Heard::More)
+            }
+            Err(error) => {
+                self.head.truncate(len);
+                if error.kind() == ErrorKind::WouldBlock {
+                    Ok(Heard::Nothing)
+                } else {
+                    Ok(Heard::Ends)
+                }
+            }
+        }
+    }
+
+    /// What the head comes to as far as it has come.
+    fn judge(self) -> Shaken<S> {
+        match read_head(self.alloc, self.head.as_slice()) {
+            Ok(Head::Partial) => Shaken::Waits(self),
+            Ok(Head::Upgrade(upgrade)) => self.upgraded(upgrade),
+            Ok(Head::Other) | Err(_) => Shaken::Failed,
+        }
+    }
+
+    /// The connection, with what came behind the head.
+    fn upgraded(self, upgrade: Upgrade) -> Shaken<S> {
+        let Shaking {
+            alloc,
+            stream,
+            mut head,
+            reads: _,
+        } = self;
+        head.drain(..upgrade.len.min(head.len()));
+        let rest = if head.is_empty() {
+            Vec::new(alloc)
+        } else {
+            head
         };
-        let config = WebSocketConfig::default()
-            .read_buffer_size(READ_SIZE)
-            .max_message_size(Some(MOST_BYTES))
-            .max_frame_size(Some(MOST_BYTES));
-        let mid = start(alloc, stream, doorman, Some(config));
-        Ok(Shaking { alloc, target, mid })
+        opened(alloc, stream, upgrade, rest)
     }
 
     /// Goes on as far as the stream is ready.
     pub fn advance(self) -> Shaken<S> {
-        let Shaking { alloc, target, mid } = self;
-        match mid.handshake() {
-            Ok(socket) => {
-                let shaken = opened(alloc, &*target, socket);
-                drop(target);
-                shaken
-            }
-            Err(HandshakeError::Interrupted(mid)) => Shaken::Waits(Shaking { alloc, target, mid }),
-            Err(HandshakeError::Failure(error)) => {
-                drop(error);
-                drop(target);
-                Shaken::Failed
+        let mut shaking = self;
+        for _ in 0..=MOST_READS {
+            match shaking.read() {
+                Ok(Heard::More) => match shaking.judge() {
+                    Shaken::Waits(again) => shaking = again,
+                    shaken => return shaken,
+                },
+                Ok(Heard::Nothing) => return Shaken::Waits(shaking),
+                Ok(Heard::Ends) | Err(_) => return Shaken::Failed,
             }
         }
+        Shaken::Failed
     }
 }

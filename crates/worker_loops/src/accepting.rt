@@ -50,12 +50,13 @@ struct Crew {
     putter: Putter,
 }
 
-/// The listener, and what wakes the accepting thread.
+/// The listener, and what wakes the accepting thread. It keeps the waker: a wake is lost where its waker is dropped first.
 #[derive(Drop)]
 struct Entrance {
     listener: TcpListener,
     poll: Poll,
     events: Events,
+    waker: Arc<Waker>,
 }
 
 impl Crew {
@@ -92,7 +93,7 @@ impl Crew {
 
     /// Starts a worker. None where it could not be.
     fn hire<
-        R: Threads + Wait + Net + Clock + Copy + Send + Sync + Drop + 'static,
+        R: Threads + Wait + Net + Clock + Eprint + Copy + Send + Sync + Drop + 'static,
         X: Job + Send + Sync + Drop + 'static,
     >(&mut self, rt: &R, alloc: Global, place: &Arc<X>) -> Option<()> {
         if !self.make_room() {
@@ -104,7 +105,7 @@ impl Crew {
     }
 
     fn put_to_work<
-        R: Threads + Wait + Net + Clock + Copy + Send + Sync + Drop + 'static,
+        R: Threads + Wait + Net + Clock + Eprint + Copy + Send + Sync + Drop + 'static,
         X: Job + Send + Sync + Drop + 'static,
     >(
         &mut self,
@@ -174,9 +175,14 @@ fn post_for(alloc: Global, poll: &Poll) -> Option<Arc<Post>> {
     Arc::new(alloc, Post::new(alloc, waker)).ok()
 }
 
+fn waker_for(alloc: Global, poll: &Poll) -> Option<Arc<Waker>> {
+    let waker = Waker::new(poll.registry(), WAKER).ok()?;
+    Arc::new(alloc, waker).ok()
+}
+
 /// A thread in which a worker works.
 fn spawn<
-    R: Threads + Wait + Net + Clock + Copy + Send + Sync + Drop + 'static,
+    R: Threads + Wait + Net + Clock + Eprint + Copy + Send + Sync + Drop + 'static,
     X: Job + Send + Sync + Drop + 'static,
 >(rt: &R, alloc: Global, place: &Arc<X>, start: Start) -> Option<JoinHandle<bool>> {
     let place = Arc::try_clone(place).ok()?;
@@ -195,10 +201,12 @@ impl Entrance {
         poll.registry()
             .register(&mut listener, LISTENER, Interest::READABLE)
             .ok()?;
+        let waker = waker_for(alloc, &poll)?;
         Some(Entrance {
             listener,
             poll,
             events: Events::with_capacity(alloc, 16).ok()?,
+            waker,
         })
     }
 }
@@ -293,7 +301,7 @@ fn welcome<R: Wait + Eprint, X: Job>(
 fn store_beside<
     R: Threads + Wait + Clock + Copy + Send + Sync + Drop + 'static,
     X: Job + Send + Sync + Drop + 'static,
->(rt: &R, place: &Arc<X>, waker: Waker) -> Option<JoinHandle<()>> {
+>(rt: &R, place: &Arc<X>, waker: Arc<Waker>) -> Option<JoinHandle<()>> {
     let place = Arc::try_clone(place).ok()?;
     let handle = *rt;
     let thread = thread::Builder::new().spawn(rt, move || {
@@ -304,7 +312,7 @@ fn store_beside<
 }
 
 fn hire_all<
-    R: Threads + Wait + Net + Clock + Copy + Send + Sync + Drop + 'static,
+    R: Threads + Wait + Net + Clock + Eprint + Copy + Send + Sync + Drop + 'static,
     X: Job + Send + Sync + Drop + 'static,
 >(rt: &R, alloc: Global, place: &Arc<X>, crew: &mut Crew, workers: u32) -> bool {
     for _ in 0..workers {
@@ -320,8 +328,7 @@ fn storing_for<
     R: Threads + Wait + Clock + Copy + Send + Sync + Drop + 'static,
     X: Job + Send + Sync + Drop + 'static,
 >(rt: &R, place: &Arc<X>, entrance: &Entrance) -> Option<JoinHandle<()>> {
-    let waker = Waker::new(entrance.poll.registry(), WAKER).ok()?;
-    store_beside(rt, place, waker)
+    store_beside(rt, place, Arc::try_clone(&entrance.waker).ok()?)
 }
 
 fn serve_at<

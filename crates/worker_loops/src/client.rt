@@ -1,48 +1,67 @@
 // A connection that a worker serves.
 use crate::house::{House, Turned};
 use crate::post::Doorbell;
+use crate::rounds::{ENDED, PINGED, SHAKING};
 use delivery_machine::Moment;
 use mio::net::TcpStream;
 use socket_conn::{Shaken, Shaking};
 use std::alloc::Global;
+use std::io::Eprint;
 use std::mem;
 use std::sync::{Arc, Wait};
 
 /// How far a connection is.
 #[derive(Drop)]
 pub(crate) enum Stage<G: Drop> {
-    /// In its handshake.
+    /// Its request has not come whole.
     Shaking(Shaking<TcpStream>),
     Open(G),
     /// At its end.
     Gone,
 }
 
-/// A connection that a worker serves.
+/// What is to become of a connection that was looked at.
+#[derive(Clone, Copy, Debug, PartialEq, Eq)]
+pub(crate) enum Look {
+    /// It stays as it is.
+    Fine,
+    /// It is served next.
+    Due,
+    /// It is at its end.
+    Over,
+}
+
+/// A connection that a worker serves. Times are those of the worker's rounds.
 #[derive(Drop)]
 pub(crate) struct Client<G: Drop> {
-    pub(crate) number: u64,
     bell: Arc<Doorbell>,
     stage: Stage<G>,
     /// It is among those that are served next.
     pub(crate) is_due: bool,
-    /// The moment that a timer is set for.
-    pub(crate) timer: Option<u64>,
+    /// When it came.
+    came: u64,
+    /// When something came from it last.
+    heard: u64,
+    /// It was pinged since.
+    is_pinged: bool,
 }
 
 impl<G: Drop> Client<G> {
-    pub(crate) fn new(number: u64, bell: Arc<Doorbell>, shaking: Shaking<TcpStream>) -> Self {
+    pub(crate) fn new(bell: Arc<Doorbell>, shaking: Shaking<TcpStream>, now: u64) -> Self {
         Client {
-            number,
             bell,
             stage: Stage::Shaking(shaking),
             is_due: false,
-            timer: None,
+            came: now,
+            heard: now,
+            is_pinged: false,
         }
     }
 
-    /// There is something to read.
-    pub(crate) fn note_readable<H: House<Guest = G>>(&mut self, house: &H) {
+    /// Something has come from it.
+    pub(crate) fn note_readable<H: House<Guest = G>>(&mut self, house: &H, now: u64) {
+        self.heard = now;
+        self.is_pinged = false;
         match &mut self.stage {
             Stage::Open(guest) => house.note_readable(guest),
             Stage::Shaking(_) => {}
@@ -50,16 +69,33 @@ impl<G: Drop> Client<G> {
         }
     }
 
-    /// The moment that a timer was set for has come: whether it is in its handshake still.
-    pub(crate) fn run_out(&mut self, millis: u64) -> bool {
-        if self.timer == Some(millis) {
-            self.timer = None;
+    /// Looks whether its client is there still. One that is silent for long is pinged once, and then given up.
+    pub(crate) fn look<H: House<Guest = G>>(&mut self, house: &H, now: u64) -> Look {
+        match &mut self.stage {
+            Stage::Open(guest) => {
+                let silent = now.saturating_sub(self.heard);
+                if silent >= ENDED {
+                    house.hang_up(guest);
+                    return Look::Due;
+                }
+                if silent < PINGED || self.is_pinged {
+                    return Look::Fine;
+                }
+                self.is_pinged = true;
+                if house.ping(guest) {
+                    Look::Fine
+                } else {
+                    Look::Due
+                }
+            }
+            Stage::Shaking(_) if now.saturating_sub(self.came) >= SHAKING => Look::Over,
+            Stage::Shaking(_) => Look::Fine,
+            Stage::Gone => Look::Over,
         }
-        matches!(&self.stage, Stage::Shaking(_))
     }
 
     /// A turn of the connection.
-    pub(crate) fn serve<H: House<Guest = G>, R: Wait>(
+    pub(crate) fn serve<H: House<Guest = G>, R: Wait + Eprint>(
         &mut self,
         rt: &R,
         alloc: Global,
@@ -74,8 +110,8 @@ impl<G: Drop> Client<G> {
         }
     }
 
-    /// A turn of a connection that is in its handshake.
-    fn shake<H: House<Guest = G>, R: Wait>(
+    /// A turn of a connection whose request has not come whole.
+    fn shake<H: House<Guest = G>, R: Wait + Eprint>(
         &mut self,
         rt: &R,
         alloc: Global,

@@ -1,19 +1,18 @@
 // The connections of a worker, and which of them are served next.
-use crate::client::Client;
+use crate::client::{Client, Look};
 use crate::house::{After, House, Turned};
 use crate::post::{Doorbell, Post};
-use crate::timers::{Timer, Timers};
+use crate::rounds::STEPS;
+use crate::timers::Timers;
 use delivery_machine::Moment;
 use mio::net::TcpStream;
 use mio::{Interest, Poll, Token};
 use slab::Slab;
 use socket_conn::Shaking;
 use std::alloc::Global;
+use std::io::Eprint;
 use std::mem;
 use std::sync::{Arc, Wait};
-
-/// How long a handshake may last, in milliseconds.
-const SHAKING: u64 = 5_000;
 
 /// The connections of a worker.
 #[derive(Drop)]
@@ -45,22 +44,16 @@ fn bell_for(alloc: Global, post: &Arc<Post>, token: usize) -> Option<Arc<Doorbel
     Arc::new(alloc, Doorbell::new(post, token)).ok()
 }
 
-/// A client that begins its handshake.
+/// A client whose request is to come.
 fn client_of<G: Drop>(
     alloc: Global,
     post: &Arc<Post>,
     token: usize,
-    number: u64,
     stream: TcpStream,
+    now: u64,
 ) -> Option<Client<G>> {
     match bell_for(alloc, post, token) {
-        Some(bell) => match Shaking::start(alloc, stream) {
-            Ok(shaking) => Some(Client::new(number, bell, shaking)),
-            Err(_) => {
-                drop(bell);
-                None
-            }
-        },
+        Some(bell) => Some(Client::new(bell, Shaking::start(alloc, stream), now)),
         None => {
             drop(stream);
             None
@@ -110,9 +103,15 @@ impl<G: Drop> Crowd<G> {
     }
 
     /// The socket is ready.
-    pub(crate) fn note<H: House<Guest = G>>(&mut self, house: &H, token: usize, is_readable: bool) {
+    pub(crate) fn note<H: House<Guest = G>>(
+        &mut self,
+        house: &H,
+        token: usize,
+        is_readable: bool,
+        now: u64,
+    ) {
         if is_readable && let Some(client) = self.clients.get_mut(token) {
-            client.note_readable(house);
+            client.note_readable(house, now);
         }
         self.make_due(token);
     }
@@ -123,18 +122,18 @@ impl<G: Drop> Crowd<G> {
         let more = count.saturating_sub(self.due.len());
         self.due.reserve(more).is_ok()
             && self.clients.reserve(1).is_ok()
+            && self.timers.make_room(self.clients.vacant_key())
             && post.make_room(rt, count)
     }
 
-    /// Takes a connection in, and begins its handshake. False where it could not be.
+    /// Takes a connection in, whose request is to come. False where it could not be.
     pub(crate) fn admit<R: Wait>(
         &mut self,
         rt: &R,
         poll: &Poll,
         post: &Arc<Post>,
-        number: u64,
         stream: TcpStream,
-        now: Moment,
+        now: u64,
     ) -> bool {
         if !self.make_room(rt, post) {
             drop(stream);
@@ -142,43 +141,21 @@ impl<G: Drop> Crowd<G> {
         }
         let token = self.clients.vacant_key();
         match registered(poll, stream, token) {
-            Some(stream) => self.begin(post, token, number, stream, now),
+            Some(stream) => self.begin(post, token, stream, now),
             None => false,
         }
     }
 
-    /// Begins the handshake of a connection, for which there is room.
-    fn begin(
-        &mut self,
-        post: &Arc<Post>,
-        token: usize,
-        number: u64,
-        stream: TcpStream,
-        now: Moment,
-    ) -> bool {
-        match client_of(self.alloc, post, token, number, stream) {
-            Some(client) => self.put_in(client, token, now),
+    /// The connection, for which there is room, comes to the token.
+    fn begin(&mut self, post: &Arc<Post>, token: usize, stream: TcpStream, now: u64) -> bool {
+        match client_of(self.alloc, post, token, stream, now) {
+            Some(client) => self.clients.insert(client).is_ok(),
             None => false,
-        }
-    }
-
-    /// The client comes to the token, and is given up there where its handshake lasts too long.
-    fn put_in(&mut self, client: Client<G>, token: usize, now: Moment) -> bool {
-        let timer = Timer {
-            millis: now.millis().saturating_add(SHAKING),
-            token,
-            number: client.number,
-        };
-        if self.timers.add(timer) {
-            self.clients.insert(client).is_ok()
-        } else {
-            drop(client);
-            false
         }
     }
 
     /// Serves those that are due, once each.
-    pub(crate) fn serve<H: House<Guest = G>, R: Wait>(
+    pub(crate) fn serve<H: House<Guest = G>, R: Wait + Eprint>(
         &mut self,
         rt: &R,
         house: &H,
@@ -197,7 +174,7 @@ impl<G: Drop> Crowd<G> {
         }
     }
 
-    fn serve_one<H: House<Guest = G>, R: Wait>(
+    fn serve_one<H: House<Guest = G>, R: Wait + Eprint>(
         &mut self,
         rt: &R,
         house: &H,
@@ -223,26 +200,9 @@ impl<G: Drop> Crowd<G> {
                 return;
             }
         }
-        if let Some(due) = turned.due {
-            self.set_timer(token, due);
-        }
-    }
-
-    /// The connection is looked at again at the moment.
-    fn set_timer(&mut self, token: usize, millis: u64) {
-        let mut number = None;
-        if let Some(client) = self.clients.get_mut(token)
-            && client.timer != Some(millis)
-        {
-            client.timer = Some(millis);
-            number = Some(client.number);
-        }
-        if let Some(number) = number {
-            let _ = self.timers.add(Timer {
-                millis,
-                token,
-                number,
-            });
+        match turned.due {
+            Some(millis) => self.timers.set(token, millis),
+            None => self.timers.remove(token),
         }
     }
 
@@ -251,39 +211,49 @@ impl<G: Drop> Crowd<G> {
         self.timers.wait(now.millis())
     }
 
-    /// Those are due whose moment has come; a handshake that has lasted too long is given up.
-    pub(crate) fn expire(&mut self, post: &Post, now: Moment) {
-        for _ in 0..self.clients.len().saturating_add(64) {
-            let Some(timer) = self.timers.next(now.millis()) else {
+    /// Those are due whose moment has come.
+    pub(crate) fn expire(&mut self, now: Moment) {
+        for _ in 0..self.clients.len() {
+            let Some(token) = self.timers.next(now.millis()) else {
                 return;
             };
-            self.expire_one(post, timer);
+            self.make_due(token);
         }
     }
 
-    fn expire_one(&mut self, post: &Post, timer: Timer) {
-        match self.run_out(timer) {
-            Some(true) => self.remove(post, timer.token),
-            Some(false) => self.make_due(timer.token),
-            None => {}
+    /// Looks at the connections of a step: whose client has gone is ended.
+    pub(crate) fn look<H: House<Guest = G>>(
+        &mut self,
+        house: &H,
+        post: &Post,
+        step: usize,
+        now: u64,
+    ) {
+        for at in 0..self.clients.capacity() / STEPS + 1 {
+            let token = at.saturating_mul(STEPS).saturating_add(step);
+            self.look_at(house, post, token, now);
         }
     }
 
-    /// Whether its handshake has lasted too long, where the connection at the token is still the one that was meant.
-    fn run_out(&mut self, timer: Timer) -> Option<bool> {
-        match self.clients.get_mut(timer.token) {
-            Some(client) if client.number == timer.number => Some(client.run_out(timer.millis)),
-            _ => None,
+    fn look_at<H: House<Guest = G>>(&mut self, house: &H, post: &Post, token: usize, now: u64) {
+        let Some(client) = self.clients.get_mut(token) else {
+            return;
+        };
+        match client.look(house, now) {
+            Look::Fine => {}
+            Look::Due => self.make_due(token),
+            Look::Over => self.remove(post, token),
         }
     }
 
     fn remove(&mut self, post: &Post, token: usize) {
+        self.timers.remove(token);
         let _ = self.clients.try_remove(token);
         post.leave();
     }
 
     /// All connections are given up.
-    pub(crate) fn give_up<H: House<Guest = G>, R: Wait>(
+    pub(crate) fn give_up<H: House<Guest = G>, R: Wait + Eprint>(
         &mut self,
         rt: &R,
         house: &H,

@@ -4,8 +4,9 @@ ghost use Rattle.std.specs.Prelude.{◌≡◌, None};
 use crate::post::Doorbell;
 use delivery_machine::Moment;
 use mio::net::TcpStream;
-use socket_conn::SocketConn;
+use socket_conn::{Held, SocketConn};
 use std::alloc::Global;
+use std::io::Eprint;
 use std::rt::Clock;
 use std::sync::{Arc, Wait};
 
@@ -66,18 +67,25 @@ pub trait House {
     /// The moment that it is, or the last one that was told.
     fn moment<R: Clock>(&self, rt: &R, last: Moment) -> Moment;
 
-    /// What comes after the handshake with the target. None where the connection was turned away.
-    fn enter<R: Wait>(
+    /// Lets in a connection whose request has this target, and accepts the request only then. None where the connection was
+    /// turned away.
+    fn enter<R: Wait + Eprint>(
         &self,
         rt: &R,
         alloc: Global,
-        conn: SocketConn<TcpStream>,
+        conn: SocketConn<Held<TcpStream>>,
         target: &str,
         bell: &Arc<Doorbell>,
     ) -> Option<Self::Guest>;
 
     /// The guest's socket has something to read.
     fn note_readable(&self, guest: &mut Self::Guest);
+
+    /// Asks the guest's client for a sign of life. False where the connection is lost.
+    fn ping(&self, guest: &mut Self::Guest) -> bool;
+
+    /// The guest's client has gone, which its next turn tells it.
+    fn hang_up(&self, guest: &mut Self::Guest);
 
     /// One turn of a guest, who is given back where it has not ended.
     fn turn<R: Wait>(

@@ -6,6 +6,7 @@ use handover::Taker;
 use mio::Poll;
 use mio::net::TcpStream;
 use std::alloc::Global;
+use std::io::Eprint;
 use std::rt::Clock;
 use std::sync::{Arc, Wait};
 
@@ -24,7 +25,7 @@ pub trait Job {
     fn keep<R: Wait + Clock>(&self, rt: &R);
 
     /// Serves connections, until no more come or the store has failed. False where it could not.
-    fn work<R: Wait + Clock>(&self, rt: &R, alloc: Global, start: Start) -> bool;
+    fn work<R: Wait + Clock + Eprint>(&self, rt: &R, alloc: Global, start: Start) -> bool;
 
     /// Stores all that waits, and then nothing more.
     fn finish<R: Wait>(&self, rt: &R);
@@ -35,7 +36,12 @@ pub trait Job {
 
 /// The work of a worker at the house: it serves connections until no more come and all have ended, or until the store
 /// fails. False where it could not.
-pub fn work_at<H: House, R: Wait + Clock>(rt: &R, house: &H, alloc: Global, start: Start) -> bool {
+pub fn work_at<H: House, R: Wait + Clock + Eprint>(
+    rt: &R,
+    house: &H,
+    alloc: Global,
+    start: Start,
+) -> bool {
     let Start {
         poll,
         post,

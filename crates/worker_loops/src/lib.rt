@@ -9,6 +9,7 @@ mod house;
 mod job;
 mod post;
 mod putter;
+mod rounds;
 mod timers;
 mod worker;
 

@@ -2,12 +2,14 @@
 use crate::crowd::Crowd;
 use crate::house::House;
 use crate::post::Post;
+use crate::rounds::Rounds;
 use delivery_machine::Moment;
 use handover::Taker;
 use mio::net::TcpStream;
 use mio::{Events, Poll, Token};
 use std::alloc::Global;
 use std::io;
+use std::io::Eprint;
 use std::rt::Clock;
 use std::sync::atomic::{AtomicBool, Ordering};
 use std::sync::{Arc, Wait};
@@ -54,6 +56,7 @@ pub(crate) struct Worker<G: Drop> {
     rung: Vec<usize>,
     served: Vec<usize>,
     now: Moment,
+    rounds: Rounds,
 }
 
 impl<G: Drop> Worker<G> {
@@ -74,6 +77,7 @@ impl<G: Drop> Worker<G> {
             rung: Vec::new(alloc),
             served: Vec::new(alloc),
             now,
+            rounds: Rounds::new(),
         })
     }
 
@@ -106,16 +110,15 @@ impl<G: Drop> Worker<G> {
                 rt,
                 &self.poll,
                 &self.post,
-                taken.number,
                 taken.connection,
-                self.now,
+                self.rounds.now(),
             );
         if !is_in {
             self.post.leave();
         }
     }
 
-    fn serve<H: House<Guest = G>, R: Wait>(&mut self, rt: &R, house: &H) {
+    fn serve<H: House<Guest = G>, R: Wait + Eprint>(&mut self, rt: &R, house: &H) {
         self.crowd
             .serve(rt, house, &*self.post, self.now, &mut self.served);
     }
@@ -133,9 +136,22 @@ impl<G: Drop> Worker<G> {
         if self.crowd.has_due() || !self.post.may_sleep(rt) {
             return Some(Duration::from_millis(0));
         }
-        match self.crowd.wait(self.now) {
-            Some(millis) => Some(Duration::from_millis(millis)),
-            None => None,
+        if self.crowd.is_empty() {
+            return None;
+        }
+        let step = self.rounds.wait();
+        let millis = match self.crowd.wait(self.now) {
+            Some(millis) => millis.min(step),
+            None => step,
+        };
+        Some(Duration::from_millis(millis))
+    }
+
+    /// The connections that time has come for.
+    fn look<H: House<Guest = G>>(&mut self, house: &H) {
+        self.crowd.expire(self.now);
+        if let Some(step) = self.rounds.step() {
+            self.crowd.look(house, &*self.post, step, self.rounds.now());
         }
     }
 
@@ -145,14 +161,16 @@ impl<G: Drop> Worker<G> {
         self.poll.poll(&mut self.events, pause)?;
         self.post.wakes(rt);
         self.now = house.moment(rt, self.now);
+        self.rounds.look(rt);
         for event in self.events.iter() {
             let token = event.token();
             if token != WAKER {
                 let is_readable = event.is_readable() || event.is_read_closed() || event.is_error();
-                self.crowd.note(house, token.0, is_readable);
+                self.crowd
+                    .note(house, token.0, is_readable, self.rounds.now());
             }
         }
-        self.crowd.expire(&*self.post, self.now);
+        self.look(house);
         Ok(())
     }
 
@@ -162,13 +180,14 @@ impl<G: Drop> Worker<G> {
     }
 
     /// Serves connections until no more come and all have ended, or until the store fails.
-    pub(crate) fn work<H: House<Guest = G>, R: Wait + Clock>(
+    pub(crate) fn work<H: House<Guest = G>, R: Wait + Clock + Eprint>(
         &mut self,
         rt: &R,
         house: &H,
         door: &Door,
     ) -> io::Result<()> {
         self.now = house.moment(rt, self.now);
+        self.rounds.look(rt);
         for _ in rt.forever() {
             self.welcome(rt);
             self.serve(rt, house);

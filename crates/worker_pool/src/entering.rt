@@ -1,4 +1,5 @@
-// From a handshake to a session: the target is read, a seat is taken, and the session begins.
+// From a request to a session: the target is read, a seat is taken, the session begins, and only then the request is
+// accepted. So whoever sees its connection open is subscribed, or is a producer of its topic.
 use crate::place::Place;
 use crate::serving::Guest;
 use broker_dir::{Attached, Gate};
@@ -9,9 +10,10 @@ use mio::net::TcpStream;
 use session_core::{Session, open};
 use session_links::Conn;
 use session_texts::reason;
-use socket_conn::SocketConn;
+use socket_conn::{Held, SocketConn};
 use sqlite::Alter;
 use std::alloc::Global;
+use std::io::Eprint;
 use std::sync::{Arc, Wait};
 use worker_loops::Doorbell;
 
@@ -37,10 +39,16 @@ fn wish_of(endpoint: &Endpoint) -> Option<Wish> {
 }
 
 /// Closes a connection that gets no session.
-pub(crate) fn turn_away(conn: &mut SocketConn<TcpStream>, code: u16, fault: Fault) {
+pub(crate) fn turn_away(conn: &mut SocketConn<Held<TcpStream>>, code: u16, fault: Fault) {
     if conn.is_open() {
         conn.close(code, reason(fault));
     }
+    accept(conn);
+}
+
+/// The request is accepted, and what was said to it since goes out.
+fn accept(conn: &mut SocketConn<Held<TcpStream>>) {
+    conn.let_go();
     let _ = conn.flush();
 }
 
@@ -51,8 +59,25 @@ struct Refusal {
     fault: Fault,
 }
 
+/// Says on standard error why a topic is not opened: its client learns no more than that the store failed.
+fn say_unopened<T: Opened + Drop, S: Alter, J: Naming, G: Gate + Drop, R: Wait + Eprint>(
+    rt: &R,
+    place: &Place<T, S, J, G>,
+    topic: &TopicName,
+    fault: Fault,
+) {
+    if fault != Fault::StoreFailed || place.directory.is_closed() {
+        return;
+    }
+    if let Some(cause) = place.directory.why_unopened(rt, topic) {
+        let (tenant, namespace) = (topic.tenant.as_str(), topic.namespace.as_str());
+        let topic = topic.topic.as_str();
+        let _ = eprintln!(rt; "persistent://{tenant}/{namespace}/{topic}: {cause}");
+    }
+}
+
 /// Takes the seat that the endpoint asks for.
-fn seat_for<T: Opened + Drop, S: Alter, J: Naming, G: Gate + Drop, R: Wait>(
+fn seat_for<T: Opened + Drop, S: Alter, J: Naming, G: Gate + Drop, R: Wait + Eprint>(
     rt: &R,
     place: &Place<T, S, J, G>,
     endpoint: &Endpoint,
@@ -62,10 +87,13 @@ fn seat_for<T: Opened + Drop, S: Alter, J: Naming, G: Gate + Drop, R: Wait>(
         (Some(wish), Ok(bell)) => {
             match place.directory.attach(rt, &wish.topic, wish.creates, bell) {
                 Ok(attached) => Ok(attached),
-                Err(fault) => Err(Refusal {
-                    code: wish.code,
-                    fault,
-                }),
+                Err(fault) => {
+                    say_unopened(rt, place, &wish.topic, fault);
+                    Err(Refusal {
+                        code: wish.code,
+                        fault,
+                    })
+                }
             }
         }
         _ => Err(Refusal {
@@ -81,7 +109,7 @@ fn session_at<T: Opened + Drop, S: Alter, J: Naming, G: Gate + Drop, R: Wait>(
     alloc: Global,
     place: &Place<T, S, J, G>,
     endpoint: Endpoint,
-    conn: &mut SocketConn<TcpStream>,
+    conn: &mut SocketConn<Held<TcpStream>>,
     attached: &Attached<T, J, Doorbell>,
 ) -> Option<Session> {
     let mut caller = place.directory.caller(rt, attached, &place.gate);
@@ -93,36 +121,39 @@ fn session_at<T: Opened + Drop, S: Alter, J: Naming, G: Gate + Drop, R: Wait>(
     }
 }
 
-/// The session begins, or the seat is free again.
+/// The session begins, or the seat is free again; then the request is accepted.
 fn begin<T: Opened + Drop, S: Alter, J: Naming, G: Gate + Drop, R: Wait>(
     rt: &R,
     alloc: Global,
     place: &Place<T, S, J, G>,
     endpoint: Endpoint,
-    mut conn: SocketConn<TcpStream>,
+    mut conn: SocketConn<Held<TcpStream>>,
     attached: Attached<T, J, Doorbell>,
 ) -> Option<Guest<T, J>> {
     match session_at(rt, alloc, place, endpoint, &mut conn, &attached) {
-        Some(session) => Some(Guest {
-            conn,
-            session,
-            attached,
-        }),
+        Some(session) => {
+            accept(&mut conn);
+            Some(Guest {
+                conn,
+                session,
+                attached,
+            })
+        }
         None => {
-            let _ = conn.flush();
-            drop(conn);
             place.directory.detach(rt, attached);
+            accept(&mut conn);
+            drop(conn);
             None
         }
     }
 }
 
-/// What comes after the handshake with the target. None where the connection was turned away.
-pub(crate) fn enter<T: Opened + Drop, S: Alter, J: Naming, G: Gate + Drop, R: Wait>(
+/// Lets in a connection whose request has this target. None where the connection was turned away.
+pub(crate) fn enter<T: Opened + Drop, S: Alter, J: Naming, G: Gate + Drop, R: Wait + Eprint>(
     rt: &R,
     alloc: Global,
     place: &Place<T, S, J, G>,
-    mut conn: SocketConn<TcpStream>,
+    mut conn: SocketConn<Held<TcpStream>>,
     target: &str,
     bell: &Arc<Doorbell>,
 ) -> Option<Guest<T, J>> {
@@ -136,11 +167,11 @@ pub(crate) fn enter<T: Opened + Drop, S: Alter, J: Naming, G: Gate + Drop, R: Wa
     }
 }
 
-fn enter_at<T: Opened + Drop, S: Alter, J: Naming, G: Gate + Drop, R: Wait>(
+fn enter_at<T: Opened + Drop, S: Alter, J: Naming, G: Gate + Drop, R: Wait + Eprint>(
     rt: &R,
     alloc: Global,
     place: &Place<T, S, J, G>,
-    mut conn: SocketConn<TcpStream>,
+    mut conn: SocketConn<Held<TcpStream>>,
     endpoint: Endpoint,
     bell: &Arc<Doorbell>,
 ) -> Option<Guest<T, J>> {

@@ -1,13 +1,14 @@
 // What all workers share: the directory of topics, to whose sessions connections come.
 use crate::entering::enter;
 use crate::serving::{Guest, turn};
-use broker_dir::{Directory, Gate, moment};
+use broker_dir::{Cause, Directory, Gate, moment};
 use delivery_machine::{Moment, Opened};
 use marks::Naming;
 use mio::net::TcpStream;
-use socket_conn::SocketConn;
+use socket_conn::{Held, SocketConn};
 use sqlite::Alter;
 use std::alloc::Global;
+use std::io::Eprint;
 use std::rt::Clock;
 use std::sync::{Arc, Wait};
 use worker_loops::{Doorbell, House, Job, Start, Turned, work_at};
@@ -31,6 +32,11 @@ impl<T: Opened + Drop, S: Alter, J: Naming, G: Drop> Place<T, S, J, G> {
     pub fn new(directory: Directory<T, S, J, Doorbell>, gate: G) -> Self {
         Place { directory, gate }
     }
+
+    /// Why the store failed, or refused last where it has not; none where it never did.
+    pub fn cause<R: Wait>(&self, rt: &R) -> Option<Cause> {
+        self.directory.cause(rt)
+    }
 }
 
 impl<T: Opened + Drop, S: Alter, J: Naming, G: Gate + Drop> House for Place<T, S, J, G> {
@@ -40,11 +46,11 @@ impl<T: Opened + Drop, S: Alter, J: Naming, G: Gate + Drop> House for Place<T, S
         moment(rt, last)
     }
 
-    fn enter<R: Wait>(
+    fn enter<R: Wait + Eprint>(
         &self,
         rt: &R,
         alloc: Global,
-        conn: SocketConn<TcpStream>,
+        conn: SocketConn<Held<TcpStream>>,
         target: &str,
         bell: &Arc<Doorbell>,
     ) -> Option<Guest<T, J>> {
@@ -53,6 +59,14 @@ impl<T: Opened + Drop, S: Alter, J: Naming, G: Gate + Drop> House for Place<T, S
 
     fn note_readable(&self, guest: &mut Guest<T, J>) {
         guest.conn.note_readable();
+    }
+
+    fn ping(&self, guest: &mut Guest<T, J>) -> bool {
+        guest.ping()
+    }
+
+    fn hang_up(&self, guest: &mut Guest<T, J>) {
+        guest.conn.hang_up();
     }
 
     fn turn<R: Wait>(
@@ -78,7 +92,7 @@ impl<T: Opened + Drop, S: Alter, J: Naming, G: Gate + Drop> Job for Place<T, S, 
         self.directory.keep(rt);
     }
 
-    fn work<R: Wait + Clock>(&self, rt: &R, alloc: Global, start: Start) -> bool {
+    fn work<R: Wait + Clock + Eprint>(&self, rt: &R, alloc: Global, start: Start) -> bool {
         work_at(rt, self, alloc, start)
     }
 

@@ -7,7 +7,7 @@ use marks::Naming;
 use mio::net::TcpStream;
 use session_bells::Rest;
 use session_core::{Session, TextCount, serve};
-use socket_conn::SocketConn;
+use socket_conn::{Held, SocketConn};
 use sqlite::Alter;
 use std::sync::Wait;
 use worker_loops::{After, Doorbell, Turned};
@@ -15,7 +15,7 @@ use worker_loops::{After, Doorbell, Turned};
 /// A session with its connection and its seat.
 #[derive(Drop)]
 pub struct Guest<T: Opened + Drop, J: Naming> {
-    pub(crate) conn: SocketConn<TcpStream>,
+    pub(crate) conn: SocketConn<Held<TcpStream>>,
     pub(crate) session: Session,
     pub(crate) attached: Attached<T, J, Doorbell>,
 }
@@ -29,6 +29,15 @@ fn most_texts() -> TextCount {
 }
 
 impl<T: Opened + Drop, J: Naming> Guest<T, J> {
+    /// Asks the client for a sign of life. False where the connection is lost.
+    pub(crate) fn ping(&mut self) -> bool {
+        if self.conn.ping().is_err() {
+            self.conn.hang_up();
+            return false;
+        }
+        self.conn.flush() || self.conn.is_blocked()
+    }
+
     /// Whether it is to be served again at once: it takes texts, and some may be there, of which the socket does not tell
     /// again; or it has something to send and room for it. Else it has left its bell.
     fn goes_on<S: Alter, G: Gate + Drop, R: Wait>(
@@ -90,10 +99,10 @@ pub(crate) fn turn<T: Opened + Drop, S: Alter, J: Naming, G: Gate + Drop, R: Wai
             None
         }
     };
-    let _ = conn.flush();
-    let received = conn.take_received();
     match left {
         Some(session) => {
+            let _ = conn.flush();
+            let received = conn.take_received();
             let guest = Guest {
                 conn,
                 session,
@@ -102,11 +111,18 @@ pub(crate) fn turn<T: Opened + Drop, S: Alter, J: Naming, G: Gate + Drop, R: Wai
             stay(rt, place, guest, received)
         }
         None => {
-            drop(conn);
             place.directory.detach(rt, attached);
+            see_off(conn);
             (Turned::gone(), None)
         }
     }
+}
+
+/// The last that a client hears, once its seat is free: so it may come again as soon as it hears it.
+fn see_off(mut conn: SocketConn<Held<TcpStream>>) {
+    let _ = conn.tell_breach();
+    let _ = conn.flush();
+    drop(conn);
 }
 
 /// The guest stays, unless the store has failed.

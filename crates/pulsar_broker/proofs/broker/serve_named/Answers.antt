@@ -10,15 +10,15 @@ use Rattle.worker_pool.proofs.Crosses.{Place-send, Place-sync}
 use Rattle.pulsar_broker.proofs.broker.serve_named.Goals as goal
 
 -- nothing is left behind in any field
-pub serve-requires-send-X : goal.serve-requires-send-X
-serve-requires-send-X g c κs within =
+pub serve-ended-requires-send-X : goal.serve-ended-requires-send-X
+serve-ended-requires-send-X g c κs within =
     let place = Place-send Core.the_row (param 1 g.row.S) (param 2 g.row.J) Open.the_row TopicCore.ghosts g.S.Store g.J.Naming core_send c.type_bounds.send-S open_send in
     record {
       owned = place.owned;
       leaving = λ k. Quiet-if (k (of_param 1)) _ _ (λ x w. ((tt, (tt, (tt, (tt, ((tt, (tt, ((tt, (tt, tt)), tt))), ((tt, tt), tt)))))), tt)) (λ x w. tt);
     }
 
-pub serve-requires-sync-X : goal.serve-requires-sync-X
-serve-requires-sync-X g c κs within =
+pub serve-ended-requires-sync-X : goal.serve-ended-requires-sync-X
+serve-ended-requires-sync-X g c κs within =
     let place = Place-sync Core.the_row (param 1 g.row.S) (param 2 g.row.J) Open.the_row TopicCore.ghosts g.S.Store g.J.Naming core_send c.type_bounds.send-S open_sync in
     record { shared = place.shared }

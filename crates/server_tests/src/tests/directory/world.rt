@@ -112,7 +112,10 @@ pub(super) fn asked<J: Naming, R: Abort + AllocGlobal + Wait>(
 ) -> Reply {
     let event = event_in(rt, seat.topic(), line).expect(rt, "no event, or no memory");
     let mut caller = topics.caller(rt, seat, &Open);
-    caller.call(event).ok().expect(rt, "no answer, or no memory")
+    caller
+        .call(event)
+        .ok()
+        .expect(rt, "no answer, or no memory")
 }
 
 /// Whether nothing is left to do after a hundred tasks.

@@ -2,10 +2,11 @@
 use http::Request;
 use http_uri::Uri;
 use std::io;
+use std::io::{Read, Write};
 use std::net::{Net, SocketAddr, TcpListener, TcpStream};
 use std::process::Abort;
 use std::random::RandomSource;
-use tungstenite::{Message, RandomKeys, WebSocket, client};
+use tungstenite::{Message, RandomKeys, Role, WebSocket, client};
 
 /// Bytes that are random enough for a mask.
 #[derive(Clone, Copy, Debug)]
@@ -44,11 +45,56 @@ pub(super) fn connect<R: Net<Listener = TcpListener, Stream = TcpStream> + Abort
     socket
 }
 
-/// What the client says and hears: a text, or the code that the session was closed with.
+/// The request of a connection to the path, whose answer is not waited for.
+pub(super) fn ask<R: Net<Listener = TcpListener, Stream = TcpStream> + Abort + AllocGlobal>(
+    rt: &R,
+    address: SocketAddr,
+    path: &str,
+) -> TcpStream {
+    let mut stream = TcpStream::connect(rt, address).ok().expect(rt, "no stream");
+    let request = format!(in rt.alloc();
+        "GET {path} HTTP/1.1\r\nHost: 127.0.0.1\r\nConnection: Upgrade\r\nUpgrade: websocket\r\nSec-WebSocket-Version: 13\r\nSec-WebSocket-Key: dGhlIHNhbXBsZSBub25jZQ==\r\n\r\n"
+    );
+    let request = request.expect(rt, "no memory");
+    assert!(rt; stream.write_all(request.as_bytes()).is_ok(), "not sent");
+    stream
+}
+
+/// The next byte of the answer.
+fn next_byte<R: Abort>(rt: &R, stream: &mut TcpStream) -> u8 {
+    let mut byte = [0];
+    assert!(rt; stream.read_exact(&mut byte).is_ok(), "nothing came");
+    byte[0]
+}
+
+/// How many bytes of the empty line at the end of a head stand at the end of what came.
+fn goes_on(seen: usize, byte: u8) -> usize {
+    match (seen, byte) {
+        (0 | 2, b'\r') => seen + 1,
+        (1 | 3, b'\n') => seen + 1,
+        (_, b'\r') => 1,
+        _ => 0,
+    }
+}
+
+/// The connection, once its request is answered.
+pub(super) fn answered<R: Abort + AllocGlobal>(rt: &R, mut stream: TcpStream) -> Socket {
+    let mut seen = 0;
+    for _ in 0..1_000 {
+        seen = goes_on(seen, next_byte(rt, &mut stream));
+        if seen == 4 {
+            let keys = RandomKeys::new(Fives);
+            return WebSocket::from_raw_socket(rt.alloc(), stream, keys, Role::Client, None);
+        }
+    }
+    panic!(rt; "no answer")
+}
+
+/// What the client says and hears: a text, or the code and the reason that the session was closed with.
 #[derive(Debug, Drop)]
 pub(super) enum Heard {
     Text(String),
-    Closed(u16),
+    Closed { code: u16, reason: String },
 }
 
 pub(super) fn say<R: Abort + AllocGlobal>(rt: &R, socket: &mut Socket, text: &str) {
@@ -68,8 +114,17 @@ fn heard_in<R: Abort + AllocGlobal>(rt: &R, message: &Message) -> Heard {
             let text = String::from_str(rt.alloc(), text.as_str());
             Heard::Text(text.expect(rt, "no memory"))
         }
-        Message::Close(Some(frame)) => Heard::Closed(u16::from(frame.code)),
-        _ => Heard::Closed(0),
+        Message::Close(Some(frame)) => {
+            let reason = String::from_str(rt.alloc(), frame.reason.as_str());
+            Heard::Closed {
+                code: u16::from(frame.code),
+                reason: reason.expect(rt, "no memory"),
+            }
+        }
+        _ => Heard::Closed {
+            code: 0,
+            reason: String::new(rt.alloc()),
+        },
     }
 }
 
@@ -83,7 +138,7 @@ pub(super) fn hear<R: Abort + AllocGlobal>(rt: &R, socket: &mut Socket) -> Heard
 fn has_part(heard: &Heard, part: &str) -> bool {
     match heard {
         Heard::Text(text) => text.as_str().contains(part),
-        Heard::Closed(_) => false,
+        Heard::Closed { .. } => false,
     }
 }
 

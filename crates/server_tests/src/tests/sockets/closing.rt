@@ -50,7 +50,7 @@ const CLOSED: [(&str, u16); 8] = [
 
 fn code_in(heard: &Heard) -> Option<u16> {
     match heard {
-        Heard::Closed(code) => Some(*code),
+        Heard::Closed { code, .. } => Some(*code),
         Heard::Text(_) => None,
     }
 }

@@ -1,5 +1,5 @@
 // Two topics are served at once: one that is held does not hold the other.
-use super::client::{connect, publish};
+use super::client::{answered, ask, connect, publish};
 use super::world::{Visit, serve_all};
 use broker_dir::Gate;
 use delivery_machine::TopicName;
@@ -12,7 +12,7 @@ use std::test::*;
 use std::thread;
 use std::time::Duration;
 
-const TOPIC_A: &str = "ws://127.0.0.1/ws/v2/producer/persistent/public/default/a";
+const TOPIC_A: &str = "/ws/v2/producer/persistent/public/default/a";
 
 const TOPIC_B: &str = "ws://127.0.0.1/ws/v2/producer/persistent/public/default/b";
 
@@ -43,7 +43,7 @@ impl<R: Clock + Abort + Drop> Gate for Held<R> {
     }
 }
 
-/// A producer of each topic, that of the held one first.
+/// A producer of each topic, that of the held one first, whose request is answered once it is let go.
 #[derive(Clone, Copy)]
 struct Both;
 
@@ -57,9 +57,10 @@ impl Visit for Both {
         rt: &R,
         address: SocketAddr,
     ) {
-        let mut a = connect(rt, address, TOPIC_A);
+        let a = ask(rt, address, TOPIC_A);
         let mut b = connect(rt, address, TOPIC_B);
         publish(rt, &mut b, "{\"payload\":\"aGk=\"}");
+        let mut a = answered(rt, a);
         publish(rt, &mut a, "{\"payload\":\"aGk=\"}");
     }
 }

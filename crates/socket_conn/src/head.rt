@@ -1,0 +1,85 @@
+// The head of a request (RFC 9112, section 3), and whether it asks for a WebSocket (RFC 6455, section 4.2.1).
+ghost use Rattle.std.specs.Prelude.{◌≡◌, IfOk, string_bytes};
+ghost use Rattle.httparse.specs.Spans.{IsRequestOf, IsRequestWithin};
+ghost use Rattle.socket_conn.specs.Heads.{IsReadAs, IsTarget, accepting, asked_key};
+ghost use Rattle.websocket.specs.Handshake.{AnswersKey, accept_key_of};
+
+use httparse::Status;
+use httparse::spans::{EMPTY_HEADER_SPAN, RequestSpans, parse_request};
+use std::alloc::{AllocError, Global};
+use std::str;
+use websocket::handshake::server::check_request;
+
+/// How many header lines a head may have.
+const MOST_HEADERS: usize = 100;
+
+/// A request that asks for a WebSocket.
+#[derive(Debug, Drop)]
+pub struct Upgrade {
+    /// The path and the query.
+    pub target: String,
+    /// What accepts it.
+    pub answer: Vec<u8>,
+    /// How many bytes the head has.
+    pub len: usize,
+}
+
+/// What has come of a head.
+#[derive(Debug, Drop)]
+pub enum Head {
+    /// Not the whole.
+    Partial,
+    /// No head, one with more than 100 lines, or one that asks for no WebSocket.
+    Other,
+    Upgrade(Upgrade),
+}
+
+/// What accepts a request whose key is answered so (RFC 6455, section 4.2.2).
+fn answer_with(alloc: Global, accept: &[u8; 28]) -> Result<Vec<u8>, AllocError>
+    ensures { IfOk result (λ answer. answer.items ≡ accepting accept.now) }
+{
+    let mut answer = Vec::from_slice(
+        alloc,
+        b"HTTP/1.1 101 Switching Protocols\r\nConnection: Upgrade\r\nUpgrade: websocket\r\nSec-WebSocket-Accept: ",
+    )?;
+    answer.extend_from_slice(accept.as_slice())?;
+    answer.extend_from_slice(b"\r\n\r\n")?;
+    Ok(answer)
+}
+
+/// The target as a text; an empty one, which is no endpoint, where it is none.
+fn target_of(alloc: Global, bytes: &[u8]) -> Result<String, AllocError>
+    ensures { IfOk result (λ target. IsTarget bytes.now (string_bytes target)) }
+{
+    match str::from_utf8(bytes) {
+        Ok(text) => String::from_str(alloc, text),
+        Err(_) => Ok(String::new(alloc)),
+    }
+}
+
+fn asking(alloc: Global, target: &[u8], accept: &[u8; 28], len: usize) -> Result<Head, AllocError>
+    ensures { IfOk result (λ head. (u : Upgrade) × (head ≡ Head.Upgrade u) × IsTarget target.now (string_bytes u.target) × (u.answer.items ≡ accepting accept.now) × (u.len ≡ len)) }
+{
+    let target = target_of(alloc, target)?;
+    let answer = answer_with(alloc, accept)?;
+    Ok(Head::Upgrade(Upgrade {
+        target,
+        answer,
+        len,
+    }))
+}
+
+/// What has come so far of a request's head. Only want of memory is a failure.
+pub fn read_head(alloc: Global, bytes: &[u8]) -> Result<Head, AllocError>
+    ensures { IfOk result (IsReadAs bytes.now) }
+{
+    let mut spans = [EMPTY_HEADER_SPAN; MOST_HEADERS];
+    match parse_request(bytes, &mut spans) {
+        Ok(Status::Partial) => Ok(Head::Partial),
+        Err(_) => Ok(Head::Other),
+        Ok(Status::Complete(found)) => match check_request(bytes, &found, &spans) {
+            Ok(accept) => asking(alloc, found.path.of(bytes), &accept, found.len),
+            Err(_) => Ok(Head::Other),
+        },
+    }
+}
