@@ -90,7 +90,8 @@ fn has_moved<J: Naming, R: AllocGlobal + Wait>(rt: &R, topics: &Topics<J>, seat:
     matches!(caller.call(event), Ok(Reply::NoDead))
 }
 
-/// Whether the letter is moved within a second, in which nobody asks for anything that changes a topic.
+/// Whether the letter is moved, or the store has failed, within a second, in which nobody asks for anything that changes a
+/// topic.
 fn moves<J: Naming, R: AllocGlobal + Wait + Clock>(
     rt: &R,
     topics: &Topics<J>,
@@ -99,12 +100,41 @@ fn moves<J: Naming, R: AllocGlobal + Wait + Clock>(
 ) -> bool {
     for _ in 0..50 {
         do_all(rt, topics, errands);
-        if has_moved(rt, topics, seat) {
+        if topics.is_closed() || has_moved(rt, topics, seat) {
             return true;
         }
         thread::sleep(rt, Duration::from_millis(20));
     }
     false
+}
+
+/// A store that was refused memory in the midst of a statement has failed, of which all are told (F16): that ends the run.
+fn check_open<J: Naming, R: Abort>(rt: &R, topics: &Topics<J>) {
+    assert!(rt; !topics.is_closed(), "no memory for the store");
+}
+
+/// The message is stored, and its publisher is rung.
+fn check_stored<J: Naming, R: Abort + Wait + Clock>(
+    rt: &R,
+    topics: &Topics<J>,
+    errands: &mut Tasks<J>,
+    chime: &Chime,
+) {
+    let is_rung = rings(rt, topics, errands, chime);
+    check_open(rt, topics);
+    assert!(rt; is_rung, "the message is not stored");
+}
+
+/// The letter is moved.
+fn check_moved<J: Naming, R: Abort + AllocGlobal + Wait + Clock>(
+    rt: &R,
+    topics: &Topics<J>,
+    errands: &mut Tasks<J>,
+    seat: &Seat<J>,
+) {
+    let is_moved = moves(rt, topics, errands, seat);
+    check_open(rt, topics);
+    assert!(rt; is_moved, "the letter lies");
 }
 
 /// The dead-letter topic has the letter, once.
@@ -137,12 +167,9 @@ impl Scene for Wanting {
         };
         assert!(rt; topics.rest(rt, &seat, rest));
         let mut errands = Errands::new(rt.alloc()).expect(rt, "no moment");
-        assert!(rt;
-            rings(rt, &topics, &mut errands, &chime),
-            "the message is not stored"
-        );
+        check_stored(rt, &topics, &mut errands, &chime);
         must_all(rt, &topics, &seat, &DEATH);
-        assert!(rt; moves(rt, &topics, &mut errands, &seat), "the letter lies");
+        check_moved(rt, &topics, &mut errands, &seat);
         check_letter(rt, &topics);
         topics.detach(rt, seat);
         drop(errands);
