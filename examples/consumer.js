@@ -1,6 +1,7 @@
 // Receives messages, and acknowledges each, as Pulsar's page on the WebSocket API has it.
 // node consumer.js [address] [topic] [subscription] [count]
 const WebSocket = require('ws');
+const refusal = require('./refusals.js');
 
 const address = process.argv[2] || 'localhost:8080';
 const topic = process.argv[3] || 'my-topic';
@@ -12,6 +13,11 @@ const ws = new WebSocket(
   '?subscriptionInitialPosition=Earliest');
 let received = 0;
 
+function fail(line) {
+  console.error(line);
+  process.exit(1);
+}
+
 ws.on('open', () => console.log('Waiting for messages'));
 
 ws.on('message', (text) => {
@@ -19,5 +25,8 @@ ws.on('message', (text) => {
   console.log('Received', Buffer.from(message.payload, 'base64').toString(), 'as', message.messageId);
   ws.send(JSON.stringify({ messageId: message.messageId }));
   received += 1;
-  if (received === count) ws.close();
+  if (received === count) ws.close(1000);
 });
+
+ws.on('error', (error) => fail(`no connection: ${error.message}`));
+ws.on('close', (code, reason) => { if (code !== 1000) fail(`refused: ${refusal(code, reason)}`); });

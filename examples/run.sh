@@ -1,28 +1,36 @@
 #!/usr/bin/env bash
 # Starts the broker, runs the examples against it, kills it in the middle, starts it again, and shows that nothing that
-# was answered ok is lost. Debian's packages: python3-websocket node-ws sqlite3.
-# examples/run.sh [program] [port]
+# was answered ok is lost; then runs the commands and texts of the pages. Debian's packages: python3-websocket node-ws
+# sqlite3.
+# examples/run.sh [program] [port] [messages]      It also uses the port after that one.
 set -euo pipefail
 here=$(cd "$(dirname "$0")" && pwd)
 program=${1:-$here/../crates/pulsar_broker/out/pulsar_broker}
 port=${2:-18080}
+messages=${3:-5000}      # without doubles; fewer where the program was built to be slow
 address=127.0.0.1:$port
 room=$(mktemp -d)
 python=/usr/bin/python3
 export NODE_PATH=/usr/share/nodejs
 broker=
+cutter=
 
 stop() {
     [ -z "$broker" ] || kill -9 "$broker" 2>/dev/null || true
     [ -z "$broker" ] || wait "$broker" 2>/dev/null || true
     broker=
 }
-trap 'stop; rm -rf "$room"' EXIT
+finish() {
+    stop
+    [ -z "$cutter" ] || kill "$cutter" 2>/dev/null || true
+    rm -rf "$room"
+}
+trap finish EXIT
 
 start() {
     "$program" "$room/broker.db" "$address" 4 > "$room/said" &
     broker=$!
-    for _ in $(seq 600); do
+    for _ in $(seq 6000); do
         grep -q listening "$room/said" && return
         sleep 0.05
     done
@@ -51,6 +59,61 @@ timeout 60 "$python" "$here/key_shared.py" "$address"
 echo "== Dead letters"
 timeout 60 "$python" "$here/dead_letters.py" "$address"
 
+echo "== An administrator"
+for command in stats earliest "skip 2" stats drop; do
+    set -- $command
+    timeout 60 "$python" "$here/admin.py" "$address" my-topic "$1" other-sub ${2:-}
+done
+
+echo "== Each is refused with one line"
+refused() {
+    local want=$1
+    shift
+    timeout 60 "$@" > /dev/null 2> "$room/line" && { echo "it was not refused: $*" >&2; exit 1; }
+    [ "$(wc -l < "$room/line")" = 1 ] && grep -q "$want" "$room/line" || { cat "$room/line" >&2; exit 1; }
+    cat "$room/line"
+}
+timeout 60 "$python" "$here/consumer.py" "$address" my-topic taken > "$room/consumer" &
+consumer=$!
+until grep -q Received "$room/consumer"; do sleep 0.05; done
+refused 'closed with 4002 F6' "$python" "$here/consumer.py" "$address" my-topic taken
+refused 'closed with 4002 F6' node "$here/consumer.js" "$address" my-topic taken
+refused 'F12' "$python" "$here/admin.py" "$address" my-topic drop taken
+kill "$consumer"
+wait "$consumer" || true
+refused 'closed with 4001 F20' "$python" "$here/producer.py" "$address" a%2Fb
+refused 'closed with 4001 F20' node "$here/producer.js" "$address" a%2Fb
+refused 'closed with 4001 F20' "$python" "$here/once.py" "$address" a%2Fb
+refused 'closed with 4001 F20' node "$here/once.js" "$address" a%2Fb
+refused 'closed with 4002 F20' "$python" "$here/key_shared.py" "$address" a%2Fb
+refused 'closed with 4002 F20' "$python" "$here/dead_letters.py" "$address" a%2Fb
+refused 'closed with 4008 F11' "$python" "$here/admin.py" "$address" not-there stats my-sub
+
+echo "== Without doubles: connections are cut all the time, and the broker is killed"
+"$python" "$here/cut.py" $((port + 1)) "$port" $((500 + 8 * messages)) &
+cutter=$!
+for language in py js; do
+    if [ $language = py ]; then runs=$python; else runs=node; fi
+    timeout 300 "$runs" "$here/once.$language" 127.0.0.1:$((port + 1)) "numbers-$language" counter "$messages" > "$room/once" &
+    producer=$!
+    for _ in 1 2; do
+        sleep 0.7
+        stop
+        start
+    done
+    wait "$producer"
+    cat "$room/once"
+    ! grep -q ' 0 of those' "$room/once" || { echo "no message was sent again: nothing was shown" >&2; exit 1; }
+    timeout 60 "$python" "$here/consumer.py" "$address" "numbers-$language" all "$messages" |
+        sed -n 's/^Received \([0-9]*\) as.*/\1/p' > "$room/numbers"
+    seq 0 $((messages - 1)) | cmp - "$room/numbers"
+    timeout 60 "$python" "$here/admin.py" "$address" "numbers-$language" stats all > "$room/stats"
+    grep -q "\"acknowledged\": $messages.*\"live\": 0" "$room/stats"
+    echo "the log has each number from 0 to $((messages - 1)) once, in order, and no other message"
+done
+kill "$cutter"
+cutter=
+
 echo "== The broker is killed while a producer publishes"
 "$python" "$here/producer.py" "$address" killed 100000 > "$room/published" 2> /dev/null &
 producer=$!
@@ -65,4 +128,6 @@ timeout 60 "$python" "$here/consumer.py" "$address" killed late "$count" | sed -
 cmp "$room/published" "$room/received"
 echo "after the start all $count are found again, in their order, each under its id"
 stop
+echo "== The pages"
+"$python" "$here/pages.py" "$program" "$port"
 echo "sqlite3 says of the database: $(sqlite3 "$room/broker.db" 'PRAGMA integrity_check')"

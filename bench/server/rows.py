@@ -1,6 +1,6 @@
 #!/usr/bin/env python3
-# How long the broker takes to start over a topic of 1,000, 100,000 and 1,000,000 messages of 100 bytes and to load it,
-# how much memory it has then, and how long a publish and its acknowledgement take; and whether the stock sqlite3
+# How large a file with a topic of 1,000, 100,000 and 1,000,000 messages of 100 bytes is, how long the broker takes to
+# start over it and to load the topic, how much memory it has then, and how long a publish and its acknowledgement take; and whether the stock sqlite3
 # (Debian's package of that name) finds the file whole and reads what was written.
 # rows.py PROGRAM [port]
 # The files go into the folder ROOM; over /dev/shm a sync costs nothing, which tells the rows' time from the disk's.
@@ -83,6 +83,7 @@ for size in SIZES:
     try:
         broker.kill()
         fill(broker.database, size)
+        file = os.path.getsize(broker.database) / 1048576
         start, _ = took(broker.start)
         load, writer = took(first_publish)
         memory = broker.memory() / 1048576
@@ -91,7 +92,7 @@ for size in SIZES:
         time.sleep(1)
         broker.kill()
         check(size)
-        print(f'{size:>9} messages: start {start:.3f} s, load {load:.3f} s, then {memory:.0f} MiB, '
+        print(f'{size:>9} messages: file {file:.1f} MiB, start {start:.3f} s, load {load:.3f} s, then {memory:.0f} MiB, '
               f'publish {published:.0f} us, delivery {delivered:.0f} us', flush=True)
     finally:
         broker.kill()
