@@ -11,6 +11,7 @@ use position_core::{Message, TopicName};
 use row_store::Keeper;
 use sqlite::{Alter, Connection, FileStore, Files, Options};
 use sqlite_disk::{Disk, Fuse, Memory};
+use std::alloc::Global;
 use std::io::Eprint;
 use std::marker::Brand;
 use std::net::{Net, SocketAddr, TcpListener, TcpStream};
@@ -53,39 +54,46 @@ fn left<R: Abort + AllocGlobal>(rt: &R) -> Left {
         .expect(rt, "no memory")
 }
 
-/// A disk that holds the bytes and fails after so many calls.
-fn disk<R: Abort + AllocGlobal>(rt: &R, bytes: &[u8], calls: u64, left: &Left) -> File {
-    let mut file = Memory::new(rt.alloc());
-    file.write_at(0, bytes).ok().expect(rt, "no memory");
-    file.sync().ok().expect(rt, "no memory");
-    let left = Arc::try_clone(left).ok().expect(rt, "no memory");
-    Leaving::new(rt.alloc(), Fuse::new(file, calls), left)
+/// A disk that holds the bytes and fails after so many calls. None for want of memory.
+fn disk(alloc: Global, bytes: &[u8], calls: u64, left: &Left) -> Option<File> {
+    let mut file = Memory::new(alloc);
+    file.write_at(0, bytes).ok()?;
+    file.sync().ok()?;
+    let left = Arc::try_clone(left).ok()?;
+    Some(Leaving::new(alloc, Fuse::new(file, calls), left))
 }
 
-fn open<R: Abort + AllocGlobal>(rt: &R, log: File, db: File) -> Connection<Store> {
+/// The database that both hold. None where it cannot be opened.
+fn opened(alloc: Global, log: File, db: File) -> Option<Connection<Store>> {
     let files = Files { log, db };
-    assert!(rt; files.may_be_used());
-    let conn = Connection::open_files(rt.alloc(), files, Options::new(1));
-    conn.ok().expect(rt, "not opened")
+    if !files.may_be_used() {
+        return None;
+    }
+    match Connection::open_files(alloc, files, Options::new(1)) {
+        Ok(conn) => Some(conn),
+        Err(_) => None,
+    }
 }
 
-/// A database that has no rows yet, and whose log fails after so many calls.
-fn fresh<R: Abort + AllocGlobal>(rt: &R, calls: u64, log: &Left, db: &Left) -> Connection<Store> {
-    let log = disk(rt, &[], calls, log);
-    let db = disk(rt, &[], NEVER, db);
-    open(rt, log, db)
+/// What is done over a database, and a number that comes of it.
+trait Errand {
+    fn run<S: Alter + Send + Drop + 'static>(&self, conn: Connection<S>) -> u64;
 }
 
-fn bytes_of<'a, R: Abort>(rt: &R, left: &'a Left) -> &'a [u8] {
-    left.get().expect(rt, "the file is still in use").as_slice()
+/// Does the errand over the database that both hold. Only this function names its type beside one that is generic, which is
+/// dear to prove.
+fn send<X: Errand>(alloc: Global, log: File, db: File, errand: &X) -> Option<u64> {
+    match opened(alloc, log, db) {
+        Some(conn) => Some(errand.run(conn)),
+        None => None,
+    }
 }
 
-/// The database over what both files left.
-fn again<R: Abort + AllocGlobal>(rt: &R, log: &Left, db: &Left) -> Connection<Store> {
-    let nowhere = left(rt);
-    let log = disk(rt, bytes_of(rt, log), NEVER, &nowhere);
-    let db = disk(rt, bytes_of(rt, db), NEVER, &nowhere);
-    open(rt, log, db)
+fn bytes_of(left: &Left) -> Option<&[u8]> {
+    match left.get() {
+        Some(bytes) => Some(bytes.as_slice()),
+        None => None,
+    }
 }
 
 /// The session was closed because the store failed.
@@ -253,8 +261,72 @@ fn check_stored<S: Alter + Drop, J: Naming, R: Abort + AllocGlobal>(
     check_log(rt, loaded.snapshot.log(), stored);
 }
 
-/// The disk fails after so many calls. Only this function names the type of the database beside a keeper, which is dear
-/// to prove.
+/// Serves a database until its store fails. How many messages were stored comes of it.
+#[derive(Clone, Copy)]
+struct Serving<R> {
+    rt: R,
+}
+
+impl<
+    R: Threads
+        + Wait
+        + Net<Listener = TcpListener, Stream = TcpStream>
+        + Clock
+        + Eprint
+        + Abort
+        + AllocGlobal
+        + Copy
+        + Send
+        + Sync
+        + Drop
+        + 'static,
+> Errand for Serving<R> {
+    fn run<S: Alter + Send + Drop + 'static>(&self, conn: Connection<S>) -> u64 {
+        serve_failing::<R, S, Brand>(&self.rt, conn, Unnamed::new())
+    }
+}
+
+/// Looks for so many messages in a database.
+#[derive(Clone, Copy)]
+struct Looking<R> {
+    rt: R,
+    stored: u64,
+}
+
+impl<R: Abort + AllocGlobal> Errand for Looking<R> {
+    fn run<S: Alter + Send + Drop + 'static>(&self, conn: Connection<S>) -> u64 {
+        check_stored::<S, Brand, R>(&self.rt, conn, Unnamed::new(), self.stored);
+        self.stored
+    }
+}
+
+/// Serves a database that has no rows yet, and whose log fails after so many calls.
+fn serve_fresh<X: Errand>(
+    alloc: Global,
+    calls: u64,
+    log: &Left,
+    db: &Left,
+    serving: &X,
+) -> Option<u64> {
+    let log = disk(alloc, &[], calls, log)?;
+    let db = disk(alloc, &[], NEVER, db)?;
+    send(alloc, log, db, serving)
+}
+
+/// Looks at the database that both files left.
+fn look_again<X: Errand>(
+    alloc: Global,
+    log: &Left,
+    db: &Left,
+    nowhere: &Left,
+    looking: &X,
+) -> Option<u64> {
+    let log = disk(alloc, bytes_of(log)?, NEVER, nowhere)?;
+    let db = disk(alloc, bytes_of(db)?, NEVER, nowhere)?;
+    send(alloc, log, db, looking)
+}
+
+/// The disk fails after so many calls.
 fn fail_after<
     R: Threads
         + Wait
@@ -269,12 +341,12 @@ fn fail_after<
         + Drop
         + 'static,
 >(rt: &R, calls: u64) {
-    let log = left(rt);
-    let db = left(rt);
-    let conn = fresh(rt, calls, &log, &db);
-    let stored = serve_failing::<R, Store, Brand>(rt, conn, Unnamed::new());
-    let conn = again(rt, &log, &db);
-    check_stored::<Store, Brand, R>(rt, conn, Unnamed::new(), stored);
+    let (log, db, nowhere) = (left(rt), left(rt), left(rt));
+    let serving = Serving { rt: *rt };
+    let stored = serve_fresh(rt.alloc(), calls, &log, &db, &serving).expect(rt, "not opened");
+    let looking = Looking { rt: *rt, stored };
+    let seen = look_again(rt.alloc(), &log, &db, &nowhere, &looking);
+    assert_eq!(rt; seen, Some(stored));
 }
 
 #[test]
