@@ -2,9 +2,7 @@
 mod breaches;
 mod client;
 mod closing;
-mod failing;
 mod gates;
-mod leaving;
 mod loopback;
 mod opening;
 mod world;

@@ -83,11 +83,11 @@ fn rings<J: Naming, R: Wait + Clock>(
 
 /// Whether no letter is left. A look may be what memory is refused for; another comes.
 fn has_moved<J: Naming, R: AllocGlobal + Wait>(rt: &R, topics: &Topics<J>, seat: &Seat<J>) -> bool {
-    let Some(event) = event_in(rt, seat.topic(), "deadnext s") else {
+    let Some(event) = event_in(rt, seat.topic(), "stats s") else {
         return false;
     };
     let mut caller = topics.caller(rt, seat, &Open);
-    matches!(caller.call(event), Ok(Reply::NoDead))
+    matches!(caller.call(event), Ok(Reply::Stats { dead: 0, .. }))
 }
 
 /// Whether the letter is moved, or the store has failed, within a second, in which nobody asks for anything that changes a
