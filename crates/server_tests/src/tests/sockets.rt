@@ -2,6 +2,7 @@
 mod breaches;
 mod client;
 mod closing;
+mod failing;
 mod gates;
 mod loopback;
 mod opening;

@@ -1,0 +1,229 @@
+// A disk that fails under open sessions: all are closed, and the server ends.
+ghost use Rattle.std.specs.Prelude.{◌≡◌};
+
+use super::client::{Heard, Socket, connect, hear, say};
+use crate::tests::base::terms;
+use broker_dir::{Directory, Open};
+use marks::{Naming, Unnamed};
+use row_store::Keeper;
+use sqlite::{Alter, Connection, FileStore, Files, Options};
+use sqlite_disk::{Disk, Fuse, Memory};
+use std::alloc::Global;
+use std::io::Eprint;
+use std::marker::Brand;
+use std::net::{Net, SocketAddr, TcpListener, TcpStream};
+use std::process::Abort;
+use std::rt::Clock;
+use std::sync::{Arc, Wait};
+use std::test::*;
+use std::thread;
+use std::thread::Threads;
+use stored_cell::{Note, Notes};
+use topic_core::TopicCore;
+use worker_pool::{Ended, Limits, Place, serve};
+
+const PRODUCER: &str = "ws://127.0.0.1/ws/v2/producer/persistent/public/default/t";
+
+const CONSUMER: &str = "ws://127.0.0.1/ws/v2/consumer/persistent/public/default/t/s";
+
+const ADMIN: &str = "ws://127.0.0.1/ws/v2/admin/persistent/public/default/t";
+
+/// More than the disk lives to see.
+const MOST: u64 = 500;
+
+/// The calls after which the disk of the log fails: as many in a row as a store makes, so that each of them is met.
+const STOPS: [u64; 6] = [150, 151, 152, 153, 154, 155];
+
+const NEVER: u64 = u64::MAX;
+
+/// A disk in memory that fails after so many calls.
+fn disk(alloc: Global, calls: u64) -> Fuse<Memory> {
+    Fuse::new(Memory::new(alloc), calls)
+}
+
+/// A database that has no rows yet. None where it cannot be opened.
+fn fresh<D: Disk + Drop>(alloc: Global, log: D, db: D) -> Option<Connection<FileStore<D>>> {
+    let files = Files { log, db };
+    if !files.may_be_used() {
+        return None;
+    }
+    match Connection::open_files(alloc, files, Options::new(1)) {
+        Ok(conn) => Some(conn),
+        Err(_) => None,
+    }
+}
+
+/// The session was closed because the store failed.
+fn check_closed<R: Abort>(rt: &R, code: u16, reason: &str) {
+    assert_eq!(rt; code, 4008);
+    assert!(rt; reason == "F16", "{reason}");
+}
+
+/// Publishes a message whose key is its place. Whether it is stored: else the session was closed.
+fn is_published<R: Abort + AllocGlobal>(rt: &R, socket: &mut Socket, place: u64) -> bool {
+    let text = format!(in rt.alloc(); "{{\"payload\":\"aGk=\",\"key\":\"{place}\"}}");
+    say(rt, socket, text.expect(rt, "no memory").as_str());
+    match hear(rt, socket) {
+        Heard::Text(text) => {
+            assert!(rt; text.as_str().contains("\"result\":\"ok\""));
+            true
+        }
+        Heard::Closed { code, reason } => {
+            check_closed(rt, code, reason.as_str());
+            false
+        }
+    }
+}
+
+/// Publishes one after the other until the session is closed. How many were stored.
+fn publish_all<R: Abort + AllocGlobal>(rt: &R, socket: &mut Socket) -> u64 {
+    for place in 0..MOST {
+        if !is_published(rt, socket, place) {
+            return place;
+        }
+    }
+    panic!(rt; "the disk did not fail")
+}
+
+/// Whether the session is closed now; else it heard a text.
+fn is_closed<R: Abort + AllocGlobal>(rt: &R, socket: &mut Socket) -> bool {
+    match hear(rt, socket) {
+        Heard::Text(text) => {
+            drop(text);
+            false
+        }
+        Heard::Closed { code, reason } => {
+            check_closed(rt, code, reason.as_str());
+            true
+        }
+    }
+}
+
+/// Hears what the session is sent until it is closed.
+fn hear_out<R: Abort + AllocGlobal>(rt: &R, mut socket: Socket) {
+    for _ in 0..=MOST {
+        if is_closed(rt, &mut socket) {
+            return;
+        }
+    }
+    panic!(rt; "the session is open")
+}
+
+/// A producer, a consumer and an administrator have sessions until all are closed. How many messages were stored.
+fn visit<R: Net<Listener = TcpListener, Stream = TcpStream> + Abort + AllocGlobal>(
+    rt: &R,
+    address: SocketAddr,
+) -> u64 {
+    let mut producer = connect(rt, address, PRODUCER);
+    let consumer = connect(rt, address, CONSUMER);
+    let admin = connect(rt, address, ADMIN);
+    let stored = publish_all(rt, &mut producer);
+    drop(producer);
+    hear_out(rt, consumer);
+    hear_out(rt, admin);
+    stored
+}
+
+fn place_over<S: Alter + Drop, J: Naming, R: Abort + AllocGlobal>(
+    rt: &R,
+    conn: Connection<S>,
+    history: Unnamed<Note>,
+) -> Arc<Place<TopicCore, S, J, Open>>
+    requires { history ≡ J.book }
+{
+    let keeper = Keeper::start(rt.alloc(), conn, Notes::new(history));
+    let keeper = keeper.ok().expect(rt, "no tables");
+    let place = Place::new(Directory::open(rt.alloc(), keeper, terms(rt, 3)), Open);
+    Arc::new(rt.alloc(), place).ok().expect(rt, "no memory")
+}
+
+fn check_ended<R: Abort>(rt: &R, ended: Ended) {
+    assert_eq!(rt; ended, Ended::StoreFailed);
+}
+
+/// Serves the database until its store fails. How many messages were stored.
+fn serve_failing<
+    R: Threads
+        + Wait
+        + Net<Listener = TcpListener, Stream = TcpStream>
+        + Clock
+        + Eprint
+        + Abort
+        + AllocGlobal
+        + Copy
+        + Send
+        + Sync
+        + Drop
+        + 'static,
+    S: Alter + Send + Drop + 'static,
+    J: Naming + Send + Sync + 'static,
+>(rt: &R, conn: Connection<S>, history: Unnamed<Note>) -> u64
+    requires { history ≡ J.book }
+{
+    let place = place_over::<S, J, R>(rt, conn, history);
+    let listener = TcpListener::bind(rt, "127.0.0.1:0")
+        .ok()
+        .expect(rt, "no listener");
+    let address = listener.local_addr().ok().expect(rt, "no address");
+    let limits = Limits {
+        workers: 2,
+        connections: None,
+    };
+    let handle = *rt;
+    let client = thread::spawn(rt, move || visit(&handle, address))
+        .ok()
+        .expect(rt, "no thread");
+    let ended = serve(rt, rt.alloc(), listener, place, limits);
+    let stored = client.join(rt);
+    check_ended(rt, ended);
+    stored
+}
+
+/// Serves the database, with a history that was just opened, until its store fails. How many messages were stored.
+fn served<
+    R: Threads
+        + Wait
+        + Net<Listener = TcpListener, Stream = TcpStream>
+        + Clock
+        + Eprint
+        + Abort
+        + AllocGlobal
+        + Copy
+        + Send
+        + Sync
+        + Drop
+        + 'static,
+    S: Alter + Send + Drop + 'static,
+>(rt: &R, conn: Connection<S>) -> u64 {
+    serve_failing::<R, S, Brand>(rt, conn, Unnamed::new())
+}
+
+/// Serves a new database on the disks of its log and its pages. How many messages were stored.
+fn served_on<
+    R: Threads
+        + Wait
+        + Net<Listener = TcpListener, Stream = TcpStream>
+        + Clock
+        + Eprint
+        + Abort
+        + AllocGlobal
+        + Copy
+        + Send
+        + Sync
+        + Drop
+        + 'static,
+    D: Disk + Send + Drop + 'static,
+>(rt: &R, log: D, db: D) -> u64 {
+    match fresh(rt.alloc(), log, db) {
+        Some(conn) => served(rt, conn),
+        None => panic!(rt; "not opened"),
+    }
+}
+
+#[test]
+fn every_session_is_closed_when_the_disk_fails(rt: HostRuntime) {
+    for calls in STOPS {
+        let stored = served_on(&rt, disk(rt.alloc(), calls), disk(rt.alloc(), NEVER));
+        assert!(rt; stored > 0);
+    }
+}
