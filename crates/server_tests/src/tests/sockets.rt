@@ -4,6 +4,7 @@ mod client;
 mod closing;
 mod failing;
 mod gates;
+mod leaving;
 mod loopback;
 mod opening;
 mod world;

@@ -1,10 +1,13 @@
-// A disk that fails under open sessions: all are closed, and the server ends.
+// A disk that fails under open sessions: all are closed, and what was answered stands on the disk.
 ghost use Rattle.std.specs.Prelude.{◌≡◌};
 
 use super::client::{Heard, Socket, connect, hear, say};
+use super::leaving::Leaving;
 use crate::tests::base::terms;
 use broker_dir::{Directory, Open};
+use log_pieces::Pieces;
 use marks::{Naming, Unnamed};
+use position_core::{Message, TopicName};
 use row_store::Keeper;
 use sqlite::{Alter, Connection, FileStore, Files, Options};
 use sqlite_disk::{Disk, Fuse, Memory};
@@ -14,7 +17,7 @@ use std::marker::Brand;
 use std::net::{Net, SocketAddr, TcpListener, TcpStream};
 use std::process::Abort;
 use std::rt::Clock;
-use std::sync::{Arc, Wait};
+use std::sync::{Arc, OnceLock, Wait};
 use std::test::*;
 use std::thread;
 use std::thread::Threads;
@@ -28,6 +31,8 @@ const CONSUMER: &str = "ws://127.0.0.1/ws/v2/consumer/persistent/public/default/
 
 const ADMIN: &str = "ws://127.0.0.1/ws/v2/admin/persistent/public/default/t";
 
+const TOPIC: &str = "persistent://public/default/t";
+
 /// More than the disk lives to see.
 const MOST: u64 = 500;
 
@@ -36,13 +41,28 @@ const STOPS: [u64; 6] = [150, 151, 152, 153, 154, 155];
 
 const NEVER: u64 = u64::MAX;
 
-/// A disk in memory that fails after so many calls.
-fn disk(alloc: Global, calls: u64) -> Fuse<Memory> {
-    Fuse::new(Memory::new(alloc), calls)
+type File = Leaving<Fuse<Memory>>;
+
+/// What a file left.
+type Left = Arc<OnceLock<Vec<u8>>>;
+
+fn left<R: Abort + AllocGlobal>(rt: &R) -> Left {
+    Arc::new(rt.alloc(), OnceLock::new())
+        .ok()
+        .expect(rt, "no memory")
 }
 
-/// A database that has no rows yet. None where it cannot be opened.
-fn fresh<D: Disk + Drop>(alloc: Global, log: D, db: D) -> Option<Connection<FileStore<D>>> {
+/// A disk that holds the bytes and fails after so many calls. None for want of memory.
+fn disk(alloc: Global, bytes: &[u8], calls: u64, left: &Left) -> Option<File> {
+    let mut file = Memory::new(alloc);
+    file.write_at(0, bytes).ok()?;
+    file.sync().ok()?;
+    let left = Arc::try_clone(left).ok()?;
+    Some(Leaving::new(alloc, Fuse::new(file, calls), left))
+}
+
+/// The database that both hold. None where it cannot be opened.
+fn opened<D: Disk + Drop>(alloc: Global, log: D, db: D) -> Option<Connection<FileStore<D>>> {
     let files = Files { log, db };
     if !files.may_be_used() {
         return None;
@@ -50,6 +70,13 @@ fn fresh<D: Disk + Drop>(alloc: Global, log: D, db: D) -> Option<Connection<File
     match Connection::open_files(alloc, files, Options::new(1)) {
         Ok(conn) => Some(conn),
         Err(_) => None,
+    }
+}
+
+fn bytes_of(left: &Left) -> &[u8] {
+    match left.get() {
+        Some(bytes) => bytes.as_slice(),
+        None => &[],
     }
 }
 
@@ -179,6 +206,45 @@ fn serve_failing<
     stored
 }
 
+fn has_key(message: Option<&Message>, place: usize) -> bool {
+    let Some(message) = message else {
+        return false;
+    };
+    match &message.entry().body.content().key {
+        Some(key) => key.as_str().parse::<usize>() == Ok(place),
+        None => false,
+    }
+}
+
+/// All messages that were answered are there, each once and in its place, and at most the one beside that was not.
+fn check_log<R: Abort>(rt: &R, log: &Pieces, stored: u64) {
+    let count = log.count() as u64;
+    assert!(rt; stored > 0);
+    assert!(rt; count >= stored, "{count} of {stored}");
+    assert!(rt; count - stored <= 1, "{count} for {stored}");
+    for place in 0..log.count() {
+        assert!(rt; has_key(log.get(place), place), "at {place}");
+    }
+}
+
+/// What the database has of the topic.
+fn check_stored<S: Alter + Drop, J: Naming, R: Abort + AllocGlobal>(
+    rt: &R,
+    conn: Connection<S>,
+    history: Unnamed<Note>,
+    stored: u64,
+)
+    requires { history ≡ J.book }
+{
+    let keeper = Keeper::<S, J>::start(rt.alloc(), conn, Notes::new(history));
+    let mut keeper = keeper.ok().expect(rt, "not taken");
+    let name = TopicName::from_text(rt.alloc(), TOPIC);
+    let name = name.expect(rt, "no memory").expect(rt, "no name");
+    let loaded = keeper.load(&name).expect(rt, "not loaded");
+    let loaded = loaded.expect(rt, "no rows");
+    check_log(rt, loaded.snapshot.log(), stored);
+}
+
 /// Serves the database, with a history that was just opened, until its store fails. How many messages were stored.
 fn served<
     R: Threads
@@ -198,7 +264,12 @@ fn served<
     serve_failing::<R, S, Brand>(rt, conn, Unnamed::new())
 }
 
-/// Serves a new database on the disks of its log and its pages. How many messages were stored.
+/// What the database has of the topic, by a keeper with a history that was just opened.
+fn check_left<S: Alter + Drop, R: Abort + AllocGlobal>(rt: &R, conn: Connection<S>, stored: u64) {
+    check_stored::<S, Brand, R>(rt, conn, Unnamed::new(), stored);
+}
+
+/// Serves a new database on both disks. How many messages were stored.
 fn served_on<
     R: Threads
         + Wait
@@ -214,16 +285,34 @@ fn served_on<
         + 'static,
     D: Disk + Send + Drop + 'static,
 >(rt: &R, log: D, db: D) -> u64 {
-    match fresh(rt.alloc(), log, db) {
+    match opened(rt.alloc(), log, db) {
         Some(conn) => served(rt, conn),
         None => panic!(rt; "not opened"),
     }
 }
 
+/// What the database on both disks has of the topic.
+fn check_on<D: Disk + Drop, R: Abort + AllocGlobal>(rt: &R, log: D, db: D, stored: u64) {
+    match opened(rt.alloc(), log, db) {
+        Some(conn) => check_left(rt, conn, stored),
+        None => panic!(rt; "not opened again"),
+    }
+}
+
+/// A disk, for the file that left the bytes if there were any.
+fn disk_of<R: Abort + AllocGlobal>(rt: &R, bytes: &Left, calls: u64, left: &Left) -> File {
+    disk(rt.alloc(), bytes_of(bytes), calls, left).expect(rt, "no memory")
+}
+
 #[test]
-fn every_session_is_closed_when_the_disk_fails(rt: HostRuntime) {
+fn what_was_answered_stands_when_the_disk_fails(rt: HostRuntime) {
     for calls in STOPS {
-        let stored = served_on(&rt, disk(rt.alloc(), calls), disk(rt.alloc(), NEVER));
-        assert!(rt; stored > 0);
+        let (log, db, nowhere) = (left(&rt), left(&rt), left(&rt));
+        let log_disk = disk_of(&rt, &nowhere, calls, &log);
+        let db_disk = disk_of(&rt, &nowhere, NEVER, &db);
+        let stored = served_on(&rt, log_disk, db_disk);
+        let log_disk = disk_of(&rt, &log, NEVER, &nowhere);
+        let db_disk = disk_of(&rt, &db, NEVER, &nowhere);
+        check_on(&rt, log_disk, db_disk, stored);
     }
 }
