@@ -18,6 +18,9 @@ use sqlite::Row;
 use std::alloc::{AllocError, Global};
 use std::cmp::Ordering;
 
+/// How many subscriptions a topic may have.
+const MOST: usize = 64;
+
 /// The rows of runs and of dead letters that are left to read.
 #[derive(Clone, Copy)]
 pub(crate) struct Left<'a> {
@@ -131,7 +134,7 @@ fn put_subs(
     Ok(is_empty(left))
 }
 
-/// The subscriptions that the rows show, if nothing is left of the rows of runs and dead letters.
+/// The subscriptions that the rows show, at most 64, if nothing is left of the rows of runs and dead letters.
 pub(crate) fn subs_in(
     alloc: Global,
     rows: &[Row],
@@ -145,14 +148,18 @@ pub(crate) fn subs_in(
     ensures acks { IfOk result (λ found. IfSome found (λ subs. (topic : List ℕ) → AreAckRows topic subs.items (put topic others.entry.acks.now))) }
     ensures deads { IfOk result (λ found. IfSome found (λ subs. (topic : List ℕ) → put topic others.entry.deads.now ≡ dead_rows topic (joined deaths.entry.log.now) subs.items)) }
     ensures sound { IfOk result (λ found. IfSome found (λ subs. AreSubsOf deaths.entry.topic.now (joined deaths.entry.log.now) deaths.entry.next_ordinal subs.items)) }
+    ensures few { IfOk result (λ found. IfSome found (λ subs. length subs.items ≤ 64)) }
 {
     let mut subs = Vec::new(alloc);
     let mut ordinals = AckSet::new(alloc);
     match put_subs(alloc, rows, others, deaths, &mut ordinals, &mut subs) {
-        Ok(true) => Ok(Some(subs)),
-        Ok(false) => {
-            drop(subs);
-            Ok(None)
+        Ok(is_whole) => {
+            if is_whole && subs.len() <= MOST {
+                Ok(Some(subs))
+            } else {
+                drop(subs);
+                Ok(None)
+            }
         }
         Err(e) => {
             drop(subs);

@@ -47,6 +47,7 @@ fn subs_with(
     ensures acks { IfOk result (λ found. IfSome found (λ subs. (topic : List ℕ) → AreAckRows topic subs.items (put topic raw.now.acks.items))) }
     ensures deads { IfOk result (λ found. IfSome found (λ subs. (topic : List ℕ) → put topic raw.now.deads.items ≡ dead_rows topic (joined log.now) subs.items)) }
     ensures sound { IfOk result (λ found. IfSome found (λ subs. AreSubsOf name.now (joined log.now) next_ordinal subs.items)) }
+    ensures few { IfOk result (λ found. IfSome found (λ subs. length subs.items ≤ 64)) }
 {
     let others = Left {
         acks: &raw.acks,
@@ -76,6 +77,7 @@ fn parts_in(
     ensures log { IfOk result (λ found. IfSome found (λ r. IsWellFormedLog head.ledger_size head.ledger (joined r.0))) }
     ensures short { IfOk result (λ found. IfSome found (λ r. length (joined r.0) ≤ 1048576)) }
     ensures sound { IfOk result (λ found. IfSome found (λ r. AreSubsOf name.now (joined r.0) head.next_ordinal r.1.items)) }
+    ensures few { IfOk result (λ found. IfSome found (λ r. length r.1.items ≤ 64)) }
 {
     let next_ordinal = head.next_ordinal;
     let Some(log) = log_in(alloc, &raw.entries, head)? else {
@@ -130,6 +132,7 @@ pub fn snapshot_in(
 ) -> Result<Option<Snapshot>, AllocError>
     ensures name { IfOk result (λ found. IfSome found (λ kept. kept.name ≡ name.now)) }
     ensures rows { IfOk result (λ found. IfSome found (λ kept. AreRowsOf kept (with_topic (topic_text name.now) raw.now))) }
+    ensures few { IfOk result (λ found. IfSome found (λ kept. length kept.subscriptions ≤ 64)) }
     ensures targets { IfOk result (λ found. IfSome found (λ kept. All (λ sub. All (λ d. same_topic d.target name.now ≡ false) sub.dead) kept.subscriptions)) }
 {
     let Some(head) = head_in(&raw.topics) else {

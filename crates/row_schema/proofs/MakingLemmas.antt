@@ -1,12 +1,12 @@
 -- What the CREATEs and the row of the version make of a database.
-use Rattle.std.proofs.Common.{◌≡◌, ℕ, pos, List, [], ◌∷◌, codes, false, None, Some, Ok, IsTrue, refl, sym, ap, subst, ◌∙◌, arith}
+use Rattle.std.proofs.Common.{◌≡◌, ℕ, pos, List, [], ◌∷◌, codes, false, None, Some, Result, Ok, Err, OnOk, IsTrue, refl, sym, ap, subst, ◌∙◌, arith}
 use Rattle.std.specs.List.{AllByRecursion}
 use Rattle.sqlite.specs.declared.types.Value.TheVariants.{Null, Int}
 use Rattle.sqlite.specs.Table.{Table}
 use Rattle.sqlite.specs.Schema.{Schema}
 use Rattle.sqlite.specs.Order.{Row}
 use Rattle.sqlite.specs.Term.{Term, lit}
-use Rattle.sqlite.specs.Tree.{put_row}
+use Rattle.sqlite.specs.Tree.{Trees, put_row}
 use Rattle.sqlite.specs.Kind.TheVariants.{Integer}
 use Rattle.sqlite.specs.Source.TheVariants.{Values}
 use Rattle.sqlite.specs.Command.TheVariants.{CreateTable, Insert}
@@ -14,7 +14,9 @@ use Rattle.sqlite.specs.Change.{created, next_tree}
 use Rattle.sqlite.specs.Does.{Tally, Does, lacks_sequence}
 use Rattle.sqlite.specs.Effect.{Database}
 use Rattle.sqlite.specs.Listing.{understood}
-use Rattle.sqlite.specs.State.{State, Writes, ExecutesInside, mode_of}
+use Rattle.sqlite.specs.State.{State, Writes, ExecutesInside, Shows, KeepsCounts, mode_of}
+use Rattle.sqlite.specs.Held.{Held, state}
+use Rattle.sqlite_trees.specs.declared.store.Store.{Ghosts}
 use Rattle.sqlite_trees.specs.View.{IsShaped}
 use Rattle.sqlite_trees.specs.declared.store.Shape.TheVariants as shape
 use Rattle.sqlite_trees.proofs.ListLemmas.{all-append, all_both}
@@ -99,3 +101,10 @@ fills old new count h = record {
         deads = deads;
       };
 }
+
+-- while it is open, a crash leaves what was committed
+pub durable_from : {S A E : Type 0} (g : Ghosts S) (mid last : Held S) (r : Result A E) → ((db : Trees) → IsTrue (g.view last.store).is_open → g.recovers last.store db → db ≡ (g.view last.store).committed)
+    → OnOk r (IsTrue (state g mid).in_transaction × Shows (state g mid) (state g last) (state g mid).now (state g mid).now false × KeepsCounts (state g mid) (state g last) × ((state g last).marks ≡ []))
+    → OnOk r ((db : Trees) → (state g last).may_leave db → db ≡ (state g last).now.trees)
+durable_from g mid last (Ok x) settled h = λ db may. settled db h.1.is_open may ∙ ap (λ (d : Database). d.trees) (h.1.committed_is ∙ sym h.1.now_is)
+durable_from g mid last (Err e) settled h = tt

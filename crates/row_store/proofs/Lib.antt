@@ -2,3 +2,4 @@ pub mod Lists
 pub mod Restarting
 pub mod Standing
 pub mod Storing
+pub mod Living

@@ -1,6 +1,8 @@
 -- Writes one after the other that are apart.
-use Rattle.std.proofs.Common.{◌≡◌, ◌≢◌, ℕ, zero, suc, ◌<◌, ◌+◌, Bool, true, false, List, [], ◌∷◌, ◌++◌, take, length, slice_index_or, sym, ap, ◌∙◌, refl, arith, true≢false}
-use Rattle.std.specs.Prelude.{◌||◌, ◌==◌, string_bytes, All}
+use Rattle.std.proofs.Common.{◌≡◌, ◌≢◌, ℕ, zero, suc, ◌<◌, ◌+◌, Bool, true, false, List, [], ◌∷◌, ◌++◌, take, length, slice_index_or, sym, ap, subst, ◌∙◌, refl, arith, true≢false}
+use Rattle.std.specs.Prelude.{◌||◌, ◌==◌, string_bytes, reverse, All}
+use Rattle.std.proofs.lemmas.List.{reverse-append}
+use Rattle.std.proofs.lemmas.List.Elements.{All-append}
 use Rattle.std.specs.List.{list_any}
 use Rattle.std.specs.Str.{bytes_eq}
 use Rattle.std.proofs.lemmas.Slice.Eq.{bytes_eq-Decides}
@@ -55,3 +57,25 @@ append_end (a ∷ xs) (b ∷ ys) x y same =
     let others : xs ++ x ∷ [] ≡ ys ++ y ∷ [] = cc in
     let rest = append_end xs ys x y others in
     ((λ i. first i ∷ rest.0 i), rest.1)
+
+-- all before the place are so, and so is one more
+abbrev pub AllBelow : {A : Type 0} → (A → Type 0) → List A → ℕ → Type 0
+AllBelow {A} P xs place = (n : ℕ) (d : A) → n < place → P (slice_index_or xs n d)
+
+pub below_more : {A : Type 0} (P : A → Type 0) (xs : List A) (place : ℕ) (x : A) → place < length xs → slice_index_or xs place x ≡ x → AllBelow P xs place → P x → AllBelow P xs (place + 1)
+below_more P xs place x within is below at n d less = by (n == place) refl
+  where
+    by : (b : Bool) → (n == place) ≡ b → P (slice_index_or xs n d)
+    by true last =
+        let here : n ≡ place = grind (arith, nat_tests) in
+        subst P (sym (ap (λ m. slice_index_or xs m d) here ∙ (same_element xs place d x within ∙ is))) at
+    by false before = let early : n < place = grind (arith, nat_tests) in below n d early
+
+-- what holds of all holds of them the other way round
+pub all_reversed : {A : Type 0} (P : A → Type 0) (xs : List A) → All P xs → All P (reverse xs)
+all_reversed P [] all = all
+all_reversed P (x ∷ xs) all = subst (All P) (sym (reverse-append (x ∷ []) xs)) (All-append P (reverse xs) (reverse (x ∷ [])) (all_reversed P xs (λ n d lt. all (suc n) d (omega (arith, lt)))) (last x (all zero x (omega arith))))
+  where
+    last : (y : _) → P y → All P (reverse (y ∷ []))
+    last y h zero d lt = h
+    last y h (suc n) d lt = absurd (omega (arith, lt))

@@ -1,6 +1,6 @@
 -- What was known to stand, after a store.
 use Rattle.std.proofs.Common.{◌≡◌, ◌≢◌, ℕ, Bool, true, false, not, List, [], ◌∷◌, map, slice_index_or, ap, sym, subst, ◌∙◌, arith, suc, refl}
-use Rattle.std.specs.Prelude.{All, string_bytes, filter}
+use Rattle.std.specs.Prelude.{◌||◌, ◌++◌, if◌then◌else◌, All, string_bytes, filter, reverse}
 use Rattle.std.specs.List.{list_any, AllByRecursion}
 use Rattle.std.specs.Str.{bytes_eq}
 use Rattle.std.proofs.lemmas.Slice.Eq.{bytes_eq-Decides}
@@ -12,7 +12,7 @@ use Rattle.delivery_machine.specs.Places.{KeptTopic}
 use Rattle.row_forms.specs.Standing.{Stands, Same, KeepsOthers}
 use Rattle.row_rounds.specs.declared.saving.Write.{Write}
 use Rattle.row_rounds.specs.Rounds.{IsNamed, StandAll, name_of}
-use Rattle.row_store.specs.Keeping.{StoresAll}
+use Rattle.row_store.specs.Keeping.{StoresAll, is_of_one, known_after}
 use Rattle.row_store.proofs.Lists.{or_false}
 
 -- rows that stay the same stand on
@@ -64,3 +64,22 @@ stores_all writes kepts old new same all =
       each = All-map (λ (kept : KeptTopic). Stands kept new) (λ (w : Write). w.snapshot) writes all.rows;
       others = subst (λ names. KeepsOthers names old new) (sym (names_of writes)) all.others;
     })
+
+same_any : (writes : List Write) (text : List ℕ) → All IsNamed writes
+    → list_any (λ (w : Write). bytes_eq (string_bytes w.topic) text) writes ≡ list_any (λ (one : KeptTopic). bytes_eq (topic_text one.name) text) (map (λ (w : Write). w.snapshot) writes)
+same_any [] text named = refl
+same_any (w ∷ writes) text named =
+    let here : string_bytes w.topic ≡ topic_text w.snapshot.name = named 0 w (omega arith) in
+    let rest = same_any writes text (λ n d lt. named (suc n) d (omega (arith, lt))) in
+    λ i. bytes_eq (here i) text || rest i
+
+filter_alike : {A : Type 0} (p q : A → Bool) → ((x : A) → p x ≡ q x) → (xs : List A) → filter p xs ≡ filter q xs
+filter_alike p q same [] = refl
+filter_alike p q same (x ∷ xs) = λ i. if same x i then x ∷ filter_alike p q same xs i else filter_alike p q same xs i
+
+-- what is known after the writes, said of the snapshots
+pub known_is : (writes : List Write) (kepts : List KeptTopic) (known : List KeptTopic) → All IsNamed writes → map (λ (w : Write). w.snapshot) writes ≡ kepts
+    → filter (λ (kept : KeptTopic). not (list_any (λ (w : Write). bytes_eq (string_bytes w.topic) (topic_text kept.name)) writes)) known ++ reverse (map (λ (w : Write). w.snapshot) writes) ≡ known_after kepts known
+known_is writes kepts known named same =
+    ap (λ l. l ++ reverse (map (λ (w : Write). w.snapshot) writes)) (filter_alike _ (λ (kept : KeptTopic). not (is_of_one (map (λ (w : Write). w.snapshot) writes) kept)) (λ kept. ap not (same_any writes (topic_text kept.name) named)) known)
+    ∙ ap (λ k. known_after k known) same

@@ -1,5 +1,5 @@
 -- What a store leads to, for any connection.
-use Rattle.std.proofs.Common.{◌≡◌, ◌≤◌, ℕ, zero, suc, Bool, true, false, List, [], ◌∷◌, map, slice_index_or, refl, ap, sym, subst, ◌∙◌, arith}
+use Rattle.std.proofs.Common.{◌≡◌, ◌≤◌, ℕ, zero, suc, Bool, true, false, List, [], ◌∷◌, map, slice_index_or, inl, inr, ◌⊎◌, refl, ap, sym, subst, ◌∙◌, arith}
 use Rattle.std.specs.Prelude.{All, IsTrue, ◌&&◌}
 use Rattle.position_core.specs.TopicName.{topic_text}
 use Rattle.position_core.specs.declared.topic_name.TopicName.{TopicName}
@@ -24,7 +24,7 @@ use Rattle.row_rounds.specs.declared.saving.Write.{Write}
 use Rattle.row_rounds.specs.Rounds.{Fits, Rounds, StandAll}
 use Rattle.stored_cell.specs.Noted.{Noted, StandsAmong, all_rows, is_shown}
 use Rattle.row_store.specs.declared.written.Written.{Written}
-use Rattle.row_store.specs.Keeping.{IsKept, StoresAll, stored_in}
+use Rattle.row_store.specs.Keeping.{IsKept, IsSettled, StoresAll, stored_in}
 use Rattle.row_store.proofs.Standing.{stores_all}
 
 pub all_of_map : {X Y : Type 0} (P : X → Type 0) (f : Y → X) (ys : List Y) → All P (map f ys) → All (λ y. P (f y)) ys
@@ -93,8 +93,9 @@ pub kept_through : {S : Type 0} (g : Ghosts S) (old new : Held S) (failed : Bool
     → doubt (state g old).is_clean ≤ doubt (state g new).is_clean
     → (HasCleanDisk (state g new) → IsTrue (state g new).is_open → (state g new).now ≡ (state g old).now)
     → (HasCleanDisk (state g new) → IsTrue (state g new).is_open → IsTrue (state g old).is_open)
+    → (HasCleanDisk (state g new) → (db : Trees) → (state g new).may_leave db → (state g old).may_leave db ⊎ ⊥)
     → IsKept g (record { conn = new; failed = failed; known = known; written = written })
-kept_through g old new failed known written kept autocommit less same was = record {
+kept_through g old new failed known written kept autocommit less same was leaves_less = record {
   autocommit = autocommit;
   ready = λ working clean shown.
       let early : HasCleanDisk (state g old) = omega (arith, less, clean) in
@@ -102,7 +103,30 @@ kept_through g old new failed known written kept autocommit less same was = reco
   known = λ working clean shown.
       let early : HasCleanDisk (state g old) = omega (arith, less, clean) in
       subst (λ (db : Database). All (λ (k : KeptTopic). Stands k db.trees) known) (sym (same clean shown)) (kept.known working early (was clean shown));
+  settled = λ working clean shown db may.
+      let early : HasCleanDisk (state g old) = omega (arith, less, clean) in
+      kept.settled working early (was clean shown) db (before (leaves_less clean db may)) ∙ sym (ap (λ (d : Database). d.trees) (same clean shown));
+  one = λ working clean one other left right.
+      let early : HasCleanDisk (state g old) = omega (arith, less, clean) in
+      kept.one working early one other (before (leaves_less clean one left)) (before (leaves_less clean other right));
 }
+  where
+    before : {A : Type 0} → A ⊎ ⊥ → A
+    before (inl a) = a
+    before (inr none) = absurd none
+
+-- over a clean disk a crash leaves what stood before, or that
+pub left_from : (old new : State) (kepts : List KeptTopic) → (HasCleanDisk old → IsSettled old)
+    → Survives old new (λ db. IsTrue old.is_open → StoresAll kepts old.now.trees db)
+    → IsTrue old.is_open → HasCleanDisk new → (db : Trees) → new.may_leave db → (db ≡ old.now.trees) ⊎ StoresAll kepts old.now.trees db
+left_from old new kepts settled survives shown clean db may = by (survives.crash clean db may)
+  where
+    early : HasCleanDisk old
+    early = omega (arith, survives.clean, clean)
+
+    by : old.may_leave db ⊎ (IsTrue old.is_open → StoresAll kepts old.now.trees db) → (db ≡ old.now.trees) ⊎ StoresAll kepts old.now.trees db
+    by (inl was) = inl (settled early db was)
+    by (inr all) = inr (all shown)
 
 -- the rows that were read of the topic are those of the snapshot that they show
 pub read_stands : (kept : KeptTopic) (name : TopicName) (text : List ℕ) (raw : RawRows) (db : Trees) → text ≡ topic_text name → kept.name ≡ name → AreRowsOf kept (with_topic (topic_text name) raw) → Has text (with_topic text raw) db → Stands kept db

@@ -1,5 +1,7 @@
 -- What a keeper holds true, and what a store of several snapshots does.
-use Rattle.std.specs.Prelude.{◌≡◌, ◌⊎◌, Bool, false, not, List, [], ◌∷◌, All, filter, map, IsTrue}
+use Rattle.std.specs.Prelude.{◌≡◌, ◌⊎◌, ◌++◌, Bool, false, not, List, [], ◌∷◌, All, Contains, filter, map, reverse, IsTrue}
+use Rattle.std.specs.List.{list_any}
+use Rattle.std.specs.Str.{bytes_eq}
 use Rattle.position_core.specs.declared.topic_name.TopicName.{TopicName}
 use Rattle.position_core.specs.TopicName.{same_topic, topic_text}
 use Rattle.sqlite_trees.specs.declared.store.Store.{Ghosts}
@@ -10,9 +12,9 @@ use Rattle.delivery_machine.specs.State.{State as MachineState}
 use Rattle.delivery_machine.specs.Snapshot.{snapshot_of}
 use Rattle.delivery_machine.specs.Places.{KeptTopic, snapshot_in}
 use Rattle.row_forms.specs.Standing.{Stands, KeepsOthers}
-use Rattle.row_forms.specs.Schema.{schema_6}
+use Rattle.row_forms.specs.Schema.{schema_0, schema_6}
 use Rattle.row_tables.specs.Ready.{IsReady, IsBlank}
-use Rattle.stored_cell.specs.Noted.{Noted, all_rows, is_shown}
+use Rattle.stored_cell.specs.Noted.{Noted, ToStore, GoesOn, all_rows, is_shown}
 use Rattle.row_store.specs.declared.written.Written.{Written}
 
 -- a keeper, as contracts see it: its connection, whether it failed, the snapshots that it knows to stand in the rows,
@@ -23,11 +25,22 @@ pub record Keeping (S : Type 0) : Type 0 where
   pub known : List KeptTopic
   pub written : Written
 
--- no transaction is under way; and unless it failed, the tables are there and what it knows stands in them
+-- what a crash leaves now is exactly what stands
+abbrev pub IsSettled : State → Type 0
+IsSettled s = (db : Trees) → s.may_leave db → db ≡ s.now.trees
+
+-- a crash leaves one thing only now, also where the connection was shut and does not show it
+abbrev pub LeavesOne : State → Type 0
+LeavesOne s = (one other : Trees) → s.may_leave one → s.may_leave other → one ≡ other
+
+-- no transaction is under way; and unless it failed, the tables are there, what it knows stands in them, and a crash leaves
+-- exactly what stands
 pub record IsKept {S : Type 0} (g : Ghosts S) (k : Keeping S) : Type 0 where
   pub autocommit : k.conn.in_transaction ≡ false
   pub ready : k.failed ≡ false → HasCleanDisk (state g k.conn) → IsTrue (state g k.conn).is_open → IsReady (state g k.conn).now
   pub known : k.failed ≡ false → HasCleanDisk (state g k.conn) → IsTrue (state g k.conn).is_open → All (λ (kept : KeptTopic). Stands kept (state g k.conn).now.trees) k.known
+  pub settled : k.failed ≡ false → HasCleanDisk (state g k.conn) → IsTrue (state g k.conn).is_open → IsSettled (state g k.conn)
+  pub one : k.failed ≡ false → HasCleanDisk (state g k.conn) → LeavesOne (state g k.conn)
 
 -- the rows of these topics are what is kept of them, and those of all others are as they were
 pub record StoresAll (kepts : List KeptTopic) (old new : Trees) : Type 0 where
@@ -42,10 +55,28 @@ stored_in s kept = record { kept = kept; rows = all_rows s.committed.trees; clea
 abbrev pub StoresState : MachineState → Trees → Trees → Type 0
 StoresState s old new = (kept : KeptTopic) × (snapshot_in kept ≡ snapshot_of s) × StoresAll (kept ∷ []) old new
 
--- what a start may leave: what there was before, what was committed, or the tables with no rows
+-- what a start may leave: what there was before, what was committed, or, where there was no table, the tables with no rows
 abbrev pub MayLeave : State → Trees → Type 0
-MayLeave old db = old.may_leave db ⊎ ((db ≡ old.committed.trees) ⊎ IsBlank (record { schema = schema_6; trees = db }))
+MayLeave old db = old.may_leave db ⊎ ((db ≡ old.committed.trees) ⊎ ((old.now.schema ≡ schema_0) × IsBlank (record { schema = schema_6; trees = db })))
 
 -- what is known of all topics but this one
 abbrev pub known_without : TopicName → List KeptTopic → List KeptTopic
 known_without name known = filter (λ (kept : KeptTopic). not (same_topic kept.name name)) known
+
+-- the snapshots that are to be stored
+abbrev pub kepts : List ToStore → List KeptTopic
+kepts parts = map (λ (part : ToStore). part.kept) parts
+
+-- the part goes on from a snapshot that is known to stand, or nothing is known of its topic
+abbrev pub GoesForward : List KeptTopic → ToStore → Type 0
+GoesForward known part =
+    ((base : KeptTopic) × Contains known base × Contains part.bases base × GoesOn base part.kept)
+    ⊎ All (λ (kept : KeptTopic). same_topic kept.name part.kept.name ≡ false) known
+
+-- whether one of these is of the topic
+abbrev pub is_of_one : List KeptTopic → KeptTopic → Bool
+is_of_one kepts kept = list_any (λ (one : KeptTopic). bytes_eq (topic_text one.name) (topic_text kept.name)) kepts
+
+-- what is known once these are stored: these, and of no topic of theirs anything else
+abbrev pub known_after : List KeptTopic → List KeptTopic → List KeptTopic
+known_after kepts known = filter (λ (kept : KeptTopic). not (is_of_one kepts kept)) known ++ reverse kepts

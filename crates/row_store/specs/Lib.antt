@@ -1,3 +1,4 @@
 -- What the contracts of a keeper cite.
 pub mod Keeping
 pub mod Counting
+pub mod Lives

@@ -21,6 +21,8 @@ pub enum Cause {
     BadRows,
     /// A topic was to be stored twice in one transaction.
     Twice,
+    /// A topic was to be stored that does not go on from what stands there of it.
+    Behind,
     /// The history has no mark left.
     NoMark,
 }
@@ -55,6 +57,9 @@ impl fmt::Display for Cause {
             Cause::UnderWay => f.write_str("a transaction is under way"),
             Cause::BadRows => f.write_str("rows of a topic that are none"),
             Cause::Twice => f.write_str("a topic was to be stored twice"),
+            Cause::Behind => f.write_str(
+                "a topic was to be stored that does not go on from what stands",
+            ),
             Cause::NoMark => f.write_str("the history has no mark left"),
         }
     }

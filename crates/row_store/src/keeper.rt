@@ -1,15 +1,16 @@
 // The keeper, and a store of several snapshots in one transaction.
-ghost use Rattle.std.specs.Prelude.{◌≡◌, ◌⊎◌, map, true, false, is_some, IfOk, IfErr, IsSome, OnOk, OnErr, Err, IsTrue};
+ghost use Rattle.std.specs.Prelude.{◌≡◌, ◌⊎◌, All, map, true, false, is_some, IfOk, IfErr, IsSome, OnOk, OnErr, Err, IsTrue};
 ghost use Rattle.position_core.specs.declared.fault.Fault.TheVariants.{NoMemory, StoreFailed};
 ghost use Rattle.sqlite.specs.State.{HasCleanDisk, Survives};
 ghost use Rattle.sqlite.specs.Held.{state};
+ghost use Rattle.row_tables.specs.Ready.{IsReady};
 ghost use Rattle.row_store.specs.Counting.{Counts};
-ghost use Rattle.row_store.specs.Keeping.{StoresAll, known_without, stored_in};
+ghost use Rattle.row_store.specs.Keeping.{GoesForward, IsSettled, LeavesOne, StoresAll, kepts, known_after, known_without, stored_in};
 
 use crate::cause::Cause;
 use crate::knowing::{forget, forget_topic, keep_all, marks_of, remember};
 use crate::known::Known;
-use crate::planning::{are_apart, plan_all};
+use crate::planning::plan_all;
 use crate::written::Written;
 use delivery_machine::Fault;
 use marks::Naming;
@@ -72,20 +73,55 @@ impl<S: Alter, J: Naming> Model for Keeper<S, J> {
 }
 
 impl<S: Alter, J: Naming> Keeper<S, J> {
+    /// What its type keeps, unless it failed: over a clean disk a crash leaves one thing only now, and while the database is
+    /// open, its tables are there, and it is exactly what stands that a crash leaves.
+    pub fn rests(&self)
+        ensures ready { self.now.failed ≡ false → HasCleanDisk (state S.Store self.now.conn) → IsTrue (state S.Store self.now.conn).is_open → IsReady (state S.Store self.now.conn).now }
+        ensures settled { self.now.failed ≡ false → HasCleanDisk (state S.Store self.now.conn) → IsTrue (state S.Store self.now.conn).is_open → IsSettled (state S.Store self.now.conn) }
+        ensures one { self.now.failed ≡ false → HasCleanDisk (state S.Store self.now.conn) → LeavesOne (state S.Store self.now.conn) }
+    {
+        let _ = &self.known;
+    }
+
     /// Makes the rows of each of these topics those of its snapshot, in one transaction, and leaves all others.
     /// Refused (F1) for want of memory, with nothing changed; (F16) where the store failed, now or before; and
-    /// (F16), with nothing changed, where a topic comes twice.
+    /// (F16), with nothing changed, where a topic comes twice, or where a part goes on from nothing that is known to
+    /// stand of its topic: so rows never go back.
     pub fn store(&mut self, parts: Vec<Part<J>>) -> Result<Vec<Kept<J>>, Fault>
-        ensures rows { HasCleanDisk (state S.Store self.new.conn) → OnOk result (StoresAll parts.items (state S.Store self.old.conn).now.trees (state S.Store self.new.conn).now.trees) }
+        ensures rows { HasCleanDisk (state S.Store self.new.conn) → OnOk result (StoresAll (kepts parts.items) (state S.Store self.old.conn).now.trees (state S.Store self.new.conn).now.trees) }
         ensures durable { HasCleanDisk (state S.Store self.new.conn) → OnOk result ((db : _) → (state S.Store self.new.conn).may_leave db → db ≡ (state S.Store self.new.conn).now.trees) }
-        ensures kept { IfOk result (λ kept. kept.items ≡ map (stored_in (state S.Store self.new.conn)) parts.items) }
-        ensures crash { Survives (state S.Store self.old.conn) (state S.Store self.new.conn) (λ db. IsTrue (state S.Store self.old.conn).is_open → StoresAll parts.items (state S.Store self.old.conn).now.trees db) }
+        ensures kept { IfOk result (λ kept. kept.items ≡ map (stored_in (state S.Store self.new.conn)) (kepts parts.items)) }
+        ensures crash { Survives (state S.Store self.old.conn) (state S.Store self.new.conn) (λ db. IsTrue (state S.Store self.old.conn).is_open → StoresAll (kepts parts.items) (state S.Store self.old.conn).now.trees db) }
         ensures ok { OnOk result (self.new.failed ≡ false) }
-        ensures written { HasCleanDisk (state S.Store self.new.conn) → OnOk result (Counts self.new.written parts.items (state S.Store self.old.conn).now.trees) }
+        ensures written { HasCleanDisk (state S.Store self.new.conn) → OnOk result (Counts self.new.written (kepts parts.items) (state S.Store self.old.conn).now.trees) }
         ensures failed { self.old.failed ≡ true → (result ≡ Err StoreFailed) × (self.new ≡ self.old) }
         ensures memory { result ≡ Err NoMemory → self.new ≡ self.old }
         ensures stuck { result ≡ Err StoreFailed → (self.new.failed ≡ true) ⊎ (self.new ≡ self.old) }
         ensures faults { IfErr result (λ fault. (fault ≡ NoMemory) ⊎ (fault ≡ StoreFailed)) }
+        ensures forward { OnOk result (All (GoesForward self.old.known) parts.items) }
+        ensures known { OnOk result (self.new.known ≡ known_after (kepts parts.items) self.old.known) }
+        ensures shown { HasCleanDisk (state S.Store self.new.conn) → OnOk result (IsTrue (state S.Store self.old.conn).is_open × IsTrue (state S.Store self.new.conn).is_open) }
+        ensures left { self.old.failed ≡ false → IsTrue (state S.Store self.old.conn).is_open → HasCleanDisk (state S.Store self.new.conn) → (db : _) → (state S.Store self.new.conn).may_leave db → (db ≡ (state S.Store self.old.conn).now.trees) ⊎ StoresAll (kepts parts.items) (state S.Store self.old.conn).now.trees db }
+    {
+        self.rests();
+        self.write(parts)
+    }
+
+    /// `store`, by the parts of its contract.
+    fn write(&mut self, parts: Vec<Part<J>>) -> Result<Vec<Kept<J>>, Fault>
+        ensures rows { HasCleanDisk (state S.Store self.new.conn) → OnOk result (StoresAll (kepts parts.items) (state S.Store self.old.conn).now.trees (state S.Store self.new.conn).now.trees) }
+        ensures durable { HasCleanDisk (state S.Store self.new.conn) → OnOk result ((db : _) → (state S.Store self.new.conn).may_leave db → db ≡ (state S.Store self.new.conn).now.trees) }
+        ensures kept { IfOk result (λ kept. kept.items ≡ map (stored_in (state S.Store self.new.conn)) (kepts parts.items)) }
+        ensures crash { Survives (state S.Store self.old.conn) (state S.Store self.new.conn) (λ db. IsTrue (state S.Store self.old.conn).is_open → StoresAll (kepts parts.items) (state S.Store self.old.conn).now.trees db) }
+        ensures ok { OnOk result (self.new.failed ≡ false) }
+        ensures written { HasCleanDisk (state S.Store self.new.conn) → OnOk result (Counts self.new.written (kepts parts.items) (state S.Store self.old.conn).now.trees) }
+        ensures failed { self.old.failed ≡ true → (result ≡ Err StoreFailed) × (self.new ≡ self.old) }
+        ensures memory { result ≡ Err NoMemory → self.new ≡ self.old }
+        ensures stuck { result ≡ Err StoreFailed → (self.new.failed ≡ true) ⊎ (self.new ≡ self.old) }
+        ensures faults { IfErr result (λ fault. (fault ≡ NoMemory) ⊎ (fault ≡ StoreFailed)) }
+        ensures forward { OnOk result (All (GoesForward self.old.known) parts.items) }
+        ensures known { OnOk result (self.new.known ≡ known_after (kepts parts.items) self.old.known) }
+        ensures shown { HasCleanDisk (state S.Store self.new.conn) → OnOk result (IsTrue (state S.Store self.old.conn).is_open × IsTrue (state S.Store self.new.conn).is_open) }
     {
         if self.failed {
             return Err(Fault::StoreFailed);
@@ -99,13 +135,16 @@ impl<S: Alter, J: Naming> Keeper<S, J> {
         marks_of(&parts, &mut marks);
         let mut writes = match plan_all(self.alloc, &self.known, parts) {
             Ok(writes) => writes,
-            Err(fault) => return Err(fault),
+            Err(None) => return Err(Fault::NoMemory),
+            Err(cause) => {
+                self.refusal = cause;
+                return Err(Fault::StoreFailed);
+            }
         };
-        if !are_apart(&writes) {
-            self.refusal = Some(Cause::Twice);
-            return Err(Fault::StoreFailed);
-        }
         let Ok(()) = room_for(&writes, &mut self.scratch) else {
+            return Err(Fault::NoMemory);
+        };
+        let Ok(()) = self.known.reserve(writes.len()) else {
             return Err(Fault::NoMemory);
         };
         let written = Written::by(&writes);

@@ -1,19 +1,15 @@
 // What a keeper knows to stand in the rows.
-ghost use Rattle.std.specs.Prelude.{◌≡◌, ◌≤◌, [], not, true, All, map, filter, length, vec_capacity, string_bytes};
+ghost use Rattle.std.specs.Prelude.{◌≡◌, ◌≤◌, ◌+◌, ◌++◌, [], not, true, All, map, filter, reverse, length, vec_capacity, string_bytes};
 ghost use Rattle.std.specs.List.{list_any};
 ghost use Rattle.std.specs.Str.{bytes_eq};
-ghost use Rattle.sqlite.specs.Tree.{Trees};
 ghost use Rattle.position_core.specs.TopicName.{topic_text};
-ghost use Rattle.delivery_machine.specs.Places.{KeptTopic};
-ghost use Rattle.row_forms.specs.Standing.{Stands};
 ghost use Rattle.stored_cell.specs.Noted.{Noted, StandsAmong};
 ghost use Rattle.row_rounds.specs.declared.saving.Write.{Write};
 ghost use Rattle.row_rounds.specs.Rounds.{IsNamed};
-ghost use Rattle.row_store.specs.Keeping.{known_without};
+ghost use Rattle.row_store.specs.Keeping.{kepts, known_without};
 
 use crate::known::Known;
 use crate::planning::is_among;
-use delivery_machine::Snapshot;
 use marks::{Mark, Naming};
 use position_core::TopicName;
 use row_rounds::Write;
@@ -21,13 +17,13 @@ use stored_cell::{Kept, Note, Part};
 
 /// What is written is known no more.
 pub fn forget<J: Naming>(known: &mut Vec<Known<J>>, writes: &[Write])
-    ensures { known.new.items ≡ filter (λ kept. not (list_any (λ w. bytes_eq (string_bytes w.topic) (topic_text kept.name)) writes.now)) known.old.items }
+    ensures room { (vec_capacity known.new ≡ vec_capacity known.old) × (length known.new.items ≤ length known.old.items) }
+    ensures left { known.new.items ≡ filter (λ kept. not (list_any (λ w. bytes_eq (string_bytes w.topic) (topic_text kept.name)) writes.now)) known.old.items }
 {
     known.retain(|one| !is_among(writes, one.topic()));
 }
 
-/// What was written is known under its mark, as far as there is memory for it, and is taken off
-/// the lists.
+/// What was written is known under its mark, and is taken off the lists.
 pub fn remember<J: Naming>(
     known: &mut Vec<Known<J>>,
     writes: &mut Vec<Write>,
@@ -35,12 +31,12 @@ pub fn remember<J: Naming>(
 )
     requires named { All IsNamed writes.old.items }
     requires marks { map (λ n. n.kept) marks.old.items ≡ map (λ (w : Write). w.snapshot) writes.old.items }
-    ensures { (db : Trees) → All (λ (kept : KeptTopic). Stands kept db) known.old.items → All (λ (w : Write). Stands w.snapshot db) writes.old.items → All (λ (kept : KeptTopic). Stands kept db) known.new.items }
+    requires room { length known.old.items + length writes.old.items ≤ vec_capacity known.old }
+    ensures { known.new.items ≡ known.old.items ++ reverse (map (λ (w : Write). w.snapshot) writes.old.items) }
 {
     while let Some(write) = writes.pop() {
         let Some(mark) = marks.pop() else {
-            drop(write);
-            return;
+            unreachable!();
         };
         let Write {
             snapshot,
@@ -49,13 +45,7 @@ pub fn remember<J: Naming>(
             whole: _,
         } = write;
         drop(change);
-        match known.push(Known::new(topic, snapshot, mark)) {
-            Ok(()) => (),
-            Err(refused) => {
-                drop(refused);
-                return;
-            }
-        }
+        known.push_reserved(Known::new(topic, snapshot, mark));
     }
 }
 
@@ -63,7 +53,7 @@ pub fn remember<J: Naming>(
 pub fn marks_of<J: Naming>(parts: &[Part<J>], marks: &mut Vec<Mark<Note, J>>)
     requires empty { marks.old.items ≡ [] }
     requires room { length parts.now ≤ vec_capacity marks.old }
-    ensures { map (λ n. n.kept) marks.new.items ≡ parts.now }
+    ensures { map (λ n. n.kept) marks.new.items ≡ kepts parts.now }
 {
     for part in parts {
         marks.push_reserved(part.mark());
@@ -87,24 +77,4 @@ pub fn forget_topic<J: Naming>(known: &mut Vec<Known<J>>, name: &TopicName)
     ensures { known.new.items ≡ known_without name.now known.old.items }
 {
     known.retain(|one| !one.is_of(name));
-}
-
-/// The snapshot is known to stand, under its mark, if there is memory for it.
-pub fn know<J: Naming>(
-    known: &mut Vec<Known<J>>,
-    topic: String,
-    snapshot: Snapshot,
-    mark: Mark<Note, J>,
-)
-    requires topic { string_bytes topic ≡ topic_text snapshot.name }
-    requires mark { mark.kept ≡ snapshot }
-    ensures { (db : Trees) → All (λ (kept : KeptTopic). Stands kept db) known.old.items → Stands snapshot db → All (λ (kept : KeptTopic). Stands kept db) known.new.items }
-{
-    let Ok(()) = known.reserve(1) else {
-        drop(topic);
-        drop(snapshot);
-        drop(mark);
-        return;
-    };
-    known.push_reserved(Known::new(topic, snapshot, mark));
 }

@@ -6,6 +6,7 @@ mod cause;
 mod keeper;
 mod knowing;
 mod known;
+pub mod laws;
 mod loading;
 mod opening;
 mod planning;

@@ -1,5 +1,5 @@
 // A topic's snapshot, as its rows have it.
-ghost use Rattle.std.specs.Prelude.{◌≡◌, ◌⊎◌, true, IfOk, IfErr, IfSome, MatchOption, Err, IsTrue, string_bytes};
+ghost use Rattle.std.specs.Prelude.{◌≡◌, ◌⊎◌, ◌++◌, [], ◌∷◌, true, false, IfOk, IfErr, IfSome, OnErr, MatchOption, Err, IsTrue, string_bytes};
 ghost use Rattle.position_core.specs.TopicName.{topic_text};
 ghost use Rattle.position_core.specs.declared.fault.Fault.TheVariants.{NoMemory, StoreFailed};
 ghost use Rattle.sqlite.specs.State.{HasCleanDisk, Survives};
@@ -9,7 +9,7 @@ ghost use Rattle.row_store.specs.Keeping.{stored_in};
 
 use crate::cause::Cause;
 use crate::keeper::Keeper;
-use crate::knowing::{forget_topic, know};
+use crate::known::Known;
 use delivery_machine::{Fault, Snapshot};
 use marks::Naming;
 use position_core::TopicName;
@@ -21,13 +21,16 @@ use stored_cell::{Kept, Loaded};
 
 impl<S: Alter, J: Naming> Keeper<S, J> {
     /// The snapshot whose rows stand there; none where the topic has no rows. The next store of the topic
-    /// writes what changed from then on. Refused (F16) where the rows are no snapshot's, or the store answers
+    /// writes what changed from then on, if it goes on from there. Refused (F16) where the rows are no snapshot's, or the store answers
     /// an error; (F1) for want of memory. Nothing changes in any case.
     pub fn load(&mut self, name: &TopicName) -> Result<Option<Loaded<J>>, Fault>
         ensures rows { HasCleanDisk (state S.Store self.new.conn) → IfOk result (λ found. MatchOption found (HasNone (topic_text name.now) (state S.Store self.old.conn).now.trees) (λ loaded. (loaded.snapshot.name ≡ name.now) × Stands loaded.snapshot (state S.Store self.old.conn).now.trees)) }
         ensures kept { IfOk result (λ found. IfSome found (λ loaded. loaded.kept ≡ stored_in (state S.Store self.new.conn) loaded.snapshot)) }
         ensures same { HasCleanDisk (state S.Store self.new.conn) → IsTrue (state S.Store self.new.conn).is_open → (state S.Store self.new.conn).now ≡ (state S.Store self.old.conn).now }
         ensures crash { Survives (state S.Store self.old.conn) (state S.Store self.new.conn) (λ _. ⊥) }
+        ensures known { IfOk result (λ found. MatchOption found (self.new.known ≡ self.old.known) (λ loaded. self.new.known ≡ self.old.known ++ loaded.snapshot ∷ [])) }
+        ensures unknown { OnErr result (self.new.known ≡ self.old.known) }
+        ensures left { self.old.failed ≡ false → IsTrue (state S.Store self.old.conn).is_open → HasCleanDisk (state S.Store self.new.conn) → (db : _) → (state S.Store self.new.conn).may_leave db → db ≡ (state S.Store self.old.conn).now.trees }
         ensures failed { self.new.failed ≡ self.old.failed }
         ensures refused { self.old.failed ≡ true → (result ≡ Err StoreFailed) × (self.new ≡ self.old) }
         ensures faults { IfErr result (λ fault. (fault ≡ NoMemory) ⊎ (fault ≡ StoreFailed)) }
@@ -77,6 +80,8 @@ impl<S: Alter, J: Naming> Keeper<S, J> {
         ensures same { (self.new.conn ≡ self.old.conn) × (self.new.failed ≡ self.old.failed) }
         ensures snapshot { IfOk result (λ loaded. loaded.snapshot ≡ snapshot) }
         ensures kept { IfOk result (λ loaded. loaded.kept ≡ stored_in (state S.Store self.old.conn) snapshot) }
+        ensures known { IfOk result (λ loaded. self.new.known ≡ self.old.known ++ loaded.snapshot ∷ []) }
+        ensures unknown { OnErr result (self.new.known ≡ self.old.known) }
         ensures faults { IfErr result (λ fault. (fault ≡ NoMemory) ⊎ (fault ≡ StoreFailed)) }
     {
         match self.proof_of(&snapshot) {
@@ -126,12 +131,20 @@ impl<S: Alter, J: Naming> Keeper<S, J> {
         ensures same { (self.new.conn ≡ self.old.conn) × (self.new.failed ≡ self.old.failed) }
         ensures snapshot { IfOk result (λ loaded. loaded.snapshot ≡ snapshot) }
         ensures kept { IfOk result (λ loaded. loaded.kept ≡ kept) }
+        ensures known { IfOk result (λ loaded. self.new.known ≡ self.old.known ++ loaded.snapshot ∷ []) }
+        ensures unknown { OnErr result (self.new.known ≡ self.old.known) }
         ensures faults { IfErr result (λ fault. fault ≡ NoMemory) }
     {
+        let Ok(()) = self.known.reserve(1) else {
+            drop(topic);
+            drop(snapshot);
+            drop(kept);
+            return Err(Fault::NoMemory);
+        };
         match snapshot.clone() {
             Ok(copy) => {
-                forget_topic(&mut self.known, snapshot.name());
-                know(&mut self.known, topic, copy, kept.mark());
+                self.known
+                    .push_reserved(Known::new(topic, copy, kept.mark()));
                 Ok(Loaded { snapshot, kept })
             }
             Err(_) => {

@@ -8,7 +8,7 @@ ghost use Rattle.sqlite_trees.specs.View.{IsClean};
 ghost use Rattle.row_forms.specs.Schema.{schema_0};
 ghost use Rattle.row_tables.specs.Ready.{IsReady, IsBlank};
 ghost use Rattle.row_store.specs.declared.cause.Cause.TheVariants.{NotOurs, UnderWay};
-ghost use Rattle.row_store.specs.Keeping.{MayLeave};
+ghost use Rattle.row_store.specs.Keeping.{IsSettled, LeavesOne, MayLeave};
 
 use crate::cause::Cause;
 use crate::keeper::Keeper;
@@ -64,6 +64,8 @@ fn keeper_over<S: Alter, J: Naming>(
 ) -> Keeper<S, J>
     requires autocommit { conn.in_transaction ≡ false }
     requires ready { HasCleanDisk (state S.Store conn) → IsTrue (state S.Store conn).is_open → IsReady (state S.Store conn).now }
+    requires settled { HasCleanDisk (state S.Store conn) → IsTrue (state S.Store conn).is_open → IsSettled (state S.Store conn) }
+    requires one { HasCleanDisk (state S.Store conn) → LeavesOne (state S.Store conn) }
     ensures { result ≡ record { conn = conn; failed = false; known = []; written = record { inserted = 0; updated = 0; deleted = 0; cleared = 0 } } }
 {
     Keeper {

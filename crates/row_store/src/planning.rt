@@ -1,19 +1,22 @@
 // What has to be written for snapshots to stand, before anything is.
-ghost use Rattle.std.specs.Prelude.{◌≡◌, All, map, IfOk, IfErr, IfSome, IsTrue, string_bytes};
+ghost use Rattle.std.specs.Prelude.{◌≡◌, All, Contains, false, map, IfOk, IfErr, IfSome, IsTrue, OnOk, string_bytes};
 ghost use Rattle.std.specs.List.{list_any};
 ghost use Rattle.std.specs.Str.{bytes_eq};
 ghost use Rattle.sqlite.specs.Tree.{Trees};
-ghost use Rattle.position_core.specs.TopicName.{topic_text};
+ghost use Rattle.position_core.specs.TopicName.{same_topic, topic_text};
 ghost use Rattle.position_core.specs.declared.fault.Fault.TheVariants.{NoMemory};
 ghost use Rattle.delivery_machine.specs.Places.{KeptTopic};
 ghost use Rattle.stored_cell.specs.Noted.{GoesOn};
 ghost use Rattle.row_forms.specs.Standing.{Stands};
 ghost use Rattle.row_rounds.specs.declared.saving.Write.{Write};
 ghost use Rattle.row_rounds.specs.Rounds.{AreApart, Fits, IsNamed, name_of};
+ghost use Rattle.row_store.specs.Keeping.{GoesForward, kepts};
 
+use crate::cause::Cause;
 use crate::known::Known;
 use delivery_machine::{Fault, Snapshot};
 use marks::Naming;
+use position_core::TopicName;
 use row_forms::{Change, topic_text};
 use row_rounds::Write;
 use std::alloc::Global;
@@ -21,7 +24,8 @@ use stored_cell::Part;
 
 /// What is known to stand, and the part goes on from.
 fn base_of<'a, J: Naming>(known: &'a [Known<J>], part: &Part<J>) -> Option<&'a Known<J>>
-    ensures goes_on { IfSome result (λ base. GoesOn base.now part.now) }
+    ensures goes_on { IfSome result (λ base. GoesOn base.now part.now.kept) }
+    ensures base { IfSome result (λ base. Contains known.now base.now × Contains part.now.bases base.now) }
     ensures known { IfSome result (λ base. (db : Trees) → All (λ kept. Stands kept db) known.now → Stands base.now db) }
 {
     for base in known {
@@ -101,43 +105,105 @@ fn plan_over(alloc: Global, snapshot: Snapshot, base: &Snapshot) -> Result<Write
     }
 }
 
-fn plan<J: Naming>(alloc: Global, known: &[Known<J>], part: Part<J>) -> Result<Write, Fault>
-    ensures snapshot { IfOk result (λ write. write.snapshot ≡ part) }
-    ensures named { IfOk result IsNamed }
-    ensures fits { IfOk result (λ write. (db : Trees) → All (λ kept. Stands kept db) known.now → Fits db write) }
-    ensures err { IfErr result (λ fault. fault ≡ NoMemory) }
+/// Whether nothing is known of the topic.
+fn is_unknown<J: Naming>(known: &[Known<J>], name: &TopicName) -> bool
+    ensures { IsTrue result → All (λ kept. same_topic kept.name name.now ≡ false) known.now }
 {
-    let Some(base) = base_of(known, &part) else {
-        let (snapshot, _) = part.into_parts();
-        return plan_whole(alloc, snapshot);
-    };
-    let (snapshot, _) = part.into_parts();
-    plan_over(alloc, snapshot, base.snapshot())
+    for one in known {
+        if one.is_of(name) {
+            return false;
+        }
+    }
+    true
 }
 
-/// A write of each part.
-pub fn plan_all<J: Naming>(
+/// All rows of a part whose base is not known to stand. None where something else is known of its topic.
+fn plan_anew<J: Naming>(
+    alloc: Global,
+    known: &[Known<J>],
+    part: Part<J>,
+) -> Result<Write, Option<Cause>>
+    ensures snapshot { IfOk result (λ write. write.snapshot ≡ part.kept) }
+    ensures named { IfOk result IsNamed }
+    ensures fits { IfOk result (λ write. (db : Trees) → Fits db write) }
+    ensures forward { OnOk result (GoesForward known.now part) }
+{
+    if !is_unknown(known, part.snapshot().name()) {
+        drop(part);
+        return Err(Some(Cause::Behind));
+    }
+    let (snapshot, _) = part.into_parts();
+    match plan_whole(alloc, snapshot) {
+        Ok(write) => Ok(write),
+        Err(_) => Err(None),
+    }
+}
+
+/// What has to be written for the part. Refused, with no cause for want of memory, and else where the part does not
+/// go on from what is known of its topic.
+fn plan<J: Naming>(alloc: Global, known: &[Known<J>], part: Part<J>) -> Result<Write, Option<Cause>>
+    ensures snapshot { IfOk result (λ write. write.snapshot ≡ part.kept) }
+    ensures named { IfOk result IsNamed }
+    ensures fits { IfOk result (λ write. (db : Trees) → All (λ kept. Stands kept db) known.now → Fits db write) }
+    ensures forward { OnOk result (GoesForward known.now part) }
+{
+    let Some(base) = base_of(known, &part) else {
+        return plan_anew(alloc, known, part);
+    };
+    let (snapshot, _) = part.into_parts();
+    match plan_over(alloc, snapshot, base.snapshot()) {
+        Ok(write) => Ok(write),
+        Err(_) => Err(None),
+    }
+}
+
+/// A write of each part. Refused, with no cause for want of memory, and else where a part does not go on from what is
+/// known of its topic.
+fn plan_each<J: Naming>(
     alloc: Global,
     known: &[Known<J>],
     parts: Vec<Part<J>>,
-) -> Result<Vec<Write>, Fault>
-    ensures snapshots { IfOk result (λ writes. map (λ (w : Write). w.snapshot) writes.items ≡ parts.items) }
+) -> Result<Vec<Write>, Option<Cause>>
+    ensures snapshots { IfOk result (λ writes. map (λ (w : Write). w.snapshot) writes.items ≡ kepts parts.items) }
     ensures named { IfOk result (λ writes. All IsNamed writes.items) }
     ensures fits { IfOk result (λ writes. (db : Trees) → All (λ kept. Stands kept db) known.now → All (Fits db) writes.items) }
-    ensures err { IfErr result (λ fault. fault ≡ NoMemory) }
+    ensures forward { OnOk result (All (GoesForward known.now) parts.items) }
 {
     let Ok(mut writes) = Vec::with_capacity(alloc, parts.len()) else {
-        return Err(Fault::NoMemory);
+        return Err(None);
     };
     for part in parts {
         match plan(alloc, known, part) {
             Ok(write) => {
                 let Ok(()) = writes.push(write) else {
-                    return Err(Fault::NoMemory);
+                    return Err(None);
                 };
             }
-            Err(fault) => return Err(fault),
+            Err(cause) => return Err(cause),
         }
+    }
+    Ok(writes)
+}
+
+/// A write of each part, of no topic two. Refused, with no cause for want of memory.
+pub fn plan_all<J: Naming>(
+    alloc: Global,
+    known: &[Known<J>],
+    parts: Vec<Part<J>>,
+) -> Result<Vec<Write>, Option<Cause>>
+    ensures snapshots { IfOk result (λ writes. map (λ (w : Write). w.snapshot) writes.items ≡ kepts parts.items) }
+    ensures named { IfOk result (λ writes. All IsNamed writes.items) }
+    ensures fits { IfOk result (λ writes. (db : Trees) → All (λ kept. Stands kept db) known.now → All (Fits db) writes.items) }
+    ensures forward { OnOk result (All (GoesForward known.now) parts.items) }
+    ensures apart { IfOk result (λ writes. AreApart writes.items) }
+{
+    let writes = match plan_each(alloc, known, parts) {
+        Ok(writes) => writes,
+        Err(cause) => return Err(cause),
+    };
+    if !are_apart(&writes) {
+        drop(writes);
+        return Err(Some(Cause::Twice));
     }
     Ok(writes)
 }
@@ -150,7 +216,7 @@ pub fn is_among(writes: &[Write], topic: &str) -> bool
 }
 
 /// Whether no topic comes twice.
-pub fn are_apart(writes: &[Write]) -> bool
+fn are_apart(writes: &[Write]) -> bool
     requires { All IsNamed writes.now }
     ensures { IsTrue result → AreApart writes.now }
 {

@@ -1,5 +1,5 @@
 // A round: a topic is viewed, stored and confirmed under one hold of its lock.
-ghost use Rattle.std.specs.Prelude.{ℕ, ◌≡◌, ◌⊎◌, ◌↔◌, Some, IfSome, true, false, length, IfOk, IfErr, OnOk, OnErr, Err, IsTrue, [], ◌∷◌};
+ghost use Rattle.std.specs.Prelude.{ℕ, ◌≡◌, ◌⊎◌, ◌↔◌, All, Some, true, false, length, IfOk, IfErr, OnOk, OnErr, Err, IsTrue, [], ◌∷◌};
 ghost use Rattle.position_core.specs.declared.fault.Fault.TheVariants.{NoMemory, JournalFull, StoreFailed};
 ghost use Rattle.delivery_machine.specs.Snapshot.{snapshot_of};
 ghost use Rattle.delivery_machine.specs.Places.{snapshot_in};
@@ -8,16 +8,16 @@ ghost use Rattle.topic_shared.specs.Kept.{HasNoLine, StoresLine, with_promise};
 ghost use Rattle.sqlite.specs.State.{HasCleanDisk, Survives};
 ghost use Rattle.sqlite.specs.Held.{state};
 ghost use Rattle.stored_cell.specs.Noted.{Noted, GoesOn};
-ghost use Rattle.stored_cell.specs.Held.{SameButPromise};
+ghost use Rattle.stored_cell.specs.Held.{SameButPromise, bases_of};
 ghost use Rattle.row_store.specs.Keeping.{StoresAll, StoresState, stored_in};
 
 use crate::cause::Cause;
 use crate::keeper::Keeper;
 use delivery_machine::{Fault, Opened, Saved, Snapshot};
-use marks::{Mark, Naming};
+use marks::Naming;
 use sqlite::Alter;
 use std::alloc::Global;
-use stored_cell::{Kept, Note, Part, StoredCell};
+use stored_cell::{Bases, Kept, Part, StoredCell};
 
 /// A list of one part.
 fn alone<J: Naming>(alloc: Global, part: Part<J>) -> Result<Vec<Part<J>>, Fault>
@@ -52,8 +52,8 @@ impl<S: Alter, J: Naming> Keeper<S, J> {
     /// this keeper's history.
     pub fn view<T: Opened + Drop>(&mut self, cell: &mut StoredCell<T, J>) -> Result<Part<J>, Fault>
         ensures keeper { self.new ≡ self.old }
-        ensures part { IfOk result (λ part. snapshot_in part ≡ snapshot_of cell.old.cell.state) }
-        ensures ok { IfOk result (λ part. cell.new ≡ record cell.old { cell = record (with_promise cell.old.cell) { viewed = cell.old.cell.state; unsaved = false }; outstanding = Some part }) }
+        ensures part { IfOk result (λ part. (snapshot_in part.kept ≡ snapshot_of cell.old.cell.state) × (part.bases ≡ bases_of cell.old)) }
+        ensures ok { IfOk result (λ part. cell.new ≡ record cell.old { cell = record (with_promise cell.old.cell) { viewed = cell.old.cell.state; unsaved = false }; outstanding = Some part.kept }) }
         ensures err { OnErr result (SameButPromise cell.old cell.new) }
         ensures full { (result ≡ Err JournalFull) ↔ HasNoLine cell.old.cell }
         ensures faults { IfErr result (λ fault. (fault ≡ NoMemory) ⊎ (fault ≡ JournalFull) ⊎ (fault ≡ StoreFailed)) }
@@ -68,27 +68,27 @@ impl<S: Alter, J: Naming> Keeper<S, J> {
     /// The snapshot that the topic has now, under its mark.
     fn part_of<T: Opened + Drop>(&mut self, cell: &StoredCell<T, J>) -> Result<Part<J>, Fault>
         ensures keeper { self.new ≡ self.old }
-        ensures part { IfOk result (λ part. snapshot_in part ≡ snapshot_of cell.now.cell.state) }
+        ensures part { IfOk result (λ part. (snapshot_in part.kept ≡ snapshot_of cell.now.cell.state) × (part.bases ≡ bases_of cell.now)) }
         ensures faults { IfErr result (λ fault. (fault ≡ NoMemory) ⊎ (fault ≡ StoreFailed)) }
     {
         match cell.view() {
-            Ok(snapshot) => self.marked(snapshot, cell.base()),
+            Ok(snapshot) => self.marked(snapshot, cell.bases()),
             Err(fault) => Err(fault),
         }
     }
 
     /// The snapshot under a mark of its own.
-    fn marked(&mut self, snapshot: Snapshot, base: Option<Mark<Note, J>>) -> Result<Part<J>, Fault>
-        requires base { IfSome base (λ base. GoesOn base.kept snapshot) }
+    fn marked(&mut self, snapshot: Snapshot, bases: Bases<J>) -> Result<Part<J>, Fault>
+        requires bases { All (λ base. GoesOn base snapshot) bases }
         ensures keeper { self.new ≡ self.old }
-        ensures part { IfOk result (λ part. part ≡ snapshot) }
+        ensures part { IfOk result (λ part. part ≡ record { kept = snapshot; bases = bases }) }
         ensures faults { IfErr result (λ fault. fault ≡ StoreFailed) }
     {
         match self.notes.view(&snapshot) {
-            Some(mark) => Ok(Part::new(snapshot, mark, base)),
+            Some(mark) => Ok(Part::new(snapshot, mark, bases)),
             None => {
                 drop(snapshot);
-                drop(base);
+                drop(bases);
                 self.refusal = Some(Cause::NoMark);
                 Err(Fault::StoreFailed)
             }
@@ -97,10 +97,10 @@ impl<S: Alter, J: Naming> Keeper<S, J> {
 
     /// A store of one topic.
     fn store_one(&mut self, part: Part<J>) -> Result<Kept<J>, Fault>
-        ensures rows { HasCleanDisk (state S.Store self.new.conn) → OnOk result (StoresAll (part ∷ []) (state S.Store self.old.conn).now.trees (state S.Store self.new.conn).now.trees) }
+        ensures rows { HasCleanDisk (state S.Store self.new.conn) → OnOk result (StoresAll (part.kept ∷ []) (state S.Store self.old.conn).now.trees (state S.Store self.new.conn).now.trees) }
         ensures durable { HasCleanDisk (state S.Store self.new.conn) → OnOk result ((db : _) → (state S.Store self.new.conn).may_leave db → db ≡ (state S.Store self.new.conn).now.trees) }
-        ensures kept { IfOk result (λ kept. kept ≡ stored_in (state S.Store self.new.conn) part) }
-        ensures crash { Survives (state S.Store self.old.conn) (state S.Store self.new.conn) (λ db. IsTrue (state S.Store self.old.conn).is_open → StoresAll (part ∷ []) (state S.Store self.old.conn).now.trees db) }
+        ensures kept { IfOk result (λ kept. kept ≡ stored_in (state S.Store self.new.conn) part.kept) }
+        ensures crash { Survives (state S.Store self.old.conn) (state S.Store self.new.conn) (λ db. IsTrue (state S.Store self.old.conn).is_open → StoresAll (part.kept ∷ []) (state S.Store self.old.conn).now.trees db) }
         ensures ok { OnOk result (self.new.failed ≡ false) }
         ensures memory { result ≡ Err NoMemory → self.new ≡ self.old }
         ensures stuck { result ≡ Err StoreFailed → (self.new.failed ≡ true) ⊎ (self.new ≡ self.old) }

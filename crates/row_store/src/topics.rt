@@ -25,6 +25,7 @@ pub fn open_cell<T: Opened + Drop, S: Alter, J: Naming>(
     terms: Terms,
 ) -> Result<StoredCell<T, J>, Fault>
     ensures opens { HasCleanDisk (state S.Store keeper.new.conn) → IfOk result (Opens name.now terms (state S.Store keeper.old.conn).now.trees) }
+    ensures word { IfOk result (λ cell. cell.by_word ≡ false) }
     ensures unknown { HasCleanDisk (state S.Store keeper.new.conn) → result ≡ Err NoSuchSubscription → (create ≡ false) × HasNone (topic_text name.now) (state S.Store keeper.old.conn).now.trees }
     ensures same { HasCleanDisk (state S.Store keeper.new.conn) → IsTrue (state S.Store keeper.new.conn).is_open → (state S.Store keeper.new.conn).now ≡ (state S.Store keeper.old.conn).now }
     ensures crash { Survives (state S.Store keeper.old.conn) (state S.Store keeper.new.conn) (λ _. ⊥) }

@@ -1,7 +1,8 @@
 -- What a stored cell keeps, after each of its calls.
-use Rattle.std.proofs.Common.{◌≡◌, ℕ, ◌≤◌, ◌++◌, List, Bool, true, false, Option, Some, None, IfSome, IsSome, MatchOption, length, refl, sym, ap, subst, ◌∙◌, arith, length-append, true≢false}
-use Rattle.std.specs.Prelude.{◌||◌, ◌&&◌, not, ◌==◌, min, max, nat_lt, if◌then◌else◌}
+use Rattle.std.proofs.Common.{◌≡◌, ℕ, zero, suc, ◌≤◌, ◌++◌, List, [], ◌∷◌, slice_index_or, Bool, true, false, Option, Some, None, IfSome, MatchOption, length, inl, inr, refl, sym, ap, subst, ◌∙◌, arith, length-append, true≢false}
+use Rattle.std.specs.Prelude.{All, ◌||◌, ◌&&◌, not, ◌==◌, min, max, nat_lt, if◌then◌else◌}
 use Rattle.std.proofs.lemmas.Bool.Decides.{nat_tests}
+use Rattle.std.proofs.lemmas.List.Elements.{All-append, All-nil}
 use Rattle.std.proofs.lemmas.Grind.{common_steps}
 use mathlib.Core.List.{IsPrefix}
 use base.Growing.{prefix_trans}
@@ -14,10 +15,12 @@ use Rattle.delivery_machine.specs.declared.event.Event.{Event}
 use Rattle.delivery_machine.specs.declared.event.Event.TheVariants.{Stored, StoredTo}
 use Rattle.delivery_machine.specs.declared.reply.Reply.{Reply}
 use Rattle.delivery_machine.specs.declared.reply.Reply.TheVariants.{Durable}
-use Rattle.delivery_machine.proofs.Growing.{IsGrown, step_grows, prefix_same}
+use Rattle.delivery_machine.proofs.Growing.{step_grows, prefix_same}
+use Rattle.journal_lines.specs.Lines.{line}
+use Rattle.journal_lines.proofs.Legality.{legal_snoc}
 use Rattle.topic_shared.specs.Kept.{Kept, StoresLine, spoken_for, with_promise}
-use Rattle.stored_cell.specs.Noted.{Noted, IsStored}
-use Rattle.stored_cell.specs.Held.{Held, IsBeginning, IsProof, IsSound, has_stored}
+use Rattle.stored_cell.specs.Noted.{Noted, GoesOn, IsOfView, IsStored, marked}
+use Rattle.stored_cell.specs.Held.{Held, IsBeginning, IsProof, IsSound, bases_of, outstanding_in}
 
 prefix_shorter : {A : Type 0} (xs ys : List A) → IsPrefix xs ys → length xs ≤ length ys
 prefix_shorter xs ys p = let whole = ap length p.1 in omega (arith, whole, length-append xs p.0)
@@ -30,20 +33,28 @@ or_false : (a b : Bool) → (a || b) ≡ false → (a ≡ false) × (b ≡ false
 or_false true b h = absurd (true≢false h)
 or_false false b h = (refl, h)
 
-beginning_grows : (s t : State) (e : Event) (kept : KeptTopic) → IsGrown s e t → IsBeginning s kept → IsBeginning t kept
-beginning_grows s t e kept grown at = record { name = at.name ∙ sym grown.name; log = prefix_trans kept.log s.log t.log at.log grown.log }
+beginning_grows : (s t : State) (e : Event) (r : Reply) (kept : KeptTopic) → Step s e r t → IsBeginning s kept → IsBeginning t kept
+beginning_grows s t e r kept step at =
+    let grown = step_grows s e r t step in
+    let been = at.events in
+    record {
+      name = at.name ∙ sym grown.name;
+      log = prefix_trans kept.log s.log t.log at.log grown.log;
+      events = (been.0, been.1 ++ line 0 e r ∷ [], been.2, legal_snoc been.0 been.1 s (line 0 e r) t been.3 step);
+    }
 
 -- the snapshot that is kept is the state's
 beginning_of : (s : State) (kept : KeptTopic) → snapshot_in kept ≡ snapshot_of s → IsBeginning s kept
 beginning_of s kept same = record {
   name = ap (λ (x : Snapshot). x.name) same;
   log = subst (IsPrefix kept.log) (ap (λ (x : Snapshot). x.log) same) (prefix_same kept.log);
+  events = (s, [], inl same, refl);
 }
 
-proof_grows : (s t : State) (e : Event) (n : Noted) → IsGrown s e t → is_storing e ≡ false → IsProof s n → IsProof t n
-proof_grows s t e n grown silent at = record {
-  kept = beginning_grows s t e n.kept grown at.kept;
-  durable = subst (λ d. d ≤ length n.kept.log) (sym (grown.durable silent)) at.durable;
+proof_grows : (s t : State) (e : Event) (r : Reply) (n : Noted) → Step s e r t → is_storing e ≡ false → IsProof s n → IsProof t n
+proof_grows s t e r n step silent at = record {
+  kept = beginning_grows s t e r n.kept step at.kept;
+  durable = subst (λ d. d ≤ length n.kept.log) (sym ((step_grows s e r t step).durable silent)) at.durable;
   stored = at.stored;
 }
 
@@ -61,13 +72,40 @@ promise_stays k = by k.promised (nat_lt (spoken_for k) k.limit)
     by false true = refl
     by false false = refl
 
+all_of_one : {A : Type 0} (P : A → Type 0) (x : A) → P x → All P (x ∷ [])
+all_of_one P x h zero d less = h
+all_of_one P x h (suc n) d less = absurd (omega (arith, less))
+
+-- what the topic goes on from is kept of it
+pub bases_begin : (h : Held) → IsSound h → All (IsBeginning h.cell.state) (bases_of h)
+bases_begin h sound = All-append (IsBeginning h.cell.state) (marked h.stored) (outstanding_in h.outstanding) (of_stored h.stored sound.stored) (of_outstanding h.outstanding sound.outstanding)
+  where
+    of_stored : (o : Option Noted) → IfSome o (λ n. IsBeginning h.cell.state n.kept × IsStored n) → All (IsBeginning h.cell.state) (marked o)
+    of_stored None none = All-nil (IsBeginning h.cell.state)
+    of_stored (Some n) at = all_of_one (IsBeginning h.cell.state) n.kept at.0
+
+    of_outstanding : (o : Option KeptTopic) → IfSome o (IsBeginning h.cell.state) → All (IsBeginning h.cell.state) (outstanding_in o)
+    of_outstanding None none = All-nil (IsBeginning h.cell.state)
+    of_outstanding (Some kept) at = all_of_one (IsBeginning h.cell.state) kept at
+
+-- and a snapshot of now goes on from each of these
+pub all_go_on : (s : State) (kept : KeptTopic) (bases : List KeptTopic) → snapshot_in kept ≡ snapshot_of s → All (IsBeginning s) bases → All (λ base. GoesOn base kept) bases
+all_go_on s kept bases same begin n d less =
+    let at = begin n d less in
+    record {
+      name = ap (λ (x : Snapshot). x.name) same ∙ sym at.name;
+      log = subst (IsPrefix (slice_index_or bases n d).log) (sym (ap (λ (x : Snapshot). x.log) same)) at.log;
+      events = (at.events.0, s, at.events.1, at.events.2, at.events.3, same);
+    }
+
 -- ---- the calls
 
-pub sound_restarted : (k : Kept) (n : Noted) → k.state ≡ restarted (snapshot_in n.kept) → IsStored n → IsSound (record { cell = k; stored = Some n; outstanding = None; by_word = false })
-sound_restarted k n is stands =
+pub sound_restarted : (k : Kept) (n : Noted) → k.viewed ≡ k.state → k.state ≡ restarted (snapshot_in n.kept) → IsStored n → IsSound (record { cell = k; stored = Some n; outstanding = None; by_word = false })
+sound_restarted k n viewed is stands =
     let kept : IsBeginning k.state n.kept = record {
       name = sym (ap (λ (s : State). s.name) is);
       log = subst (IsPrefix n.kept.log) (sym (ap (λ (s : State). s.log) is)) (prefix_same n.kept.log);
+      events = (k.state, [], inr is, refl);
     } in
     record {
       stored = (kept, stands);
@@ -75,22 +113,28 @@ sound_restarted k n is stands =
       outstanding = tt;
       within = λ _. tt;
       promised = λ none. absurd cc;
+      views = tt;
+      stores_view = λ _ _. inr (viewed ∙ is);
     }
 
-pub sound_called : (h : Held) (l : Kept) (e : Event) (r : Reply) → IsSound h → Step h.cell.state e r l.state → l.promised ≡ h.cell.promised
+pub sound_called : (h : Held) (l : Kept) (e : Event) (r : Reply) → IsSound h → Step h.cell.state e r l.state → l.promised ≡ h.cell.promised → l.viewed ≡ h.cell.viewed
     → IsSound (record h { cell = l; by_word = h.by_word || is_storing e })
-sound_called h l e r sound step promised =
+sound_called h l e r sound step promised viewed =
     let grown = step_grows h.cell.state e r l.state step in
     record {
-      stored = some_weaker h.stored _ _ (λ n at. (beginning_grows h.cell.state l.state e n.kept grown at.0, at.1)) sound.stored;
+      stored = some_weaker h.stored _ _ (λ n at. (beginning_grows h.cell.state l.state e r n.kept step at.0, at.1)) sound.stored;
       durable = λ said.
           let both = or_false h.by_word (is_storing e) said in
-          of_stored h.stored (grown.durable both.1) (λ n at. proof_grows h.cell.state l.state e n grown both.1 at) (sound.durable both.0);
-      outstanding = some_weaker h.outstanding _ _ (λ kept at. beginning_grows h.cell.state l.state e kept grown at) sound.outstanding;
+          of_stored h.stored (grown.durable both.1) (λ n at. proof_grows h.cell.state l.state e r n step both.1 at) (sound.durable both.0);
+      outstanding = some_weaker h.outstanding _ _ (λ kept at. beginning_grows h.cell.state l.state e r kept step at) sound.outstanding;
       within = λ said.
           let both = or_false h.by_word (is_storing e) said in
           some_weaker h.outstanding _ _ (λ (kept : KeptTopic) within. subst (λ d. d ≤ length kept.log) (sym (grown.durable both.1)) within) (sound.within both.0);
       promised = λ some. promised ∙ sound.promised some;
+      views = subst (λ (v : State). IfSome h.outstanding (λ (kept : KeptTopic). snapshot_in kept ≡ snapshot_of v)) (sym viewed) sound.views;
+      stores_view = λ said none.
+          let both = or_false h.by_word (is_storing e) said in
+          subst (λ (v : State). IfSome h.stored (λ n. IsOfView v n.kept)) (sym viewed) (sound.stores_view both.0 none);
     }
   where
     of_stored : (o : Option Noted) → l.state.durable ≡ h.cell.state.durable → ((n : Noted) → IsProof h.cell.state n → IsProof l.state n)
@@ -98,9 +142,9 @@ sound_called h l e r sound step promised =
     of_stored None same all at = same ∙ at
     of_stored (Some n) same all at = all n at
 
-pub sound_viewed : (h : Held) (l : Kept) (kept : KeptTopic) → IsSound h → l.state ≡ h.cell.state → l.promised ≡ true → snapshot_in kept ≡ snapshot_of l.state
+pub sound_viewed : (h : Held) (l : Kept) (kept : KeptTopic) → IsSound h → l.state ≡ h.cell.state → l.viewed ≡ l.state → l.promised ≡ true → snapshot_in kept ≡ snapshot_of l.state
     → IsSound (record h { cell = l; outstanding = Some kept })
-sound_viewed h l kept sound same promised viewed =
+sound_viewed h l kept sound same last promised viewed =
     let log : kept.log ≡ l.state.log = ap (λ (x : Snapshot). x.log) viewed in
     record {
       stored = subst (λ (s : State). IfSome h.stored (λ n. IsBeginning s n.kept × IsStored n)) (sym same) sound.stored;
@@ -110,67 +154,64 @@ sound_viewed h l kept sound same promised viewed =
           let all : l.state.durable ≤ length l.state.log = subst (λ (s : State). s.durable ≤ length s.log) (sym same) (durable_within h.cell.state h.stored (sound.durable said)) in
           omega (arith, all, ap length log);
       promised = λ _. promised;
+      views = viewed ∙ ap snapshot_of (sym last);
+      stores_view = λ _ none. absurd cc;
     }
 
 pub sound_confirmed : (h : Held) (l : Kept) (n : Noted) (count : ℕ) → IsSound h → h.outstanding ≡ Some n.kept → IsStored n
     → StoresLine h.cell (StoredTo (length n.kept.log) n.kept.next_ordinal) count l
     → IsSound (record { cell = l; stored = Some n; outstanding = None; by_word = h.by_word && not (count == length n.kept.log) })
-sound_confirmed h l n count sound viewed stands line =
-    let grown = step_grows h.cell.state (StoredTo (length n.kept.log) n.kept.next_ordinal) (Durable count) l.state line.step in
+sound_confirmed h l n count sound viewed stands stores =
     let before : IsBeginning h.cell.state n.kept = subst (λ o. IfSome o (IsBeginning h.cell.state)) viewed sound.outstanding in
     let within : h.by_word ≡ false → h.cell.state.durable ≤ length n.kept.log = subst (λ o. h.by_word ≡ false → IfSome o (λ (kept : KeptTopic). h.cell.state.durable ≤ length kept.log)) viewed sound.within in
-    let kept = beginning_grows h.cell.state l.state (StoredTo (length n.kept.log) n.kept.next_ordinal) n.kept grown before in
+    let kept = beginning_grows h.cell.state l.state (StoredTo (length n.kept.log) n.kept.next_ordinal) (Durable count) n.kept stores.step before in
     record {
       stored = (kept, stands);
       durable = λ said. record { kept = kept; durable = all h.by_word refl said within; stored = stands };
       outstanding = tt;
       within = λ _. tt;
       promised = λ none. absurd cc;
+      views = tt;
+      stores_view = λ _ _. inl (subst (λ o. IfSome o (λ (kept : KeptTopic). snapshot_in kept ≡ snapshot_of h.cell.viewed)) viewed sound.views ∙ ap (λ (k : Kept). snapshot_of k.viewed) (sym stores.others));
     }
   where
     after : l.state.durable ≡ max h.cell.state.durable (min (length n.kept.log) (length h.cell.state.log))
-    after = ap (λ (s : State). s.durable) line.step.1.1
+    after = ap (λ (s : State). s.durable) stores.step.1.1
 
     counted : count ≡ max h.cell.state.durable (min (length n.kept.log) (length h.cell.state.log))
-    counted = let reply = line.step.1.0 in cc
+    counted = let reply = stores.step.1.0 in cc
 
     all : (b : Bool) → h.by_word ≡ b → (b && not (count == length n.kept.log)) ≡ false → (h.by_word ≡ false → h.cell.state.durable ≤ length n.kept.log) → l.state.durable ≤ length n.kept.log
     all true is said within = let so = after in let many = counted in grind (arith, nat_tests, common_steps)
     all false is said within = let most = within is in let so = after in grind (arith, common_steps)
 
--- a snapshot of now is kept
-pub sound_kept : (h : Held) (n : Noted) → IsSound h → snapshot_in n.kept ≡ snapshot_of h.cell.state → IsStored n → IsSound (record h { stored = Some n })
-sound_kept h n sound now stands =
-    let kept = beginning_of h.cell.state n.kept now in
+-- all that there is is durable, since a snapshot of now was stored
+pub sound_all : (h : Held) (l : Kept) (n : Noted) (count : ℕ) → IsSound h → snapshot_in n.kept ≡ snapshot_of h.cell.state → IsStored n → StoresLine (record h.cell { viewed = h.cell.state; unsaved = false }) Stored count l
+    → IsSound (record { cell = l; stored = Some n; outstanding = None; by_word = false })
+sound_all h l n count sound now stands stores =
+    let kept = beginning_grows h.cell.state l.state Stored (Durable count) n.kept stores.step (beginning_of h.cell.state n.kept now) in
     let log : n.kept.log ≡ h.cell.state.log = ap (λ (x : Snapshot). x.log) now in
+    let after : l.state.durable ≡ length h.cell.state.log = ap (λ (s : State). s.durable) stores.step.1.1 in
     record {
       stored = (kept, stands);
-      durable = λ said. let within = durable_within h.cell.state h.stored (sound.durable said) in record { kept = kept; durable = omega (arith, within, ap length log); stored = stands };
-      outstanding = sound.outstanding;
-      within = sound.within;
-      promised = sound.promised;
-    }
-
--- all that there is is durable by a word, which is no word alone where a snapshot of all of it was stored
-pub sound_stored : (h : Held) (l : Kept) (count : ℕ) → IsSound h → StoresLine (record h.cell { viewed = h.cell.state; unsaved = false }) Stored count l
-    → IsSound (record { cell = l; stored = h.stored; outstanding = None; by_word = not (has_stored h.stored count) })
-sound_stored h l count sound line =
-    let grown = step_grows h.cell.state Stored (Durable count) l.state line.step in
-    record {
-      stored = some_weaker h.stored _ _ (λ n at. (beginning_grows h.cell.state l.state Stored n.kept grown at.0, at.1)) sound.stored;
-      durable = of_stored grown h.stored sound.stored;
+      durable = λ _. record { kept = kept; durable = omega (arith, after, ap length log); stored = stands };
       outstanding = tt;
       within = λ _. tt;
       promised = λ none. absurd cc;
+      views = tt;
+      stores_view = λ _ _. inl (now ∙ ap (λ (k : Kept). snapshot_of k.viewed) (sym stores.others));
     }
-  where
-    after : l.state.durable ≡ count
-    after = let reply = line.step.1.0 in let is = ap (λ (s : State). s.durable) line.step.1.1 in cc
 
-    of_stored : IsGrown h.cell.state Stored l.state → (o : Option Noted) → IfSome o (λ n. IsBeginning h.cell.state n.kept × IsStored n)
-        → not (has_stored o count) ≡ false → MatchOption o (l.state.durable ≡ 0) (IsProof l.state)
-    of_stored grown None at said = let many = after in grind (arith, nat_tests, common_steps)
-    of_stored grown (Some n) at said =
-        let many = after in
-        let same : length n.kept.log ≡ count = grind (arith, nat_tests, common_steps) in
-        record { kept = beginning_grows h.cell.state l.state Stored n.kept grown at.0; durable = omega (arith, many, same); stored = at.1 }
+-- all that there is is durable by a word
+pub sound_stored : (h : Held) (l : Kept) (count : ℕ) → IsSound h → StoresLine (record h.cell { viewed = h.cell.state; unsaved = false }) Stored count l
+    → IsSound (record { cell = l; stored = h.stored; outstanding = None; by_word = true })
+sound_stored h l count sound stores =
+    record {
+      stored = some_weaker h.stored _ _ (λ n at. (beginning_grows h.cell.state l.state Stored (Durable count) n.kept stores.step at.0, at.1)) sound.stored;
+      durable = λ said. absurd cc;
+      outstanding = tt;
+      within = λ _. tt;
+      promised = λ none. absurd cc;
+      views = tt;
+      stores_view = λ said. absurd cc;
+    }

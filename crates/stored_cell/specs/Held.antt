@@ -1,10 +1,12 @@
 -- A topic with its journal and with what of it is stored, and why what it calls durable is durable.
-use Rattle.std.specs.Prelude.{◌≡◌, ℕ, ◌≤◌, ◌==◌, Bool, true, false, List, Option, None, Some, IfSome, IsSome, MatchOption, length}
+use Rattle.std.specs.Prelude.{◌≡◌, ◌≤◌, ◌++◌, Bool, true, false, List, [], ◌∷◌, Option, None, Some, IfSome, IsSome, MatchOption, length}
 use mathlib.Core.List.{IsPrefix}
 use Rattle.delivery_machine.specs.State.{State}
-use Rattle.delivery_machine.specs.Places.{KeptTopic}
+use Rattle.delivery_machine.specs.Places.{KeptTopic, snapshot_in}
+use Rattle.delivery_machine.specs.Snapshot.{snapshot_of}
+use Rattle.journal_lines.specs.Lines.{Line, Legal}
 use Rattle.topic_shared.specs.Kept.{Kept}
-use Rattle.stored_cell.specs.Noted.{Noted, IsStored}
+use Rattle.stored_cell.specs.Noted.{Noted, IsOfView, IsStored, marked}
 
 -- `stored` is the snapshot that was confirmed last, with rows that were committed; `outstanding`, the one that was viewed
 -- last, if it was not confirmed; `by_word`, whether more is durable than was confirmed, by the word of a caller alone
@@ -14,10 +16,11 @@ pub record Held : Type 0 where
   pub outstanding : Option KeptTopic
   pub by_word : Bool
 
--- it is kept of this topic, whose log begins with the kept one
+-- it is kept of this topic, whose log begins with the kept one, and events alone led from it to here
 pub record IsBeginning (s : State) (kept : KeptTopic) : Type 0 where
   pub name : kept.name ≡ s.name
   pub log : IsPrefix kept.log s.log
+  pub events : (first : State) × (lines : List Line) × IsOfView first kept × Legal first lines s
 
 -- all that is durable is kept of the topic, and that stands in rows that were committed
 pub record IsProof (s : State) (n : Noted) : Type 0 where
@@ -36,11 +39,17 @@ pub record IsSound (h : Held) : Type 0 where
   pub outstanding : IfSome h.outstanding (IsBeginning h.cell.state)
   pub within : h.by_word ≡ false → IfSome h.outstanding (λ kept. h.cell.state.durable ≤ length kept.log)
   pub promised : IsSome h.outstanding → h.cell.promised ≡ true
+  -- what is outstanding is kept of the last view, and where nothing is, what was stored last is
+  pub views : IfSome h.outstanding (λ kept. snapshot_in kept ≡ snapshot_of h.cell.viewed)
+  pub stores_view : h.by_word ≡ false → h.outstanding ≡ None → IfSome h.stored (λ n. IsOfView h.cell.viewed n.kept)
 
--- what was stored last has just so many messages
-abbrev pub has_stored : Option Noted → ℕ → Bool
-has_stored None count = count == 0
-has_stored (Some n) count = length n.kept.log == count
+-- what a snapshot of the topic goes on from: the snapshot that was confirmed last, and the one that is outstanding
+abbrev pub outstanding_in : Option KeptTopic → List KeptTopic
+outstanding_in None = []
+outstanding_in (Some kept) = kept ∷ []
+
+abbrev pub bases_of : Held → List KeptTopic
+bases_of h = marked h.stored ++ outstanding_in h.outstanding
 
 -- the same, but for the lines that the cell keeps for itself
 abbrev pub SameButPromise : Held → Held → Type 0

@@ -1,12 +1,15 @@
 -- What a history of stores names: what is kept of a topic, or the rows that a commit left.
-use Rattle.std.specs.Prelude.{◌≡◌, ◌&&◌, ℕ, Bool, true, List, [], IsPermutation}
+use Rattle.std.specs.Prelude.{◌≡◌, ◌⊎◌, ◌&&◌, ℕ, Bool, true, List, [], ◌∷◌, Option, None, Some, IsPermutation}
 use mathlib.Core.List.{IsPrefix}
 use Rattle.position_core.specs.TopicName.{topic_text}
 use Rattle.sqlite.specs.Tree.{Trees}
 use Rattle.sqlite.specs.State.{State}
-use Rattle.delivery_machine.specs.Places.{KeptTopic}
+use Rattle.delivery_machine.specs.State.{State as Machine}
+use Rattle.delivery_machine.specs.Snapshot.{snapshot_of, restarted}
+use Rattle.delivery_machine.specs.Places.{KeptTopic, snapshot_in}
+use Rattle.journal_lines.specs.Lines.{Line, Legal}
 use Rattle.row_forms.specs.Cells.{TOPIC, ENTRY, SUB, ACK, DEAD, bodies, of_topic}
-use Rattle.row_forms.specs.Forms.{TopicRows, AreRowsOf, no_rows}
+use Rattle.row_forms.specs.Forms.{TopicRows, AreRowsOf}
 
 -- the rows of all topics, table by table
 abbrev pub all_rows : Trees → TopicRows
@@ -55,7 +58,23 @@ nothing_kept = record {
 abbrev pub IsStored : Noted → Type 0
 IsStored n = n.clean ≡ true → StandsAmong n.kept n.rows
 
--- both are of one topic, and the second log begins with the first
+-- what is kept by the mark, if there is one
+abbrev pub marked : Option Noted → List KeptTopic
+marked None = []
+marked (Some n) = n.kept ∷ []
+
+-- a snapshot that is to be stored, with those that the topic goes on from: of which it was confirmed last that they are
+-- stored, or which were viewed since
+pub record ToStore : Type 0 where
+  pub kept : KeptTopic
+  pub bases : List KeptTopic
+
+-- it is kept of this state, or this is the state in which the topic went on from it
+abbrev pub IsOfView : Machine → KeptTopic → Type 0
+IsOfView viewed kept = (snapshot_in kept ≡ snapshot_of viewed) ⊎ (viewed ≡ restarted (snapshot_in kept))
+
+-- both are of one topic, the second log begins with the first, and events alone lead from the first to the second
 pub record GoesOn (base kept : KeptTopic) : Type 0 where
   pub name : kept.name ≡ base.name
   pub log : IsPrefix base.log kept.log
+  pub events : (first last : Machine) × (lines : List Line) × IsOfView first base × Legal first lines last × (snapshot_in kept ≡ snapshot_of last)

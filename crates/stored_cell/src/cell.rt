@@ -1,5 +1,5 @@
 // A topic with its journal and with what of it is stored.
-ghost use Rattle.std.specs.Prelude.{◌≡◌, ◌↔◌, ◌⊎◌, ◌<◌, ◌≤◌, ◌+◌, ◌-◌, ◌||◌, [], ◌∷◌, ◌++◌, length, All, set, Err, None, Some, IfOk, IfErr, OnErr, IsOk, true, false};
+ghost use Rattle.std.specs.Prelude.{◌≡◌, ◌↔◌, ◌⊎◌, ◌<◌, ◌≤◌, ◌+◌, ◌-◌, ◌||◌, [], ◌∷◌, ◌++◌, length, All, set, Err, None, Some, IfOk, IfErr, IfSome, OnErr, IsOk, true, false};
 ghost use Rattle.std.specs.Option.{option_copied};
 ghost use Rattle.position_core.specs.declared.fault.Fault.TheVariants.{NoMemory, JournalFull, NoRoom};
 ghost use Rattle.delivery_machine.specs.Run.{Step};
@@ -10,6 +10,7 @@ ghost use Rattle.journal_lines.specs.Lines.{line, Legal};
 ghost use Rattle.topic_shared.specs.Kept.{KeepsSeats, needed_by, spoken_for, is_end};
 ghost use Rattle.topic_seats.specs.Seats.{IsFree, without_seat};
 ghost use Rattle.stored_cell.specs.Held.{IsDurable};
+ghost use Rattle.stored_cell.specs.Noted.{IsOfView};
 
 use crate::kept::Kept;
 use crate::viewed::{Stored, Viewed};
@@ -82,6 +83,7 @@ impl<T: Topic + Drop, J: Naming> StoredCell<T, J> {
     /// Over a topic that goes on from the snapshot, which stands in rows.
     pub fn restarted(cell: Cell<T>, snapshot: &Snapshot, kept: Kept<J>) -> Self
         requires snapshot { kept.kept ≡ snapshot.now }
+        requires viewed { cell.viewed ≡ cell.state }
         requires restarted { cell.state ≡ restarted (snapshot_in kept.kept) }
         ensures { result ≡ record { cell = cell; stored = Some kept; outstanding = None; by_word = false } }
     {
@@ -136,10 +138,12 @@ impl<T: Topic, J: Naming> StoredCell<T, J> {
     }
 
     /// The snapshot that was confirmed last, with the rows that hold it. Where nothing is durable by a
-    /// word alone, all that is durable is in it.
+    /// word alone, all that is durable is in it, and where nothing is outstanding, it is that of the last view,
+    /// or what the topic went on from.
     pub fn stored(&self) -> Option<&Kept<J>>
         ensures stored { option_copied result ≡ self.now.stored }
         ensures durable { IsDurable self.now }
+        ensures view { self.now.by_word ≡ false → self.now.outstanding ≡ None → IfSome self.now.stored (λ n. IsOfView self.now.cell.viewed n.kept) }
     {
         match &self.stored {
             Some(stored) => Some(stored.kept()),

@@ -1,12 +1,14 @@
 // The three steps of a store, as a topic takes part in them: it is viewed, and later what was stored is confirmed.
-ghost use Rattle.std.specs.Prelude.{ℕ, ◌≡◌, ◌==◌, ◌&&◌, not, ◌⊎◌, ◌≤◌, ◌↔◌, Err, None, Some, IfOk, IfErr, IfSome, OnOk, OnErr, IsTrue, IsFalse, length, false, true};
+ghost use Rattle.std.specs.Prelude.{ℕ, ◌≡◌, ◌++◌, ◌==◌, ◌&&◌, not, ◌⊎◌, ◌≤◌, ◌↔◌, Err, None, Some, IfOk, IfErr, IfSome, OnOk, OnErr, IsTrue, IsFalse, length, false, true};
 ghost use Rattle.position_core.specs.declared.fault.Fault.TheVariants.{NoMemory, JournalFull, StoreFailed};
 ghost use Rattle.delivery_machine.specs.Snapshot.{snapshot_of};
 ghost use Rattle.delivery_machine.specs.Places.{snapshot_in};
 ghost use Rattle.delivery_machine.specs.declared.event.Event.TheVariants.{StoredTo};
 ghost use Rattle.topic_shared.specs.Kept.{HasNoLine, StoresLine, with_promise};
-ghost use Rattle.stored_cell.specs.Held.{SameButPromise};
+ghost use Rattle.stored_cell.specs.Held.{SameButPromise, bases_of, outstanding_in};
+ghost use Rattle.stored_cell.specs.Noted.{marked};
 
+use crate::bases::Bases;
 use crate::cell::StoredCell;
 use crate::kept::Kept;
 use crate::notes::{Note, Notes};
@@ -16,14 +18,34 @@ use delivery_machine::{Fault, Opened, Saved};
 use marks::{Mark, Naming};
 
 /// The mark of the snapshot that was stored last.
-pub(crate) fn base_of<J: Naming>(stored: &Option<Stored<J>>) -> Option<Mark<Note, J>>
-    ensures none { stored.now ≡ None → result ≡ None }
-    ensures some { IfSome stored.now (λ kept. IfSome result (λ mark. mark.kept ≡ kept.kept)) }
+fn base_of<J: Naming>(stored: &Option<Stored<J>>) -> Option<Mark<Note, J>>
+    ensures { marked result ≡ marked stored.now }
 {
     match stored {
         Some(stored) => Some(stored.kept().mark()),
         None => None,
     }
+}
+
+/// The mark of the snapshot that was viewed last, where it was not confirmed.
+fn outstanding_of<J: Naming>(outstanding: &Option<Viewed<J>>) -> Option<Mark<Note, J>>
+    ensures { marked result ≡ outstanding_in outstanding.now }
+{
+    match outstanding {
+        Some(viewed) => Some(viewed.mark().again()),
+        None => None,
+    }
+}
+
+/// The marks of what the topic goes on from.
+pub(crate) fn bases_of<J: Naming>(
+    stored: &Option<Stored<J>>,
+    outstanding: &Option<Viewed<J>>,
+) -> Bases<J>
+    ensures { result ≡ marked stored.now ++ outstanding_in outstanding.now }
+{
+    let base = base_of(stored);
+    Bases::new(base, outstanding_of(outstanding))
 }
 
 /// More is durable by a caller's word than was confirmed.
@@ -35,11 +57,11 @@ fn is_more(by_word: bool, durable: u64, length: u64) -> bool
 
 impl<T: Opened + Drop, J: Naming> StoredCell<T, J> {
     /// The topic as it is, to be stored. A line is kept for its confirmation, whatever is asked meanwhile;
-    /// an earlier view that was not confirmed is none any more. Refused (F15) where not even the last line
+    /// an earlier view that was not confirmed is none any more, but that the part goes on from it too. Refused (F15) where not even the last line
     /// is left, (F16) where 2^62 marks were drawn, or for want of memory.
     pub fn ready_view(&mut self, notes: &mut Notes<J>) -> Result<Part<J>, Fault>
-        ensures part { IfOk result (λ part. snapshot_in part ≡ snapshot_of self.old.cell.state) }
-        ensures ok { IfOk result (λ part. self.new ≡ record self.old { cell = record (with_promise self.old.cell) { viewed = self.old.cell.state; unsaved = false }; outstanding = Some part }) }
+        ensures part { IfOk result (λ part. (snapshot_in part.kept ≡ snapshot_of self.old.cell.state) × (part.bases ≡ bases_of self.old)) }
+        ensures ok { IfOk result (λ part. self.new ≡ record self.old { cell = record (with_promise self.old.cell) { viewed = self.old.cell.state; unsaved = false }; outstanding = Some part.kept }) }
         ensures err { OnErr result (SameButPromise self.old self.new) }
         ensures full { (result ≡ Err JournalFull) ↔ HasNoLine self.old.cell }
         ensures faults { IfErr result (λ fault. (fault ≡ NoMemory) ⊎ (fault ≡ JournalFull) ⊎ (fault ≡ StoreFailed)) }
@@ -56,10 +78,10 @@ impl<T: Opened + Drop, J: Naming> StoredCell<T, J> {
             drop(snapshot);
             return Err(Fault::StoreFailed);
         };
-        let base = base_of(&self.stored);
+        let bases = bases_of(&self.stored, &self.outstanding);
         self.cell.view_taken();
         self.outstanding = Some(Viewed::new(&snapshot, mark.again()));
-        Ok(Part::new(snapshot, mark, base))
+        Ok(Part::new(snapshot, mark, bases))
     }
 
     /// Makes durable what was stored, if it is what was viewed last: the store holds its messages and its

@@ -2,6 +2,7 @@
 //! committed.
 #![tactic(auto)]
 
+mod bases;
 mod cell;
 mod confirming;
 pub mod kept;
@@ -11,6 +12,7 @@ pub mod part;
 mod saving;
 mod viewed;
 
+pub use bases::Bases;
 pub use cell::StoredCell;
 pub use kept::Kept;
 pub use notes::{Note, Notes};

@@ -102,6 +102,7 @@ pub fn opened_cell<T: Opened + Drop, J: Naming>(
 ) -> Result<StoredCell<T, J>, Fault>
     requires { IfSome loaded (λ l. l.kept.kept ≡ l.snapshot) }
     ensures opens { IfOk result (λ cell. MatchOption loaded (cell ≡ opened (fresh name.now terms.ledger_size) terms None) (λ l. cell ≡ opened (restarted (snapshot_in l.snapshot)) terms (Some l.kept))) }
+    ensures word { IfOk result (λ cell. cell.by_word ≡ false) }
     ensures unknown { (result ≡ Err NoSuchSubscription) ↔ (loaded ≡ None) × (create ≡ false) }
     ensures faults { IfErr result (λ fault. (fault ≡ NoMemory) ⊎ (fault ≡ NoSuchSubscription)) }
 {

@@ -1,18 +1,18 @@
 // A snapshot that is to be stored.
-ghost use Rattle.std.specs.Prelude.{◌≡◌, IfSome, IsTrue};
+ghost use Rattle.std.specs.Prelude.{◌≡◌, All, Contains, IsTrue};
 ghost use Rattle.stored_cell.specs.Noted.{GoesOn};
 
+use crate::bases::Bases;
 use crate::notes::Note;
 use delivery_machine::Snapshot;
 use marks::{Mark, Naming};
 use std::marker::Model;
 
-/// A snapshot that is to be stored, under its own mark. It goes on from the snapshot of the mark `base`,
-/// where there is one. Contracts see the snapshot.
+/// A snapshot that is to be stored, under its own mark, with those that it goes on from. Contracts see all of these.
 pub struct Part<J: Naming> {
     snapshot: Snapshot,
     mark: Mark<Note, J>,
-    base: Option<Mark<Note, J>>,
+    bases: Bases<J>,
 }
 
 impl<J: Naming> Drop for Part<J> {
@@ -20,73 +20,70 @@ impl<J: Naming> Drop for Part<J> {
         let Part {
             snapshot: _,
             mark: _,
-            base: _,
+            bases: _,
         } = self;
     }
 }
 
 impl<J: Naming> Model for Part<J> {
-    ghost use Rattle.std.specs.Prelude.{◌≡◌, IfSome};
+    ghost use Rattle.std.specs.Prelude.{◌≡◌, All};
     ghost use Rattle.std.specs.Coded.{codes};
     ghost use Rattle.delivery_machine.specs.Codes.{coded_places};
-    ghost use Rattle.delivery_machine.specs.Places.{KeptTopic};
-    ghost use Rattle.stored_cell.specs.Noted.{GoesOn};
+    ghost use Rattle.stored_cell.specs.Noted.{ToStore, GoesOn};
 
-    ghost Value = { KeptTopic };
+    ghost Value = { ToStore };
 
     ghost coded = { Prim.hlevel (codes, coded_places) };
 
-    ghost view = { λ p. p.snapshot };
+    ghost view = { λ p. record { kept = p.snapshot; bases = p.bases } };
 
-    ghost invariant = { λ p. (p.mark.kept ≡ p.snapshot) × IfSome p.base (λ base. GoesOn base.kept p.snapshot) };
+    ghost invariant = { λ p. (p.mark.kept ≡ p.snapshot) × All (λ base. GoesOn base p.snapshot) p.bases };
 }
 
 impl<J: Naming> Part<J> {
-    pub fn new(snapshot: Snapshot, mark: Mark<Note, J>, base: Option<Mark<Note, J>>) -> Part<J>
+    pub fn new(snapshot: Snapshot, mark: Mark<Note, J>, bases: Bases<J>) -> Part<J>
         requires mark { mark.kept ≡ snapshot }
-        requires base { IfSome base (λ base. GoesOn base.kept snapshot) }
-        ensures { result ≡ snapshot }
+        requires bases { All (λ base. GoesOn base snapshot) bases }
+        ensures { result ≡ record { kept = snapshot; bases = bases } }
     {
         Part {
             snapshot,
             mark,
-            base,
+            bases,
         }
     }
 
     pub fn snapshot(&self) -> &Snapshot
-        ensures { result.now ≡ self.now }
+        ensures { result.now ≡ self.now.kept }
     {
         &self.snapshot
     }
 
     /// The snapshot, with its own mark.
     pub fn into_parts(self) -> (Snapshot, Mark<Note, J>)
-        ensures snapshot { result.0 ≡ self }
-        ensures mark { result.1.kept ≡ self }
+        ensures snapshot { result.0 ≡ self.kept }
+        ensures mark { result.1.kept ≡ self.kept }
     {
         let Part {
             snapshot,
             mark,
-            base: _,
+            bases: _,
         } = self;
         (snapshot, mark)
     }
 
     /// Its own mark.
     pub fn mark(&self) -> Mark<Note, J>
-        ensures { result.kept ≡ self.now }
+        ensures { result.kept ≡ self.now.kept }
     {
         self.mark.again()
     }
 
     /// Whether it goes on from the snapshot of this mark.
     pub fn goes_on_from(&self, mark: &Mark<Note, J>) -> bool
-        ensures { IsTrue result → GoesOn mark.now.kept self.now }
+        ensures base { IsTrue result → Contains self.now.bases mark.now.kept }
+        ensures goes_on { IsTrue result → GoesOn mark.now.kept self.now.kept }
     {
-        match &self.base {
-            Some(base) => base.is(mark),
-            None => false,
-        }
+        self.bases.contain(mark)
     }
 }

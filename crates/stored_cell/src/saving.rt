@@ -1,30 +1,19 @@
 // A stored cell as what a keeper makes a round of, under one hold of its lock.
-ghost use Rattle.std.specs.Prelude.{◌≡◌, ◌⊎◌, ◌↔◌, IfSome, IfErr, OnOk, OnErr, Err, None, Some, length, not, true, false};
+ghost use Rattle.std.specs.Prelude.{◌≡◌, ◌⊎◌, ◌↔◌, All, IfErr, OnOk, OnErr, Err, None, Some, length, true, false};
 ghost use Rattle.position_core.specs.declared.fault.Fault.TheVariants.{NoMemory, JournalFull};
-ghost use mathlib.Core.List.{IsPrefix};
 ghost use Rattle.delivery_machine.specs.Snapshot.{snapshot_of};
 ghost use Rattle.delivery_machine.specs.Places.{snapshot_in};
 ghost use Rattle.delivery_machine.specs.declared.event.Event.TheVariants.{Stored};
 ghost use Rattle.topic_shared.specs.Kept.{HasNoLine, StoresLine, with_promise};
-ghost use Rattle.stored_cell.specs.Held.{has_stored};
+ghost use Rattle.stored_cell.specs.Held.{IsBeginning, bases_of};
 
+use crate::bases::Bases;
 use crate::cell::StoredCell;
-use crate::confirming::base_of;
+use crate::confirming::bases_of;
 use crate::kept::Kept;
-use crate::notes::Note;
 use crate::viewed::Stored as StoredAs;
 use delivery_machine::{Fault, Opened, Reply, Saved, Snapshot};
-use marks::{Mark, Naming};
-
-/// What was stored last has just so many messages.
-fn holds<J: Naming>(stored: &Option<StoredAs<J>>, count: u64) -> bool
-    ensures { result ≡ has_stored stored.now count }
-{
-    match stored {
-        Some(stored) => stored.length() == count,
-        None => count == 0,
-    }
-}
+use marks::Naming;
 
 impl<T: Opened + Drop, J: Naming> Saved for StoredCell<T, J> {
     ghost use Rattle.stored_cell.specs.Held.{SameButPromise};
@@ -49,20 +38,13 @@ impl<T: Opened + Drop, J: Naming> Saved for StoredCell<T, J> {
 }
 
 impl<T: Opened + Drop, J: Naming> StoredCell<T, J> {
-    /// The mark of the snapshot that was stored last, from which the topic goes on.
-    pub fn base(&self) -> Option<Mark<Note, J>>
-        ensures { IfSome result (λ mark. (mark.kept.name ≡ self.now.cell.state.name) × IsPrefix mark.kept.log self.now.cell.state.log) }
+    /// The marks of what the topic goes on from: of the snapshot that was stored last, and of the one that was viewed
+    /// since, where it was not confirmed.
+    pub fn bases(&self) -> Bases<J>
+        ensures value { result ≡ bases_of self.now }
+        ensures begins { All (IsBeginning self.now.cell.state) result }
     {
-        base_of(&self.stored)
-    }
-
-    /// What the topic has now stands in rows that were committed: a snapshot with so many messages.
-    fn keep(&mut self, kept: Kept<J>, count: u64)
-        requires now { snapshot_in kept.kept ≡ snapshot_of self.old.cell.state }
-        requires count { count ≡ length kept.kept.log }
-        ensures { self.new ≡ record self.old { stored = Some kept } }
-    {
-        self.stored = Some(StoredAs::new(kept, count));
+        bases_of(&self.stored, &self.outstanding)
     }
 
     /// Keeps a line for what a round is about to make durable, as `Cell::promise` does.
@@ -80,10 +62,10 @@ impl<T: Opened + Drop, J: Naming> StoredCell<T, J> {
         requires { self.old.cell.promised ≡ true }
         ensures line { StoresLine (record self.old.cell { viewed = self.old.cell.state; unsaved = false }) Stored result self.new.cell }
         ensures stored { (self.new.stored ≡ self.old.stored) × (self.new.outstanding ≡ None) }
-        ensures word { self.new.by_word ≡ not (has_stored self.old.stored result) }
+        ensures word { self.new.by_word ≡ true }
     {
         let durable = self.cell.store_all();
-        self.by_word = !holds(&self.stored, durable);
+        self.by_word = true;
         self.outstanding = None;
         durable
     }
@@ -98,7 +80,10 @@ impl<T: Opened + Drop, J: Naming> StoredCell<T, J> {
         ensures stored { (self.new.stored ≡ Some kept) × (self.new.outstanding ≡ None) }
         ensures word { self.new.by_word ≡ false }
     {
-        self.keep(kept, count);
-        self.store_all()
+        let durable = self.cell.store_all();
+        self.by_word = false;
+        self.stored = Some(StoredAs::new(kept, count));
+        self.outstanding = None;
+        durable
     }
 }

@@ -7,6 +7,6 @@ use Rattle.position_core.specs.TopicName.{topic_text}
 use Rattle.row_rounds.specs.declared.saving.Write.{Write}
 use Rattle.row_store.proofs.knowing.forget.Goals as goal
 
-pub returns : goal.returns
-returns g c =
+pub returns-clause-left : goal.returns-clause-left
+returns-clause-left g c =
     filter_same _ (λ kept. not (list_any (λ (w : Write). bytes_eq (string_bytes w.topic) (topic_text kept.name)) c.args.writes.now)) _ (λ x b f' k. search rules) _ _ c.retain.ensures.filtered

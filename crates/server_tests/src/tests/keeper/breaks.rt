@@ -1,7 +1,7 @@
 // Statements that break a rule of the rows, each with one that mends it.
 
 /// Rows of no subscription or no topic, and subscriptions that are none.
-pub(super) const SUBSCRIPTIONS: [(&str, &str); 8] = [
+pub(super) const SUBSCRIPTIONS: [(&str, &str); 9] = [
     (
         "INSERT INTO ack VALUES ('persistent://public/default/t', 'x', 0, 0)",
         "DELETE FROM ack WHERE sub = 'x'",
@@ -33,6 +33,11 @@ pub(super) const SUBSCRIPTIONS: [(&str, &str); 8] = [
     (
         "UPDATE sub SET kind = -1 WHERE name = 'e'",
         "UPDATE sub SET kind = 0 WHERE name = 'e'",
+    ),
+    // With 's' and 'e' these are 65.
+    (
+        "INSERT INTO sub SELECT a.topic, 'x' || a.idx || b.idx || c.idx, 0 FROM entry a, entry b, entry c WHERE a.idx + b.idx + c.idx > 0",
+        "DELETE FROM sub WHERE name > 'x'",
     ),
 ];
 

@@ -79,6 +79,26 @@ impl Scene for Broken {
     }
 }
 
+/// With 's' and 'e' these are 64.
+const MOST: &str =
+    "INSERT INTO sub SELECT a.topic, 'x' || a.idx || b.idx || c.idx, 0 FROM entry a, entry b, entry c WHERE a.idx + b.idx + c.idx > 0 AND a.idx + b.idx + c.idx < 9";
+
+#[derive(Drop)]
+struct Most;
+
+impl Scene for Most {
+    fn play<K: Keeps, R: Abort + AllocGlobal>(&self, rt: &R, mut keeper: K) {
+        drop(filled(rt, &mut keeper));
+        let mut full = after(rt, keeper, MOST);
+        assert!(rt; full.show(rt, T).is_ok());
+    }
+}
+
+#[test]
+fn as_many_subscriptions_as_a_topic_may_have(rt: HostRuntime) {
+    in_memory(&rt, &Most);
+}
+
 #[test]
 fn subscriptions(rt: HostRuntime) {
     in_memory(

@@ -3,6 +3,7 @@ use super::answers::Answer;
 use super::keepers::in_memory;
 use super::keeps::{Keeps, Scene};
 use super::plays::{FOUR, T, check_stands, play, stored};
+use position_core::Fault;
 use std::process::Abort;
 
 /// How many messages are durable, and how many there are.
@@ -36,6 +37,13 @@ fn confirm<K: Keeps, R: Abort + AllocGlobal>(
 ) {
     let kept = stored(rt, keeper, part);
     assert!(rt; K::confirm(cell, kept) == is_last);
+}
+
+/// The part is refused (F16).
+fn is_refused<K: Keeps, R: Abort + AllocGlobal>(rt: &R, keeper: &mut K, part: K::Part) -> bool {
+    let mut parts = Vec::new(rt.alloc());
+    parts.push(part).expect(rt, "no memory");
+    matches!(keeper.store(parts), Err(Fault::StoreFailed))
 }
 
 const BEGUN: &str = "subscribe s Shared 0 push:10 0 100 1 - Earliest
@@ -141,4 +149,27 @@ impl Scene for Late {
 #[test]
 fn an_old_proof_does_nothing(rt: HostRuntime) {
     in_memory(&rt, &Late);
+}
+
+/// Of two views the second is stored, and then the first: it is refused, and nothing changes.
+#[derive(Drop)]
+struct Behind;
+
+impl Scene for Behind {
+    fn play<K: Keeps, R: Abort + AllocGlobal>(&self, rt: &R, mut keeper: K) {
+        let mut cell = K::fresh(rt, T);
+        play::<K, R>(rt, &mut cell, FOUR);
+        let first = keeper.view(rt, &mut cell);
+        play::<K, R>(rt, &mut cell, "publish 1 4 - aGk= 1004\n");
+        let second = keeper.view(rt, &mut cell);
+        confirm(rt, &mut keeper, &mut cell, second, true);
+        assert!(rt; is_refused(rt, &mut keeper, first));
+        assert!(rt; !keeper.has_failed());
+        check_stands(rt, &mut keeper, &cell);
+    }
+}
+
+#[test]
+fn an_older_view_is_not_stored(rt: HostRuntime) {
+    in_memory(&rt, &Behind);
 }

@@ -19,7 +19,8 @@ pub(super) struct Lone<J: Naming> {
 /// A cell with one seat.
 fn one_cell<R: Abort + AllocGlobal>(rt: &R, topic: PlainTopic) -> Cell<PlainTopic>
     requires { (topic.producers ≡ []) × (topic.members ≡ []) }
-    ensures { result.state ≡ topic }
+    ensures state { result.state ≡ topic }
+    ensures viewed { result.viewed ≡ topic }
 {
     let limit = LineLimit::new(100_000).expect(rt, "no limit");
     let seats = SeatCount::new(1).expect(rt, "no seats");

@@ -14,6 +14,8 @@ invariant_of-self g c =
       record {
         autocommit = holds.autocommit;
         ready = holds.ready;
+        settled = holds.settled;
+        one = holds.one;
         known = λ working clean shown.
             let db = (state g.S.Store k.conn).now.trees in
             let others = All-filter p (λ (kept : KeptTopic). Stands kept db) k.known.items (holds.known working clean shown) in

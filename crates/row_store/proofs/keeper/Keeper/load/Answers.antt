@@ -13,27 +13,27 @@ use Rattle.row_store.proofs.keeper.Keeper.load.Goals as goal
 pub invariant_of-self : goal.invariant_of-self
 invariant_of-self g c =
     let k = c.self.inside in
-    (kept_through g.S.Store k.conn c.read.new.conn k.failed k.known.items k.written c.self.invariant.0 c.read.ensures.autocommit c.read.ensures.crash.clean c.read.ensures.kept c.read.ensures.was_open, c.self.invariant.1)
+    (kept_through g.S.Store k.conn c.read.new.conn k.failed k.known.items k.written c.self.invariant.0 c.read.ensures.autocommit c.read.ensures.crash.clean c.read.ensures.kept c.read.ensures.was_open c.read.ensures.crash.crash, c.self.invariant.1)
 
 pub invariant_of-self-then-is_empty : goal.invariant_of-self-then-is_empty
 invariant_of-self-then-is_empty g c =
     let k = c.self.inside in
-    (kept_through g.S.Store k.conn c.read.new.conn k.failed k.known.items k.written c.self.invariant.0 c.read.ensures.autocommit c.read.ensures.crash.clean c.read.ensures.kept c.read.ensures.was_open, c.self.invariant.1)
+    (kept_through g.S.Store k.conn c.read.new.conn k.failed k.known.items k.written c.self.invariant.0 c.read.ensures.autocommit c.read.ensures.crash.clean c.read.ensures.kept c.read.ensures.was_open c.read.ensures.crash.crash, c.self.invariant.1)
 
 pub invariant_of-self-in-Ok-Some : goal.invariant_of-self-in-Ok-Some
 invariant_of-self-in-Ok-Some g c =
     let k = c.self.inside in
-    (kept_through g.S.Store k.conn c.read.new.conn k.failed k.known.items k.written c.self.invariant.0 c.read.ensures.autocommit c.read.ensures.crash.clean c.read.ensures.kept c.read.ensures.was_open, c.self.invariant.1)
+    (kept_through g.S.Store k.conn c.read.new.conn k.failed k.known.items k.written c.self.invariant.0 c.read.ensures.autocommit c.read.ensures.crash.clean c.read.ensures.kept c.read.ensures.was_open c.read.ensures.crash.crash, c.self.invariant.1)
 
 pub invariant_of-self-in-Ok-None : goal.invariant_of-self-in-Ok-None
 invariant_of-self-in-Ok-None g c =
     let k = c.self.inside in
-    (kept_through g.S.Store k.conn c.read.new.conn k.failed k.known.items k.written c.self.invariant.0 c.read.ensures.autocommit c.read.ensures.crash.clean c.read.ensures.kept c.read.ensures.was_open, c.self.invariant.1)
+    (kept_through g.S.Store k.conn c.read.new.conn k.failed k.known.items k.written c.self.invariant.0 c.read.ensures.autocommit c.read.ensures.crash.clean c.read.ensures.kept c.read.ensures.was_open c.read.ensures.crash.crash, c.self.invariant.1)
 
 pub invariant_of-self-in-Err-found : goal.invariant_of-self-in-Err-found
 invariant_of-self-in-Err-found g c =
     let k = c.self.inside in
-    (kept_through g.S.Store k.conn c.read.new.conn k.failed k.known.items k.written c.self.invariant.0 c.read.ensures.autocommit c.read.ensures.crash.clean c.read.ensures.kept c.read.ensures.was_open, c.self.invariant.1)
+    (kept_through g.S.Store k.conn c.read.new.conn k.failed k.known.items k.written c.self.invariant.0 c.read.ensures.autocommit c.read.ensures.crash.clean c.read.ensures.kept c.read.ensures.was_open c.read.ensures.crash.crash, c.self.invariant.1)
 
 pub returns-then-is_empty-clause-rows : goal.returns-then-is_empty-clause-rows
 returns-then-is_empty-clause-rows g c = λ clean.

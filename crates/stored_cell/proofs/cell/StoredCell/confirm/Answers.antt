@@ -1,10 +1,9 @@
-use Rattle.std.proofs.Common.{rules, ◌≡◌, subst, sym, ◌∙◌, ap, Bool, Some, None, length}
-use Rattle.std.specs.Prelude.{ℕ, ◌&&◌, ◌==◌, not}
-use Rattle.delivery_machine.specs.Places.{KeptTopic}
+use Rattle.std.proofs.Common.{rules, ◌≡◌, subst, sym, Bool, Some, None, length}
+use Rattle.std.specs.Prelude.{◌&&◌, ◌==◌, not}
 use Rattle.delivery_machine.specs.declared.event.Event.TheVariants.{StoredTo}
 use Rattle.topic_shared.specs.Kept.{StoresLine}
 use Rattle.stored_cell.specs.Noted.{Noted, IsStored}
-use Rattle.stored_cell.specs.Held.{Held, IsSound}
+use Rattle.stored_cell.specs.Held.{IsSound}
 use Rattle.stored_cell.proofs.Sound.{sound_confirmed}
 use Rattle.stored_cell.proofs.cell.StoredCell.confirm.Goals as goal
 

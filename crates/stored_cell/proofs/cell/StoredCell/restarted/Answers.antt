@@ -1,5 +1,5 @@
-use Rattle.std.proofs.Common.{rules, ◌≡◌, subst, sym, ◌∙◌, ap}
-use Rattle.stored_cell.specs.Noted.{Noted, IsStored}
+use Rattle.std.proofs.Common.{◌≡◌, subst, sym}
+use Rattle.stored_cell.specs.Noted.{Noted}
 use Rattle.delivery_machine.specs.Snapshot.{restarted}
 use Rattle.delivery_machine.specs.Places.{snapshot_in}
 use Rattle.stored_cell.proofs.Sound.{sound_restarted}
@@ -8,4 +8,4 @@ use Rattle.stored_cell.proofs.cell.StoredCell.restarted.Goals as goal
 pub invariant_of-result : goal.invariant_of-result
 invariant_of-result g c =
     let same : c.new.result ≡ c.args.kept = c.new.ensures.value in
-    sound_restarted c.args.cell c.new.result (subst (λ (n : Noted). c.args.cell.state ≡ restarted (snapshot_in n.kept)) (sym same) c.requires.restarted) c.new.ensures.stands
+    sound_restarted c.args.cell c.new.result c.requires.viewed (subst (λ (n : Noted). c.args.cell.state ≡ restarted (snapshot_in n.kept)) (sym same) c.requires.restarted) c.new.ensures.stands

@@ -1,0 +1,8 @@
+// A law over a keeper's whole life.
+ghost use Rattle.row_store.specs.Lives.{CrashesCompose};
+
+/// Whatever a crash leaves, it is of each topic what was stored last of it, or, of all topics alike, what it is with the
+/// store that was under way. So it is after any stores, loads and rounds, and after a store that failed.
+pub fn crashes_compose()
+    ensures { CrashesCompose }
+{}
