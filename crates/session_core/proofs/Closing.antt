@@ -14,7 +14,7 @@ use Rattle.session_core.specs.Held.{unsent_of}
 use Rattle.session_core.specs.Turns.{Turn, exchanged, without_stop}
 use Rattle.session_core.specs.Texts.{answered}
 use Rattle.session_core.specs.Sending.{Gone, IsSent}
-use Rattle.session_core.specs.Runs.{ReceivesNoMore, SendsBeforeClose, StopsBy, close_of}
+use Rattle.session_core.specs.Runs.{FailsAt, ReceivesNoMore, SendsBeforeClose, StopsBy, close_of}
 use Rattle.session_core.specs.Steps.{CanClose, EndsSending, SendsReady, SendsSome, sent_with, wanting_memory}
 use Rattle.session_core.specs.Closing.{EndsLast, SendsLast, ServesLast, ServesOpen, StopsAtOnce}
 use Rattle.session_core.proofs.Telling.{tells_then}
@@ -88,6 +88,16 @@ can_close_last reason durable left last is_open has_room (inl (closes, o, blocke
 can_close_last reason durable left last is_open has_room (inr (ready, inl (gone, o))) close e = absurd (cc)
 can_close_last reason durable left last is_open has_room (inr (ready, inr (wants, o, room))) close e = o
 
+-- a session that is closed is so by another stop than that its client is gone
+pub closes_otherwise : (reason : Close) → Some (Closed reason) ≡ Some Left → ⊥
+closes_otherwise reason e = cc
+
+-- where the connection fails then, something is left that is ready
+pub fails_last : (t : Turn) (texts : List (List ℕ)) (reason : Close) (durable : ℕ) (left : List Unsent) (last : Stop) (is_open has_room : Bool)
+    → EndsLast reason durable left last is_open has_room → FailsAt (with_last t texts is_open has_room last) durable left
+fails_last t texts reason durable left last is_open has_room (inl (closes, o, blocked)) e = absurd (cc)
+fails_last t texts reason durable left last is_open has_room (inr (ready, why)) e = inr ready
+
 -- The session sent what is ready before its close.
 pub closing_with : (s t u : Session) (now most : ℕ) (e f h : Option Exchange) (c d : Option (List Call)) (reason : Close) (last : Stop) (was_open had_room is_open has_room : Bool)
     → ServesOpen s now most e c (Some (Closed reason)) t f d was_open had_room → SendsSome t f u h → EndsLast reason t.durable (unsent_of u) last is_open has_room
@@ -108,6 +118,8 @@ closing_with s t u now most e f h c d reason last was_open had_room is_open has_
         roomy = refl;
         texts = k.texts;
         at_most = k.at_most;
+        few = k.few;
+        silent = k.silent;
         receives = receives_last k.turn reason texts (answered s.party now s.next (unsent_of s) k.turn.taken) (unsent_of u) u.durable last is_open has_room k.receives opened k.is_stop later;
         asks = k.asks;
         is_over = k.is_over;
@@ -126,6 +138,8 @@ closing_with s t u now most e f h c d reason last was_open had_room is_open has_
         calls = k.calls;
         goes_on = λ none. absurd (cc);
         stays_open = λ none. absurd (cc);
+        lost = λ e. absurd (closes_otherwise reason (sym k.is_stop ∙ (k.lost e).2));
+        fails = fails_last k.turn texts reason u.durable (unsent_of u) last is_open has_room later;
         can_close = can_close_last reason u.durable (unsent_of u) last is_open has_room later;
       };
       stops = stops_last (close_of k.turn) k.turn reason texts u.durable (unsent_of u) last is_open has_room first.stops k.is_stop later;

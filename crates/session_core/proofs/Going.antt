@@ -1,5 +1,5 @@
 -- A turn goes on with the session's run.
-use Rattle.std.proofs.Common.{◌≡◌, ℕ, ◌≤◌, ℤ, List, [], ◌∷◌, ◌++◌, length, map, All, Bool, false, Option, Some, None, is_some, refl, sym, ap, ◌∙◌, subst, append_assoc}
+use Rattle.std.proofs.Common.{◌≡◌, ℕ, ◌≤◌, ℤ, List, [], ◌∷◌, ◌++◌, length, map, All, Bool, false, Option, Some, None, IsSome, is_some, option_map, refl, sym, ap, ◌∙◌, subst, append_assoc}
 use Rattle.std.proofs.lemmas.List.{map-append}
 use Rattle.std.proofs.lemmas.List.Elements.{All-append}
 use Rattle.session_links.specs.Links.{Call, Exchange, Tells, with_close}
@@ -12,11 +12,11 @@ use Rattle.session_core.specs.declared.session.Session.{Session}
 use Rattle.session_core.specs.declared.stop.Stop.{Stop}
 use Rattle.session_core.specs.declared.stop.Stop.TheVariants.{Gone as Left, Closed}
 use Rattle.session_core.specs.Held.{unsent_of}
-use Rattle.session_core.specs.Turns.{Taken, Turn, and_one, calls_of_asked, calls_of_texts, closed, exchanged, texts_received, without_stop}
-use Rattle.session_core.specs.Texts.{AreTaken, answered, answer_to, next_after}
+use Rattle.session_core.specs.Turns.{Taken, Turn, receipt_of_silence, and_one, calls_of_asked, calls_of_texts, closed, exchanged, texts_received, without_stop}
+use Rattle.session_core.specs.Texts.{AreFew, AreTaken, IsRoomy, answered, answer_to, next_after}
 use Rattle.session_core.specs.Asking.{AsksAs, copies_of, durable_after}
 use Rattle.session_core.specs.Sending.{Gone, IsSent, Sends}
-use Rattle.session_core.specs.Runs.{GoesOn, IsRun, IsServed, IsSession, IsTurn, Leaves, ReceivesNoMore, SaysFarewell, SendsBeforeClose, StopsBy, all_of, close_of, durable_of, next_of, sent_of}
+use Rattle.session_core.specs.Runs.{FailsAt, GoesOn, IsRun, IsServed, IsSession, IsTurn, Leaves, ReceivesNoMore, SaysFarewell, SendsBeforeClose, StopsBy, all_of, close_of, durable_of, next_of, sent_of}
 use Rattle.session_core.specs.Steps.{ClosesBy, Rests, SaysLast}
 use Rattle.session_core.specs.Closing.{ServesLast, ServesOpen}
 use Rattle.session_core.proofs.Closing.{stops_still}
@@ -46,6 +46,8 @@ is_turn s t before now most e f c d stop is_open has_room farewell run all last 
   most = subst (λ n. length k.turn.taken ≤ n) (sym k.is_most) k.at_most;
   held = unsent_of s;
   holds = run.sends;
+  few = subst (λ (x : ℕ × Option ℤ). AreFew s.party x.0 x.1 (unsent_of s) k.turn.taken) (λ i. (sym k.is_now i, run.next i)) k.few;
+  silent = subst (λ (x : ℕ × Option ℤ). IsSome k.turn.silence → IsRoomy (answered s.party x.0 x.1 (unsent_of s) k.turn.taken)) (λ i. (sym k.is_now i, run.next i)) k.silent;
   receives = subst (λ (x : ℕ × Option ℤ). ReceivesNoMore (with_farewell k.turn farewell) (answered s.party x.0 x.1 (unsent_of s) k.turn.taken)) (λ i. (sym k.is_now i, run.next i)) k.receives;
   asks = subst (λ n. AsksAs s.party n k.turn.asked) (sym k.is_now) k.asks;
   is_over = k.is_over;
@@ -70,6 +72,8 @@ is_turn s t before now most e f c d stop is_open has_room farewell run all last 
   farewell = subst (λ x. SaysFarewell s.party x farewell) (sym k.is_stop) last;
   goes_on = λ none. subst (λ n. GoesOn s.party (with_farewell k.turn farewell) n (unsent_of t)) durable (k.goes_on (sym k.is_stop ∙ none));
   closes = subst (λ n. SendsBeforeClose (with_farewell k.turn farewell) n (unsent_of t)) durable all.closes;
+  gone = k.lost;
+  fails = subst (λ n. FailsAt (with_farewell k.turn farewell) n (unsent_of t)) durable k.fails;
 }
   where
     durable : t.durable ≡ durable_of s.party (all.serves.turn ∷ before)
@@ -89,6 +93,8 @@ rested s t u now most e f c d is_open has_room first r = let k = first.serves in
     roomy = k.roomy;
     texts = k.texts;
     at_most = k.at_most;
+    few = k.few;
+    silent = k.silent;
     receives = k.receives;
     asks = k.asks;
     is_over = k.is_over;
@@ -103,6 +109,8 @@ rested s t u now most e f c d is_open has_room first r = let k = first.serves in
     calls = k.calls;
     goes_on = λ none. subst (λ (x : ℕ × List Unsent). GoesOn s.party k.turn x.0 x.1) (λ i. (sym r.keeps.durable i, sym r.unsent i)) (k.goes_on none);
     stays_open = k.stays_open;
+    lost = k.lost;
+    fails = subst (λ (x : ℕ × List Unsent). FailsAt k.turn x.0 x.1) (λ i. (sym r.keeps.durable i, sym r.unsent i)) k.fails;
     can_close = k.can_close;
   };
   stops = stops_still (close_of k.turn) k.turn u.durable (unsent_of u) first.stops;
@@ -114,10 +122,10 @@ rested s t u now most e f c d is_open has_room first r = let k = first.serves in
 
 -- A session that goes on.
 pub goes_on : (s t : Session) (before : List Turn) (now most : ℕ) (e f : Option Exchange) (c d : Option (List Call)) (is_open has_room : Bool)
-    → IsSession s before → ServesLast s now most e c None t f d is_open has_room → (given : ℕ) → most ≡ given
+    → IsSession s before → ServesLast s now most e c None t f d is_open has_room → t.had_room ≡ has_room → (given : ℕ) → most ≡ given
     → (served : IsServed s now given before e c (Some t) f d is_open has_room) × Leaves served.turn e f is_open has_room
 unfolding is_turn
-goes_on s t before now most e f c d is_open has_room run all given same =
+goes_on s t before now most e f c d is_open has_room run all had given same =
     let k = all.serves in
     let turn : Turn = with_farewell k.turn None in
     let is : IsTurn s.party before turn = is_turn s t before now most e f c d None is_open has_room None run all refl in
@@ -127,7 +135,7 @@ goes_on s t before now most e f c d is_open has_room run all given same =
         is_now = k.is_now;
         is_most = k.is_most ∙ same;
         is_turn = is;
-        exchange = subst (λ x. Tells (λ (y : Exchange). record { received = and_one (texts_received y.received k.turn.taken) k.turn.silence; sent = y.sent ++ k.turn.sent; closes = closed x y.closes }) e f) (sym k.is_stop) k.exchange;
+        exchange = subst (λ x. Tells (λ (y : Exchange). record { received = and_one (texts_received y.received k.turn.taken) (option_map receipt_of_silence k.turn.silence); sent = y.sent ++ k.turn.sent; closes = closed x y.closes }) e f) (sym k.is_stop) k.exchange;
         calls = subst (λ x. Tells (λ calls. and_one (calls_of_asked (calls_of_texts calls k.turn.taken) k.turn.asked) x) c d) k.no_farewell k.calls;
         fails = λ fails. sym k.opens ∙ fails;
         session = (
@@ -142,6 +150,7 @@ goes_on s t before now most e f c d is_open has_room run all given same =
           },
           k.stays_open refl,
           k.roomy,
+          had,
         );
       },
       record { exchange = k.exchange; opens = k.opens; roomy = k.roomy },
@@ -169,8 +178,8 @@ ends s t before now most e f h c d i stop was room is_open has_room run all clos
   where
     by_stop : (reason : Stop) → all.serves.turn.stop ≡ Some reason → ClosesBy reason f h → Tells (exchanged (with_farewell all.serves.turn last.farewell)) e h
     by_stop Left is stays =
-        subst (λ x. Tells (λ (y : Exchange). record { received = and_one (texts_received y.received all.serves.turn.taken) all.serves.turn.silence; sent = y.sent ++ all.serves.turn.sent; closes = closed x y.closes }) e h) (sym is)
+        subst (λ x. Tells (λ (y : Exchange). record { received = and_one (texts_received y.received all.serves.turn.taken) (option_map receipt_of_silence all.serves.turn.silence); sent = y.sent ++ all.serves.turn.sent; closes = closed x y.closes }) e h) (sym is)
         (subst (Tells (exchanged (without_stop all.serves.turn)) e) (sym stays) all.serves.exchange)
     by_stop (Closed close) is told =
-        subst (λ x. Tells (λ (y : Exchange). record { received = and_one (texts_received y.received all.serves.turn.taken) all.serves.turn.silence; sent = y.sent ++ all.serves.turn.sent; closes = closed x y.closes }) e h) (sym is)
+        subst (λ x. Tells (λ (y : Exchange). record { received = and_one (texts_received y.received all.serves.turn.taken) (option_map receipt_of_silence all.serves.turn.silence); sent = y.sent ++ all.serves.turn.sent; closes = closed x y.closes }) e h) (sym is)
         (tells_then (exchanged (without_stop all.serves.turn)) (with_close close.code (reason_of close.fault)) _ e f h all.serves.exchange told (λ x. refl))

@@ -5,3 +5,5 @@ pub mod Unsent
 pub mod Turning
 pub mod Closing
 pub mod Going
+pub mod Quiet
+pub mod Lives

@@ -14,13 +14,13 @@ use Rattle.session_texts.specs.declared.close.Close.{Close}
 use Rattle.session_texts.specs.declared.party.Party.TheVariants.{Producer, Consumer, Admin}
 use Rattle.session_core.specs.declared.dues.Dues.{Dues}
 use Rattle.session_core.specs.declared.session.Session.{Session}
-use Rattle.session_core.specs.Held.{unsent_of}
+use Rattle.session_core.specs.Held.{holds_nothing, unsent_of}
 use Rattle.session_texts.specs.Outcomes.{own_close}
 use Rattle.session_core.specs.declared.stop.Stop.{Stop}
 use Rattle.session_core.specs.declared.stop.Stop.TheVariants.{Closed}
 use Rattle.session_core.specs.Turns.{and_then}
 use Rattle.session_core.specs.Asking.{AllLeftMore, Asked, AsksAll, AsksAs, IsSeries, IsWhole, asked_nothing, close_after, close_of_asked, copies_in, copies_of, durable_after, leaves_more}
-use Rattle.session_core.specs.Steps.{AsksBoth, AsksCollect, AsksOne, AsksOwn, AsksProgress, AsksSeries, AsksSome, EndsAsking, EndsSeries, Rests, StopsSo, holds_nothing, may_send}
+use Rattle.session_core.specs.Steps.{AsksBoth, AsksCollect, AsksOne, AsksOwn, AsksProgress, AsksSeries, AsksSome, EndsAsking, EndsSeries, Rests, StopsSo, may_send}
 use Rattle.session_core.proofs.Telling.{tells_nothing, tells_then}
 
 -- one was asked, and what follows is by its reply

@@ -1,12 +1,13 @@
 -- What each step adds to the texts of a turn.
-use Rattle.std.proofs.Common.{◌≡◌, ℕ, ◌+◌, ◌≤◌, ◌<◌, List, [], ◌∷◌, ◌++◌, length, map, drop, Bool, true, Option, Some, None, ◌⊎◌, inl, inr, refl, sym, ap, ◌∙◌, subst, append-nil, append_assoc, arith, option_map}
+use Rattle.std.proofs.Common.{◌≡◌, ℕ, ◌+◌, ◌≤◌, ◌<◌, List, [], ◌∷◌, ◌++◌, length, map, drop, Bool, false, true, Option, Some, None, ◌⊎◌, inl, inr, refl, sym, ap, ◌∙◌, subst, append-nil, append_assoc, arith, option_map}
 use Rattle.std.proofs.lemmas.List.{map-append}
 use Rattle.std.proofs.Common.{ℤ, is_some, if◌then◌else◌, count_by, Ok, Err}
 use Rattle.std.proofs.lemmas.List.Sums.{sum_by-append, sum_by-cons}
-use Rattle.std.proofs.lemmas.Bool.{leb-true}
+use Rattle.std.proofs.lemmas.Bool.{leb-true, leb-false}
 use Rattle.position_core.specs.declared.fault.Fault.TheVariants.{NoMemory}
 use Rattle.delivery_machine.specs.declared.event.Event.{Event}
-use Rattle.session_links.specs.Links.{Call, Exchange, Receipt, Tells, came, gone, nothing, same, with_receipt}
+use Rattle.delivery_machine.specs.declared.delivery.Delivery.{Delivery}
+use Rattle.session_links.specs.Links.{Call, Exchange, Tells, came, gone, nothing, same, with_receipt}
 use Rattle.session_texts.specs.declared.answer.Answer.{Answer}
 use Rattle.session_texts.specs.declared.close.Close.{Close}
 use Rattle.session_texts.specs.declared.asking.Asking.{Asking}
@@ -20,15 +21,15 @@ use Rattle.session_core.proofs.Telling.{tells_nothing, tells_then}
 use Rattle.session_core.specs.declared.session.Session.{Session}
 use Rattle.session_core.specs.declared.stop.Stop.{Stop}
 use Rattle.session_core.specs.declared.stop.Stop.TheVariants.{Closed}
-use Rattle.session_core.specs.Held.{unsent_of}
+use Rattle.session_core.specs.Held.{holds_full, unsent_of}
 use Rattle.session_texts.specs.declared.party.Party.{Party}
-use Rattle.session_core.specs.Turns.{Taken, and_one, calls_of_texts}
-use Rattle.session_core.specs.Texts.{IsTakenAs, IsUnread, answer_as, answer_in, answer_to, answered, close_in, closed_by, next_after, number_after_call}
+use Rattle.session_core.specs.Turns.{Silence, quiet, ended, Taken, and_one, calls_of_texts}
+use Rattle.session_core.specs.Texts.{IsRoomy, IsTakenAs, IsUnread, answer_as, answer_in, answer_to, answered, close_in, closed_by, next_after, number_after_call}
 use Rattle.session_core.specs.declared.texts.Received.{Received}
 use Rattle.session_core.specs.declared.texts.Received.TheVariants.{Nothing, Text}
 use Rattle.std.specs.Prelude.{IfErr, IfOk, Result}
 use Rattle.session_core.specs.Runs.{IsFull}
-use Rattle.session_core.specs.Steps.{EndsTexts, EndsTextsBy, KeepsCopies, Stays, TakesAll, TakesNext, TakesReply, TakesSome, TakesText, TakesTexts, holds_full, received_with, wanting_memory}
+use Rattle.session_core.specs.Steps.{EndsTexts, EndsTextsBy, KeepsCopies, Stays, TakesAll, TakesNext, TakesReply, TakesSome, TakesText, TakesTexts, received_with, wanting_memory}
 
 -- the answers that came are to be sent after what there was
 pub more_unsent : (s t : Session) (more : List Unsent) → KeepsCopies s t → map answering t.waiting.items ≡ map answering s.waiting.items ++ more → unsent_of t ≡ unsent_of s ++ more
@@ -119,6 +120,22 @@ is_full s e =
     let full : 1000 ≤ length s.waiting.items = leb-true 1000 (length s.waiting.items) e in
     omega (arith, n, m, full)
 
+-- messages answer nothing
+pub copies_answer_none : (copies : List Delivery) → count_by is_answer (map collected copies) ≡ 0
+copies_answer_none [] = refl
+copies_answer_none (copy ∷ more) = let h = copies_answer_none more in let e = sum_by-cons {X = Unsent} in omega (arith, h, e)
+
+-- a session that is not full has room for an answer
+pub is_roomy : (s : Session) → holds_full s ≡ false → IsRoomy (unsent_of s)
+is_roomy s e =
+    let f : Unsent → ℕ = λ x. if is_answer x then 1 else 0 in
+    let n : count_by is_answer (unsent_of s) ≡ count_by is_answer (map collected (drop s.copies_sent s.copies)) + count_by is_answer (map answering s.waiting.items) =
+    sum_by-append f (map collected (drop s.copies_sent s.copies)) (map answering s.waiting.items) in
+    let c = copies_answer_none (drop s.copies_sent s.copies) in
+    let m = waiting_answers s.waiting.items in
+    let less : length s.waiting.items < 1000 = leb-false 1000 (length s.waiting.items) e in
+    omega (arith, n, c, m, less)
+
 -- a session that is full stays as it is
 pub stays_full : (s : Session) (now : ℕ) (e : Option Exchange) (c : Option (List Call)) → holds_full s ≡ true → (is_open : Bool) → is_open ≡ true → TakesNext s now e c (Ok Nothing) s e c is_open
 stays_full s now e c full is_open o = (record { keeps = keeps_all s; next = refl; waiting = refl }, refl, o, inr (is_full s full, refl))
@@ -151,15 +168,15 @@ text_from s r t now text c d stop stays h =
 -- a text was received and taken by a session that holds the same
 pub next_text : (s r t : Session) (now : ℕ) (e f : Option Exchange) (c d : Option (List Call)) (result : Result Received Stop) (is_open : Bool) (text : List ℕ) → Stays s r
     → IfOk result (λ what. (what ≡ Text) × TakesText r now text c None t d) → IfErr result (λ stop. TakesText r now text c (Some stop) t d)
-    → Tells (with_receipt (came text)) e f → is_open ≡ true → TakesNext s now e c result t f d is_open
-next_text s r t now e f c d (Ok Text) is_open text stays ok err tells o = (text, text_from s r t now text c d None stays ok.1, tells, o)
-next_text s r t now e f c d (Ok Nothing) is_open text stays ok err tells o = let is = ok.0 in cc
-next_text s r t now e f c d (Err stop) is_open text stays ok err tells o = inl (text, text_from s r t now text c d (Some stop) stays err, tells, o)
+    → Tells (with_receipt (came text)) e f → is_open ≡ true → IsRoomy (unsent_of s) → TakesNext s now e c result t f d is_open
+next_text s r t now e f c d (Ok Text) is_open text stays ok err tells o roomy = (text, text_from s r t now text c d None stays ok.1, tells, o, roomy)
+next_text s r t now e f c d (Ok Nothing) is_open text stays ok err tells o roomy = let is = ok.0 in cc
+next_text s r t now e f c d (Err stop) is_open text stays ok err tells o roomy = inl (text, text_from s r t now text c d (Some stop) stays err, tells, o, roomy)
 
 -- a text that closes the session was taken
 pub text_stops : (s : Session) (now : ℕ) (e f : Option Exchange) (c d : Option (List Call)) (stop : Stop) (t : Session) (is_open : Bool) (text : List ℕ)
-    → TakesText s now text c (Some stop) t d → Tells (with_receipt (came text)) e f → is_open ≡ true → TakesNext s now e c (Err stop) t f d is_open
-text_stops s now e f c d stop t is_open text k x o = inl (text, k, x, o)
+    → TakesText s now text c (Some stop) t d → Tells (with_receipt (came text)) e f → is_open ≡ true → IsRoomy (unsent_of s) → TakesNext s now e c (Err stop) t f d is_open
+text_stops s now e f c d stop t is_open text k x o roomy = inl (text, k, x, o, roomy)
 
 -- no text was taken yet
 pub took_none : (s : Session) (now : ℕ) (e : Option Exchange) (c : Option (List Call)) (is_open : Bool) → is_open ≡ true → TakesSome s now 0 e c s e c is_open
@@ -172,6 +189,7 @@ took_none s now e c is_open o = record {
     keeps = keeps_all s;
     next = refl;
     unsent = refl;
+    few = tt;
   };
   as_many = refl;
   goes_on = refl;
@@ -184,9 +202,9 @@ keeps_then s t u k l = record { party = l.party ∙ k.party; durable = l.durable
 
 -- a text more was taken
 pub takes_one_more : (s t u : Session) (now : ℕ) (e f h : Option Exchange) (c d i : Option (List Call)) (taken : List Taken) (text : List ℕ) (stop : Option Stop)
-    → TakesAll s now taken None e c t f d → closed_by taken ≡ None → (k : TakesText t now text d stop u i) → Tells (with_receipt (came text)) f h
+    → TakesAll s now taken None e c t f d → closed_by taken ≡ None → (k : TakesText t now text d stop u i) → Tells (with_receipt (came text)) f h → IsRoomy (unsent_of t)
     → TakesAll s now (k.taken ∷ taken) None e c u h i
-takes_one_more s t u now e f h c d i taken text stop all goes k tells = record {
+takes_one_more s t u now e f h c d i taken text stop all goes k tells roomy = record {
   texts = (all.texts, goes, as_party);
   exchange = tells_then (received_with taken None) (with_receipt (came text)) (received_with (k.taken ∷ taken) None) e f h all.exchange tells
       (λ x. ap (λ y. with_receipt (came y) (received_with taken None x)) k.is_text);
@@ -196,6 +214,7 @@ takes_one_more s t u now e f h c d i taken text stop all goes k tells = record {
   unsent = k.unsent ∙ ap (λ l. l ++ answer_to t.party now t.next k.taken) all.unsent
       ∙ ap (λ p. answered s.party now s.next (unsent_of s) taken ++ answer_to p now t.next k.taken) all.keeps.party
       ∙ ap (λ n. answered s.party now s.next (unsent_of s) taken ++ answer_to s.party now n k.taken) all.next;
+  few = (all.few, subst IsRoomy all.unsent roomy);
 }
   where
     as_party : IsUnread k.taken ⊎ IsTakenAs s.party k.taken (asks s.party now (next_after s.next taken) k.taken.text)
@@ -204,9 +223,9 @@ takes_one_more s t u now e f h c d i taken text stop all goes k tells = record {
 -- one text more was taken, and the session goes on
 pub took_one : (s t u : Session) (now n : ℕ) (e f h : Option Exchange) (c d i : Option (List Call)) (was is : Bool)
     → TakesSome s now n e c t f d was → TakesNext t now f d (Ok Text) u h i is → TakesSome s now (n + 1) e c u h i is
-took_one s t u now n e f h c d i was is k (text, one, tells, o) = record {
+took_one s t u now n e f h c d i was is k (text, one, tells, o, roomy) = record {
   taken = one.taken ∷ k.taken;
-  all = takes_one_more s t u now e f h c d i k.taken text None k.all k.goes_on one tells;
+  all = takes_one_more s t u now e f h c d i k.taken text None k.all k.goes_on one tells roomy;
   as_many = let m = k.as_many in omega (arith, m);
   goes_on = closes_none one.taken.close one.stops;
   opens = o;
@@ -221,7 +240,7 @@ pub stays_unsent : (s t : Session) → Stays s t → unsent_of t ≡ unsent_of s
 stays_unsent s t k = more_unsent s t [] k.keeps (ap (map answering) k.waiting ∙ sym (append-nil (map answering s.waiting.items))) ∙ append-nil (unsent_of s)
 
 -- no text comes after those that were taken
-pub takes_silence : (s t u : Session) (now : ℕ) (e f h : Option Exchange) (c d i : Option (List Call)) (taken : List Taken) (silence : Option Receipt) (more : Exchange → Exchange)
+pub takes_silence : (s t u : Session) (now : ℕ) (e f h : Option Exchange) (c d i : Option (List Call)) (taken : List Taken) (silence : Option Silence) (more : Exchange → Exchange)
     → TakesAll s now taken None e c t f d → Stays t u → i ≡ d → Tells more f h → ((x : Exchange) → received_with taken silence x ≡ more (received_with taken None x)) → TakesAll s now taken silence e c u h i
 takes_silence s t u now e f h c d i taken silence more all k same tells is = record {
   texts = all.texts;
@@ -230,10 +249,11 @@ takes_silence s t u now e f h c d i taken silence more all k same tells is = rec
   keeps = keeps_then s t u all.keeps k.keeps;
   next = k.next ∙ all.next;
   unsent = stays_unsent t u k ∙ all.unsent;
+  few = all.few;
 }
 
 -- how the taking ends where no text closed the session
-pub ends_open : (taken : List Taken) (silence : Option Receipt) (most : ℕ) (unsent : List Unsent) (stop : Option Stop) (is_open : Bool)
+pub ends_open : (taken : List Taken) (silence : Option Silence) (most : ℕ) (unsent : List Unsent) (stop : Option Stop) (is_open : Bool)
     → closed_by taken ≡ None → EndsTexts taken silence most unsent stop is_open → EndsTextsBy (closed_by taken) taken silence most unsent stop is_open
 ends_open taken silence most unsent stop is_open goes ends = subst (λ x. EndsTextsBy x taken silence most unsent stop is_open) (sym goes) ends
 
@@ -246,17 +266,21 @@ took_all s t now n most e f c d is k all = record {
   all = k.all;
   at_most = let m = k.as_many in omega (arith, m, all);
   ends = ends_open k.taken None most (unsent_of t) None is k.goes_on (inl (refl, k.opens, inr (inl (k.as_many ∙ all))));
+  silent = λ some. absurd (cc);
+  gone = λ e. absurd (cc);
 }
 
 -- nothing came, or the session is full
 pub took_nothing : (s t u : Session) (now n most : ℕ) (e f h : Option Exchange) (c d i : Option (List Call)) (was is : Bool)
     → TakesSome s now n e c t f d was → n ≤ most → TakesNext t now f d (Ok Nothing) u h i is → TakesTexts s now most e c None u h i is
-took_nothing s t u now n most e f h c d i was is k less (stays, same_calls, o, inl tells) = record {
+took_nothing s t u now n most e f h c d i was is k less (stays, same_calls, o, inl (tells, roomy)) = record {
   taken = k.taken;
-  silence = Some nothing;
-  all = takes_silence s t u now e f h c d i k.taken (Some nothing) (with_receipt nothing) k.all stays same_calls tells (λ x. refl);
+  silence = Some quiet;
+  all = takes_silence s t u now e f h c d i k.taken (Some quiet) (with_receipt nothing) k.all stays same_calls tells (λ x. refl);
   at_most = let m = k.as_many in omega (arith, m, less);
-  ends = ends_open k.taken (Some nothing) most (unsent_of u) None is k.goes_on (inl (refl, o, inl refl));
+  ends = ends_open k.taken (Some quiet) most (unsent_of u) None is k.goes_on (inl (refl, o, inl refl));
+  silent = λ some. subst IsRoomy (sym (stays_unsent t u stays)) roomy;
+  gone = λ e. absurd (cc);
 }
 took_nothing s t u now n most e f h c d i was is k less (stays, same_calls, o, inr (full, same_exchange)) = record {
   taken = k.taken;
@@ -264,28 +288,34 @@ took_nothing s t u now n most e f h c d i was is k less (stays, same_calls, o, i
   all = takes_silence s t u now e f h c d i k.taken None same k.all stays same_calls (subst (Tells same f) (sym same_exchange) (tells_nothing same f (λ x. refl))) (λ x. refl);
   at_most = let m = k.as_many in omega (arith, m, less);
   ends = ends_open k.taken None most (unsent_of u) None is k.goes_on (inl (refl, o, inr (inr (subst IsFull (sym (stays_unsent t u stays)) full))));
+  silent = λ some. absurd (cc);
+  gone = λ e. absurd (cc);
 }
 
 -- the session ends
 pub took_end : (s t u : Session) (now n most : ℕ) (e f h : Option Exchange) (c d i : Option (List Call)) (was is : Bool) (stop : Stop)
     → TakesSome s now n e c t f d was → n < most → TakesNext t now f d (Err stop) u h i is → TakesTexts s now most e c (Some stop) u h i is
-took_end s t u now n most e f h c d i was is stop k less (inl (text, one, tells, o)) = record {
+took_end s t u now n most e f h c d i was is stop k less (inl (text, one, tells, o, roomy)) = record {
   taken = one.taken ∷ k.taken;
   silence = None;
-  all = takes_one_more s t u now e f h c d i k.taken text (Some stop) k.all k.goes_on one tells;
+  all = takes_one_more s t u now e f h c d i k.taken text (Some stop) k.all k.goes_on one tells roomy;
   at_most = let m = k.as_many in omega (arith, m, less);
   ends = closes_so one.taken.close one.stops;
+  silent = λ some. absurd (cc);
+  gone = λ e. absurd (cc);
 }
   where
     closes_so : (close : Option Close) → Some stop ≡ option_map Closed close → EndsTextsBy close (one.taken ∷ k.taken) None most (unsent_of u) (Some stop) is
     closes_so None x = absurd (cc)
     closes_so (Some y) x = (x, o)
-took_end s t u now n most e f h c d i was is stop k less (inr (inl (stays, same_calls, left, o, inl tells))) = record {
+took_end s t u now n most e f h c d i was is stop k less (inr (inl (stays, same_calls, left, o, inl (tells, roomy)))) = record {
   taken = k.taken;
-  silence = Some gone;
-  all = takes_silence s t u now e f h c d i k.taken (Some gone) (with_receipt gone) k.all stays same_calls tells (λ x. refl);
+  silence = Some ended;
+  all = takes_silence s t u now e f h c d i k.taken (Some ended) (with_receipt gone) k.all stays same_calls tells (λ x. refl);
   at_most = let m = k.as_many in omega (arith, m, less);
-  ends = ends_open k.taken (Some gone) most (unsent_of u) (Some stop) is k.goes_on (inr (inl (ap Some left, o)));
+  ends = ends_open k.taken (Some ended) most (unsent_of u) (Some stop) is k.goes_on (inr (inl (ap Some left, o)));
+  silent = λ some. subst IsRoomy (sym (stays_unsent t u stays)) roomy;
+  gone = λ e. (ap Some left, o);
 }
 took_end s t u now n most e f h c d i was is stop k less (inr (inl (stays, same_calls, left, o, inr tells))) = record {
   taken = k.taken;
@@ -293,6 +323,8 @@ took_end s t u now n most e f h c d i was is stop k less (inr (inl (stays, same_
   all = takes_silence s t u now e f h c d i k.taken None same k.all stays same_calls tells (λ x. refl);
   at_most = let m = k.as_many in omega (arith, m, less);
   ends = ends_open k.taken None most (unsent_of u) (Some stop) is k.goes_on (inr (inl (ap Some left, o)));
+  silent = λ some. absurd (cc);
+  gone = λ e. absurd (cc);
 }
 took_end s t u now n most e f h c d i was is stop k less (inr (inr (stays, same_calls, wants, o, same_exchange))) = record {
   taken = k.taken;
@@ -300,4 +332,6 @@ took_end s t u now n most e f h c d i was is stop k less (inr (inr (stays, same_
   all = takes_silence s t u now e f h c d i k.taken None same k.all stays same_calls (subst (Tells same f) (sym same_exchange) (tells_nothing same f (λ x. refl))) (λ x. refl);
   at_most = let m = k.as_many in omega (arith, m, less);
   ends = ends_open k.taken None most (unsent_of u) (Some stop) is k.goes_on (inr (inr (ap Some wants, o)));
+  silent = λ some. absurd (cc);
+  gone = λ e. absurd (cc);
 }

@@ -4,7 +4,7 @@ use Rattle.std.specs.Option.{option_or}
 use Rattle.std.proofs.lemmas.Bool.{le-leb}
 use Rattle.std.proofs.lemmas.List.{length-map, map-append}
 use Rattle.std.proofs.lemmas.List.Elements.{All-append}
-use Rattle.session_links.specs.Links.{Call, Exchange, Receipt, Tells}
+use Rattle.session_links.specs.Links.{Call, Exchange, Tells}
 use Rattle.session_texts.specs.declared.party.Party.{Party}
 use Rattle.session_texts.specs.declared.party.Party.TheVariants.{Producer, Consumer, Admin}
 use Rattle.session_texts.specs.declared.close.Close.{Close}
@@ -12,18 +12,18 @@ use Rattle.session_texts.specs.Unsent.{Unsent, answering, collected}
 use Rattle.session_core.specs.declared.session.Session.{Session}
 use Rattle.session_core.specs.declared.stop.Stop.{Stop}
 use Rattle.session_core.specs.declared.stop.Stop.TheVariants.{Gone as Left, Closed}
-use Rattle.session_core.specs.Held.{unsent_of}
-use Rattle.session_core.specs.Turns.{Taken, Turn, calls_of_asked}
-use Rattle.session_core.specs.Texts.{answered, closed_by}
+use Rattle.session_core.specs.Held.{holds_nothing, unsent_of}
+use Rattle.session_core.specs.Turns.{Silence, Taken, Turn, calls_of_asked}
+use Rattle.session_core.specs.Texts.{IsRoomy, answered, closed_by}
 use Rattle.session_core.specs.Asking.{Asked, AsksAll, AsksAs, asked_nothing, close_of_asked, copies_of, durable_after}
-use Rattle.session_core.specs.Sending.{Gone, IsBlocked, IsSent}
+use Rattle.session_core.specs.Sending.{Gone, IsBlocked, IsReady, IsSent}
 use Rattle.session_core.specs.Closing.{ServesOpen, StopsAtOnce}
-use Rattle.session_core.specs.Runs.{GoesOn, IsFull, ReceivesNoMore, close_of, is_free}
-use Rattle.session_core.specs.Steps.{AsksOwn, EndsSending, EndsTextsBy, SendsReady, SendsSome, StopsSo, TakesAll, TakesTexts, holds_nothing, may_send, received_with, sent_with, wanting_memory}
+use Rattle.session_core.specs.Runs.{EndsWithClient, FailsAt, GoesOn, IsFull, ReceivesNoMore, close_of, is_free}
+use Rattle.session_core.specs.Steps.{AsksOwn, EndsSending, EndsTextsBy, SendsReady, SendsSome, StopsSo, TakesAll, TakesTexts, may_send, received_with, sent_with, wanting_memory}
 use Rattle.session_core.proofs.Telling.{tells_nothing, tells_then}
 
 -- the turn of its parts
-abbrev pub turn_of : ℕ → ℕ → List Taken → Option Receipt → Asked → List (List ℕ) → Bool → Bool → Option Stop → Turn
+abbrev pub turn_of : ℕ → ℕ → List Taken → Option Silence → Asked → List (List ℕ) → Bool → Bool → Option Stop → Turn
 turn_of now most taken silence asked sent is_open has_room stop = record {
   now = now;
   most = most;
@@ -49,7 +49,7 @@ durable_grows (Consumer consumer subscription) durable last = omega arith
 durable_grows Admin durable last = omega arith
 
 -- A turn of texts, of what was sent, of what was asked, and of what was sent then.
-pub served : (s s1 s2 s3 s4 : Session) (now most : ℕ) (e e1 e2 e3 : Option Exchange) (c c1 c2 : Option (List Call)) (taken : List Taken) (silence : Option Receipt) (asked : Asked) (stop : Option Stop) (is_open has_room : Bool)
+pub served : (s s1 s2 s3 s4 : Session) (now most : ℕ) (e e1 e2 e3 : Option Exchange) (c c1 c2 : Option (List Call)) (taken : List Taken) (silence : Option Silence) (asked : Asked) (stop : Option Stop) (is_open has_room : Bool)
     → (k : TakesAll s now taken silence e c s1 e1 c1) → length taken ≤ most
     → (first : SendsSome s1 e1 s2 e2)
     → AsksAs s.party now asked → Tells (λ all. calls_of_asked all asked) c1 c2 → s3.party ≡ s2.party → s3.next ≡ s2.next
@@ -57,9 +57,10 @@ pub served : (s s1 s2 s3 s4 : Session) (now most : ℕ) (e e1 e2 e3 : Option Exc
     → (second : SendsSome s3 e2 s4 e3)
     → (let t : Turn = turn_of now most taken silence asked (map (λ (g : Gone). g.text) (first.gone ++ second.gone)) is_open has_room stop in
     ReceivesNoMore t (answered s.party now s.next (unsent_of s) taken) → ((closed_by taken ≡ None) ⊎ (asked ≡ asked_nothing)) → StopsAtOnce (close_of t) t
+    → (IsSome silence → IsRoomy (answered s.party now s.next (unsent_of s) taken)) → EndsWithClient t → FailsAt t s4.durable (unsent_of s4)
     → (stop ≡ None → GoesOn s.party t s4.durable (unsent_of s4)) → (stop ≡ None → is_open ≡ true) → ((close : Close) → stop ≡ Some (Closed close) → is_open ≡ true)
     → ServesOpen s now most e c stop s4 e3 c2 is_open has_room)
-served s s1 s2 s3 s4 now most e e1 e2 e3 c c1 c2 taken silence asked stop is_open has_room k few first asks calls party next durable unsent second receives over stops goes stays can =
+served s s1 s2 s3 s4 now most e e1 e2 e3 c c1 c2 taken silence asked stop is_open has_room k few first asks calls party next durable unsent second receives over stops silent lost fails goes stays can =
     let at_first : s1.durable ≡ s.durable = k.keeps.durable in
     let at_second : s2.durable ≡ s.durable = first.keeps.durable ∙ at_first in
     let later : s3.durable ≡ durable_after s.party s.durable asked.last = durable ∙ ap (λ d. durable_after s.party d asked.last) at_second in
@@ -76,6 +77,8 @@ served s s1 s2 s3 s4 now most e e1 e2 e3 c c1 c2 taken silence asked stop is_ope
         roomy = refl;
         texts = k.texts;
         at_most = few;
+        few = k.few;
+        silent = silent;
         receives = receives;
         asks = asks;
         is_over = over;
@@ -99,6 +102,8 @@ served s s1 s2 s3 s4 now most e e1 e2 e3 c c1 c2 taken silence asked stop is_ope
         calls = tells_then _ _ _ c c1 c2 k.calls calls (λ x. refl);
         goes_on = goes;
         stays_open = stays;
+        lost = lost;
+        fails = fails;
         can_close = can;
       };
       stops = stops;
@@ -141,7 +146,8 @@ pub ends_with_texts : (s t : Session) (now most : ℕ) (e f : Option Exchange) (
 unfolding sends_nothing
 ends_with_texts s t now most e f c d stop is_open has_room k =
     served s t t t t now most e f f f c d d k.taken k.silence asked_nothing (Some stop) is_open has_room k.all k.at_most (sends_nothing t f) (asks_nothing s.party now) (tells_nothing _ d (λ x. refl)) refl refl
-    (durable_stays s.party t.durable) (no_copies s.party (unsent_of t)) (sends_nothing t f) (receives (closed_by k.taken) refl k.ends) (inr refl) (stops (closed_by k.taken) k.ends) (λ e. absurd (cc)) (λ e. absurd (cc)) (can (closed_by k.taken) k.ends)
+    (durable_stays s.party t.durable) (no_copies s.party (unsent_of t)) (sends_nothing t f) (receives (closed_by k.taken) refl k.ends) (inr refl) (stops (closed_by k.taken) k.ends)
+    (λ some. subst IsRoomy k.all.unsent (k.silent some)) (λ e. (refl, refl, (k.gone e).0, (k.gone e).1)) (λ e. inl refl) (λ e. absurd (cc)) (λ e. absurd (cc)) (can (closed_by k.taken) k.ends)
   where
     receives : (close : Option Close) → closed_by k.taken ≡ close → EndsTextsBy close k.taken k.silence most (unsent_of t) (Some stop) is_open
         → ReceivesNoMore (turn_of now most k.taken k.silence asked_nothing [] is_open has_room (Some stop)) (answered s.party now s.next (unsent_of s) k.taken)
@@ -163,7 +169,7 @@ ends_with_texts s t now most e f c d stop is_open has_room k =
     can (Some close) (closes, o) other e = o
 
 -- texts that did not end the session closed nothing
-pub texts_go_on : (close : Option Close) (taken : List Taken) (silence : Option Receipt) (most : ℕ) (unsent : List Unsent) (is_open : Bool)
+pub texts_go_on : (close : Option Close) (taken : List Taken) (silence : Option Silence) (most : ℕ) (unsent : List Unsent) (is_open : Bool)
     → EndsTextsBy close taken silence most unsent None is_open → (close ≡ None) × (is_open ≡ true) × (IsSome silence ⊎ ((length taken ≡ most) ⊎ IsFull unsent))
 texts_go_on None taken silence most unsent is_open (inl (none, o, why)) = (refl, o, why)
 texts_go_on None taken silence most unsent is_open (inr (inl (left, o))) = absurd (cc)
@@ -198,6 +204,18 @@ pub stops_sending : (t : Turn) (stop : Stop) (is_open : Bool) → t.stop ≡ Som
 stops_sending t stop is_open is o (inl (left, f)) = inr (inl (is ∙ ap Some left, o ∙ f))
 stops_sending t stop is_open is o (inr (wants, f)) = inr (inr (is ∙ ap Some wants))
 
+-- a sending that fails leaves something that is ready
+pub sending_left : (durable : ℕ) (left : List Unsent) (stop : Stop) (is_open has_room : Bool) → EndsSending durable left (Some stop) is_open has_room → IsReady durable left
+sending_left durable left stop is_open has_room (inl (none, o, blocked)) = absurd (cc)
+sending_left durable left stop is_open has_room (inr (ready, why)) = ready
+
+-- texts that did not end the session were not the last of a client that is gone
+pub goes_on_still : (silence : Option Silence) (is_open : Bool) → ((None ≡ Some Left) × (is_open ≡ false)) → ⊥
+goes_on_still silence is_open (left, o) = cc
+
+pub is_not_open : (is_open : Bool) → is_open ≡ true → is_open ≡ false → ⊥
+is_not_open is_open o f = cc
+
 -- The first sending ended the turn.
 pub ends_with_first : (s s1 t : Session) (now most : ℕ) (e e1 f : Option Exchange) (c d : Option (List Call)) (stop : Stop) (was is_open has_room : Bool)
     → TakesTexts s now most e c None s1 e1 d was → SendsReady s1 e1 (Some stop) t f is_open has_room → ServesOpen s now most e c (Some stop) t f d is_open has_room
@@ -209,7 +227,8 @@ ends_with_first s s1 t now most e e1 f c d stop was is_open has_room k first =
     served s s1 t t t now most e e1 f f c d d k.taken k.silence asked_nothing (Some stop) is_open has_room k.all k.at_most first.sends (asks_nothing s.party now) (tells_nothing _ d (λ x. refl)) refl refl
     (durable_stays s.party t.durable) (no_copies s.party (unsent_of t)) (sends_nothing t f)
     (received_so turn (answered s.party now s.next (unsent_of s) k.taken) (unsent_of s1) k.all.unsent goes.2) (inl goes.0)
-    (subst (λ x. StopsAtOnce (option_or x None) turn) (sym goes.0) (stops_sending turn stop is_open refl refl fails)) (λ e. absurd (cc)) (λ e. absurd (cc)) (closed_is_open stop is_open fails)
+    (subst (λ x. StopsAtOnce (option_or x None) turn) (sym goes.0) (stops_sending turn stop is_open refl refl fails))
+    (λ some. subst IsRoomy k.all.unsent (k.silent some)) (λ e. absurd (goes_on_still k.silence was (k.gone e))) (λ e. inl refl) (λ e. absurd (cc)) (λ e. absurd (cc)) (closed_is_open stop is_open fails)
 
 -- the asking closes the session, or wants memory
 pub stops_asking : (t : Turn) (close : Option Close) (stop : Stop) → t.stop ≡ Some stop → StopsSo close stop → StopsAtOnce close t
@@ -227,7 +246,8 @@ ends_with_asking s s1 s2 t now most e e1 f c c1 d stop was is_open has_room room
     served s s1 s2 t t now most e e1 f f c c1 d k.taken k.silence own.asked (Some stop) is_open has_room k.all k.at_most first.sends (subst (λ p. AsksAs p now own.asked) party own.asks) own.calls own.party own.next
     (subst (λ p. t.durable ≡ durable_after p s2.durable own.asked.last) party own.durable) (subst (λ p. unsent_of t ≡ unsent_of s2 ++ copies_of p own.asked.last) party own.unsent) (sends_nothing t f)
     (received_so turn (answered s.party now s.next (unsent_of s) k.taken) (unsent_of s1) k.all.unsent goes.2) (inl goes.0)
-    (subst (λ x. StopsAtOnce (option_or x (close_of_asked own.asked)) turn) (sym goes.0) (stops_asking turn (close_of_asked own.asked) stop refl own.ends)) (λ e. absurd (cc)) (λ e. absurd (cc)) (λ close e. sends_open s1 s2 e1 f is_open has_room first)
+    (subst (λ x. StopsAtOnce (option_or x (close_of_asked own.asked)) turn) (sym goes.0) (stops_asking turn (close_of_asked own.asked) stop refl own.ends))
+    (λ some. subst IsRoomy k.all.unsent (k.silent some)) (λ e. absurd (goes_on_still k.silence was (k.gone e))) (λ e. absurd (is_not_open is_open (sends_open s1 s2 e1 f is_open has_room first) e)) (λ e. absurd (cc)) (λ e. absurd (cc)) (λ close e. sends_open s1 s2 e1 f is_open has_room first)
 
 -- what is asked in full is asked in part
 pub asks_less : (party : Party) (asked : Asked) (b : Bool) → AsksAll party true asked → AsksAll party b asked
@@ -249,6 +269,7 @@ goes_on_sent s s1 s2 s3 t now most e e1 e2 f c c1 d None was open1 room1 room is
     (subst (λ p. s3.durable ≡ durable_after p s2.durable own.asked.last) party own.durable) (subst (λ p. unsent_of s3 ≡ unsent_of s2 ++ copies_of p own.asked.last) party own.unsent) second.sends
     (received_so turn (answered s.party now s.next (unsent_of s) k.taken) (unsent_of s1) k.all.unsent goes.2) (inl goes.0)
     (subst (λ x. StopsAtOnce (option_or x (close_of_asked own.asked)) turn) (sym goes.0) (subst (λ x. StopsAtOnce x turn) (sym own.ends.0) (inl refl)))
+    (λ some. subst IsRoomy k.all.unsent (k.silent some)) (λ e. absurd (goes_on_still k.silence was (k.gone e))) (λ e. absurd (is_not_open is_open on.0 e))
     (λ none. (asks_less s.party own.asked (is_free turn (unsent_of t)) (subst (λ p. AsksAll p true own.asked) party own.ends.2), λ room. subst (λ d. IsBlocked d (unsent_of t)) (sym second.sends.keeps.durable) (on.1 room)))
     (λ e. on.0) (λ close e. absurd (cc))
 goes_on_sent s s1 s2 s3 t now most e e1 e2 f c c1 d (Some stop) was open1 room1 room is_open has_room k first own second =
@@ -260,6 +281,8 @@ goes_on_sent s s1 s2 s3 t now most e e1 e2 f c c1 d (Some stop) was open1 room1 
     (subst (λ p. s3.durable ≡ durable_after p s2.durable own.asked.last) party own.durable) (subst (λ p. unsent_of s3 ≡ unsent_of s2 ++ copies_of p own.asked.last) party own.unsent) second.sends
     (received_so turn (answered s.party now s.next (unsent_of s) k.taken) (unsent_of s1) k.all.unsent goes.2) (inl goes.0)
     (subst (λ x. StopsAtOnce (option_or x (close_of_asked own.asked)) turn) (sym goes.0) (subst (λ x. StopsAtOnce x turn) (sym own.ends.0) (stops_sending turn stop is_open refl refl fails)))
+    (λ some. subst IsRoomy k.all.unsent (k.silent some)) (λ e. absurd (goes_on_still k.silence was (k.gone e)))
+    (λ e. inr (subst (λ n. IsReady n (unsent_of t)) (sym second.sends.keeps.durable) (sending_left s3.durable (unsent_of t) stop is_open has_room second.ends)))
     (λ none. absurd (cc)) (λ none. absurd (cc)) (closed_is_open stop is_open fails)
 
 -- a session that has sent all holds nothing
@@ -302,6 +325,7 @@ goes_on_held s s1 s2 t now most e e1 f c c1 d was is_open has_room room same k f
     (subst (λ p. t.durable ≡ durable_after p s2.durable own.asked.last) party own.durable) (subst (λ p. unsent_of t ≡ unsent_of s2 ++ copies_of p own.asked.last) party own.unsent) (sends_nothing t f)
     (received_so turn (answered s.party now s.next (unsent_of s) k.taken) (unsent_of s1) k.all.unsent goes.2) (inl goes.0)
     (subst (λ x. StopsAtOnce (option_or x (close_of_asked own.asked)) turn) (sym goes.0) (subst (λ x. StopsAtOnce x turn) (sym own.ends.0) (inl refl)))
+    (λ some. subst IsRoomy k.all.unsent (k.silent some)) (λ e. absurd (goes_on_still k.silence was (k.gone e))) (λ e. absurd (is_not_open is_open on.0 e))
     (λ going. (
       subst (λ p. AsksAll p (is_free turn (unsent_of t)) own.asked) party
           (subst (λ l. AsksAll s2.party (is_free turn l) own.asked) (sym unsent) (asks_held s2.party s2 turn room own.ends.1 (sym same) own.ends.2)),

@@ -10,9 +10,9 @@ use Rattle.session_texts.specs.Unsent.{IsDeliveryText, Unsent, answer_text, answ
 use Rattle.session_core.specs.declared.session.Session.{Session}
 use Rattle.session_core.specs.declared.stop.Stop.{Stop}
 use Rattle.session_core.specs.declared.stop.Stop.TheVariants.{Gone as Left}
-use Rattle.session_core.specs.Held.{unsent_of}
+use Rattle.session_core.specs.Held.{can_send, first_ready, has_copies, is_ready, unsent_of}
 use Rattle.session_core.specs.Sending.{Gone, IsBlocked, IsReady, IsSent}
-use Rattle.session_core.specs.Steps.{FailsSending, KeepsState, SendsOne, SendsReady, SendsSome, can_send, first_ready, has_copies, is_ready, wanting_memory}
+use Rattle.session_core.specs.Steps.{FailsSending, KeepsState, SendsOne, SendsReady, SendsSome, wanting_memory}
 use Rattle.session_core.proofs.Telling.{tells_nothing, tells_then}
 
 -- a message that was sent is not to be sent any longer

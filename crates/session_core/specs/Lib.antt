@@ -7,3 +7,5 @@ pub mod Runs
 pub mod Steps
 pub mod Closing
 pub mod Opening
+pub mod Waiting
+pub mod Lives

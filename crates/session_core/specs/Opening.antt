@@ -53,14 +53,17 @@ abbrev pub BeginsBy : ℕ → Reply → Option Party → Option Exchange → Opt
 BeginsBy code reply None e result f is_open = IsRefused code (fault_of reply) e result f is_open
 BeginsBy code reply (Some party) e result f is_open = Begins party e result f is_open
 
--- the event is called, and the session begins by its reply; or there was no memory for that, and nothing is called
-abbrev pub OpensBy : Event → ℕ → (Reply → Option Party) → Option Exchange → Option (List Call) → Option Session → Option Exchange → Option (List Call) → Bool → Type 0
-OpensBy event code party e c result f d is_open =
-    ((reply : Reply) × Tells (with_call (record { event = event; reply = reply })) c d × BeginsBy code reply (party reply) e result f is_open)
-    ⊎ ((d ≡ c) × IsRefused 4008 NoMemory e result f is_open)
+-- the event is called, and the session begins by its reply
+abbrev pub JoinsBy : Event → ℕ → (Reply → Option Party) → Option Exchange → Option (List Call) → Option Session → Option Exchange → Option (List Call) → Bool → Type 0
+JoinsBy event code party e c result f d is_open =
+    (reply : Reply) × Tells (with_call (record { event = event; reply = reply })) c d × BeginsBy code reply (party reply) e result f is_open
 
--- A session at the endpoint begins, or its connection is closed.
+-- the same; or there was no memory for that, and nothing is called
+abbrev pub OpensBy : Event → ℕ → (Reply → Option Party) → Option Exchange → Option (List Call) → Option Session → Option Exchange → Option (List Call) → Bool → Type 0
+OpensBy event code party e c result f d is_open = JoinsBy event code party e c result f d is_open ⊎ ((d ≡ c) × IsRefused 4008 NoMemory e result f is_open)
+
+-- A session at the endpoint begins, or its connection is closed. A producer's takes no memory.
 abbrev pub Opens : Endpoint → Option Exchange → Option (List Call) → Option Session → Option Exchange → Option (List Call) → Bool → Type 0
-Opens (Producer p) e c result f d is_open = OpensBy (joins_producer p) 4001 (producer_party p.base) e c result f d is_open
+Opens (Producer p) e c result f d is_open = JoinsBy (joins_producer p) 4001 (producer_party p.base) e c result f d is_open
 Opens (Consumer s) e c result f d is_open = OpensBy (joins_consumer s) 4002 (consumer_party s.subscription) e c result f d is_open
 Opens (Admin a) e c result f d is_open = (d ≡ c) × Begins AsAdmin e result f is_open

@@ -10,8 +10,8 @@ use Rattle.session_texts.specs.Outcomes.{farewell_of, first_of}
 use Rattle.session_texts.specs.Unsent.{Unsent, is_answer}
 use Rattle.session_core.specs.declared.stop.Stop.{Stop}
 use Rattle.session_core.specs.declared.stop.Stop.TheVariants.{Gone, Closed}
-use Rattle.session_core.specs.Turns.{Turn, called, exchanged, without_stop}
-use Rattle.session_core.specs.Texts.{AreTaken, answered, closed_by, next_after}
+use Rattle.session_core.specs.Turns.{Turn, ended, called, exchanged, without_stop}
+use Rattle.session_core.specs.Texts.{AreFew, AreTaken, IsRoomy, answered, closed_by, next_after}
 use Rattle.session_core.specs.Asking.{AsksAll, AsksAs, asked_nothing, close_of_asked, copies_of, durable_after}
 use Rattle.session_core.specs.Sending.{IsBlocked, IsReady, Sends}
 use Rattle.session_core.specs.Held.{unsent_of}
@@ -90,6 +90,14 @@ SendsBeforeClose t durable left =
     (close : Close) → t.stop ≡ Some (Closed close)
     → (t.is_open ≡ true) × (t.has_room ≡ true → IsBlocked durable left ⊎ (close ≡ refusing NoMemory))
 
+-- where the client is gone, nothing is asked or sent, and the session ends
+abbrev pub EndsWithClient : Turn → Type 0
+EndsWithClient t = t.silence ≡ Some ended → (t.asked ≡ asked_nothing) × (t.sent ≡ []) × (t.stop ≡ Some Gone) × (t.is_open ≡ false)
+
+-- a connection that fails did so before anything was asked, or in the sending of what is left
+abbrev pub FailsAt : Turn → ℕ → List Unsent → Type 0
+FailsAt t durable left = t.is_open ≡ false → (t.asked ≡ asked_nothing) ⊎ IsReady durable left
+
 -- A turn after these turns.
 pub record IsTurn (party : Party) (before : List Turn) (t : Turn) : Type 0 where
   -- its texts, and what they lead to
@@ -97,6 +105,9 @@ pub record IsTurn (party : Party) (before : List Turn) (t : Turn) : Type 0 where
   pub most : length t.taken ≤ t.most
   pub held : List Unsent
   pub holds : Sends (durable_of party before) (all_of party before) (sent_of before) held
+  -- a full session receives nothing
+  pub few : AreFew party t.now (next_of party before) held t.taken
+  pub silent : IsSome t.silence → IsRoomy (answered party t.now (next_of party before) held t.taken)
   pub receives : ReceivesNoMore t (answered party t.now (next_of party before) held t.taken)
   -- what it asks of its own accord
   pub asks : AsksAs party t.now t.asked
@@ -109,6 +120,8 @@ pub record IsTurn (party : Party) (before : List Turn) (t : Turn) : Type 0 where
   pub farewell : SaysFarewell party t.stop t.farewell
   pub goes_on : t.stop ≡ None → GoesOn party t (durable_of party (t ∷ before)) left
   pub closes : SendsBeforeClose t (durable_of party (t ∷ before)) left
+  pub gone : EndsWithClient t
+  pub fails : FailsAt t (durable_of party (t ∷ before)) left
 
 -- the session has not ended
 abbrev pub IsOpen : List Turn → Type 0
@@ -138,7 +151,7 @@ pub record IsServed (s : Session) (now most : ℕ) (before : List Turn) (e : Opt
   pub calls : Tells (called turn) c d
   -- a connection that failed, or whose client has gone, is not open, and neither is one that was closed
   pub fails : turn.is_open ≡ false → is_open ≡ false
-  pub session : MatchOption result (IsSome turn.stop) (λ t. (turn.stop ≡ None) × (t.party ≡ s.party) × IsSession t (turn ∷ before) × (is_open ≡ true) × (turn.has_room ≡ has_room))
+  pub session : MatchOption result (IsSome turn.stop) (λ t. (turn.stop ≡ None) × (t.party ≡ s.party) × IsSession t (turn ∷ before) × (is_open ≡ true) × (turn.has_room ≡ has_room) × (t.had_room ≡ has_room))
 
 -- How a turn left its connection, before it closed it: what the connection told, whether it was open, and whether it had room.
 pub record Leaves (t : Turn) (e f : Option Exchange) (is_open has_room : Bool) : Type 0 where

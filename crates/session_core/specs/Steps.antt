@@ -1,19 +1,18 @@
 -- The steps of a turn, as its private functions tell them: what each adds to the turn, and to what the session holds.
-use Rattle.std.specs.Prelude.{◌≡◌, ◌⊎◌, ℕ, ◌≤◌, nat_le, List, [], ◌∷◌, ◌++◌, length, map, All, Bool, true, false, ◌&&◌, ◌||◌, ◌==◌, nat_lt, Option, Some, None, IsSome, Result, Ok, Err, option_map, max}
+use Rattle.std.specs.Prelude.{◌≡◌, ◌⊎◌, ℕ, ◌≤◌, List, [], ◌∷◌, ◌++◌, length, map, All, Bool, true, false, ◌&&◌, Option, Some, None, IsSome, Result, Ok, Err, option_map, max}
 use Rattle.std.specs.Option.{option_or}
 use Rattle.position_core.specs.declared.fault.Fault.TheVariants.{NoMemory}
 use Rattle.delivery_machine.specs.declared.event.Event.{Event}
 use Rattle.delivery_machine.specs.declared.event.Event.TheVariants.{Collect, Dispatch, Progress, Tick}
 use Rattle.delivery_machine.specs.declared.reply.Reply.{Reply}
-use Rattle.session_links.specs.Links.{Receipt, came, nothing, gone, Exchange, Call, Tells, same, with_call, with_close, with_receipt, with_sent}
+use Rattle.session_links.specs.Links.{came, nothing, gone, Exchange, Call, Tells, same, with_call, with_close, with_receipt, with_sent}
 use Rattle.session_texts.specs.declared.party.Party.{Party}
 use Rattle.session_texts.specs.declared.party.Party.TheVariants.{Producer, Consumer, Admin}
 use Rattle.session_texts.specs.declared.close.Close.{Close}
 use Rattle.session_texts.specs.Asking.{asks, refusing}
 use Rattle.session_texts.specs.Numbers.{reason_of}
 use Rattle.session_texts.specs.Outcomes.{farewell_of, outcome_of, own_close}
-use Rattle.session_texts.specs.Unsent.{Unsent, answering, least_durable}
-use Rattle.session_texts.specs.declared.answer.Answer.{Answer}
+use Rattle.session_texts.specs.Unsent.{Unsent, answering}
 use Rattle.session_core.specs.declared.stop.Stop.{Stop}
 use Rattle.session_core.specs.declared.stop.Stop.TheVariants.{Gone as Left, Closed}
 use Rattle.session_core.specs.declared.session.Session.{Session}
@@ -21,20 +20,12 @@ use Rattle.session_core.specs.declared.asking.Series.{Series}
 use Rattle.session_core.specs.declared.asking.Series.TheVariants.{Ticks, Dispatches}
 use Rattle.session_core.specs.declared.texts.Received.{Received}
 use Rattle.session_core.specs.declared.texts.Received.TheVariants.{Text, Nothing}
-use Rattle.session_core.specs.Turns.{Taken, Turn, and_one, and_then, calls_of_asked, calls_of_texts, called, exchanged, texts_received, without_stop}
-use Rattle.session_core.specs.Texts.{AreTaken, IsTakenAs, IsUnread, answer_in, answer_to, answered, close_in, closed_by, next_after, number_after_call}
+use Rattle.session_core.specs.Turns.{Silence, ended, Taken, Turn, receipt_of_silence, and_one, and_then, calls_of_asked, calls_of_texts, called, exchanged, texts_received, without_stop}
+use Rattle.session_core.specs.Texts.{AreFew, AreTaken, IsRoomy, IsTakenAs, IsUnread, answer_in, answer_to, answered, close_in, closed_by, next_after, number_after_call}
 use Rattle.session_core.specs.Asking.{AllLeftMore, Asked, AsksAll, AsksAs, IsSeries, IsWhole, asked_nothing, close_after, close_of_asked, copies_in, copies_of, durable_after, durable_in, leaves_more}
 use Rattle.session_core.specs.Sending.{Gone, IsBlocked, IsReady, IsSent}
-use Rattle.session_core.specs.Runs.{GoesOn, IsFull, ReceivesNoMore}
-use Rattle.session_core.specs.Held.{unsent_of}
-
--- it holds as many answers as it may
-abbrev pub holds_full : Session → Bool
-holds_full s = nat_le 1000 (length s.waiting.items)
-
--- it holds nothing to be sent
-abbrev pub holds_nothing : Session → Bool
-holds_nothing s = (length s.waiting.items == 0) && nat_le (length s.copies) s.copies_sent
+use Rattle.session_core.specs.Runs.{EndsWithClient, FailsAt, GoesOn, IsFull, ReceivesNoMore}
+use Rattle.session_core.specs.Held.{holds_nothing, unsent_of}
 
 -- memory is wanted
 abbrev pub wanting_memory : Stop
@@ -76,26 +67,27 @@ pub record TakesText (s : Session) (now : ℕ) (text : List ℕ) (c : Option (Li
 -- the session received once: a text, which it took; or nothing, since it is full or nothing came; or its end
 abbrev pub TakesNext : Session → ℕ → Option Exchange → Option (List Call) → Result Received Stop → Session → Option Exchange → Option (List Call) → Bool → Type 0
 TakesNext s now e c (Ok Text) t f d is_open =
-    (text : List ℕ) × TakesText s now text c None t d × Tells (with_receipt (came text)) e f × (is_open ≡ true)
+    (text : List ℕ) × TakesText s now text c None t d × Tells (with_receipt (came text)) e f × (is_open ≡ true) × IsRoomy (unsent_of s)
 TakesNext s now e c (Ok Nothing) t f d is_open =
-    Stays s t × (d ≡ c) × (is_open ≡ true) × (Tells (with_receipt nothing) e f ⊎ (IsFull (unsent_of s) × (f ≡ e)))
+    Stays s t × (d ≡ c) × (is_open ≡ true) × ((Tells (with_receipt nothing) e f × IsRoomy (unsent_of s)) ⊎ (IsFull (unsent_of s) × (f ≡ e)))
 TakesNext s now e c (Err stop) t f d is_open =
-    ((text : List ℕ) × TakesText s now text c (Some stop) t d × Tells (with_receipt (came text)) e f × (is_open ≡ true))
-    ⊎ ((Stays s t × (d ≡ c) × (stop ≡ Left) × (is_open ≡ false) × (Tells (with_receipt gone) e f ⊎ Tells same e f))
+    ((text : List ℕ) × TakesText s now text c (Some stop) t d × Tells (with_receipt (came text)) e f × (is_open ≡ true) × IsRoomy (unsent_of s))
+    ⊎ ((Stays s t × (d ≡ c) × (stop ≡ Left) × (is_open ≡ false) × ((Tells (with_receipt gone) e f × IsRoomy (unsent_of s)) ⊎ Tells same e f))
     ⊎ (Stays s t × (d ≡ c) × (stop ≡ wanting_memory) × (is_open ≡ true) × (f ≡ e)))
 
 -- what was received with these texts, and this that was none
-abbrev pub received_with : List Taken → Option Receipt → Exchange → Exchange
-received_with taken silence e = record e { received = and_one (texts_received e.received taken) silence }
+abbrev pub received_with : List Taken → Option Silence → Exchange → Exchange
+received_with taken silence e = record e { received = and_one (texts_received e.received taken) (option_map receipt_of_silence silence) }
 
 -- these texts were taken
-pub record TakesAll (s : Session) (now : ℕ) (taken : List Taken) (silence : Option Receipt) (e : Option Exchange) (c : Option (List Call)) (t : Session) (f : Option Exchange) (d : Option (List Call)) : Type 0 where
+pub record TakesAll (s : Session) (now : ℕ) (taken : List Taken) (silence : Option Silence) (e : Option Exchange) (c : Option (List Call)) (t : Session) (f : Option Exchange) (d : Option (List Call)) : Type 0 where
   pub texts : AreTaken s.party now s.next taken
   pub exchange : Tells (received_with taken silence) e f
   pub calls : Tells (λ calls. calls_of_texts calls taken) c d
   pub keeps : KeepsCopies s t
   pub next : t.next ≡ next_after s.next taken
   pub unsent : unsent_of t ≡ answered s.party now s.next (unsent_of s) taken
+  pub few : AreFew s.party now s.next (unsent_of s) taken
 
 -- so many texts were taken, and the session goes on
 pub record TakesSome (s : Session) (now count : ℕ) (e : Option Exchange) (c : Option (List Call)) (t : Session) (f : Option Exchange) (d : Option (List Call)) (is_open : Bool) : Type 0 where
@@ -106,23 +98,25 @@ pub record TakesSome (s : Session) (now count : ℕ) (e : Option Exchange) (c : 
   pub opens : is_open ≡ true
 
 -- why no more texts were taken, where no text closed the session
-abbrev pub EndsTexts : List Taken → Option Receipt → ℕ → List Unsent → Option Stop → Bool → Type 0
+abbrev pub EndsTexts : List Taken → Option Silence → ℕ → List Unsent → Option Stop → Bool → Type 0
 EndsTexts taken silence most unsent stop is_open =
     ((stop ≡ None) × (is_open ≡ true) × (IsSome silence ⊎ ((length taken ≡ most) ⊎ IsFull unsent)))
     ⊎ (((stop ≡ Some Left) × (is_open ≡ false)) ⊎ ((stop ≡ Some wanting_memory) × (is_open ≡ true)))
 
 -- the same, where one may have
-abbrev pub EndsTextsBy : Option Close → List Taken → Option Receipt → ℕ → List Unsent → Option Stop → Bool → Type 0
+abbrev pub EndsTextsBy : Option Close → List Taken → Option Silence → ℕ → List Unsent → Option Stop → Bool → Type 0
 EndsTextsBy None taken silence most unsent stop is_open = EndsTexts taken silence most unsent stop is_open
 EndsTextsBy (Some close) taken silence most unsent stop is_open = (stop ≡ Some (Closed close)) × (is_open ≡ true)
 
 -- the texts of a turn were taken
 pub record TakesTexts (s : Session) (now most : ℕ) (e : Option Exchange) (c : Option (List Call)) (stop : Option Stop) (t : Session) (f : Option Exchange) (d : Option (List Call)) (is_open : Bool) : Type 0 where
   pub taken : List Taken
-  pub silence : Option Receipt
+  pub silence : Option Silence
   pub all : TakesAll s now taken silence e c t f d
   pub at_most : length taken ≤ most
   pub ends : EndsTextsBy (closed_by taken) taken silence most (unsent_of t) stop is_open
+  pub silent : IsSome silence → IsRoomy (unsent_of t)
+  pub gone : silence ≡ Some ended → (stop ≡ Some Left) × (is_open ≡ false)
 
 -- one event was asked, and whether more may be was told; or it closed the session, or there was no memory to ask
 abbrev pub AsksOne : Event → Option (List Call) → Result Bool Stop → Option (List Call) → Type 0
@@ -237,6 +231,8 @@ pub record Serves (s : Session) (now most : ℕ) (e : Option Exchange) (c : Opti
   pub roomy : turn.has_room ≡ has_room
   pub texts : AreTaken s.party now s.next turn.taken
   pub at_most : length turn.taken ≤ most
+  pub few : AreFew s.party now s.next (unsent_of s) turn.taken
+  pub silent : IsSome turn.silence → IsRoomy (answered s.party now s.next (unsent_of s) turn.taken)
   pub receives : ReceivesNoMore turn (answered s.party now s.next (unsent_of s) turn.taken)
   pub asks : AsksAs s.party now turn.asked
   pub is_over : (closed_by turn.taken ≡ None) ⊎ (turn.asked ≡ asked_nothing)
@@ -251,6 +247,8 @@ pub record Serves (s : Session) (now most : ℕ) (e : Option Exchange) (c : Opti
   pub calls : Tells (called turn) c d
   pub goes_on : stop ≡ None → GoesOn s.party turn t.durable (unsent_of t)
   pub stays_open : stop ≡ None → is_open ≡ true
+  pub lost : EndsWithClient turn
+  pub fails : FailsAt turn t.durable (unsent_of t)
   -- a session that is to be closed has a connection to close
   pub can_close : (close : Close) → stop ≡ Some (Closed close) → is_open ≡ true
 
@@ -287,22 +285,6 @@ pub record AsksCollect (consumer : ℕ) (s : Session) (c : Option (List Call)) (
   pub keeps : KeepsState s t
   pub unsent : unsent_of t ≡ copies_in reply
   pub stops : stop ≡ option_map Closed (own_close reply)
-
--- there is a message that was collected and not sent
-abbrev pub has_copies : Session → Bool
-has_copies s = nat_lt s.copies_sent (length s.copies)
-
--- the first of the answers may be sent
-abbrev pub first_ready : ℕ → List Answer → Bool
-first_ready durable [] = false
-first_ready durable (answer ∷ more) = nat_le (least_durable answer) durable
-
-abbrev pub is_ready : Session → Bool
-is_ready s = first_ready s.durable s.waiting.items
-
--- there is something that may be sent
-abbrev pub can_send : Session → Bool
-can_send s = has_copies s || is_ready s
 
 -- how the sending of one failed: the connection did, or there was no memory, and the connection has the room that it had
 abbrev pub FailsSending : Stop → Bool → Bool → Bool → Type 0

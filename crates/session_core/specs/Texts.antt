@@ -1,5 +1,5 @@
 -- Which texts a turn takes, what each leads to, and what answers it.
-use Rattle.std.specs.Prelude.{◌≡◌, ◌⊎◌, ℕ, ℤ, List, [], ◌∷◌, ◌++◌, Option, Some, None, is_some, if◌then◌else◌}
+use Rattle.std.specs.Prelude.{◌≡◌, ◌⊎◌, ℕ, ℤ, ◌<◌, List, [], ◌∷◌, ◌++◌, count_by, Option, Some, None, is_some, if◌then◌else◌}
 use Rattle.position_core.specs.declared.fault.Fault.TheVariants.{NoMemory}
 use Rattle.delivery_machine.specs.declared.reply.Reply.{Reply}
 use Rattle.session_links.specs.Links.{Call}
@@ -12,7 +12,7 @@ use Rattle.session_texts.specs.declared.outcome.Outcome.TheVariants.{Answers as 
 use Rattle.session_texts.specs.Numbers.{number_after}
 use Rattle.session_texts.specs.Asking.{asks, refusing}
 use Rattle.session_texts.specs.Outcomes.{outcome_of}
-use Rattle.session_texts.specs.Unsent.{Unsent, answering}
+use Rattle.session_texts.specs.Unsent.{Unsent, answering, is_answer}
 use Rattle.session_core.specs.Turns.{Taken}
 
 -- each publish takes the next number, whatever it is answered
@@ -77,3 +77,12 @@ answer_to party now next taken = if is_some taken.close then [] else answer_as p
 abbrev pub answered : Party → ℕ → Option ℤ → List Unsent → List Taken → List Unsent
 answered party now first all [] = all
 answered party now first all (taken ∷ before) = answered party now first all before ++ answer_to party now (next_after first before) taken
+
+-- fewer than 1,000 texts are not answered yet
+abbrev pub IsRoomy : List Unsent → Type 0
+IsRoomy left = count_by is_answer left < 1000
+
+-- so it was before each of the texts
+abbrev pub AreFew : Party → ℕ → Option ℤ → List Unsent → List Taken → Type 0
+AreFew party now first all [] = Unit {0}
+AreFew party now first all (taken ∷ before) = AreFew party now first all before × IsRoomy (answered party now first all before)

@@ -1,11 +1,20 @@
 -- A turn of a session: what was taken, asked and sent in it, and what all that adds up to.
-use Rattle.std.specs.Prelude.{ℕ, List, [], ◌∷◌, ◌++◌, Bool, Option, Some, None}
-use Rattle.session_links.specs.Links.{Receipt, came, Closing, Exchange, Call}
+use Rattle.std.specs.Prelude.{ℕ, List, [], ◌∷◌, ◌++◌, Bool, Option, Some, None, option_map}
+use Rattle.session_links.specs.Links.{Receipt, came, nothing, gone, Closing, Exchange, Call}
 use Rattle.session_texts.specs.declared.close.Close.{Close}
 use Rattle.session_texts.specs.Numbers.{reason_of}
 use Rattle.session_core.specs.Asking.{Asked}
 use Rattle.session_core.specs.declared.stop.Stop.{Stop}
 use Rattle.session_core.specs.declared.stop.Stop.TheVariants.{Gone, Closed}
+
+-- what comes that is no text: nothing, or that the client is gone
+pub data Silence : Type 0 where
+  quiet : Silence
+  ended : Silence
+
+abbrev pub receipt_of_silence : Silence → Receipt
+receipt_of_silence quiet = nothing
+receipt_of_silence ended = gone
 
 -- a text that came, the call that it led to, where it led to one, and the close, where it closed the session
 pub record Taken : Type 0 where
@@ -20,7 +29,7 @@ pub record Turn : Type 0 where
   -- the texts
   pub taken : List Taken
   -- what came that was no text
-  pub silence : Option Receipt
+  pub silence : Option Silence
   -- what the session asked of its own accord
   pub asked : Asked
   -- what was sent, in order
@@ -73,7 +82,7 @@ without_stop t = record t { stop = None }
 -- what the connection was told, and what the turn told it
 abbrev pub exchanged : Turn → Exchange → Exchange
 exchanged t e = record {
-  received = and_one (texts_received e.received t.taken) t.silence;
+  received = and_one (texts_received e.received t.taken) (option_map receipt_of_silence t.silence);
   sent = e.sent ++ t.sent;
   closes = closed t.stop e.closes;
 }

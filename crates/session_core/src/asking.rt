@@ -3,8 +3,8 @@ ghost use Rattle.std.specs.Prelude.{◌≡◌, ◌&&◌, IfErr, IfOk, None, Some
 ghost use Rattle.std.specs.Result.{result_err};
 ghost use Rattle.session_texts.specs.Outcomes.{own_close};
 ghost use Rattle.session_core.specs.Asking.{copies_in, durable_in, leaves_more};
-ghost use Rattle.session_core.specs.Held.{unsent_of};
-ghost use Rattle.session_core.specs.Steps.{AsksBoth, AsksCollect, AsksOne, AsksOwn, AsksProgress, AsksSeries, KeepsState, holds_nothing, series_event};
+ghost use Rattle.session_core.specs.Held.{holds_nothing, unsent_of};
+ghost use Rattle.session_core.specs.Steps.{AsksBoth, AsksCollect, AsksOne, AsksOwn, AsksProgress, AsksSeries, KeepsState, series_event};
 
 use crate::dues::Dues;
 use crate::session::Session;

@@ -1,4 +1,6 @@
 // When a message that a consumer was sent may be due: a hint for whoever serves its session.
+ghost use Rattle.std.specs.Prelude.{◌≡◌};
+
 use delivery_machine::{DueMoment, Millis, Moment};
 
 /// How long after a moment that has come another look is worth while, in milliseconds.
@@ -84,7 +86,9 @@ impl Dues {
         }
     }
 
-    pub(crate) fn first(&self) -> Option<DueMoment> {
+    pub(crate) fn first(&self) -> Option<DueMoment>
+        ensures { result ≡ self.now.first }
+    {
         self.first
     }
 }

@@ -4,6 +4,7 @@
 
 mod asking;
 mod dues;
+pub mod laws;
 mod opening;
 mod sending;
 mod serving;

@@ -1,7 +1,8 @@
 // The beginning of a session.
 ghost use Rattle.std.specs.Prelude.{◌≡◌, [], OnSome, true, negsuc, unwrap_or};
 ghost use Rattle.session_texts.specs.Numbers.{number_after};
-ghost use Rattle.session_core.specs.Opening.{BeginsBy, IsRefused, Opens, OpensBy, consumer_party, fault_of, joins_consumer, joins_producer, producer_party};
+ghost use Rattle.session_core.specs.Lives.{BeginsLife};
+ghost use Rattle.session_core.specs.Opening.{BeginsBy, IsRefused, JoinsBy, Opens, OpensBy, consumer_party, fault_of, joins_consumer, joins_producer, producer_party};
 ghost use Rattle.session_core.specs.Runs.{IsSession};
 
 use crate::dues::Dues;
@@ -164,7 +165,7 @@ fn open_producer<C: Conn, K: Caller>(
 ) -> Option<Session>
     requires { C.is_open conn.old ≡ true }
     ensures stays { OnSome result (C.is_open conn.new ≡ true) }
-    ensures begins { OpensBy (joins_producer endpoint) 4001 (producer_party endpoint.base) (C.exchange conn.old) (K.calls caller.old) result (C.exchange conn.new) (K.calls caller.new) (C.is_open conn.new) }
+    ensures begins { JoinsBy (joins_producer endpoint) 4001 (producer_party endpoint.base) (C.exchange conn.old) (K.calls caller.old) result (C.exchange conn.new) (K.calls caller.new) (C.is_open conn.new) }
 {
     let given = endpoint.base;
     let reply = ask(caller, joins_producer(endpoint));
@@ -240,6 +241,8 @@ fn open_consumer<C: Conn, K: Caller>(
 
 /// Opens a session at the endpoint: joins a producer or a consumer to its topic. None where the topic refuses, or memory
 /// does; the connection is closed then (4001 for a producer, 4002 for a consumer, 4008 where memory is wanted).
+///
+/// The session begins its life with what is told here, and `serve` keeps it.
 pub fn open<C: Conn, K: Caller>(
     alloc: Global,
     endpoint: Endpoint,
@@ -249,6 +252,7 @@ pub fn open<C: Conn, K: Caller>(
     requires { C.is_open conn.old ≡ true }
     ensures stays { OnSome result (C.is_open conn.new ≡ true) }
     ensures begins { Opens endpoint (C.exchange conn.old) (K.calls caller.old) result (C.exchange conn.new) (K.calls caller.new) (C.is_open conn.new) }
+    ensures lives { BeginsLife endpoint (C.exchange conn.old) (K.calls caller.old) result (C.exchange conn.new) (K.calls caller.new) }
 {
     match endpoint {
         Endpoint::Producer(producer) => open_producer(alloc, producer, conn, caller),

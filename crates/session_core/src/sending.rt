@@ -1,7 +1,8 @@
 // Sending what is ready.
 ghost use Rattle.std.specs.Prelude.{◌≡◌, drop, true, false};
 ghost use Rattle.std.specs.Result.{result_err};
-ghost use Rattle.session_core.specs.Steps.{SendsOne, SendsReady, can_send, has_copies, is_ready};
+ghost use Rattle.session_core.specs.Held.{can_send, has_copies, is_ready};
+ghost use Rattle.session_core.specs.Steps.{SendsOne, SendsReady};
 
 use crate::session::Session;
 use crate::stop::Stop;

@@ -2,6 +2,7 @@
 ghost use Rattle.std.specs.Prelude.{◌≡◌, List, OnSome, true, false};
 ghost use Rattle.std.specs.Result.{result_err};
 ghost use Rattle.session_core.specs.Closing.{SendsLast, ServesOpen};
+ghost use Rattle.session_core.specs.Lives.{KeepsLife};
 ghost use Rattle.session_core.specs.Runs.{IsServed, IsSession, Leaves};
 ghost use Rattle.session_core.specs.Steps.{CanClose, ClosesBy, SaysLast};
 ghost use Rattle.session_core.specs.Turns.{Turn};
@@ -87,6 +88,10 @@ fn say_last<K: Caller>(party: &Party, caller: &mut K)
 /// None where the session has ended. The connection is closed then, or is gone, and is not called again. Before a close
 /// what is ready is sent, as long as the connection has room, and the last event is said: whoever sees the close may come
 /// again at once under the same name.
+///
+/// Where all that the connection and the caller told so far is the life of the session at its endpoint, it is so afterwards,
+/// up to its end: with `open`, this says of a session's whole life what was received and sent, what was asked, and how it
+/// ended (`specs/Lives.antt`).
 pub fn serve<C: Conn, K: Caller>(
     session: Session,
     conn: &mut C,
@@ -97,6 +102,7 @@ pub fn serve<C: Conn, K: Caller>(
     requires { C.is_open conn.old ≡ true }
     ensures stays { OnSome result (C.is_open conn.new ≡ true) }
     ensures run { (before : List Turn) → IsSession session before → (served : IsServed session now most before (C.exchange conn.old) (K.calls caller.old) result (C.exchange conn.new) (K.calls caller.new) (C.is_open conn.new) (C.has_room conn.new)) × (last : C) × Leaves served.turn (C.exchange conn.old) (C.exchange last) (C.is_open last) (C.has_room last) }
+    ensures lives { KeepsLife session (C.exchange conn.old) (K.calls caller.old) result (C.exchange conn.new) (K.calls caller.new) }
 {
     let mut session = session;
     match session.serve_open(conn, caller, now, most.get()) {
@@ -124,6 +130,7 @@ pub fn turn<C: Conn, K: Caller>(
     requires { C.is_open conn.old ≡ true }
     ensures stays { OnSome result (C.is_open conn.new ≡ true) }
     ensures run { (before : List Turn) → IsSession session before → (served : IsServed session now 1 before (C.exchange conn.old) (K.calls caller.old) result (C.exchange conn.new) (K.calls caller.new) (C.is_open conn.new) (C.has_room conn.new)) × (last : C) × Leaves served.turn (C.exchange conn.old) (C.exchange last) (C.is_open last) (C.has_room last) }
+    ensures lives { KeepsLife session (C.exchange conn.old) (K.calls caller.old) result (C.exchange conn.new) (K.calls caller.new) }
 {
     match TextCount::new(1) {
         Some(one) => serve(session, conn, caller, now, one),

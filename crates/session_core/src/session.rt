@@ -1,6 +1,6 @@
 // What a session holds between its turns.
 ghost use Rattle.std.specs.Prelude.{◌≡◌};
-ghost use Rattle.session_core.specs.Steps.{holds_full, holds_nothing};
+ghost use Rattle.session_core.specs.Held.{holds_full, holds_nothing};
 
 use crate::dues::Dues;
 use delivery_machine::Deliveries;

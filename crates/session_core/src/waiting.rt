@@ -1,5 +1,7 @@
 // What a session waits for between its turns.
+ghost use Rattle.std.specs.Prelude.{◌≡◌};
 ghost use Rattle.session_core.specs.Steps.{Rests};
+ghost use Rattle.session_core.specs.Waiting.{awaits_messages, awaits_moment, awaits_room, is_consumers, need_of, takes_texts};
 
 use crate::session::Session;
 use delivery_machine::{Deliveries, DueMoment, Moment};
@@ -8,8 +10,8 @@ use session_texts::Party;
 /// How many bytes of room for a text a session at rest keeps.
 const MOST_KEPT: usize = 512;
 
-/// What a session waits for, beside a text of its client. It is a hint, and nothing is proved of it: a session that is
-/// served only when what it waits for has come sends the same texts as one that is served all the time.
+/// What a session waits for, beside a text of its client. Where it does not wait for room, a turn in which nothing of this
+/// has come sends nothing (`laws::waiting_sends_nothing`).
 #[derive(Clone, Copy, Debug, PartialEq, Eq)]
 pub struct Waits {
     /// It takes a text where one is there: fewer than 1,000 are unanswered.
@@ -27,7 +29,13 @@ pub struct Waits {
 impl Session {
     /// What the session waits for, after a turn. A consumer's session that was sent 64 messages or more in a turn may
     /// have more to be sent at once.
-    pub fn waits(&self) -> Waits {
+    pub fn waits(&self) -> Waits
+        ensures texts { result.texts ≡ takes_texts self.now }
+        ensures durable { result.durable ≡ need_of self.now }
+        ensures messages { result.messages ≡ awaits_messages self.now }
+        ensures due { result.due ≡ awaits_moment self.now }
+        ensures room { result.room ≡ awaits_room self.now }
+    {
         let texts = !self.is_full();
         let has_unsent = self.has_copies();
         match self.waiting.front() {
@@ -55,7 +63,9 @@ impl Session {
         }
     }
 
-    fn is_consumers(&self) -> bool {
+    fn is_consumers(&self) -> bool
+        ensures { result ≡ is_consumers self.now.party }
+    {
         matches!(
             self.party,
             Party::Consumer {
@@ -67,7 +77,8 @@ impl Session {
 
     /// Lets go what a session at rest does not need: the messages that are sent, and room for a long text.
     pub(crate) fn rest(&mut self, now: Moment, has_room: bool)
-        ensures { Rests self.old self.new }
+        ensures rests { Rests self.old self.new }
+        ensures room { self.new.had_room ≡ has_room }
     {
         self.had_room = has_room;
         self.dues.pass(now, self.copies_sent > 0, has_room);
