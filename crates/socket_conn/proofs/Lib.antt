@@ -1,2 +1,5 @@
 pub mod TalksLemmas
+pub mod CloseLemmas
+pub mod HeadsLemmas
+pub mod ShakesLemmas
 mod HeldLemmas

@@ -1,8 +1,9 @@
 -- What a call of the socket comes to.
-use Rattle.std.proofs.Common.{◌≡◌, ◌++◌, ◌∙◌, [], ℕ, List, Option, None, Some, Result, Ok, Err, refl, sym, ap, subst, inl, inr, append_assoc}
+use Rattle.std.proofs.Common.{◌≡◌, ◌++◌, ◌∙◌, [], ℕ, List, Bool, true, false, Option, None, Some, Result, Ok, Err, refl, sym, ap, subst, inl, inr, append_assoc}
 use Rattle.std.specs.Io.KnownBytes.{Appends, append_known}
-use Rattle.socket_conn.specs.Talks.{SendsText, IsTextFrame, ComesTo, Takes, ReadsOnce, Receives, WouldWait, SaysClosed, Notes, breach_of}
-use Rattle.socket_conn.specs.declared.conn.Came.{Came}
+use Rattle.socket_conn.specs.Talks.{SendsText, IsTextFrame, ComesTo, DriedSince, Takes, ReadsOnce, Receives, WouldWait, SaysClosed, breach_of}
+use Rattle.socket_conn.specs.State.{over, emptied, ended, noting}
+use Rattle.socket_conn.specs.declared.outcomes.Came.{Came}
 use Rattle.socket_conn.specs.declared.conn.SocketConn.{SocketConn}
 use Rattle.session_links.specs.declared.conn.ConnFault.{ConnFault}
 use Rattle.session_links.specs.declared.conn.Incoming.{Incoming}
@@ -97,13 +98,18 @@ breach-is-no-close (Why.Capacity cause) code h = λ w. w
 breach-is-no-close error code h = cc
 
 module _ {S : Type 0} where
-  noted : (error : Error) (code : CloseCode) (old new : SocketConn S) → breach_of error ≡ Some code → new.breach ≡ Some code → Notes (breach_of error) old new
-  noted error code old new is h = subst (λ c. Notes c old new) (sym is) h
+  -- what is noted of an error
+  noted : (error : Error) (code : Option CloseCode) → breach_of error ≡ code → (c : SocketConn S) → noting code c ≡ noting (breach_of error) c
+  noted error code is c = ap (λ k. noting k c) (sym is)
 
-  unnoted : (error : Error) (old new : SocketConn S) → breach_of error ≡ None → new.breach ≡ old.breach → Notes (breach_of error) old new
-  unnoted error old new is h = subst (λ c. Notes c old new) (sym is) h
+  dried_out : (dry : S → ℕ) (times : ℕ) (socket : Socket S) (is_dry : Bool) → is_dry ≡ true → DriedSince dry times socket is_dry → ¬ (dry socket.stream ≡ times)
+  dried_out dry times socket true is h = h
+  dried_out dry times socket false is h = cc
 
-module _ {S : Type 0} where
+  not_dried : (dry : S → ℕ) (times : ℕ) (socket : Socket S) (is_dry : Bool) → is_dry ≡ false → DriedSince dry times socket is_dry → dry socket.stream ≡ times
+  not_dried dry times socket true is h = cc
+  not_dried dry times socket false is h = h
+
   -- a read after the flush is a read from the state and the bytes before it
   pub reads-once : (remaining contents : S → Option (List ℕ)) (old idle new : Socket S) (given : Result Message Error)
       → Flushed contents old idle → idle.output ≡ [] → Reads remaining idle new given → ReadsOnce remaining contents old new given
@@ -119,29 +125,29 @@ module _ {S : Type 0} where
   reads-once remaining contents old idle new (Err error) flushed none reads = (idle, flushed, none, reads)
 
   -- what the connection answers to a read, by what the read came to
-  pub answered : (remaining contents : S → Option (List ℕ)) (old mid new : SocketConn S) (given : Result Message Error) (came : Came) (answer : Result Incoming ConnFault)
-      → ReadsOnce remaining contents old.socket mid.socket given → ComesTo given came → mid.breach ≡ old.breach → Takes contents came mid new answer
-      → Receives remaining contents old new answer
-  answered remaining contents old mid new (Ok message) (Came.Text bytes) answer reads comes kept takes =
-      rw takes.0 (message, rw takes.1 reads, comes)
-  answered remaining contents old mid new (Ok message) Came.Control answer reads comes kept takes =
-      rw takes.0 (inr (inl (message, rw takes.1 reads, comes)))
-  answered remaining contents old mid new (Ok message) Came.Nothing answer reads comes kept takes = absurd comes
-  answered remaining contents old mid new (Ok message) Came.Closes answer reads comes kept takes =
-      rw takes.0 (inl (message, rw takes.1 reads, comes))
-  answered remaining contents old mid new (Ok message) (Came.Breaks code) answer reads comes kept takes = absurd comes
-  answered remaining contents old mid new (Ok message) Came.Fails (Ok incoming) reads comes kept takes = cc
-  answered remaining contents old mid new (Ok message) Came.Fails (Err fault) reads comes kept takes =
-      inr (inl (message, rw takes.1 reads, comes))
-  answered remaining contents old mid new (Err error) (Came.Text bytes) answer reads comes kept takes = absurd comes
-  answered remaining contents old mid new (Err error) Came.Control answer reads comes kept takes = absurd comes
-  answered remaining contents old mid new (Err error) Came.Nothing answer reads comes kept takes =
-      rw takes.0 (inr (inr (error, rw takes.1 reads, comes, takes.2)))
-  answered remaining contents old mid new (Err error) Came.Closes answer reads comes kept takes =
-      rw takes.0 (inr (error, rw takes.1 reads, comes))
-  answered remaining contents old mid new (Err error) (Came.Breaks code) (Ok incoming) reads comes kept takes = cc
-  answered remaining contents old mid new (Err error) (Came.Breaks code) (Err fault) reads comes kept takes =
-      inr (inr (error, rw takes.1 reads, breach-waits error code comes, breach-is-no-close error code comes, noted error code old new comes takes.2))
-  answered remaining contents old mid new (Err error) Came.Fails (Ok incoming) reads comes kept takes = cc
-  answered remaining contents old mid new (Err error) Came.Fails (Err fault) reads comes kept takes =
-      inr (inr (error, rw takes.1 reads, comes.0, comes.1, unnoted error old new comes.2 (takes.2 ∙ kept)))
+  pub answered : (remaining contents : S → Option (List ℕ)) (full dry : S → ℕ) (old new : SocketConn S) (socket : Socket S) (is_dry : Bool) (given : Result Message Error) (came : Came) (answer : Result Incoming ConnFault)
+      → ReadsOnce remaining contents old.socket socket given → ComesTo is_dry given came → DriedSince dry (dry old.socket.stream) socket is_dry
+      → Takes came (over socket (emptied old)) new answer → Receives remaining contents full dry old new answer
+  answered remaining contents full dry old new socket is_dry (Ok message) (Came.Text bytes) answer reads comes dried takes =
+      rw (takes.0, takes.1) (message, reads, comes, refl)
+  answered remaining contents full dry old new socket is_dry (Ok message) Came.Control answer reads comes dried takes =
+      rw (takes.0, takes.1) (inr (inl (message, reads, comes, refl)))
+  answered remaining contents full dry old new socket is_dry (Ok message) Came.Nothing answer reads comes dried takes = absurd comes
+  answered remaining contents full dry old new socket is_dry (Ok message) Came.Closes answer reads comes dried takes =
+      rw (takes.0, takes.1) (refl, inl (message, reads, comes))
+  answered remaining contents full dry old new socket is_dry (Ok message) (Came.Breaks code) answer reads comes dried takes = absurd comes
+  answered remaining contents full dry old new socket is_dry (Ok message) Came.Fails (Ok incoming) reads comes dried takes = cc
+  answered remaining contents full dry old new socket is_dry (Ok message) Came.Fails (Err fault) reads comes dried takes =
+      rw takes.1 (inr (inl (message, reads, comes, refl)))
+  answered remaining contents full dry old new socket is_dry (Err error) (Came.Text bytes) answer reads comes dried takes = absurd comes
+  answered remaining contents full dry old new socket is_dry (Err error) Came.Control answer reads comes dried takes = absurd comes
+  answered remaining contents full dry old new socket is_dry (Err error) Came.Nothing answer reads comes dried takes =
+      rw (takes.0, takes.1) (inr (inr (error, reads, comes.0, dried_out dry (dry old.socket.stream) socket is_dry comes.1 dried, refl)))
+  answered remaining contents full dry old new socket is_dry (Err error) Came.Closes answer reads comes dried takes =
+      rw (takes.0, takes.1) (refl, inr (error, reads, comes))
+  answered remaining contents full dry old new socket is_dry (Err error) (Came.Breaks code) (Ok incoming) reads comes dried takes = cc
+  answered remaining contents full dry old new socket is_dry (Err error) (Came.Breaks code) (Err fault) reads comes dried takes =
+      rw takes.1 (inr (inr (error, reads, (λ waits. absurd (breach-waits error code comes waits)), breach-is-no-close error code comes, noted error (Some code) comes (ended (over socket (emptied old))))))
+  answered remaining contents full dry old new socket is_dry (Err error) Came.Fails (Ok incoming) reads comes dried takes = cc
+  answered remaining contents full dry old new socket is_dry (Err error) Came.Fails (Err fault) reads comes dried takes =
+      rw takes.1 (inr (inr (error, reads, (λ waits. not_dried dry (dry old.socket.stream) socket is_dry (comes.0 waits) dried), comes.1, noted error None comes.2 (ended (over socket (emptied old))))))

@@ -1,5 +1,6 @@
 -- What the bytes that came say of a request's head.
-use Rattle.std.specs.Prelude.{◌≡◌, ◌≤◌, ◌⊎◌, ℕ, List, [], ◌++◌, drop, length, map, codes, Result, Ok, string_bytes}
+use Rattle.std.specs.Prelude.{◌≡◌, ◌≤◌, if◌then◌else◌, ℕ, List, [], ◌++◌, drop, length, map, codes, Result, Ok, string_bytes}
+use Rattle.std.specs.Str.{is_utf8}
 use Rattle.httparse.specs.Grammar.{RequestHead, ReadsRequest, HasNoRequest}
 use Rattle.httparse.specs.Spans.{name_and_value}
 use Rattle.websocket.specs.Headers.{crlf}
@@ -19,9 +20,9 @@ accepting accept =
 abbrev pub asked_key : RequestHead → Result (List ℕ) HandshakeError
 asked_key head = requested_key head.method head.minor (map name_and_value head.fields)
 
--- the target as it came, or an empty one
-abbrev pub IsTarget : List ℕ → List ℕ → Type 0
-IsTarget bytes target = (target ≡ bytes) ⊎ (target ≡ [])
+-- the target as it came, its path and its query; an empty one where that is no text
+abbrev pub target_text : List ℕ → List ℕ
+target_text bytes = if is_utf8 bytes then bytes else []
 
 -- the first bytes are a head that asks for a WebSocket, with this target, and the answer accepts it
 pub record IsUpgrade (bytes : List ℕ) (u : Upgrade) : Type 0 where
@@ -31,7 +32,7 @@ pub record IsUpgrade (bytes : List ℕ) (u : Upgrade) : Type 0 where
   pub asks : asked_key head ≡ Ok key
   pub valid : IsValidKey key
   pub answer : u.answer.items ≡ accepting (accept_key_of key)
-  pub target : IsTarget head.target (string_bytes u.target)
+  pub target : string_bytes u.target ≡ target_text head.target
 
 -- the first bytes are no head with at most 100 header lines that asks for a WebSocket
 abbrev pub AsksNothing : List ℕ → Type 0

@@ -1,2 +1,5 @@
+pub mod Waits
+pub mod State
 pub mod Talks
 pub mod Heads
+pub mod Shakes

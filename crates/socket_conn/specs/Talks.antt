@@ -1,13 +1,15 @@
 -- What the calls of a connection do with its socket: a receive reads one message of it, and a send writes one.
-use Rattle.std.specs.Prelude.{◌≡◌, ◌⊎◌, ◌++◌, ⊤, ℕ, List, [], true, false, Option, Some, None, MatchOption, Result, Ok, Err, IsErr}
+use Rattle.std.specs.Prelude.{◌≡◌, ◌⊎◌, ◌++◌, ⊤, ℕ, List, [], Bool, true, false, Option, Some, None, Result, Ok, Err, IsErr, MatchBool}
 use Rattle.std.specs.IoError.{error_kind}
 use Rattle.std.specs.Io.KnownBytes.{Appends, Consumes, append_known}
 use Rattle.std.specs.declared.io.ErrorKind.TheVariants.{WouldBlock}
 use Rattle.session_links.specs.declared.conn.ConnFault.{ConnFault}
 use Rattle.session_links.specs.declared.conn.Incoming.{Incoming}
 use Rattle.session_links.specs.declared.conn.Incoming.TheVariants as Said
-use Rattle.socket_conn.specs.declared.conn.Came.{Came}
+use Rattle.socket_conn.specs.declared.outcomes.Came.{Came}
 use Rattle.socket_conn.specs.declared.conn.SocketConn.{SocketConn}
+use Rattle.socket_conn.specs.Waits.{HasWaited}
+use Rattle.socket_conn.specs.State.{Flushes, over, emptied, drained, ended, noting, with_received, lost}
 use Rattle.tungstenite.specs.declared.error.Error.{Error}
 use Rattle.tungstenite.specs.declared.error.Error.TheVariants as Why
 use Rattle.tungstenite.specs.declared.message.Message.{Message}
@@ -18,8 +20,10 @@ use Rattle.websocket.specs.declared.protocol.frame.coding.CloseCode.{CloseCode}
 use Rattle.websocket.specs.declared.protocol.frame.coding.CloseCode.TheVariants.{Protocol, Invalid, Size}
 use Rattle.websocket.specs.declared.protocol.frame.coding.Data.TheVariants as Data
 use Rattle.websocket.specs.declared.protocol.frame.coding.OpCode.TheVariants as Op
-use Rattle.websocket.specs.declared.protocol.state.WebSocketState.TheVariants.{Active}
+use Rattle.websocket.specs.declared.protocol.state.WebSocketState.TheVariants.{Active, ClosedByUs}
+use Rattle.websocket.specs.declared.protocol.frame.coding.Control.TheVariants as Control
 use Rattle.websocket.specs.Connection.{IsMaskOf, whole_header}
+use Rattle.websocket.specs.Content.{close_payload}
 use Rattle.websocket.specs.Frame.{encode_frame}
 
 -- ---- what a read gave
@@ -74,20 +78,28 @@ breach_of Why.Utf8 = Some Invalid
 breach_of (Why.Capacity cause) = Some Size
 breach_of error = None
 
+-- what a message comes to that was read
+abbrev pub MessageComesTo : Message → Came → Type 0
+MessageComesTo message (Came.Text bytes) = HasBytes bytes.items message
+MessageComesTo message Came.Control = IsPingOrPong message
+MessageComesTo message Came.Nothing = ⊥
+MessageComesTo message Came.Closes = IsClose message
+MessageComesTo message (Came.Breaks code) = ⊥
+MessageComesTo message Came.Fails = IsData message
+
+-- what an error comes to, where the stream had nothing to give meanwhile, or was not asked
+abbrev pub ErrorComesTo : (is_dry : Bool) → Error → Came → Type 0
+ErrorComesTo is_dry error (Came.Text bytes) = ⊥
+ErrorComesTo is_dry error Came.Control = ⊥
+ErrorComesTo is_dry error Came.Nothing = WouldWait error × (is_dry ≡ true)
+ErrorComesTo is_dry error Came.Closes = SaysClosed error
+ErrorComesTo is_dry error (Came.Breaks code) = breach_of error ≡ Some code
+ErrorComesTo is_dry error Came.Fails = (WouldWait error → is_dry ≡ false) × (¬ SaysClosed error) × (breach_of error ≡ None)
+
 -- what a read comes to
-abbrev pub ComesTo : Result Message Error → Came → Type 0
-ComesTo (Ok message) (Came.Text bytes) = HasBytes bytes.items message
-ComesTo (Ok message) Came.Control = IsPingOrPong message
-ComesTo (Ok message) Came.Nothing = ⊥
-ComesTo (Ok message) Came.Closes = IsClose message
-ComesTo (Ok message) (Came.Breaks code) = ⊥
-ComesTo (Ok message) Came.Fails = IsData message
-ComesTo (Err error) (Came.Text bytes) = ⊥
-ComesTo (Err error) Came.Control = ⊥
-ComesTo (Err error) Came.Nothing = WouldWait error
-ComesTo (Err error) Came.Closes = SaysClosed error
-ComesTo (Err error) (Came.Breaks code) = breach_of error ≡ Some code
-ComesTo (Err error) Came.Fails = (¬ WouldWait error) × (¬ SaysClosed error) × (breach_of error ≡ None)
+abbrev pub ComesTo : (is_dry : Bool) → Result Message Error → Came → Type 0
+ComesTo is_dry (Ok message) came = MessageComesTo message came
+ComesTo is_dry (Err error) came = ErrorComesTo is_dry error came
 
 module _ {S : Type 0} where
   -- all that waited to be sent left, and then one message was read: the bytes that the stream gave, behind those kept from
@@ -111,47 +123,57 @@ module _ {S : Type 0} where
   ReadsOnce remaining contents old new (Ok message) = ReadsMessage remaining contents old new message
   ReadsOnce remaining contents old new (Err error) = ReadsError remaining contents old new error
 
-  -- the socket was not read: nothing had come, or the stream did not take what waits
-  abbrev pub ReadsNothing : (contents : S → Option (List ℕ)) → SocketConn S → SocketConn S → Type 0
-  ReadsNothing contents old new =
-      ((old.is_readable ≡ false) × (new.socket ≡ old.socket))
-      ⊎ (Flushed contents old.socket new.socket × ((new.is_blocked ≡ true) ⊎ (new.is_lost ≡ true)))
+  -- the connection was not read: nothing had come, or the stream was asked to take what waits and did not, or has failed
+  abbrev pub ReadsNothing : (contents : S → Option (List ℕ)) (full : S → ℕ) → SocketConn S → SocketConn S → Type 0
+  ReadsNothing contents full old new =
+      ((old.is_readable ≡ false) × (new ≡ old)) ⊎ (Flushed contents old.socket new.socket × Flushes full old new false)
 
   -- the socket was read once, and what that gave comes to this
-  abbrev pub Brings : (remaining : S → Option (List ℕ)) → Socket S → Socket S → Came → Type 0
-  Brings remaining old new came = (given : Result Message Error) × Reads remaining old new given × ComesTo given came
+  abbrev pub Brings : (remaining : S → Option (List ℕ)) → (is_dry : Bool) → Socket S → Socket S → Came → Type 0
+  Brings remaining is_dry old new came = (given : Result Message Error) × Reads remaining old new given × ComesTo is_dry given came
+
+  -- whether the stream had nothing to give since it counted so many
+  abbrev pub DriedSince : (S → ℕ) → ℕ → Socket S → Bool → Type 0
+  DriedSince dry times socket is_dry = MatchBool is_dry (¬ (dry socket.stream ≡ times)) (dry socket.stream ≡ times)
 
   -- what the connection does with what a read came to, and what it answers
-  abbrev pub Takes : (contents : S → Option (List ℕ)) → Came → SocketConn S → SocketConn S → Result Incoming ConnFault → Type 0
-  Takes contents (Came.Text bytes) old new answer = (answer ≡ Ok (Said.Text bytes)) × (new.socket ≡ old.socket)
-  Takes contents Came.Control old new answer = (answer ≡ Ok Said.Nothing) × (new.socket ≡ old.socket)
-  Takes contents Came.Nothing old new answer = (answer ≡ Ok Said.Nothing) × (new.socket ≡ old.socket) × (new.is_readable ≡ false)
-  Takes contents Came.Closes old new answer = (answer ≡ Ok Said.Gone) × (new.socket ≡ old.socket)
-  Takes contents (Came.Breaks code) old new answer = IsErr answer × (new.socket ≡ old.socket) × (new.breach ≡ Some code)
-  Takes contents Came.Fails old new answer = IsErr answer × (new.socket ≡ old.socket) × (new.breach ≡ old.breach)
+  abbrev pub Takes : Came → SocketConn S → SocketConn S → Result Incoming ConnFault → Type 0
+  Takes (Came.Text bytes) old new answer = (answer ≡ Ok (Said.Text bytes)) × (new ≡ with_received old)
+  Takes Came.Control old new answer = (answer ≡ Ok Said.Nothing) × (new ≡ with_received old)
+  Takes Came.Nothing old new answer = (answer ≡ Ok Said.Nothing) × (new ≡ drained old)
+  Takes Came.Closes old new answer = (answer ≡ Ok Said.Gone) × (new ≡ ended old)
+  Takes (Came.Breaks code) old new answer = IsErr answer × (new ≡ noting (Some code) (ended old))
+  Takes Came.Fails old new answer = IsErr answer × (new ≡ ended old)
 
-  -- the code is noted where there is one, and else nothing
-  abbrev pub Notes : Option CloseCode → SocketConn S → SocketConn S → Type 0
-  Notes code old new = MatchOption code (new.breach ≡ old.breach) (λ code. new.breach ≡ Some code)
+  -- what a connection comes to whose output left, and which then was read
+  abbrev pub read_of : SocketConn S → SocketConn S → SocketConn S
+  read_of old new = over new.socket (emptied old)
 
-  -- what the socket did where the connection, before and after, gave this answer. A text: it read one message, of these bytes.
-  -- Nothing: it was not read, or read a ping or a pong, or would have had to wait, which is noted. Gone: it read a close, whose
-  -- reply waits, or said that the client has closed. A fault: the connection was lost before, or there was no memory for a copy
-  -- of the message, or the read failed in another way, of which a breach of the protocol is noted
-  abbrev pub Receives : (remaining contents : S → Option (List ℕ)) → SocketConn S → SocketConn S → Result Incoming ConnFault → Type 0
-  Receives remaining contents old new (Ok (Said.Text bytes)) =
+  -- what the socket did where the connection, before and after, gave this answer, and what else changed. A text: it read one
+  -- message, of these bytes. Nothing: it was not read, or read a ping or a pong, or the stream was asked and had nothing to give, which is noted. Gone:
+  -- it read a close, whose reply waits, or said that the client has closed. A fault: the connection was lost before, or there was
+  -- no memory for a copy of the message, or the read failed in another way, of which a breach of the protocol is noted
+  abbrev pub Receives : (remaining contents : S → Option (List ℕ)) (full dry : S → ℕ) → SocketConn S → SocketConn S → Result Incoming ConnFault → Type 0
+  Receives remaining contents full dry old new (Ok (Said.Text bytes)) =
       (message : Message) × ReadsMessage remaining contents old.socket new.socket message × HasBytes bytes.items message
-  Receives remaining contents old new (Ok Said.Nothing) =
-      ReadsNothing contents old new
-      ⊎ ((message : Message) × ReadsMessage remaining contents old.socket new.socket message × IsPingOrPong message)
-      ⊎ ((error : Error) × ReadsError remaining contents old.socket new.socket error × WouldWait error × (new.is_readable ≡ false))
-  Receives remaining contents old new (Ok Said.Gone) =
-      ((message : Message) × ReadsMessage remaining contents old.socket new.socket message × IsClose message)
-      ⊎ ((error : Error) × ReadsError remaining contents old.socket new.socket error × SaysClosed error)
-  Receives remaining contents old new (Err fault) =
-      ((old.is_lost ≡ true) × (new.socket ≡ old.socket))
-      ⊎ ((message : Message) × ReadsMessage remaining contents old.socket new.socket message × IsData message)
-      ⊎ ((error : Error) × ReadsError remaining contents old.socket new.socket error × (¬ WouldWait error) × (¬ SaysClosed error) × Notes (breach_of error) old new)
+      × (new ≡ with_received (read_of old new))
+  Receives remaining contents full dry old new (Ok Said.Nothing) =
+      ReadsNothing contents full old new
+      ⊎ ((message : Message) × ReadsMessage remaining contents old.socket new.socket message × IsPingOrPong message
+      × (new ≡ with_received (read_of old new)))
+      ⊎ ((error : Error) × ReadsError remaining contents old.socket new.socket error × WouldWait error
+      × HasWaited dry old.socket new.socket × (new ≡ drained (read_of old new)))
+  Receives remaining contents full dry old new (Ok Said.Gone) =
+      (new ≡ ended (read_of old new))
+      × (((message : Message) × ReadsMessage remaining contents old.socket new.socket message × IsClose message)
+      ⊎ ((error : Error) × ReadsError remaining contents old.socket new.socket error × SaysClosed error))
+  Receives remaining contents full dry old new (Err fault) =
+      ((old.is_lost ≡ true) × (new ≡ ended old))
+      ⊎ ((message : Message) × ReadsMessage remaining contents old.socket new.socket message × IsData message
+      × (new ≡ ended (read_of old new)))
+      ⊎ ((error : Error) × ReadsError remaining contents old.socket new.socket error
+      × (WouldWait error → dry new.socket.stream ≡ dry old.socket.stream) × (¬ SaysClosed error)
+      × (new ≡ noting (breach_of error) (ended (read_of old new))))
 
 -- ---- what was sent
 
@@ -177,3 +199,26 @@ module _ {S : Type 0} where
   abbrev pub SendsText : (S → Option (List ℕ)) → Socket S → Socket S → List ℕ → Type 0
   SendsText contents old new words =
       (frame : List ℕ) × IsTextFrame old.conn.role words frame × SendsFrame contents old new frame
+
+-- ---- what was closed
+
+-- the one frame that closes with a code and a reason, under some mask of the role
+abbrev pub IsCloseFrame : Role → CloseCode → List ℕ → List ℕ → Type 0
+IsCloseFrame role code reason frame =
+    (mask : Option (List ℕ)) × IsMaskOf role mask × (frame ≡ encode_frame (whole_header (Op.Control Control.Close) mask) (close_payload (Some (code, reason))))
+
+module _ {S : Type 0} where
+  -- a close was said: its one frame joined what waits, some of that went to the stream in order, and no frame may follow it
+  pub record SendsClose (contents : S → Option (List ℕ)) (old new : Socket S) (code : CloseCode) (reason : List ℕ) : Type 0 where
+    pub frame : List ℕ
+    pub says : IsCloseFrame old.conn.role code reason frame
+    pub goes : (sent : List ℕ) × (old.output ++ frame ≡ sent ++ new.output) × Appends (contents old.stream) (contents new.stream) sent
+    pub last : new.conn ≡ record old.conn { state = ClosedByUs }
+    pub same_input : new.input ≡ old.input
+
+  -- the frame of this code and reason was said; or the connection is lost, since there was no memory for the frame, or none for
+  -- the reason alone
+  abbrev pub Closes : (contents : S → Option (List ℕ)) → SocketConn S → SocketConn S → CloseCode → List ℕ → Type 0
+  Closes contents old new code reason =
+      (SendsClose contents old.socket new.socket code reason × (new ≡ over new.socket old))
+      ⊎ (((new.socket ≡ old.socket) ⊎ SendsClose contents old.socket new.socket code []) × (new ≡ lost (over new.socket old)))

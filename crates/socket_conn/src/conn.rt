@@ -1,19 +1,25 @@
 // A session's connection over a WebSocket.
-ghost use Rattle.std.specs.Prelude.{◌≡◌, ◌⊎◌, IfOk, IfSome, OnOk, OnErr, Ok, Err, Some, None, [], true, false, IsErr, IsTrue, ◌↔◌};
-ghost use Rattle.session_links.specs.Links.{Tells, goes_on, receipt_of, same, with_receipt, with_sent};
+ghost use Rattle.std.specs.Prelude.{Bool, ◌≡◌, ◌≤◌, ◌⊎◌, length, IfOk, OnOk, OnErr, Ok, Err, Some, None, [], true, false, IsErr, IsTrue};
+ghost use Rattle.session_links.specs.Links.{Tells, goes_on, receipt_of, same, with_close, with_receipt, with_sent};
 ghost use Rattle.tungstenite.specs.Content.{text as Text};
 ghost use Rattle.tungstenite.specs.Socket.{Flushed, Writes, content_of};
-ghost use Rattle.websocket.specs.Connection.{close_step, write_step};
+ghost use Rattle.websocket.specs.Connection.{write_step};
 ghost use Rattle.websocket.specs.Content.{ping};
-ghost use Rattle.socket_conn.specs.Talks.{Brings, ComesTo, Receives, SendsText, Takes, WouldWait};
+ghost use Rattle.socket_conn.specs.State.{Flushes, StaysOrBlocks, begun, blocked, ended, hung_up, over, says_close, with_unsent};
+ghost use Rattle.socket_conn.specs.Talks.{Brings, Closes, DriedSince, Receives, SendsText, Takes};
+ghost use Rattle.websocket.specs.CloseCode.{close_code_of};
 
 use crate::held::Held;
-use bytes::{ByteStr, Bytes};
+use crate::outcomes::{Came, outcome_of, would_block};
+use crate::waits::CountsWaits;
+use bytes::Bytes;
 use session_links::{Conn, ConnFault, Incoming};
 use std::alloc::{AllocError, Global};
-use std::io::{ErrorKind, Read, Write};
-use tungstenite::{CloseFrame, Error, Message, NoMask, WebSocket};
+use std::io::{Read, Write};
+use tungstenite::{Message, NoMask, WebSocket};
 use websocket::protocol::CloseCode;
+
+mod closing;
 
 /// How many bytes may wait for the socket before no further text is taken.
 const MOST_UNSENT: usize = 65_536;
@@ -55,76 +61,11 @@ impl<S: Read + Write + Drop> Drop for SocketConn<S> {
     }
 }
 
-/// What a read came to.
-#[derive(Drop)]
-enum Came {
-    Text(Vec<u8>),
-    /// A ping or a pong.
-    Control,
-    /// Nothing yet.
-    Nothing,
-    /// The client closes.
-    Closes,
-    /// The client broke the protocol, which is closed with the code.
-    Breaks(CloseCode),
-    Fails,
-}
-
-fn would_block(error: &Error) -> bool
-    ensures { IsTrue result ↔ WouldWait error.now }
-{
-    match error {
-        Error::Io(cause) => cause.kind() == ErrorKind::WouldBlock,
-        _ => false,
-    }
-}
-
-fn message_in(alloc: Global, message: &Message) -> Came
-    ensures { ComesTo (Ok message.now) result }
-{
-    match message {
-        Message::Text(text) => match Vec::from_slice(alloc, text.as_str().as_bytes()) {
-            Ok(bytes) => Came::Text(bytes),
-            Err(_) => Came::Fails,
-        },
-        Message::Binary(bytes) => match Vec::from_slice(alloc, bytes.as_slice()) {
-            Ok(bytes) => Came::Text(bytes),
-            Err(_) => Came::Fails,
-        },
-        Message::Ping(_) | Message::Pong(_) => Came::Control,
-        Message::Close(_) => Came::Closes,
-    }
-}
-
-/// What a read that gave no message comes to.
-fn failure_of(error: &Error) -> Came
-    ensures { ComesTo (Err error.now) result }
-{
-    if would_block(error) {
-        return Came::Nothing;
-    }
-    match error {
-        Error::ConnectionClosed => Came::Closes,
-        Error::AlreadyClosed => Came::Closes,
-        Error::Protocol(_) => Came::Breaks(CloseCode::Protocol),
-        Error::Utf8 => Came::Breaks(CloseCode::Invalid),
-        Error::Capacity(_) => Came::Breaks(CloseCode::Size),
-        _ => Came::Fails,
-    }
-}
-
-fn outcome_of(alloc: Global, read: &Result<Message, Error>) -> Came
-    ensures { ComesTo read.now result }
-{
-    match read {
-        Ok(message) => message_in(alloc, message),
-        Err(error) => failure_of(error),
-    }
-}
-
-impl<S: Read + Write + Drop> SocketConn<S> {
+impl<S: Read + Write + CountsWaits + Drop> SocketConn<S> {
     /// After the handshake. The stream may hold a text already.
-    pub fn new(alloc: Global, socket: WebSocket<S, NoMask>) -> Self {
+    pub fn new(alloc: Global, socket: WebSocket<S, NoMask>) -> Self
+        ensures { result ≡ begun alloc socket }
+    {
         SocketConn {
             alloc,
             socket,
@@ -154,7 +95,7 @@ impl<S: Read + Write + Drop> SocketConn<S> {
 
     /// Something has come.
     pub fn note_readable(&mut self)
-        ensures { self.new.is_open ≡ self.old.is_open }
+        ensures { self.new ≡ record self.old { is_readable = true } }
     {
         self.is_readable = true;
     }
@@ -168,7 +109,8 @@ impl<S: Read + Write + Drop> SocketConn<S> {
 
     /// How many messages were received since this was asked last.
     pub fn take_received(&mut self) -> u32
-        ensures { self.new.is_open ≡ self.old.is_open }
+        ensures count { result ≡ self.old.received }
+        ensures taken { self.new ≡ record self.old { received = 0 } }
     {
         let received = self.received;
         self.received = 0;
@@ -177,10 +119,7 @@ impl<S: Read + Write + Drop> SocketConn<S> {
 
     /// It is given up: the next receive says that the client has gone.
     pub fn hang_up(&mut self)
-        ensures open { self.new.is_open ≡ self.old.is_open }
-        ensures same { self.new.socket ≡ self.old.socket }
-        ensures lost { self.new.is_lost ≡ true }
-        ensures breach { self.new.breach ≡ self.old.breach }
+        ensures { self.new ≡ hung_up self.old }
     {
         self.is_lost = true;
         self.is_readable = true;
@@ -189,12 +128,11 @@ impl<S: Read + Write + Drop> SocketConn<S> {
 
     /// Hands the stream the output that waits. Whether it took all.
     pub fn flush(&mut self) -> bool
-        ensures open { self.new.is_open ≡ self.old.is_open }
         ensures sent { Flushed S.contents self.old.socket self.new.socket }
         ensures all { result ≡ true → self.new.socket.output ≡ [] }
-        ensures noted { result ≡ false → (self.new.is_blocked ≡ true) ⊎ (self.new.is_lost ≡ true) }
-        ensures breach { self.new.breach ≡ self.old.breach }
+        ensures state { Flushes S.full self.old self.new result }
     {
+        let full = self.socket.get_ref().times_full();
         match self.socket.flush() {
             Ok(()) => {
                 self.unsent = 0;
@@ -202,33 +140,33 @@ impl<S: Read + Write + Drop> SocketConn<S> {
                 true
             }
             Err(error) => {
-                self.note(&error);
+                let waits = would_block(&error) && self.is_full_since(full);
                 drop(error);
+                if waits {
+                    self.is_blocked = true;
+                } else {
+                    self.hang_up();
+                }
                 false
             }
         }
     }
 
-    /// What it means that the output did not leave.
-    fn note(&mut self, error: &Error)
-        ensures open { self.new.is_open ≡ self.old.is_open }
-        ensures same { self.new.socket ≡ self.old.socket }
-        ensures noted { (self.new.is_blocked ≡ true) ⊎ (self.new.is_lost ≡ true) }
-        ensures breach { self.new.breach ≡ self.old.breach }
+    /// Whether the stream took nothing since it counted so many.
+    fn is_full_since(&self, full: u64) -> bool
+        ensures { IsTrue result → ¬ (S.full self.now.socket.stream ≡ full) }
     {
-        if would_block(error) {
-            self.is_blocked = true;
-        } else {
-            self.hang_up();
-        }
+        self.socket.get_ref().times_full() != full
     }
 
-    fn read(&mut self) -> Came
+    /// Reads once. The stream had counted so often that it was dry.
+    fn read(&mut self, dry: u64) -> Came
         ensures same { self.new ≡ record self.old { socket = self.new.socket } }
-        ensures came { Brings S.remaining self.old.socket self.new.socket result }
+        ensures came { (is_dry : Bool) × Brings S.remaining is_dry self.old.socket self.new.socket result × DriedSince S.dry dry self.new.socket is_dry }
     {
         let read = self.socket.read();
-        let came = outcome_of(self.alloc, &read);
+        let is_dry = self.socket.get_ref().times_dry() != dry;
+        let came = outcome_of(self.alloc, &read, is_dry);
         drop(read);
         came
     }
@@ -237,7 +175,7 @@ impl<S: Read + Write + Drop> SocketConn<S> {
         requires { self.old.is_open ≡ true }
         ensures ok { IfOk result (λ incoming. self.new.is_open ≡ goes_on incoming) }
         ensures err { OnErr result (self.new.is_open ≡ false) }
-        ensures takes { Takes S.contents what self.old self.new result }
+        ensures takes { Takes what self.old self.new result }
     {
         match what {
             Came::Text(text) => {
@@ -276,16 +214,17 @@ impl<S: Read + Write + Drop> SocketConn<S> {
 
     /// Writes the message. What the stream does not take waits.
     fn write(&mut self, message: Message) -> Result<(), ConnFault>
-        ensures open { self.new.is_open ≡ self.old.is_open }
+        ensures state { StaysOrBlocks S.full self.old self.new }
         ensures wrote { OnOk result (Writes S.contents self.old.socket self.new.socket (write_step self.old.socket.conn (content_of message))) }
     {
+        let full = self.socket.get_ref().times_full();
         match self.socket.write(message) {
             Ok(()) => Ok(()),
             Err(error) => {
                 let would_block = would_block(&error);
                 drop(error);
                 if would_block {
-                    self.is_blocked = true;
+                    self.note_full(full);
                     Ok(())
                 } else {
                     Err(ConnFault)
@@ -294,8 +233,18 @@ impl<S: Read + Write + Drop> SocketConn<S> {
         }
     }
 
+    /// It is blocked where the stream took nothing since it counted so many.
+    fn note_full(&mut self, full: u64)
+        ensures socket { self.new.socket ≡ self.old.socket }
+        ensures state { (self.new ≡ self.old) ⊎ ((self.new ≡ blocked self.old) × ¬ (S.full self.old.socket.stream ≡ full)) }
+    {
+        if self.is_full_since(full) {
+            self.is_blocked = true;
+        }
+    }
+
     fn write_text(&mut self, text: &str) -> Result<(), ConnFault>
-        ensures open { self.new.is_open ≡ self.old.is_open }
+        ensures state { StaysOrBlocks S.full self.old self.new }
         ensures wrote { OnOk result (SendsText S.contents self.old.socket self.new.socket text.now) }
     {
         match self.text_of(text) {
@@ -303,100 +252,64 @@ impl<S: Read + Write + Drop> SocketConn<S> {
             Err(_) => Err(ConnFault),
         }
     }
-
-    fn frame(&self, code: CloseCode, reason: &str) -> Option<CloseFrame>
-        ensures { IfSome result (λ frame. (frame.code ≡ code) × (frame.reason ≡ reason.now)) }
-    {
-        match ByteStr::copy_from_str(self.alloc, reason) {
-            Ok(reason) => Some(CloseFrame { code, reason }),
-            Err(_) => None,
-        }
-    }
 }
 
-impl<S: Read + Write + Drop> SocketConn<S> {
+impl<S: Read + Write + CountsWaits + Drop> SocketConn<S> {
     /// Asks the client for a sign of life (RFC 6455, section 5.5.2), which goes out with the next flush.
     pub fn ping(&mut self) -> Result<(), ConnFault>
-        ensures open { self.new.is_open ≡ self.old.is_open }
+        ensures state { StaysOrBlocks S.full self.old self.new }
         ensures wrote { OnOk result (Writes S.contents self.old.socket self.new.socket (write_step self.old.socket.conn (ping []))) }
+        ensures lost { self.old.is_lost ≡ true → IsErr result × (self.new ≡ self.old) }
     {
-        self.write(Message::Ping(Bytes::new()))
-    }
-
-    /// Tells a client that broke the protocol so, by a close with the code (RFC 6455, section 7.4.1): 1002 for broken
-    /// framing, 1007 for a text that is no UTF-8, 1009 for a message that is too long. Nothing is told twice, nor to a
-    /// client that broke nothing.
-    pub fn tell_breach(&mut self) -> Result<(), ConnFault>
-        ensures open { self.new.is_open ≡ self.old.is_open }
-        ensures once { self.new.breach ≡ None }
-        ensures nothing { self.old.breach ≡ None → (result ≡ Ok tt) × (self.new.socket ≡ self.old.socket) }
-        ensures told { IfSome self.old.breach (λ code. OnOk result (Writes S.contents self.old.socket self.new.socket (close_step self.old.socket.conn (Some (code, []))))) }
-    {
-        match self.breach.take() {
-            Some(code) => self.say_code(code),
-            None => Ok(()),
-        }
-    }
-
-    fn say_code(&mut self, code: CloseCode) -> Result<(), ConnFault>
-        ensures same { self.new ≡ record self.old { socket = self.new.socket } }
-        ensures wrote { OnOk result (Writes S.contents self.old.socket self.new.socket (close_step self.old.socket.conn (Some (code, [])))) }
-    {
-        let frame = self.frame(code, "");
-        if frame.is_none() {
+        if self.is_lost {
             return Err(ConnFault);
         }
-        match self.socket.close(frame) {
-            Ok(()) => Ok(()),
-            Err(error) => {
-                drop(error);
-                Err(ConnFault)
-            }
-        }
+        self.write(Message::Ping(Bytes::new()))
     }
 }
 
 impl<S: Read + Write + Drop> SocketConn<Held<S>> {
     /// What waits may go out, the answer to the request first.
     pub fn let_go(&mut self)
-        ensures { self.new.is_open ≡ self.old.is_open }
+        ensures { self.new ≡ record self.old { socket = self.new.socket; is_blocked = false } }
     {
         self.socket.get_mut().let_go();
         self.is_blocked = false;
     }
 }
 
-impl<S: Read + Write + Drop> Conn for SocketConn<S> {
-    ghost use Rattle.std.specs.Prelude.{◌&&◌, not, nat_lt};
+impl<S: Read + Write + CountsWaits + Drop> Conn for SocketConn<S> {
+    ghost use Rattle.socket_conn.specs.State.{is_roomy};
 
     // A socket tells nothing of its exchange.
     ghost exchange = { λ c. None };
 
     ghost is_open = { λ c. c.is_open };
 
-    ghost has_room = { λ c. not c.is_blocked && nat_lt c.unsent 65536 };
+    ghost has_room = { λ c. is_roomy c };
 
     fn receive(&mut self) -> Result<Incoming, ConnFault>
         requires { self.old.is_open ≡ true }
         ensures ok { IfOk result (λ incoming. Tells (with_receipt (receipt_of incoming)) None None) }
         ensures open { IfOk result (λ incoming. self.new.is_open ≡ goes_on incoming) }
         ensures err { OnErr result ((self.new.is_open ≡ false) × Tells same None None) }
-        ensures read { Receives S.remaining S.contents self.old self.new result }
-        ensures lost { self.old.is_lost ≡ true → IsErr result × (self.new.socket ≡ self.old.socket) }
+        ensures read { Receives S.remaining S.contents S.full S.dry self.old self.new result }
+        ensures lost { self.old.is_lost ≡ true → IsErr result × (self.new ≡ ended self.old) }
     {
         if self.is_lost {
             self.is_open = false;
             return Err(ConnFault);
         }
+        let dry = self.socket.get_ref().times_dry();
         if !self.is_readable || !self.flush() {
             return Ok(Incoming::Nothing);
         }
-        let what = self.read();
+        let what = self.read(dry);
         self.take(what)
     }
 
     fn has_room(&self) -> bool {
-        !self.is_blocked && self.unsent < MOST_UNSENT
+        self.is_open && !self.is_blocked && self.unsent < MOST_UNSENT
     }
 
     fn send(&mut self, text: &str) -> Result<(), ConnFault>
@@ -404,6 +317,9 @@ impl<S: Read + Write + Drop> Conn for SocketConn<S> {
         ensures ok { OnOk result ((self.new.is_open ≡ true) × Tells (with_sent text.now) None None) }
         ensures err { OnErr result ((self.new.is_open ≡ false) × Tells same None None) }
         ensures wrote { OnOk result (SendsText S.contents self.old.socket self.new.socket text.now) }
+        ensures counted { OnOk result (StaysOrBlocks S.full (with_unsent text.now self.old) self.new) }
+        ensures left { OnErr result (StaysOrBlocks S.full (ended self.old) self.new) }
+        ensures lost { self.old.is_lost ≡ true → IsErr result × (self.new ≡ ended self.old) }
     {
         if self.is_lost {
             self.is_open = false;
@@ -421,9 +337,17 @@ impl<S: Read + Write + Drop> Conn for SocketConn<S> {
         }
     }
 
-    fn close(&mut self, code: u16, reason: &str) {
+    fn close(&mut self, code: u16, reason: &str)
+        requires open { self.old.is_open ≡ true }
+        requires short { length reason.now ≤ 123 }
+        ensures open { self.new.is_open ≡ false }
+        ensures told { Tells (with_close code reason.now) None None }
+        ensures said { says_close self.old (close_code_of code) ≡ true → Closes S.contents (ended self.old) self.new (close_code_of code) reason.now }
+        ensures silent { says_close self.old (close_code_of code) ≡ false → self.new ≡ ended self.old }
+    {
         self.is_open = false;
-        let frame = self.frame(CloseCode::from(code), reason);
-        let _ = self.socket.close(frame);
+        if self.says_close(CloseCode::from(code)) {
+            self.close_with(code, reason);
+        }
     }
 }

@@ -1,11 +1,9 @@
 // The head of a request (RFC 9112, section 3), and whether it asks for a WebSocket (RFC 6455, section 4.2.1).
 ghost use Rattle.std.specs.Prelude.{◌≡◌, IfOk, string_bytes};
-ghost use Rattle.httparse.specs.Spans.{IsRequestOf, IsRequestWithin};
-ghost use Rattle.socket_conn.specs.Heads.{IsReadAs, IsTarget, accepting, asked_key};
-ghost use Rattle.websocket.specs.Handshake.{AnswersKey, accept_key_of};
+ghost use Rattle.socket_conn.specs.Heads.{IsReadAs, accepting, target_text};
 
 use httparse::Status;
-use httparse::spans::{EMPTY_HEADER_SPAN, RequestSpans, parse_request};
+use httparse::spans::{EMPTY_HEADER_SPAN, parse_request};
 use std::alloc::{AllocError, Global};
 use std::str;
 use websocket::handshake::server::check_request;
@@ -48,8 +46,9 @@ fn answer_with(alloc: Global, accept: &[u8; 28]) -> Result<Vec<u8>, AllocError>
 }
 
 /// The target as a text; an empty one, which is no endpoint, where it is none.
+#[tactic(auto, using(crate::proofs::HeadsLemmas::text, crate::proofs::HeadsLemmas::no_text))]
 fn target_of(alloc: Global, bytes: &[u8]) -> Result<String, AllocError>
-    ensures { IfOk result (λ target. IsTarget bytes.now (string_bytes target)) }
+    ensures { IfOk result (λ target. string_bytes target ≡ target_text bytes.now) }
 {
     match str::from_utf8(bytes) {
         Ok(text) => String::from_str(alloc, text),
@@ -58,7 +57,7 @@ fn target_of(alloc: Global, bytes: &[u8]) -> Result<String, AllocError>
 }
 
 fn asking(alloc: Global, target: &[u8], accept: &[u8; 28], len: usize) -> Result<Head, AllocError>
-    ensures { IfOk result (λ head. (u : Upgrade) × (head ≡ Head.Upgrade u) × IsTarget target.now (string_bytes u.target) × (u.answer.items ≡ accepting accept.now) × (u.len ≡ len)) }
+    ensures { IfOk result (λ head. (u : Upgrade) × (head ≡ Head.Upgrade u) × (string_bytes u.target ≡ target_text target.now) × (u.answer.items ≡ accepting accept.now) × (u.len ≡ len)) }
 {
     let target = target_of(alloc, target)?;
     let answer = answer_with(alloc, accept)?;

@@ -4,9 +4,12 @@
 mod conn;
 mod head;
 mod held;
+mod outcomes;
 mod shaking;
+mod waits;
 
 pub use conn::SocketConn;
 pub use head::{Head, Upgrade, read_head};
 pub use held::Held;
 pub use shaking::{Shaken, Shaking};
+pub use waits::CountsWaits;

@@ -1,9 +1,16 @@
 // A connection whose request is on its way (RFC 6455, section 4.2), on a stream that does not block.
+ghost use Rattle.std.specs.Prelude.{◌≡◌, [], IfOk, drop};
+ghost use Rattle.socket_conn.specs.Heads.{IsUpgrade};
+ghost use Rattle.socket_conn.specs.declared.conn.SocketConn.{SocketConn};
+ghost use Rattle.socket_conn.specs.declared.held.Held.{Held};
+ghost use Rattle.socket_conn.specs.Shakes.{Begins, Hears, Judges, Shakes};
+
 use crate::conn::SocketConn;
 use crate::head::{Head, Upgrade, read_head};
 use crate::held::{Held, socket_of};
+use crate::waits::CountsWaits;
 use std::alloc::{AllocError, Global};
-use std::io::{ErrorKind, Read, Write};
+use std::io::{Read, Write};
 use tungstenite::WebSocketConfig;
 
 /// How many bytes one read asks for. Each connection keeps so many, so they decide the memory of an idle one.
@@ -24,7 +31,8 @@ const MOST_READS: u32 = 64;
 #[derive(Drop)]
 pub struct Shaking<S: Read + Write + Drop> {
     alloc: Global,
-    stream: S,
+    /// It is read alone, and counts how often it had nothing to give.
+    stream: Held<S>,
     head: Vec<u8>,
     reads: u32,
 }
@@ -48,12 +56,26 @@ enum Heard {
     Ends,
 }
 
+/// What came behind a head of so many bytes.
+fn behind(alloc: Global, mut head: Vec<u8>, len: usize) -> Vec<u8>
+    ensures { result.items ≡ drop len head.items }
+{
+    head.drain(..len.min(head.len()));
+    if head.is_empty() {
+        Vec::new(alloc)
+    } else {
+        head
+    }
+}
+
 fn opened<S: Read + Write + Drop>(
     alloc: Global,
     stream: S,
     upgrade: Upgrade,
     rest: Vec<u8>,
-) -> Shaken<S> {
+) -> Shaken<S>
+    ensures { (conn : SocketConn (Held S)) × (result ≡ Shaken.Open conn upgrade.target) × Begins upgrade stream rest.items conn }
+{
     let Upgrade {
         target,
         answer,
@@ -69,22 +91,29 @@ fn opened<S: Read + Write + Drop>(
 
 impl<S: Read + Write + Drop> Shaking<S> {
     /// Nothing was read yet.
-    pub fn start(alloc: Global, stream: S) -> Shaking<S> {
+    pub fn start(alloc: Global, stream: S) -> Shaking<S>
+        ensures stream { result.stream.inner ≡ stream }
+        ensures head { result.head.items ≡ [] }
+        ensures reads { result.reads ≡ 0 }
+    {
         Shaking {
             alloc,
-            stream,
+            stream: Held::new(stream, Vec::new(alloc)),
             head: Vec::new(alloc),
             reads: 0,
         }
     }
 
     /// Reads once.
-    fn read(&mut self) -> Result<Heard, AllocError> {
+    fn read(&mut self) -> Result<Heard, AllocError>
+        ensures { IfOk result (Hears S.remaining self.old self.new) }
+    {
         let len = self.head.len();
         if len >= MOST_HEAD || self.reads >= MOST_READS {
             return Ok(Heard::Ends);
         }
         self.head.resize(len + CHUNK, 0)?;
+        let dry = self.stream.times_dry();
         let got = self.stream.read(&mut self.head[len..]);
         match got {
             Ok(0) => Ok(Heard::Ends),
@@ -93,9 +122,9 @@ impl<S: Read + Write + Drop> Shaking<S> {
                 self.reads += 1;
                 Ok(Heard::More)
             }
-            Err(error) => {
+            Err(_) => {
                 self.head.truncate(len);
-                if error.kind() == ErrorKind::WouldBlock {
+                if self.stream.times_dry() != dry {
                     Ok(Heard::Nothing)
                 } else {
                     Ok(Heard::Ends)
@@ -105,7 +134,9 @@ impl<S: Read + Write + Drop> Shaking<S> {
     }
 
     /// What the head comes to as far as it has come.
-    fn judge(self) -> Shaken<S> {
+    fn judge(self) -> Shaken<S>
+        ensures { Judges self result }
+    {
         match read_head(self.alloc, self.head.as_slice()) {
             Ok(Head::Partial) => Shaken::Waits(self),
             Ok(Head::Upgrade(upgrade)) => self.upgraded(upgrade),
@@ -114,24 +145,24 @@ impl<S: Read + Write + Drop> Shaking<S> {
     }
 
     /// The connection, with what came behind the head.
-    fn upgraded(self, upgrade: Upgrade) -> Shaken<S> {
+    fn upgraded(self, upgrade: Upgrade) -> Shaken<S>
+        requires { IsUpgrade self.head.items upgrade }
+        ensures { Judges self result }
+    {
         let Shaking {
             alloc,
             stream,
-            mut head,
+            head,
             reads: _,
         } = self;
-        head.drain(..upgrade.len.min(head.len()));
-        let rest = if head.is_empty() {
-            Vec::new(alloc)
-        } else {
-            head
-        };
-        opened(alloc, stream, upgrade, rest)
+        let rest = behind(alloc, head, upgrade.len);
+        opened(alloc, stream.into_inner(), upgrade, rest)
     }
 
     /// Goes on as far as the stream is ready.
-    pub fn advance(self) -> Shaken<S> {
+    pub fn advance(self) -> Shaken<S>
+        ensures { Shakes S.remaining self result }
+    {
         let mut shaking = self;
         for _ in 0..=MOST_READS {
             match shaking.read() {

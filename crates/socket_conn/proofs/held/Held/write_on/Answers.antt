@@ -1,5 +1,5 @@
 use Rattle.socket_conn.proofs.HeldLemmas.{follows, none}
-use Rattle.socket_conn.proofs.held.HeldWrite.write.Goals as goal
+use Rattle.socket_conn.proofs.held.Held.write_on.Goals as goal
 
 pub returns-in-Ok-true-clause-bytes : goal.returns-in-Ok-true-clause-bytes
 returns-in-Ok-true-clause-bytes g c =

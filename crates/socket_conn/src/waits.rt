@@ -1,0 +1,18 @@
+// How often a stream had to wait.
+ghost use Rattle.std.specs.Prelude.{◌≡◌, ℕ};
+
+/// A stream that counts how often it had to wait: so nobody calls it full, or dry, that has not tried.
+pub trait CountsWaits {
+    // How often it took nothing, and how often it had nothing to give.
+    ghost full: { Self → ℕ };
+
+    ghost dry: { Self → ℕ };
+
+    /// How often it took nothing.
+    fn times_full(&self) -> u64
+        ensures { result ≡ full self.now };
+
+    /// How often it had nothing to give.
+    fn times_dry(&self) -> u64
+        ensures { result ≡ dry self.now };
+}
