@@ -1,20 +1,66 @@
--- How the names of the open topics change as one is listed.
-use Rattle.std.proofs.Common.{◌≡◌, Bool, true, false, true≢false, List, [], ◌∷◌, ap, sym, ◌∙◌, if◌then◌else◌, refl, Result, Ok, Err, is_ok, OnOk}
-use Rattle.std.specs.Prelude.{String}
+-- How a topic is found among the open ones, and listed.
+use Rattle.std.proofs.Common.{◌≡◌, ℕ, zero, suc, Bool, true, false, true≢false, List, [], ◌∷◌, ◌++◌, Option, None, Some, map, ap, sym, subst, ◌∙◌, cond, if◌then◌else◌, refl, Result, Ok, Err, is_ok, OnOk, arith}
+use Rattle.std.proofs.lemmas.List.{map-append}
+use Rattle.std.proofs.lemmas.List.Elements.{All-append}
+use Rattle.std.proofs.lemmas.Slice.Eq.{bytes_eq-Decides}
+use denote.Ref.{Bor}
+use Rattle.std.specs.Prelude.{String, All, IfSome, OnErr, option_copied}
 use Rattle.std.specs.String.{string_bytes, string_eq}
+use Rattle.std.specs.Str.{bytes_eq}
+use Rattle.std.specs.Map.{lookup}
 use Rattle.indexmap.specs.IndexMap.{insert_entry}
-use Rattle.broker_dir.specs.Listing.{names_of, with_name}
+use Rattle.position_core.specs.declared.topic_name.TopicName.{TopicName}
+use Rattle.position_core.specs.TopicName.{topic_text}
+use Rattle.broker_dir.specs.Listing.{AreNamed, names_of}
 
-pub names-insert_entry : {A X : Type 0} (es : List (String A × X)) (name : String A) (topic : X) → names_of (insert_entry string_eq es name topic) ≡ with_name (names_of es) (string_bytes name)
-names-insert_entry [] name topic = refl
-names-insert_entry (e ∷ es) name topic = by (string_eq name e.0) (names-insert_entry es name topic)
+-- the open topic that is found under a text bears it
+pub named : {A X : Type 0} (name : X → TopicName) (es : List (String A × X)) (text : List ℕ) → AreNamed name es
+    → IfSome (lookup (λ k. bytes_eq text (string_bytes k)) es) (λ topic. topic_text (name topic) ≡ text)
+named name [] text all = tt
+named name (e ∷ es) text all = by (bytes_eq text (string_bytes e.0)) refl (named name es text (λ n d less. all (suc n) d (omega (arith, less))))
   where
-    by : (b : Bool) → names_of (insert_entry string_eq es name topic) ≡ with_name (names_of es) (string_bytes name)
-        → names_of (if b then (e.0, topic) ∷ es else e ∷ insert_entry string_eq es name topic) ≡ (if b then string_bytes e.0 ∷ names_of es else string_bytes e.0 ∷ with_name (names_of es) (string_bytes name))
-    by true rest = refl
-    by false rest = ap (λ names. string_bytes e.0 ∷ names) rest
+    by : (b : Bool) → bytes_eq text (string_bytes e.0) ≡ b → IfSome (lookup (λ k. bytes_eq text (string_bytes k)) es) (λ topic. topic_text (name topic) ≡ text)
+        → IfSome (cond b (Some e.1) (lookup (λ k. bytes_eq text (string_bytes k)) es)) (λ topic. topic_text (name topic) ≡ text)
+    by true is rest = sym (all zero e (omega arith)) ∙ sym ((bytes_eq-Decides text (string_bytes e.0)).0 is)
+    by false is rest = rest
+
+-- what is not there yet is listed behind all others
+pub behind : {A X : Type 0} (es : List (String A × X)) (name : String A) (topic : X) → lookup (λ k. bytes_eq (string_bytes name) (string_bytes k)) es ≡ None
+    → insert_entry string_eq es name topic ≡ es ++ (name, topic) ∷ []
+behind [] name topic none = refl
+behind (e ∷ es) name topic none = by (string_eq name e.0) none (behind es name topic)
+  where
+    by : (b : Bool) → cond b (Some e.1) (lookup (λ k. bytes_eq (string_bytes name) (string_bytes k)) es) ≡ None
+        → (lookup (λ k. bytes_eq (string_bytes name) (string_bytes k)) es ≡ None → insert_entry string_eq es name topic ≡ es ++ (name, topic) ∷ [])
+        → (if b then (e.0, topic) ∷ es else e ∷ insert_entry string_eq es name topic) ≡ e ∷ (es ++ (name, topic) ∷ [])
+    by true is rest = absurd (cc is)
+    by false is rest = ap (λ l. e ∷ l) (rest is)
+
+-- a topic that is listed under its name
+pub all_named : {A X : Type 0} (name_of : X → TopicName) (es : List (String A × X)) (name : String A) (topic : X) → AreNamed name_of es → string_bytes name ≡ topic_text (name_of topic)
+    → AreNamed name_of (es ++ (name, topic) ∷ [])
+all_named name_of es name topic all is = All-append (λ (t : String _ × _). string_bytes t.0 ≡ topic_text (name_of t.1)) es ((name, topic) ∷ []) all one
+  where
+    one : All (λ (t : String _ × _). string_bytes t.0 ≡ topic_text (name_of t.1)) ((name, topic) ∷ [])
+    one zero d less = is
+    one (suc n) d less = absurd (omega (arith, less))
+
+pub names-behind : {A X : Type 0} (es : List (String A × X)) (name : String A) (topic : X) → names_of (es ++ (name, topic) ∷ []) ≡ names_of es ++ string_bytes name ∷ []
+names-behind es name topic = map-append (λ (t : String _ × _). string_bytes t.0) es ((name, topic) ∷ [])
+
+pub copied : {X : Type 0} (P : X → Type 0) (r : Option (Bor X)) (o : Option X) → option_copied r ≡ o → IfSome o P → IfSome r (λ x. P x.now)
+copied P None o is has = tt
+copied P (Some x) o is has = subst (λ y. IfSome y P) (sym is) has
+
+-- whether the topic was listed or there was no memory, each is open under its own name
+pub stays_named : {A X V E : Type 0} (name_of : X → TopicName) (r : Result V E) (es now : List (String A × X)) (name : String A) (topic : X) → AreNamed name_of es
+    → string_bytes name ≡ topic_text (name_of topic) → lookup (λ k. bytes_eq (string_bytes name) (string_bytes k)) es ≡ None
+    → OnOk r (now ≡ insert_entry string_eq es name topic) → OnErr r (now ≡ es) → AreNamed name_of now
+stays_named name_of (Ok value) es now name topic all is none ok err =
+    subst (AreNamed name_of) (sym (ok ∙ behind es name topic none)) (all_named name_of es name topic all is)
+stays_named name_of (Err fault) es now name topic all is none ok err = subst (AreNamed name_of) (sym err) all
 
 pub added : {A X V E : Type 0} (r : Result V E) (is_added : Bool) (es now : List (String A × X)) (name : String A) (topic : X) → is_added ≡ is_ok r
-    → OnOk r (now ≡ insert_entry string_eq es name topic) → is_added ≡ true → names_of now ≡ with_name (names_of es) (string_bytes name)
-added (Ok value) is_added es now name topic is entries done = ap names_of entries ∙ names-insert_entry es name topic
-added (Err fault) is_added es now name topic is entries done = absurd (true≢false (sym done ∙ is))
+    → lookup (λ k. bytes_eq (string_bytes name) (string_bytes k)) es ≡ None → OnOk r (now ≡ insert_entry string_eq es name topic) → is_added ≡ true → now ≡ es ++ (name, topic) ∷ []
+added (Ok value) is_added es now name topic is none entries done = entries ∙ behind es name topic none
+added (Err fault) is_added es now name topic is none entries done = absurd (true≢false (sym done ∙ is))

@@ -1,3 +1,4 @@
 -- What the contracts of the directory cite.
 pub mod Ends
+pub mod Handing
 pub mod Listing

@@ -1,12 +1,15 @@
 // A courier at work: it moves dead letters, one at a time, with one topic's lock at a time.
+ghost use Rattle.std.specs.Prelude.{None};
+
 use crate::directory::Directory;
 use crate::graves::Grave;
 use crate::pause::{Due, Pause};
 use crate::topic::Shared;
-use dead_courier::{Hand, Move, Route, Side, after, next_move};
+use dead_courier::{Hand, Route, Stepped, step};
 use delivery_machine::{Event, Fault, Moment, Opened, Reply};
 use marks::Naming;
 use session_bells::Bell;
+use session_links::Caller;
 use sqlite::Alter;
 use std::mem;
 use std::sync::{Arc, Wait};
@@ -15,8 +18,8 @@ use std::time::Instant;
 /// When a courier goes on.
 #[derive(Clone, Copy)]
 pub(crate) enum Stay {
-    /// At once: it was just sent.
-    Sent,
+    /// At once.
+    Goes,
     /// Once more of its target is stored.
     Stores,
     /// After a pause: it was refused.
@@ -40,27 +43,6 @@ pub(crate) struct Courier<T: Opened + Drop, J: Naming, B: Bell + Drop> {
     pause: Pause,
 }
 
-/// What a step came to.
-#[derive(Clone, Copy, Debug, PartialEq, Eq)]
-pub(crate) enum Stepped {
-    GoesOn,
-    /// The copy is to be stored first.
-    Waits,
-    /// No letter is left that may be moved.
-    Ends,
-    /// A topic refused, or there was no memory, so the letter stays where it is.
-    Fails,
-}
-
-/// What a courier is at.
-#[derive(Clone, Copy, Debug, PartialEq, Eq)]
-enum Aim {
-    Looking,
-    Moving,
-    Waiting,
-    Ending,
-}
-
 /// The length up to which its target is to be stored, where it waits for that.
 fn awaited_by(hand: &Hand) -> Option<u64> {
     match hand {
@@ -77,51 +59,16 @@ fn is_short(answer: &Result<Reply, Fault>, awaited: Option<u64>) -> bool {
     }
 }
 
-fn aim_of(hand: &Hand) -> Aim {
-    match hand {
-        Hand::Empty => Aim::Looking,
-        Hand::Waits {
-            letter: _,
-            length: _,
-        } => Aim::Waiting,
-        Hand::Moved { letter: _ } => Aim::Ending,
-        _ => Aim::Moving,
-    }
-}
-
-/// What a step came to, by what the courier was at before and is at now. `is_done` where it was answered that all is
-/// done.
-fn outcome_of(before: Aim, now: Aim, is_done: bool) -> Stepped {
-    match (before, now) {
-        (Aim::Waiting, Aim::Waiting) => Stepped::Waits,
-        (Aim::Looking, Aim::Looking) if is_done => Stepped::Ends,
-        (Aim::Ending, Aim::Looking) if is_done => Stepped::GoesOn,
-        (_, Aim::Looking) => Stepped::Fails,
-        _ => Stepped::GoesOn,
-    }
-}
-
 impl<T: Opened + Drop, J: Naming, B: Bell + Drop> Courier<T, J, B> {
-    /// Takes the answer. What the step came to, by what it was at before.
-    fn take(&mut self, before: Aim, reply: Reply) -> Stepped {
-        let is_done = matches!(&reply, Reply::Done | Reply::NoDead);
-        let hand = mem::replace(&mut self.hand, Hand::Empty);
-        drop(mem::replace(&mut self.hand, after(hand, reply)));
-        let now = aim_of(&self.hand);
-        if now == Aim::Looking {
+    /// After a step. A target is held no longer than there is a letter for it, and once a letter is moved the next refusal is a
+    /// first one again.
+    fn note(&mut self, was_ending: bool, stepped: Stepped) {
+        if self.is_free() {
             drop(self.target.take());
         }
-        let stepped = outcome_of(before, now, is_done);
-        if before == Aim::Ending && stepped == Stepped::GoesOn {
+        if was_ending && stepped == Stepped::GoesOn {
             self.pause = Pause::first();
         }
-        stepped
-    }
-
-    /// The topic that the letter goes to cannot be opened.
-    fn refuse(&mut self, fault: Fault) -> Stepped {
-        let before = aim_of(&self.hand);
-        self.take(before, Reply::Refused(fault))
     }
 
     /// It was refused: it goes on after a pause.
@@ -131,7 +78,12 @@ impl<T: Opened + Drop, J: Naming, B: Bell + Drop> Courier<T, J, B> {
 
     /// It has nothing in its hand, and no producer is connected for it.
     pub(crate) fn is_free(&self) -> bool {
-        aim_of(&self.hand) == Aim::Looking
+        matches!(&self.hand, Hand::Empty)
+    }
+
+    /// It makes a step as soon as it can.
+    pub(crate) fn goes(&self) -> bool {
+        matches!(self.stay, Stay::Goes)
     }
 
     pub(crate) fn is_over(&self) -> bool {
@@ -154,16 +106,12 @@ impl<T: Opened + Drop, J: Naming, B: Bell + Drop> Courier<T, J, B> {
         }
     }
 
-    /// Whether it goes on now that the thread comes to the topic.
-    pub(crate) fn is_called_by(&self, topic: &Shared<T, J, B>) -> bool {
-        match self.stay {
-            Stay::Sent => true,
-            Stay::Stores => self.goes_to(topic),
-            Stay::Pauses(_) | Stay::Over => false,
-        }
+    /// Whether it waits until more of this topic is stored.
+    pub(crate) fn waits_for(&self, topic: &Shared<T, J, B>) -> bool {
+        matches!(self.stay, Stay::Stores) && self.moves_to(topic)
     }
 
-    fn goes_to(&self, topic: &Shared<T, J, B>) -> bool {
+    fn moves_to(&self, topic: &Shared<T, J, B>) -> bool {
         match &self.target {
             Some(target) => target.name.is(&topic.name),
             None => false,
@@ -188,7 +136,7 @@ impl<T: Opened + Drop, S: Alter, J: Naming, B: Bell + Drop> Directory<T, S, J, B
                 source,
                 target: None,
                 grave: grave.number,
-                stay: Stay::Sent,
+                stay: Stay::Goes,
                 pause: Pause::first(),
             }),
             Err(_) => {
@@ -237,33 +185,6 @@ impl<T: Opened + Drop, S: Alter, J: Naming, B: Bell + Drop> Directory<T, S, J, B
         }
     }
 
-    fn ask<R: Wait>(&self, rt: &R, courier: &Courier<T, J, B>, side: Side, event: Event) -> Reply {
-        let topic = match side {
-            Side::Source => Some(&courier.source),
-            Side::Target => courier.target.as_ref(),
-        };
-        match topic {
-            Some(topic) => self.reply(rt, topic, event, awaited_by(&courier.hand)),
-            None => {
-                drop(event);
-                Reply::Refused(Fault::NoSession)
-            }
-        }
-    }
-
-    fn reply<R: Wait>(
-        &self,
-        rt: &R,
-        topic: &Arc<Shared<T, J, B>>,
-        event: Event,
-        awaited: Option<u64>,
-    ) -> Reply {
-        match self.visit(rt, topic, event, awaited) {
-            Ok(reply) => reply,
-            Err(fault) => Reply::Refused(fault),
-        }
-    }
-
     /// One step of a move: one event at one of the two topics. A target that cannot be opened is one that refused.
     pub(crate) fn step<R: Wait>(
         &self,
@@ -271,23 +192,75 @@ impl<T: Opened + Drop, S: Alter, J: Naming, B: Bell + Drop> Directory<T, S, J, B
         courier: &mut Courier<T, J, B>,
         now: Moment,
     ) -> Stepped {
-        match self.find_target(rt, courier) {
-            Ok(()) => self.make_next(rt, courier, now),
-            Err(fault) => courier.refuse(fault),
+        let opened = self.find_target(rt, courier);
+        let was_ending = matches!(&courier.hand, Hand::Moved { letter: _ });
+        let stepped = self.make_step(rt, courier, opened, now);
+        courier.note(was_ending, stepped);
+        stepped
+    }
+
+    /// Lends a courier its calls at a topic, where that is open; else all are refused with this fault.
+    fn visitor<'r, 'a, R: Wait>(
+        &'r self,
+        rt: &'r R,
+        topic: Option<&'a Arc<Shared<T, J, B>>>,
+        absent: Fault,
+        awaited: Option<u64>,
+    ) -> Visitor<'r, 'a, T, S, J, B, R> {
+        Visitor {
+            rt,
+            directory: self,
+            topic,
+            absent,
+            awaited,
         }
     }
 
-    /// Without memory for its next step the courier stays at this one.
-    fn make_next<R: Wait>(&self, rt: &R, courier: &mut Courier<T, J, B>, now: Moment) -> Stepped {
-        match next_move(&courier.route, &courier.hand, now) {
-            Ok(next) => self.make(rt, courier, next),
-            Err(_) => Stepped::Fails,
-        }
+    fn make_step<R: Wait>(
+        &self,
+        rt: &R,
+        courier: &mut Courier<T, J, B>,
+        opened: Result<(), Fault>,
+        now: Moment,
+    ) -> Stepped {
+        let awaited = awaited_by(&courier.hand);
+        let absent = opened.err().unwrap_or(Fault::NoSession);
+        let mut at_source = self.visitor(rt, Some(&courier.source), absent, awaited);
+        let mut at_target = self.visitor(rt, courier.target.as_ref(), absent, awaited);
+        step(
+            &courier.route,
+            &mut courier.hand,
+            &mut at_source,
+            &mut at_target,
+            now,
+        )
     }
+}
 
-    fn make<R: Wait>(&self, rt: &R, courier: &mut Courier<T, J, B>, next: Move) -> Stepped {
-        let before = aim_of(&courier.hand);
-        let reply = self.ask(rt, courier, next.side, next.event);
-        courier.take(before, reply)
+/// The calls of a courier at one of its two topics: each is one hold of the topic's lock. Where the topic is not open all
+/// is refused, with the fault for which it is not.
+#[derive(Drop)]
+struct Visitor<'r, 'a, T: Opened + Drop, S: Alter, J: Naming, B: Bell + Drop, R: Wait> {
+    rt: &'r R,
+    directory: &'r Directory<T, S, J, B>,
+    topic: Option<&'a Arc<Shared<T, J, B>>>,
+    absent: Fault,
+    awaited: Option<u64>,
+}
+
+impl<'r, 'a, T: Opened + Drop, S: Alter, J: Naming, B: Bell + Drop, R: Wait> Caller
+    for Visitor<'r, 'a, T, S, J, B, R> {
+    ghost use Rattle.std.specs.Prelude.{None};
+
+    ghost calls = { λ c. None };
+
+    fn call(&mut self, event: Event) -> Result<Reply, Fault> {
+        match self.topic {
+            Some(topic) => self.directory.visit(self.rt, topic, event, self.awaited),
+            None => {
+                drop(event);
+                Err(self.absent)
+            }
+        }
     }
 }

@@ -1,7 +1,9 @@
 // The directory: topics by name, and who sits at them.
-ghost use Rattle.std.specs.Prelude.{◌≡◌, OnOk, OnErr, false, true};
+ghost use Rattle.std.specs.Prelude.{◌≡◌, ◌∷◌, ◌++◌, [], IfErr, IfOk, None, OnOk, OnErr, false, true};
 ghost use Rattle.std.specs.String.{string_bytes};
-ghost use Rattle.broker_dir.specs.Listing.{names_of, with_name};
+ghost use Rattle.indexmap.specs.IndexMap.{get_by_text};
+ghost use Rattle.position_core.specs.TopicName.{topic_text};
+ghost use Rattle.broker_dir.specs.Listing.{names_of};
 
 use crate::attached::{Attached, Seated};
 use crate::board::Board;
@@ -25,7 +27,7 @@ use stored_cell::Terms;
 pub struct Directory<T: Opened + Drop, S: Alter, J: Naming, B: Bell + Drop> {
     pub(crate) alloc: Global,
     terms: Terms,
-    table: Mutex<Table<Arc<Shared<T, J, B>>>>,
+    table: Mutex<Table<T, J, B>>,
     pub(crate) keeper: Mutex<Keeper<S, J>>,
     pub(crate) board: Board<Arc<Shared<T, J, B>>>,
     pub(crate) is_closed: AtomicBool,
@@ -111,7 +113,9 @@ impl<T: Opened + Drop, S: Alter, J: Naming, B: Bell + Drop> Directory<T, S, J, B
         name: &TopicName,
         create: bool,
         bell: Arc<B>,
-    ) -> Result<Attached<T, J, B>, Fault> {
+    ) -> Result<Attached<T, J, B>, Fault>
+        ensures { IfOk result (λ attached. topic_text attached.topic.value.name ≡ topic_text name.now) }
+    {
         if self.is_closed() {
             drop(bell);
             return Err(Fault::StoreFailed);
@@ -147,14 +151,17 @@ impl<T: Opened + Drop, S: Alter, J: Naming, B: Bell + Drop> Directory<T, S, J, B
     fn open_in<R: Wait>(
         &self,
         rt: &R,
-        table: &mut Table<Arc<Shared<T, J, B>>>,
+        table: &mut Table<T, J, B>,
         text: String,
         name: &TopicName,
         create: bool,
         bell: Option<Arc<B>>,
     ) -> Result<(Arc<Shared<T, J, B>>, u64), Fault>
-        ensures opened { OnOk result (names_of table.new.topics.entries ≡ with_name (names_of table.old.topics.entries) (string_bytes text)) }
-        ensures refused { OnErr result (table.new.topics.entries ≡ table.old.topics.entries) }
+        requires text { string_bytes text ≡ topic_text name.now }
+        requires new { get_by_text table.old.list.topics (string_bytes text) ≡ None }
+        ensures opened { OnOk result (names_of table.new.list.topics.entries ≡ names_of table.old.list.topics.entries ++ string_bytes text ∷ []) }
+        ensures at { IfOk result (λ opened. opened.0.value.name ≡ name.now) }
+        ensures refused { OnErr result (table.new.list.topics.entries ≡ table.old.list.topics.entries) }
     {
         if table.count() >= MOST_OPEN {
             drop(text);
@@ -178,7 +185,9 @@ impl<T: Opened + Drop, S: Alter, J: Naming, B: Bell + Drop> Directory<T, S, J, B
         create: bool,
         bell: Option<Arc<B>>,
         open: usize,
-    ) -> Result<Made<Shared<T, J, B>>, Fault> {
+    ) -> Result<Made<Shared<T, J, B>>, Fault>
+        ensures { IfOk result (λ made. made.topic.value.name ≡ name.now) }
+    {
         match self.load(rt, name, create) {
             Ok(inside) => self.seated(rt, inside, name, bell, open),
             Err(fault) => {
@@ -195,7 +204,9 @@ impl<T: Opened + Drop, S: Alter, J: Naming, B: Bell + Drop> Directory<T, S, J, B
         name: &TopicName,
         bell: Option<Arc<B>>,
         open: usize,
-    ) -> Result<Made<Shared<T, J, B>>, Fault> {
+    ) -> Result<Made<Shared<T, J, B>>, Fault>
+        ensures { IfOk result (λ made. made.topic.value.name ≡ name.now) }
+    {
         let sends = inside.wants_courier();
         match seat_for(&mut inside, bell) {
             Ok(seat) => match self.share(rt, inside, name, open) {
@@ -213,12 +224,15 @@ impl<T: Opened + Drop, S: Alter, J: Naming, B: Bell + Drop> Directory<T, S, J, B
     fn list<R: Wait>(
         &self,
         rt: &R,
-        table: &mut Table<Arc<Shared<T, J, B>>>,
+        table: &mut Table<T, J, B>,
         text: String,
         made: Made<Shared<T, J, B>>,
     ) -> Result<(Arc<Shared<T, J, B>>, u64), Fault>
-        ensures opened { OnOk result (names_of table.new.topics.entries ≡ with_name (names_of table.old.topics.entries) (string_bytes text)) }
-        ensures refused { OnErr result (table.new.topics.entries ≡ table.old.topics.entries) }
+        requires text { string_bytes text ≡ topic_text made.topic.value.name }
+        requires new { get_by_text table.old.list.topics (string_bytes text) ≡ None }
+        ensures opened { OnOk result (names_of table.new.list.topics.entries ≡ names_of table.old.list.topics.entries ++ string_bytes text ∷ []) }
+        ensures at { IfOk result (λ opened. opened.0 ≡ made.topic) }
+        ensures refused { OnErr result (table.new.list.topics.entries ≡ table.old.list.topics.entries) }
     {
         let Made { topic, seat, sends } = made;
         let errand = match clone_of(&topic) {
@@ -247,7 +261,9 @@ impl<T: Opened + Drop, S: Alter, J: Naming, B: Bell + Drop> Directory<T, S, J, B
         &self,
         rt: &R,
         name: &TopicName,
-    ) -> Result<Arc<Shared<T, J, B>>, Fault> {
+    ) -> Result<Arc<Shared<T, J, B>>, Fault>
+        ensures { IfOk result (λ topic. topic_text topic.value.name ≡ topic_text name.now) }
+    {
         let Ok(text) = topic_text(self.alloc, name) else {
             return Err(Fault::NoMemory);
         };
@@ -289,7 +305,9 @@ impl<T: Opened + Drop, S: Alter, J: Naming, B: Bell + Drop> Directory<T, S, J, B
         inside: Inside<T, J, B>,
         name: &TopicName,
         open: usize,
-    ) -> Result<Arc<Shared<T, J, B>>, Fault> {
+    ) -> Result<Arc<Shared<T, J, B>>, Fault>
+        ensures { IfOk result (λ topic. topic.value.name ≡ name.now) }
+    {
         match self.name_with_room(rt, name, open) {
             Ok(name) => shared(self.alloc, name, inside),
             Err(fault) => {
@@ -305,7 +323,9 @@ impl<T: Opened + Drop, S: Alter, J: Naming, B: Bell + Drop> Directory<T, S, J, B
         rt: &R,
         name: &TopicName,
         open: usize,
-    ) -> Result<TopicName, Fault> {
+    ) -> Result<TopicName, Fault>
+        ensures { IfOk result (λ copy. copy ≡ name.now) }
+    {
         if !self.board.make_room(rt, open.saturating_add(1)) {
             return Err(Fault::NoMemory);
         }
@@ -389,7 +409,9 @@ fn shared<T: Opened + Drop, J: Naming, B: Bell + Drop>(
     alloc: Global,
     name: TopicName,
     inside: Inside<T, J, B>,
-) -> Result<Arc<Shared<T, J, B>>, Fault> {
+) -> Result<Arc<Shared<T, J, B>>, Fault>
+    ensures { IfOk result (λ topic. topic.value.name ≡ name) }
+{
     let shared = Shared {
         name,
         inside: Mutex::new(inside),
@@ -409,7 +431,9 @@ fn fall_behind<T: Opened + Drop, J: Naming, B: Bell + Drop, R: Wait>(
     inside.fall_behind();
 }
 
-fn clone_of<X>(topic: &Arc<X>) -> Result<Arc<X>, Fault> {
+fn clone_of<X>(topic: &Arc<X>) -> Result<Arc<X>, Fault>
+    ensures { IfOk result (λ copy. copy.value ≡ topic.now.value) }
+{
     match Arc::try_clone(topic) {
         Ok(topic) => Ok(topic),
         Err(_) => Err(Fault::NoMemory),
@@ -417,9 +441,15 @@ fn clone_of<X>(topic: &Arc<X>) -> Result<Arc<X>, Fault> {
 }
 
 /// The topic is open under the name. False for want of memory.
-fn add_to<X: Drop>(table: &mut Table<Arc<X>>, name: String, topic: &Arc<X>) -> bool
-    ensures added { result ≡ true → names_of table.new.topics.entries ≡ with_name (names_of table.old.topics.entries) (string_bytes name) }
-    ensures refused { result ≡ false → table.new.topics.entries ≡ table.old.topics.entries }
+fn add_to<T: Opened + Drop, J: Naming, B: Bell + Drop>(
+    table: &mut Table<T, J, B>,
+    name: String,
+    topic: &Arc<Shared<T, J, B>>,
+) -> bool
+    requires named { string_bytes name ≡ topic_text topic.now.value.name }
+    requires new { get_by_text table.old.list.topics (string_bytes name) ≡ None }
+    ensures added { result ≡ true → names_of table.new.list.topics.entries ≡ names_of table.old.list.topics.entries ++ string_bytes name ∷ [] }
+    ensures refused { result ≡ false → table.new.list.topics.entries ≡ table.old.list.topics.entries }
 {
     match clone_of(topic) {
         Ok(topic) => table.add(name, topic),
@@ -445,7 +475,9 @@ fn sit<T: Opened + Drop, J: Naming, B: Bell + Drop, R: Wait>(
     rt: &R,
     topic: Arc<Shared<T, J, B>>,
     bell: Arc<B>,
-) -> Result<Attached<T, J, B>, Fault> {
+) -> Result<Attached<T, J, B>, Fault>
+    ensures { IfOk result (λ attached. attached.topic ≡ topic) }
+{
     let mut inside = topic.inside.lock(rt);
     let entered = inside.enter(bell);
     drop(inside);

@@ -1,11 +1,12 @@
 // Errands of the storing thread: couriers are sent, go on, pause where they were refused, and end.
 use crate::clock::{instant, moment};
-use crate::courier::{Courier, Stay, Stepped};
+use crate::courier::{Courier, Stay};
 use crate::directory::Directory;
 use crate::inside::Inside;
 use crate::pause::Due;
 use crate::queue::Turn;
 use crate::topic::Shared;
+use dead_courier::Stepped;
 use delivery_machine::{Fault, Moment, Opened};
 use marks::Naming;
 use session_bells::Bell;
@@ -73,6 +74,26 @@ impl<T: Opened + Drop, J: Naming, B: Bell + Drop> Errands<T, J, B> {
         self.time = instant(rt);
     }
 
+    /// Those go on that wait for more of the topic to be stored.
+    fn call(&mut self, topic: &Shared<T, J, B>) {
+        for courier in self.couriers.iter_mut() {
+            if courier.waits_for(topic) {
+                courier.stay = Stay::Goes;
+            }
+        }
+    }
+
+    /// Those go on whose pause is over.
+    pub(crate) fn call_due<R: Clock>(&mut self, rt: &R) {
+        self.read_clocks(rt);
+        let time = self.time;
+        for courier in self.couriers.iter_mut() {
+            if courier.is_due(time) {
+                courier.stay = Stay::Goes;
+            }
+        }
+    }
+
     /// Those that have ended go, and the first pause is that of those that are left.
     fn tidy(&mut self) {
         self.couriers.retain(|courier| !courier.is_over());
@@ -85,9 +106,9 @@ impl<T: Opened + Drop, J: Naming, B: Bell + Drop> Errands<T, J, B> {
 }
 
 impl<T: Opened + Drop, S: Alter, J: Naming, B: Bell + Drop> Directory<T, S, J, B> {
-    /// Couriers are sent to the subscriptions of the topic in which letters lie, and those go on that wait for more of it
-    /// to be stored. Without memory for a courier the thread comes again after a pause.
-    pub(crate) fn run_errand<R: Wait + Clock>(
+    /// Couriers are sent to the subscriptions of the topic in which letters lie, and those are called that wait for more of
+    /// it to be stored. Without memory for a courier the thread comes again after a pause.
+    pub(crate) fn begin_errand<R: Wait + Clock>(
         &self,
         rt: &R,
         topic: Arc<Shared<T, J, B>>,
@@ -95,8 +116,7 @@ impl<T: Opened + Drop, S: Alter, J: Naming, B: Bell + Drop> Directory<T, S, J, B
     ) {
         errands.read_clocks(rt);
         let is_sent = self.send_couriers(rt, &topic, &mut errands.couriers);
-        self.call_couriers(rt, &topic, errands);
-        errands.tidy();
+        errands.call(&topic);
         if is_sent {
             drop(topic);
         } else {
@@ -104,56 +124,44 @@ impl<T: Opened + Drop, S: Alter, J: Naming, B: Bell + Drop> Directory<T, S, J, B
         }
     }
 
-    /// Couriers whose pause is over go on.
-    pub(crate) fn run_due<R: Wait + Clock>(&self, rt: &R, errands: &mut Errands<T, J, B>) {
-        errands.read_clocks(rt);
-        let (now, time) = (errands.now, errands.time);
-        for courier in errands.couriers.iter_mut() {
-            if courier.is_due(time) {
-                self.go(rt, courier, now, time);
-            }
-        }
-        errands.tidy();
-    }
-
-    fn call_couriers<R: Wait>(
-        &self,
-        rt: &R,
-        topic: &Arc<Shared<T, J, B>>,
-        errands: &mut Errands<T, J, B>,
-    ) {
-        let (now, time) = (errands.now, errands.time);
-        for courier in errands.couriers.iter_mut() {
-            if courier.is_called_by(topic) {
-                self.go(rt, courier, now, time);
+    /// The couriers that were called go as far as they can.
+    pub(crate) fn walk<R: Wait>(&self, rt: &R, errands: &mut Errands<T, J, B>) {
+        for _ in rt.forever() {
+            if !self.step_each(rt, errands) {
+                return;
             }
         }
     }
 
-    /// The courier goes as far as it can.
-    fn go<R: Wait>(
+    /// One step of each courier that goes. False where none does.
+    pub(crate) fn step_each<R: Wait>(&self, rt: &R, errands: &mut Errands<T, J, B>) -> bool {
+        let (now, time) = (errands.now, errands.time);
+        let mut goes = false;
+        for courier in errands.couriers.iter_mut() {
+            if courier.goes() {
+                self.go_on(rt, courier, now, time);
+                goes = true;
+            }
+        }
+        if !goes {
+            errands.tidy();
+        }
+        goes
+    }
+
+    /// The courier makes a step, and goes on with another, waits, pauses or ends.
+    fn go_on<R: Wait>(
         &self,
         rt: &R,
         courier: &mut Courier<T, J, B>,
         now: Moment,
         time: Option<Instant>,
     ) {
-        for _ in rt.forever() {
-            match self.step(rt, courier, now) {
-                Stepped::GoesOn => {}
-                Stepped::Waits => {
-                    courier.stay = Stay::Stores;
-                    return;
-                }
-                Stepped::Ends => {
-                    self.end_courier(rt, courier);
-                    return;
-                }
-                Stepped::Fails => {
-                    pause_courier(rt, courier, time);
-                    return;
-                }
-            }
+        match self.step(rt, courier, now) {
+            Stepped::GoesOn => {}
+            Stepped::Waits => courier.stay = Stay::Stores,
+            Stepped::Ends => self.end_courier(rt, courier),
+            Stepped::Fails => pause_courier(rt, courier, time),
         }
     }
 

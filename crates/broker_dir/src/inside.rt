@@ -1,7 +1,9 @@
 // What a topic's lock guards: the topic with what is stored of it, and the bells of those who sit at it.
-ghost use Rattle.std.specs.Prelude.{◌≡◌, ◌-◌, ◌<◌, ◌⊎◌, IfOk, IfErr, IsOk, set, true};
+ghost use Rattle.std.specs.Prelude.{◌≡◌, ◌-◌, ◌<◌, ◌⊎◌, IfOk, IfErr, IsOk, set, false, true};
+ghost use Rattle.delivery_machine.specs.Journals.{is_storing};
 ghost use Rattle.topic_shared.specs.Kept.{is_end};
 ghost use Rattle.broker_dir.specs.Ends.{is_ending};
+ghost use Rattle.broker_dir.specs.Handing.{HandsOn};
 ghost use Rattle.topic_seats.specs.Seats.{IsFree};
 
 use crate::graves::{Change, Graves};
@@ -25,6 +27,13 @@ fn is_ending(event: &Event) -> bool
     matches!(event, Event::DropProducer { .. } | Event::Leave { .. })
 }
 
+/// Whether the event calls something durable: only the store may do that, by its confirmation.
+fn is_storing(event: &Event) -> bool
+    ensures { result ≡ is_storing event.now }
+{
+    matches!(event, Event::Stored | Event::StoredTo { .. })
+}
+
 /// What a topic's lock guards.
 #[derive(Drop)]
 pub(crate) struct Inside<T: Opened + Drop, J: Naming, B: Bell + Drop> {
@@ -40,10 +49,15 @@ pub(crate) struct Inside<T: Opened + Drop, J: Naming, B: Bell + Drop> {
     pub(crate) is_sent: bool,
     /// A courier waits until more of the topic is stored.
     pub(crate) is_awaited: bool,
+    /// All that is durable stands in rows that were committed: nothing is so by somebody's word.
+    ghost by_proof: { cell.by_word ≡ false },
 }
 
 impl<T: Opened + Drop, J: Naming, B: Bell + Drop> Inside<T, J, B> {
-    pub(crate) fn new(alloc: Global, cell: StoredCell<T, J>) -> Self {
+    pub(crate) fn new(alloc: Global, cell: StoredCell<T, J>) -> Self
+        requires { cell.by_word ≡ false }
+        ensures { result.cell ≡ cell }
+    {
         Inside {
             alloc,
             cell,
@@ -57,7 +71,10 @@ impl<T: Opened + Drop, J: Naming, B: Bell + Drop> Inside<T, J, B> {
     }
 
     /// Over a topic that was just opened: the courier is to look at each of its subscriptions in which letters lie.
-    pub(crate) fn opened(alloc: Global, cell: StoredCell<T, J>) -> Result<Self, Fault> {
+    pub(crate) fn opened(alloc: Global, cell: StoredCell<T, J>) -> Result<Self, Fault>
+        requires { cell.by_word ≡ false }
+        ensures { IfOk result (λ inside. inside.cell ≡ cell) }
+    {
         match cell.view() {
             Ok(snapshot) => {
                 let inside = Inside::knowing(alloc, cell, snapshot.subscriptions());
@@ -75,7 +92,10 @@ impl<T: Opened + Drop, J: Naming, B: Bell + Drop> Inside<T, J, B> {
         alloc: Global,
         cell: StoredCell<T, J>,
         subscriptions: &[KeptSubscription],
-    ) -> Result<Self, Fault> {
+    ) -> Result<Self, Fault>
+        requires { cell.by_word ≡ false }
+        ensures { IfOk result (λ inside. inside.cell ≡ cell) }
+    {
         let mut inside = Inside::new(alloc, cell);
         match inside.graves.know(subscriptions) {
             Ok(()) => Ok(inside),
@@ -111,14 +131,17 @@ impl<T: Opened + Drop, J: Naming, B: Bell + Drop> Inside<T, J, B> {
         self.bells.exit(rt, seat);
     }
 
-    /// One event of the one at the seat. Those are rung to whom it leads.
+    /// One event of the one at the seat. Those are rung to whom it leads. Refused before the topic hears of it where nobody
+    /// sits there, (F1) for want of memory, and where it would call something durable.
     pub(crate) fn answer<R: Wait>(
         &mut self,
         rt: &R,
         seat: u64,
         asked: &Asked,
         event: Event,
-    ) -> Result<Reply, Fault> {
+    ) -> Result<Reply, Fault>
+        ensures { HandsOn self.old.cell.cell.state event result self.new.cell.cell.state }
+    {
         match self.make_room(seat, asked, &event) {
             Ok(change) => self.answer_with_room(rt, seat, asked, event, change),
             Err(fault) => {
@@ -136,7 +159,9 @@ impl<T: Opened + Drop, J: Naming, B: Bell + Drop> Inside<T, J, B> {
         event: Event,
         change: Change,
     ) -> Result<Reply, Fault>
-        requires { 0 < seat }
+        requires seat { 0 < seat }
+        requires not_storing { is_storing event ≡ false }
+        ensures hands_on { HandsOn self.old.cell.cell.state event result self.new.cell.cell.state }
         ensures ends { is_end self.old.cell.cell event ≡ true → IsOk result }
         ensures faults { IfErr result (λ fault. (fault ≡ Fault.NoMemory) ⊎ (fault ≡ Fault.JournalFull)) }
     {
@@ -154,7 +179,9 @@ impl<T: Opened + Drop, J: Naming, B: Bell + Drop> Inside<T, J, B> {
     }
 
     /// The room is given back that one would have had who did not join.
-    fn refused<R: Wait>(&mut self, rt: &R, seat: u64, asked: &Asked, fault: Fault) {
+    fn refused<R: Wait>(&mut self, rt: &R, seat: u64, asked: &Asked, fault: Fault)
+        ensures { self.new.cell ≡ self.old.cell }
+    {
         if let Asked::Joins(_) = asked {
             let reply = Reply::Refused(fault);
             self.bells.answered(rt, seat, asked, &reply);
@@ -162,14 +189,9 @@ impl<T: Opened + Drop, J: Naming, B: Bell + Drop> Inside<T, J, B> {
         }
     }
 
-    fn answered<R: Wait>(
-        &mut self,
-        rt: &R,
-        seat: u64,
-        asked: &Asked,
-        change: Change,
-        reply: &Reply,
-    ) {
+    fn answered<R: Wait>(&mut self, rt: &R, seat: u64, asked: &Asked, change: Change, reply: &Reply)
+        ensures { self.new.cell.cell.state ≡ self.old.cell.cell.state }
+    {
         self.bells.answered(rt, seat, asked, reply);
         self.graves.answered(change, reply);
         if let Reply::Died { .. } = reply
@@ -180,12 +202,14 @@ impl<T: Opened + Drop, J: Naming, B: Bell + Drop> Inside<T, J, B> {
         self.roll_if_long();
     }
 
-    /// Room for what the one at the seat asked. Nobody sits at 0.
+    /// Room for what the one at the seat asked. Nobody sits at 0, and nobody at a seat calls something durable.
     fn make_room(&mut self, seat: u64, asked: &Asked, event: &Event) -> Result<Change, Fault>
-        ensures { IfOk result (λ _. 0 < seat) }
+        ensures seat { IfOk result (λ _. 0 < seat) }
+        ensures not_storing { IfOk result (λ _. is_storing event.now ≡ false) }
+        ensures stays { self.new.cell ≡ self.old.cell }
     {
-        if seat == 0 {
-            return Err(Fault::NoRoom);
+        if seat == 0 || is_storing(event) {
+            return Err(Fault::NoSession);
         }
         let change = match self.graves.prepare(event) {
             Ok(change) => change,
@@ -218,6 +242,7 @@ impl<T: Opened + Drop, J: Naming, B: Bell + Drop> Inside<T, J, B> {
     /// One event of one who takes a free seat for it alone. An end needs none, so that nothing is left behind where all
     /// are taken: where it detaches one who is attached it is always answered.
     pub(crate) fn visit<R: Wait>(&mut self, rt: &R, event: Event) -> Result<Reply, Fault>
+        ensures hands_on { HandsOn self.old.cell.cell.state event result self.new.cell.cell.state }
         ensures ends { is_end self.old.cell.cell event ≡ true → IsOk result }
         ensures faults { is_ending event ≡ true → IfErr result (λ fault. (fault ≡ Fault.NoMemory) ⊎ (fault ≡ Fault.JournalFull)) }
     {
@@ -228,7 +253,9 @@ impl<T: Opened + Drop, J: Naming, B: Bell + Drop> Inside<T, J, B> {
         }
     }
 
-    fn visit_seated<R: Wait>(&mut self, rt: &R, event: Event) -> Result<Reply, Fault> {
+    fn visit_seated<R: Wait>(&mut self, rt: &R, event: Event) -> Result<Reply, Fault>
+        ensures { HandsOn self.old.cell.cell.state event result self.new.cell.cell.state }
+    {
         match self.cell.enter() {
             Ok(seat) => {
                 let answer = self.answer(rt, seat, &Asked::Nothing, event);
@@ -261,7 +288,9 @@ impl<T: Opened + Drop, J: Naming, B: Bell + Drop> Inside<T, J, B> {
         self.is_behind = true;
     }
 
-    fn roll_if_long(&mut self) {
+    fn roll_if_long(&mut self)
+        ensures { self.new.cell.cell.state ≡ self.old.cell.cell.state }
+    {
         if self.cell.cell().lines() > LONG {
             self.cell.roll();
         }

@@ -78,12 +78,16 @@ impl<T: Opened + Drop, S: Alter, J: Naming, B: Bell + Drop> Directory<T, S, J, B
         }
     }
 
-    /// One task of that thread, where there is one now. False where there is none.
+    /// One task of that thread, where there is one now, or one step of each courier that is under way and need not wait.
+    /// False where there is neither.
     pub fn keep_once<R: Wait + Clock>(&self, rt: &R, errands: &mut Errands<T, J, B>) -> bool {
+        if self.step_each(rt, errands) {
+            return true;
+        }
         let task = self.board.try_next(rt, errands.turn());
         errands.has_stored = false;
         match task {
-            Some(task) => self.do_task(rt, task, errands),
+            Some(task) => self.begin_task(rt, task, errands),
             None => false,
         }
     }
@@ -95,24 +99,28 @@ impl<T: Opened + Drop, S: Alter, J: Naming, B: Bell + Drop> Directory<T, S, J, B
         task: Task<Arc<Shared<T, J, B>>>,
         errands: &mut Errands<T, J, B>,
     ) -> bool {
-        match task {
-            Task::Store(topics) => {
-                self.store(rt, topics.as_slice());
-                errands.has_stored = true;
-                true
-            }
-            Task::Errand(topic) => {
-                errands.has_stored = false;
-                self.run_errand(rt, topic, errands);
-                true
-            }
-            Task::Retry => {
-                errands.has_stored = false;
-                self.run_due(rt, errands);
-                true
-            }
-            Task::End => false,
+        let goes_on = self.begin_task(rt, task, errands);
+        if !errands.has_stored {
+            self.walk(rt, errands);
         }
+        goes_on
+    }
+
+    /// The same, but for the steps of the couriers that are called.
+    fn begin_task<R: Wait + Clock>(
+        &self,
+        rt: &R,
+        task: Task<Arc<Shared<T, J, B>>>,
+        errands: &mut Errands<T, J, B>,
+    ) -> bool {
+        errands.has_stored = matches!(&task, Task::Store(_));
+        match task {
+            Task::Store(topics) => self.store(rt, topics.as_slice()),
+            Task::Errand(topic) => self.begin_errand(rt, topic, errands),
+            Task::Retry => errands.call_due(rt),
+            Task::End => return false,
+        }
+        true
     }
 
     /// The thread that stores is to end once all that waits is stored.

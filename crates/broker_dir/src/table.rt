@@ -1,50 +1,72 @@
 // The open topics by their names, in the order of opening.
-ghost use Rattle.std.specs.Prelude.{◌≡◌, false, true, [], map, option_copied, slice_get};
+ghost use Rattle.std.specs.Prelude.{◌≡◌, ◌∷◌, ◌++◌, false, true, [], length, IfSome, None, option_copied};
 ghost use Rattle.std.specs.String.{string_bytes};
 ghost use Rattle.indexmap.specs.IndexMap.{get_by_text};
-ghost use Rattle.broker_dir.specs.Listing.{names_of, with_name};
+ghost use Rattle.position_core.specs.TopicName.{topic_text};
+ghost use Rattle.broker_dir.specs.Listing.{AreNamed};
 
+use crate::topic::Shared;
+use delivery_machine::Opened;
 use indexmap::IndexMap;
+use marks::Naming;
+use session_bells::Bell;
 use std::alloc::Global;
+use std::sync::Arc;
 
 /// How many topics may be open.
 pub(crate) const MOST_OPEN: usize = 256;
 
-/// The open topics by their names, in the order of opening.
+/// Something by names, in the order in which it came.
 #[derive(Drop)]
-pub(crate) struct Table<X: Drop> {
+struct Listed<X: Drop> {
     topics: IndexMap<String, X>,
 }
 
-impl<X: Drop> Table<X> {
+/// The open topics by their names, in the order of opening.
+#[derive(Drop)]
+pub(crate) struct Table<T: Opened + Drop, J: Naming, B: Bell + Drop> {
+    list: Listed<Arc<Shared<T, J, B>>>,
+    /// Each is open under its own name.
+    ghost named: { AreNamed (λ topic. topic.value.name) list.topics.entries },
+}
+
+impl<T: Opened + Drop, J: Naming, B: Bell + Drop> Table<T, J, B> {
     pub(crate) fn new(alloc: Global) -> Self
-        ensures { result.topics.entries ≡ [] }
+        ensures { result.list.topics.entries ≡ [] }
     {
         Table {
-            topics: IndexMap::new(alloc),
+            list: Listed {
+                topics: IndexMap::new(alloc),
+            },
         }
     }
 
-    pub(crate) fn find(&self, name: &str) -> Option<&X>
-        ensures { option_copied result ≡ get_by_text self.now.topics name.now }
+    /// The open topic of that name.
+    pub(crate) fn find(&self, name: &str) -> Option<&Arc<Shared<T, J, B>>>
+        ensures found { option_copied result ≡ get_by_text self.now.list.topics name.now }
+        ensures named { IfSome result (λ topic. topic_text topic.now.value.name ≡ name.now) }
     {
-        self.topics.get(name)
+        self.list.topics.get(name)
     }
 
-    pub(crate) fn count(&self) -> usize {
-        self.topics.len()
-    }
-
-    /// The topic is open under the name. False for want of memory.
-    pub(crate) fn add(&mut self, name: String, topic: X) -> bool
-        ensures added { result ≡ true → names_of self.new.topics.entries ≡ with_name (names_of self.old.topics.entries) (string_bytes name) }
-        ensures refused { result ≡ false → self.new.topics.entries ≡ self.old.topics.entries }
+    pub(crate) fn count(&self) -> usize
+        ensures { result ≡ length self.now.list.topics.entries }
     {
-        self.topics.insert(name, topic).is_ok()
+        self.list.topics.len()
     }
 
-    pub(crate) fn at(&self, place: usize) -> Option<&X> {
-        match self.topics.get_index(place) {
+    /// The topic, which was not open, is open under its name. False for want of memory.
+    pub(crate) fn add(&mut self, name: String, topic: Arc<Shared<T, J, B>>) -> bool
+        requires named { string_bytes name ≡ topic_text topic.value.name }
+        requires new { get_by_text self.old.list.topics (string_bytes name) ≡ None }
+        ensures added { result ≡ true → self.new.list.topics.entries ≡ self.old.list.topics.entries ++ (name, topic) ∷ [] }
+        ensures refused { result ≡ false → self.new.list.topics.entries ≡ self.old.list.topics.entries }
+    {
+        self.list.topics.insert(name, topic).is_ok()
+    }
+
+    pub(crate) fn at(&self, place: usize) -> Option<&Arc<Shared<T, J, B>>> {
+        match self.list.topics.get_index(place) {
             Some((_, topic)) => Some(topic),
             None => None,
         }

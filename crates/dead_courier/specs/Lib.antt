@@ -1,2 +1,3 @@
 -- What the contracts of the courier cite.
 pub mod Moving
+pub mod Steps

@@ -4,7 +4,9 @@
 mod hand;
 mod moving;
 mod route;
+mod stepping;
 
 pub use hand::{Hand, Letter};
 pub use moving::{Move, Side, after, next_move};
 pub use route::Route;
+pub use stepping::{Stepped, step};

@@ -4,6 +4,7 @@ use denote.Struct.Field.{row_field}
 use denote.Param.Send.{IsSend, IsSync, sendable, view_send}
 use denote.Param.SendFields.{as_row_send, as_row_sync, declared_send, declared_sync}
 use Rattle.std.proofs.Crossing.{crosses}
+use Rattle.delivery_machine.specs.declared.saved.Saved as saved
 use Rattle.delivery_machine.specs.declared.topic.Topic as topic
 use Rattle.marks.specs.declared.history.Naming as naming
 use Rattle.sqlite_trees.specs.declared.store.Store as store
@@ -12,9 +13,9 @@ use Rattle.topic_shared.proofs.Crosses.{Cell-send}
 use Rattle.stored_cell.proofs.viewed.Stored.TheSendSync.{the_send as stored_send}
 use Rattle.stored_cell.proofs.viewed.Viewed.TheSendSync.{the_send as viewed_send}
 use Rattle.session_bells.proofs.bells.Bells.TheSendSync.{the_send as bells_send}
+use Rattle.broker_dir.proofs.table.Listed.TheSendSync.{the_send as listed_send}
 use Rattle.broker_dir.proofs.graves.Graves.TheSendSync.{the_send as graves_send}
 use Rattle.broker_dir.proofs.board.Board.TheSendSync.{the_send as board_send, the_sync as board_sync}
-use Rattle.broker_dir.proofs.table.Table.TheSendSync.{the_send as table_send}
 use Rattle.stored_cell.proofs.opening.Terms.TheSendSync.{the_send as terms_send, the_sync as terms_sync}
 use Rattle.row_store.proofs.keeper.Keeper.TheSendSync.{the_send as keeper_send}
 use Rattle.worker_loops.proofs.post.Doorbell.TheSendSync.{the_send as doorbell_send, the_sync as doorbell_sync}
@@ -44,8 +45,8 @@ StoredCell-send T I g n s = let c = Cell-send T g s in view_send _ _ _ _ _ (decl
   ),
 ))
 
-Inside-send : (T I B : RattleType) (g : topic.Ghosts T.Denot) (n : naming.Ghosts I.Denot) → IsSend T → IsSend B → IsSync B → IsSend (Inside.the_row T I B g n)
-Inside-send T I B g n s b c = let cell = StoredCell-send T I g n s in let bells = bells_send B b c in declared_send (Inside.the_type T I B g n) (
+Inside-send : (T I B : RattleType) (g : topic.Ghosts T.Denot) (v : saved.Ghosts T.Denot) (n : naming.Ghosts I.Denot) → IsSend T → IsSend B → IsSync B → IsSend (Inside.the_row T I B g v n)
+Inside-send T I B g v n s b c = let cell = StoredCell-send T I g n s in let bells = bells_send B b c in declared_send (Inside.the_type T I B g v n) (
   search (sendable, crosses) depth 20,
   (
     cell,
@@ -62,47 +63,51 @@ Inside-send T I B g n s b c = let cell = StoredCell-send T I g n s in let bells 
   ),
 )
 
-Shared-send : (T I B : RattleType) (g : topic.Ghosts T.Denot) (n : naming.Ghosts I.Denot) → IsSend T → IsSend B → IsSync B → IsSend (Shared.the_row T I B g n)
-Shared-send T I B g n s b c = let i = Inside-send T I B g n s b c in declared_send (Shared.the_type T I B g n)
-    (name_send, (as_row_send (Mutex.the_field (Inside.the_row T I B g n)) (search (sendable, crosses, i) depth 20), tt))
+Shared-send : (T I B : RattleType) (g : topic.Ghosts T.Denot) (v : saved.Ghosts T.Denot) (n : naming.Ghosts I.Denot) → IsSend T → IsSend B → IsSync B → IsSend (Shared.the_row T I B g v n)
+Shared-send T I B g v n s b c = let i = Inside-send T I B g v n s b c in declared_send (Shared.the_type T I B g v n)
+    (name_send, (as_row_send (Mutex.the_field (Inside.the_row T I B g v n)) (search (sendable, crosses, i) depth 20), tt))
 
-Shared-sync : (T I B : RattleType) (g : topic.Ghosts T.Denot) (n : naming.Ghosts I.Denot) → IsSend T → IsSend B → IsSync B → IsSync (Shared.the_row T I B g n)
-Shared-sync T I B g n s b c = let i = Inside-send T I B g n s b c in declared_sync (Shared.the_type T I B g n)
-    (name_sync, (as_row_sync (Mutex.the_field (Inside.the_row T I B g n)) (search (sendable, crosses, i) depth 20), tt))
+Shared-sync : (T I B : RattleType) (g : topic.Ghosts T.Denot) (v : saved.Ghosts T.Denot) (n : naming.Ghosts I.Denot) → IsSend T → IsSend B → IsSync B → IsSync (Shared.the_row T I B g v n)
+Shared-sync T I B g v n s b c = let i = Inside-send T I B g v n s b c in declared_sync (Shared.the_type T I B g v n)
+    (name_sync, (as_row_sync (Mutex.the_field (Inside.the_row T I B g v n)) (search (sendable, crosses, i) depth 20), tt))
 
-Arc-send : (T I B : RattleType) (g : topic.Ghosts T.Denot) (n : naming.Ghosts I.Denot) → IsSend T → IsSend B → IsSync B → IsSend (Arc.the_row (Shared.the_row T I B g n) Global.the_row ghosts)
-Arc-send T I B g n s b c = let ss = Shared-send T I B g n s b c in let sy = Shared-sync T I B g n s b c in search (sendable, crosses, ss, sy) depth 20
+Arc-send : (T I B : RattleType) (g : topic.Ghosts T.Denot) (v : saved.Ghosts T.Denot) (n : naming.Ghosts I.Denot) → IsSend T → IsSend B → IsSync B → IsSend (Arc.the_row (Shared.the_row T I B g v n) Global.the_row ghosts)
+Arc-send T I B g v n s b c = let ss = Shared-send T I B g v n s b c in let sy = Shared-sync T I B g v n s b c in search (sendable, crosses, ss, sy) depth 20
 
-Directory-send : (T K I B : RattleType) (g : topic.Ghosts T.Denot) (o : store.Ghosts K.Denot) (n : naming.Ghosts I.Denot) → IsSend T → IsSend K → IsSend B → IsSync B → IsSend (Directory.the_row T K I B g o n)
-Directory-send T K I B g o n s k b c = let X = Arc.the_row (Shared.the_row T I B g n) Global.the_row ghosts in let a = Arc-send T I B g n s b c in
-    let t = table_send X a in let d = board_send X a in let e = keeper_send K I n o k in declared_send (Directory.the_type T K I B g o n) (
+Table-send : (T I B : RattleType) (g : topic.Ghosts T.Denot) (v : saved.Ghosts T.Denot) (n : naming.Ghosts I.Denot) → IsSend T → IsSend B → IsSync B → IsSend (Table.the_row T I B g v n)
+Table-send T I B g v n s b c = let a = Arc-send T I B g v n s b c in
+    declared_send (Table.the_type T I B g v n) (listed_send (Arc.the_row (Shared.the_row T I B g v n) Global.the_row ghosts) a, tt)
+
+Directory-send : (T K I B : RattleType) (g : topic.Ghosts T.Denot) (v : saved.Ghosts T.Denot) (o : store.Ghosts K.Denot) (n : naming.Ghosts I.Denot) → IsSend T → IsSend K → IsSend B → IsSync B → IsSend (Directory.the_row T K I B g v n o)
+Directory-send T K I B g v o n s k b c = let X = Arc.the_row (Shared.the_row T I B g v n) Global.the_row ghosts in let a = Arc-send T I B g v n s b c in
+    let t = Table-send T I B g v n s b c in let d = board_send X a in let e = keeper_send K I n o k in declared_send (Directory.the_type T K I B g v n o) (
       search (sendable, crosses) depth 20,
       (
         terms_send,
         (
-          as_row_send (Mutex.the_field (Table.the_row X)) (search (sendable, crosses, t) depth 20),
+          as_row_send (Mutex.the_field (Table.the_row T I B g v n)) (search (sendable, crosses, t) depth 20),
           (as_row_send (Mutex.the_field (Keeper.the_row K I n o)) (search (sendable, crosses, e) depth 20), (d, (search (sendable, crosses) depth 20, tt))),
         ),
       ),
     )
 
-Directory-sync : (T K I B : RattleType) (g : topic.Ghosts T.Denot) (o : store.Ghosts K.Denot) (n : naming.Ghosts I.Denot) → IsSend T → IsSend K → IsSend B → IsSync B → IsSync (Directory.the_row T K I B g o n)
-Directory-sync T K I B g o n s k b c = let X = Arc.the_row (Shared.the_row T I B g n) Global.the_row ghosts in let a = Arc-send T I B g n s b c in
-    let t = table_send X a in let d = board_sync X a in let e = keeper_send K I n o k in declared_sync (Directory.the_type T K I B g o n) (
+Directory-sync : (T K I B : RattleType) (g : topic.Ghosts T.Denot) (v : saved.Ghosts T.Denot) (o : store.Ghosts K.Denot) (n : naming.Ghosts I.Denot) → IsSend T → IsSend K → IsSend B → IsSync B → IsSync (Directory.the_row T K I B g v n o)
+Directory-sync T K I B g v o n s k b c = let X = Arc.the_row (Shared.the_row T I B g v n) Global.the_row ghosts in let a = Arc-send T I B g v n s b c in
+    let t = Table-send T I B g v n s b c in let d = board_sync X a in let e = keeper_send K I n o k in declared_sync (Directory.the_type T K I B g v n o) (
       search (sendable, crosses) depth 20,
       (
         terms_sync,
         (
-          as_row_sync (Mutex.the_field (Table.the_row X)) (search (sendable, crosses, t) depth 20),
+          as_row_sync (Mutex.the_field (Table.the_row T I B g v n)) (search (sendable, crosses, t) depth 20),
           (as_row_sync (Mutex.the_field (Keeper.the_row K I n o)) (search (sendable, crosses, e) depth 20), (d, (search (sendable, crosses) depth 20, tt))),
         ),
       ),
     )
 
-pub Place-send : (T K I G : RattleType) (g : topic.Ghosts T.Denot) (o : store.Ghosts K.Denot) (n : naming.Ghosts I.Denot) → IsSend T → IsSend K → IsSend G → IsSend (Place.the_row T K I G g o n)
-Place-send T K I G g o n s k e = declared_send (Place.the_type T K I G g o n)
-    (Directory-send T K I Doorbell.the_row g o n s k doorbell_send doorbell_sync, (as_row_send (row_field G) e, tt))
+pub Place-send : (T K I G : RattleType) (g : topic.Ghosts T.Denot) (v : saved.Ghosts T.Denot) (o : store.Ghosts K.Denot) (n : naming.Ghosts I.Denot) → IsSend T → IsSend K → IsSend G → IsSend (Place.the_row T K I G g v n o)
+Place-send T K I G g v o n s k e = declared_send (Place.the_type T K I G g v n o)
+    (Directory-send T K I Doorbell.the_row g v o n s k doorbell_send doorbell_sync, (as_row_send (row_field G) e, tt))
 
-pub Place-sync : (T K I G : RattleType) (g : topic.Ghosts T.Denot) (o : store.Ghosts K.Denot) (n : naming.Ghosts I.Denot) → IsSend T → IsSend K → IsSync G → IsSync (Place.the_row T K I G g o n)
-Place-sync T K I G g o n s k e = declared_sync (Place.the_type T K I G g o n)
-    (Directory-sync T K I Doorbell.the_row g o n s k doorbell_send doorbell_sync, (as_row_sync (row_field G) e, tt))
+pub Place-sync : (T K I G : RattleType) (g : topic.Ghosts T.Denot) (v : saved.Ghosts T.Denot) (o : store.Ghosts K.Denot) (n : naming.Ghosts I.Denot) → IsSend T → IsSend K → IsSync G → IsSync (Place.the_row T K I G g v n o)
+Place-sync T K I G g v o n s k e = declared_sync (Place.the_type T K I G g v n o)
+    (Directory-sync T K I Doorbell.the_row g v o n s k doorbell_send doorbell_sync, (as_row_sync (row_field G) e, tt))

@@ -3,4 +3,5 @@ mod attaching;
 mod letters;
 mod memory;
 mod retries;
+mod stops;
 mod world;

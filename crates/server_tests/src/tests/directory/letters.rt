@@ -1,9 +1,8 @@
-// A death, its move, and a broker that is stopped on the way.
+// A death, and its move while others publish.
 use super::world::{Rows, Scene, Seat, Topics, asked, open, settle, sit, with_rows};
 use broker_dir::Errands;
 use delivery_machine::Reply;
 use marks::Naming;
-use row_store::Keeper;
 use std::process::Abort;
 use std::rt::Clock;
 use std::sync::Wait;
@@ -76,28 +75,8 @@ fn letters<J: Naming, R: Abort + AllocGlobal + Wait>(rt: &R, topics: &Topics<J>)
     count
 }
 
-/// One letter where the message has died, and none else.
-fn expect_letters<R: Abort>(rt: &R, got: usize, has_died: bool) {
-    assert_eq!(rt; got, usize::from(has_died));
-}
-
-/// A broker that is stopped after so many tasks of its thread, and started again.
-#[derive(Clone, Copy)]
-struct StoppedAfter {
-    tasks: u32,
-}
-
-/// The thread's first tasks.
-fn do_tasks<J: Naming, R: Abort + AllocGlobal + Wait + Clock>(
-    rt: &R,
-    topics: &Topics<J>,
-    tasks: u32,
-) {
-    let mut errands = Errands::new(rt.alloc()).expect(rt, "no moment");
-    for _ in 0..tasks {
-        topics.keep_once(rt, &mut errands);
-    }
-    drop(errands);
+fn expect_one<R: Abort>(rt: &R, letters: usize) {
+    assert_eq!(rt; letters, 1);
 }
 
 /// A message dies once it is stored, and its consumer goes.
@@ -109,55 +88,14 @@ pub(super) fn die<J: Naming, R: Abort + AllocGlobal + Wait + Clock>(rt: &R, topi
     topics.detach(rt, seat);
 }
 
-/// The broker that is started again.
-fn again<J: Naming, R: Abort + AllocGlobal>(rt: &R, topics: Topics<J>) -> Topics<J> {
-    let (conn, notes) = topics.into_keeper().into_parts();
-    let keeper = Keeper::adopt(rt.alloc(), conn, notes);
-    open(rt, keeper.ok().expect(rt, "no rows"), 8)
-}
-
-/// No letter is left, and the dead-letter topic has it, where the message has died.
-pub(super) fn check_letters<J: Naming, R: Abort + AllocGlobal + Wait>(
-    rt: &R,
-    topics: &Topics<J>,
-    has_died: bool,
-) {
+/// No letter is left, and the dead-letter topic has it.
+pub(super) fn check_letters<J: Naming, R: Abort + AllocGlobal + Wait>(rt: &R, topics: &Topics<J>) {
     let seat = sit(rt, topics, T);
     let left = asked(rt, topics, &seat, "deadnext s");
     assert!(rt; matches!(left, Reply::NoDead));
     drop(left);
     topics.detach(rt, seat);
-    expect_letters(rt, letters(rt, topics), has_died);
-}
-
-/// The same, once all couriers have gone as far as they can.
-fn check_moved<J: Naming, R: Abort + AllocGlobal + Wait + Clock>(
-    rt: &R,
-    topics: &Topics<J>,
-    has_died: bool,
-) {
-    let seat = sit(rt, topics, T);
-    settle(rt, topics);
-    topics.detach(rt, seat);
-    check_letters(rt, topics, has_died);
-}
-
-impl Scene for StoppedAfter {
-    fn play<J: Naming, R: Abort + AllocGlobal + Wait + Clock>(&self, rt: &R, keeper: Rows<J>) {
-        let topics = open(rt, keeper, 8);
-        die(rt, &topics);
-        do_tasks(rt, &topics, self.tasks);
-        let topics = again(rt, topics);
-        check_moved(rt, &topics, self.tasks > 0);
-        drop(topics);
-    }
-}
-
-#[test]
-fn a_letter_is_moved_once_wherever_the_broker_stops(rt: HostRuntime) {
-    for tasks in 0..8 {
-        with_rows(&rt, &StoppedAfter { tasks });
-    }
+    expect_one(rt, letters(rt, topics));
 }
 
 /// A broker at which others publish all the time, so that some topic always waits to be stored.
@@ -173,7 +111,7 @@ fn publish<J: Naming, R: Abort + AllocGlobal + Wait>(
     drop(asked(rt, topics, seat, line.as_str()));
 }
 
-/// So many tasks of the thread, before each of which another topic has one message more.
+/// So many tasks of the thread and steps of its courier, before each of which another topic has one message more.
 fn do_under_load<J: Naming, R: Abort + AllocGlobal + Wait + Clock>(
     rt: &R,
     topics: &Topics<J>,
@@ -194,8 +132,8 @@ impl Scene for UnderLoad {
     fn play<J: Naming, R: Abort + AllocGlobal + Wait + Clock>(&self, rt: &R, keeper: Rows<J>) {
         let topics = open(rt, keeper, 8);
         die(rt, &topics);
-        do_under_load(rt, &topics, 8);
-        check_letters(rt, &topics, true);
+        do_under_load(rt, &topics, 20);
+        check_letters(rt, &topics);
         drop(topics);
     }
 }
