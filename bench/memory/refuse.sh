@@ -16,6 +16,7 @@ shim=$(mktemp -d)/refuse.so
 cc -O2 -shared -fPIC -o "$shim" "$here/refuse.c" -ldl
 count=$(LD_PRELOAD=$shim REFUSE_COUNT=1 "$tests" "$asked" 2>&1 >/dev/null | tail -1)
 echo "$count allocations"
+[ "${count:-0}" -gt 0 ]
 bad=0 number=1
 while [ "$number" -le "$count" ]; do
   text=$(LD_PRELOAD=$shim REFUSE=$number "$tests" "$asked" 2>&1) || case $text in
