@@ -15,6 +15,7 @@ use Rattle.row_forms.specs.Standing.{Stands, HasNone}
 -- a cell in this state whose journal has no line, where nobody sits
 abbrev pub begins : State → Terms → Kept
 begins s terms = record {
+  began = s;
   opening = s;
   state = s;
   viewed = s;
@@ -23,7 +24,6 @@ begins s terms = record {
   taken = replicate terms.seats false;
   own_line = true;
   promised = false;
-  settled = true;
   unsaved = false;
 }
 

@@ -102,7 +102,7 @@ impl<T: Topic + Drop, J: Naming> StoredCell<T, J> {
         ensures receipt { IfOk result (λ r. (r.number ≡ length self.old.cell.lines) × (r.seat ≡ seat)) }
         ensures step { IfOk result (λ r. Step self.old.cell.state event r.reply self.new.cell.state) }
         ensures same { KeepsSeats self.old.cell self.new.cell }
-        ensures marks { IfOk result (λ r. (self.new.cell.settled ≡ false) × (self.new.cell.unsaved ≡ (self.old.cell.unsaved || changes_snapshot event r.reply))) }
+        ensures marks { IfOk result (λ r. self.new.cell.unsaved ≡ (self.old.cell.unsaved || changes_snapshot event r.reply)) }
         ensures stored { (self.new.stored ≡ self.old.stored) × (self.new.outstanding ≡ self.old.outstanding) }
         ensures word { IfOk result (λ _. self.new.by_word ≡ (self.old.by_word || is_storing event)) }
         ensures err { OnErr result (self.new ≡ self.old) }

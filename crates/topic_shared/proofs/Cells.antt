@@ -13,10 +13,10 @@ use Rattle.delivery_machine.specs.declared.event.Event.TheVariants.{DropProducer
 use Rattle.delivery_machine.specs.declared.reply.Reply.{Reply}
 use Rattle.delivery_machine.specs.declared.reply.Reply.TheVariants.{ProducerAdded, Subscribed, Durable, Done, Refused}
 use Rattle.delivery_machine.proofs.Journaling.{producers_are, consumers_are, snapshot_stays}
-use Rattle.journal_lines.specs.Lines.{line, Legal}
+use Rattle.journal_lines.specs.Lines.{Line, line, Legal}
 use Rattle.topic_shared.specs.Attached.{is_among, detaches, asks_to_attach, attaches, needs}
-use Rattle.topic_shared.specs.Kept.{Kept, IsKept, StoresLine, spoken_for, needed_by}
-use Rattle.journal_lines.proofs.Legality.{legal_snoc}
+use Rattle.topic_shared.specs.Kept.{Kept, IsKept, Leads, StoresLine, spoken_for, needed_by}
+use Rattle.journal_lines.proofs.Legality.{legal_joined, legal_snoc}
 use Rattle.topic_shared.proofs.Replies.{attached_asked}
 
 -- ---- numbers that go
@@ -99,12 +99,12 @@ or_false false b h = (refl, h)
 
 pub kept_more : (k l : Kept) (ps cs ps' cs' : List ℕ) (capacity capacity' : ℕ) (seat : ℕ) (e : Event) (r : Reply)
     → IsKept k ps cs capacity → Step k.state e r l.state
-    → l.opening ≡ k.opening → l.viewed ≡ k.viewed → l.limit ≡ k.limit → l.own_line ≡ k.own_line → l.promised ≡ k.promised
+    → l.began ≡ k.began → l.opening ≡ k.opening → l.viewed ≡ k.viewed → l.limit ≡ k.limit → l.own_line ≡ k.own_line → l.promised ≡ k.promised
     → l.lines ≡ k.lines ++ line seat e r ∷ [] → l.unsaved ≡ (k.unsaved || changes_snapshot e r)
     → ps' ≡ producers_noted ps e r → cs' ≡ consumers_noted cs e r
     → spoken_for k + needed_by k e ≤ k.limit → spoken_for k + needed_by k e ≤ capacity'
     → IsKept l ps' cs' capacity'
-kept_more k l ps cs ps' cs' capacity capacity' seat e r kept step opening viewed limit own promised lines unsaved ps_are cs_are room reserved =
+kept_more k l ps cs ps' cs' capacity capacity' seat e r kept step began opening viewed limit own promised lines unsaved ps_are cs_are room reserved =
     let producers : producers_in l.state ≡ producers_noted (producers_in k.state) e r = producers_are k.state e r l.state step in
     let consumers : consumers_in l.state ≡ consumers_noted (consumers_in k.state) e r = consumers_are k.state e r l.state step in
     let more : length l.lines ≡ length k.lines + 1 = ap length lines ∙ length-append k.lines (line seat e r ∷ []) in
@@ -115,6 +115,7 @@ kept_more k l ps cs ps' cs' capacity capacity' seat e r kept step opening viewed
     let promised_as : ◌≡◌ {A = ℕ} (if l.promised then 1 else 0) (if k.promised then 1 else 0) = ap (λ (b : Bool). if b then 1 else 0) promised in
     let spoken : spoken_for l ≤ spoken_for k + needed_by k e = omega (arith, more, fit, many, few, own_as, promised_as) in
     record {
+      leads = subst (λ (x : State × State). Leads x.0 x.1) (λ i. (sym began i, sym opening i)) kept.leads;
       legal = subst (λ x. Legal x l.lines l.state) (sym opening) (subst (λ x. Legal k.opening x l.state) (sym lines) (legal_snoc k.opening k.lines k.state (line seat e r) l.state kept.legal step));
       producers_are = ps_are ∙ ap (λ x. producers_noted x e r) kept.producers_are ∙ sym producers;
       consumers_are = cs_are ∙ ap (λ x. consumers_noted x e r) kept.consumers_are ∙ sym consumers;
@@ -129,7 +130,7 @@ kept_more k l ps cs ps' cs' capacity capacity' seat e r kept step opening viewed
 pub kept_again : (k l : Kept) (ps cs ps' cs' : List ℕ) (capacity capacity' : ℕ) → IsKept k ps cs capacity → l ≡ k → ps' ≡ ps → cs' ≡ cs → capacity ≤ capacity' → IsKept l ps' cs' capacity'
 kept_again k l ps cs ps' cs' capacity capacity' kept same ps_are cs_are more =
     let reserved : spoken_for k ≤ capacity' = omega (arith, kept.reserved, more) in
-    let again : IsKept k ps cs capacity' = record { legal = kept.legal; producers_are = kept.producers_are; consumers_are = kept.consumers_are; room = kept.room; reserved = reserved; as_viewed = kept.as_viewed } in
+    let again : IsKept k ps cs capacity' = record { leads = kept.leads; legal = kept.legal; producers_are = kept.producers_are; consumers_are = kept.consumers_are; room = kept.room; reserved = reserved; as_viewed = kept.as_viewed } in
     subst (λ (x : Kept × List ℕ × List ℕ). IsKept x.0 x.1 x.2 capacity') (λ i. (sym same i, sym ps_are i, sym cs_are i)) again
 
 -- an event of storing attaches nobody and lets nobody go, and no snapshot is another after it
@@ -156,6 +157,7 @@ kept_stored k l ps cs capacity capacity' e count kept storing promised stores as
     let is : ◌≡◌ {A = ℕ} (if l.promised then 1 else 0) 0 = ap (λ (x : Kept). if x.promised then 1 else 0) same in
     let spoken : spoken_for l ≡ spoken_for k = omega (arith, more, many, few, own_as, was, is) in
     record {
+      leads = subst (λ (x : Kept). Leads x.began x.opening) (sym same) kept.leads;
       legal = subst (λ x. Legal x l.lines l.state) (sym (ap (λ (x : Kept). x.opening) same)) (subst (λ x. Legal k.opening x l.state) (sym stores.line) (legal_snoc k.opening k.lines k.state (line 0 e (Durable count)) l.state kept.legal stores.step));
       producers_are = kept.producers_are ∙ sym producers;
       consumers_are = kept.consumers_are ∙ sym consumers;
@@ -164,4 +166,23 @@ kept_stored k l ps cs capacity capacity' e count kept storing promised stores as
       as_viewed = λ unchanged.
           snapshot_stays k.state e (Durable count) l.state stores.step notes.2 ∙ kept.as_viewed (sym (ap (λ (x : Kept). x.unsaved) same) ∙ unchanged)
           ∙ ap (λ (x : Kept). snapshot_of x.viewed) (sym same);
+    }
+
+-- from where the cell began to where the topic is, over the opening state
+pub leads_on : (k : Kept) (ps cs : List ℕ) (capacity : ℕ) → IsKept k ps cs capacity → Leads k.began k.state
+leads_on k ps cs capacity kept = (kept.leads.0 ++ k.lines, legal_joined k.began kept.leads.0 k.opening k.lines k.state kept.leads.1 kept.legal)
+
+-- where the journal begins anew, what led to the topic leads to where it begins
+pub kept_rolled : (k : Kept) (opening : State) (lines : List Line) (ps cs : List ℕ) (capacity capacity' : ℕ)
+    → IsKept k ps cs capacity → opening ≡ k.state → lines ≡ [] → capacity' ≡ capacity → IsKept (record k { opening = opening; lines = lines }) ps cs capacity'
+kept_rolled k opening lines ps cs capacity capacity' kept here none as_much =
+    let count = ap length none in
+    record {
+      leads = subst (Leads k.began) (sym here) (leads_on k ps cs capacity kept);
+      legal = subst (λ (ls : List Line). Legal opening ls k.state) (sym none) (sym here);
+      producers_are = kept.producers_are;
+      consumers_are = kept.consumers_are;
+      room = omega (arith, count, kept.room);
+      reserved = omega (arith, count, kept.reserved, as_much);
+      as_viewed = kept.as_viewed;
     }

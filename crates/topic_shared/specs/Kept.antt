@@ -1,5 +1,6 @@
 -- A topic with its journal, as contracts see it.
-use Rattle.std.specs.Prelude.{◌≡◌, ℕ, ◌+◌, ◌≤◌, ◌++◌, ◌∷◌, nat_lt, Bool, true, false, List, [], length, if◌then◌else◌}
+use Rattle.std.specs.Prelude.{◌≡◌, ◌==◌, ℕ, ◌+◌, ◌-◌, ◌≤◌, ◌++◌, ◌∷◌, nat_lt, Bool, true, false, List, [], length, slice_get, if◌then◌else◌}
+use Rattle.std.specs.Option.{option_map_or}
 use Rattle.delivery_machine.specs.State.{State}
 use Rattle.delivery_machine.specs.Snapshot.{snapshot_of}
 use Rattle.delivery_machine.specs.Run.{Step}
@@ -9,11 +10,12 @@ use Rattle.journal_lines.specs.Lines.{Line, line, Legal}
 use Rattle.topic_shared.specs.Attached.{detaches, needs}
 use Rattle.delivery_machine.specs.Journals.{producers_in, consumers_in}
 
--- `opening` is the state before the lines, and `viewed` the one of which a snapshot was last taken; `taken` says of each
--- seat, from seat 1 on, whether it is taken; `own_line` is whether the cell keeps its last line for itself still, and
--- `promised`, whether a line is kept for what a store is about to confirm; `settled`, whether no line was written since the
--- cell was made, or the last one is the cell's own; `unsaved`, whether a snapshot may have changed since the last one was taken
+-- `began` is the state in which the cell was made, `opening` the one before the lines, and `viewed` the one of which a
+-- snapshot was last taken; `taken` says of each seat, from seat 1 on, whether it is taken; `own_line` is whether the cell
+-- keeps its last line for itself still, and `promised`, whether a line is kept for what a store is about to confirm; `unsaved`,
+-- whether a snapshot may have changed since the last one was taken
 pub record Kept : Type 0 where
+  pub began : State
   pub opening : State
   pub state : State
   pub viewed : State
@@ -22,7 +24,6 @@ pub record Kept : Type 0 where
   pub taken : List Bool
   pub own_line : Bool
   pub promised : Bool
-  pub settled : Bool
   pub unsaved : Bool
 
 -- one line for each producer and consumer that is attached, and the cell's own
@@ -42,8 +43,17 @@ needed_by k event = needs (producers_in k.state) (consumers_in k.state) event
 abbrev pub is_end : Kept → Event → Bool
 is_end k event = detaches (producers_in k.state) (consumers_in k.state) event
 
--- a call leaves the opening state, the seats and the limit as they were, and what is kept for the cell itself
+-- some journal leads from the one state to the other
+abbrev pub Leads : State → State → Type 0
+Leads s t = (lines : List Line) × Legal s lines t
+
+-- the last line is the cell's own, if there is one
+abbrev pub is_settled : List Line → Bool
+is_settled lines = option_map_or (λ l. l.seat == 0) (slice_get lines (length lines - 1)) true
+
+-- a call leaves where the cell began, the opening state, the seats and the limit as they were, and what is kept for the cell itself
 pub record KeepsSeats (k l : Kept) : Type 0 where
+  pub began : l.began ≡ k.began
   pub opening : l.opening ≡ k.opening
   pub viewed : l.viewed ≡ k.viewed
   pub limit : l.limit ≡ k.limit
@@ -72,10 +82,11 @@ SameButPromise k l = l ≡ record k { own_line = l.own_line; promised = l.promis
 pub record StoresLine (k : Kept) (event : Event) (count : ℕ) (l : Kept) : Type 0 where
   pub step : Step k.state event (Durable count) l.state
   pub line : l.lines ≡ k.lines ++ line 0 event (Durable count) ∷ []
-  pub others : l ≡ record k { state = l.state; lines = l.lines; promised = false; settled = true }
+  pub others : l ≡ record k { state = l.state; lines = l.lines; promised = false }
 
 -- what every cell keeps, with its lists of attached numbers and the room of its lines
 pub record IsKept (k : Kept) (producers consumers : List ℕ) (capacity : ℕ) : Type 0 where
+  pub leads : Leads k.began k.opening
   pub legal : Legal k.opening k.lines k.state
   pub producers_are : producers ≡ producers_in k.state
   pub consumers_are : consumers ≡ consumers_in k.state

@@ -6,7 +6,7 @@ ghost use Rattle.delivery_machine.specs.Snapshot.{snapshot_of};
 ghost use Rattle.delivery_machine.specs.Journals.{changes_snapshot, producers_noted, consumers_noted};
 ghost use Rattle.journal_lines.specs.Lines.{line, Legal};
 ghost use Rattle.journal_lines.specs.Short.{is_long, is_long_reply};
-ghost use Rattle.topic_shared.specs.Kept.{Kept, KeepsSeats, needed_by, kept_lines, spoken_for, is_end};
+ghost use Rattle.topic_shared.specs.Kept.{Kept, KeepsSeats, Leads, is_settled, needed_by, kept_lines, spoken_for, is_end};
 ghost use Rattle.topic_shared.specs.Attached.{attaches};
 ghost use Rattle.topic_seats.specs.Seats.{IsFree, without_seat};
 
@@ -61,10 +61,12 @@ fn note(
     }
 }
 
-/// A topic with the journal of its calls, which leads from the opening state to the topic's.
+/// A topic with the journal of its calls, which leads from the opening state to the topic's. It knows where it began, before
+/// any roll of the journal.
 pub struct Cell<T: Topic> {
     pub(crate) alloc: Global,
     pub(crate) topic: T,
+    began: Snapshot<T>,
     opening: Snapshot<T>,
     viewed: Snapshot<T>,
     pub(crate) lines: Vec<Line>,
@@ -74,7 +76,6 @@ pub struct Cell<T: Topic> {
     taken: Vec<bool>,
     pub(crate) own_line: bool,
     pub(crate) promised: bool,
-    pub(crate) settled: bool,
     unsaved: bool,
 }
 
@@ -83,6 +84,7 @@ impl<T: Topic + Drop> Drop for Cell<T> {
         let Cell {
             alloc: _,
             topic: _,
+            began: _,
             opening: _,
             viewed: _,
             lines: _,
@@ -92,7 +94,6 @@ impl<T: Topic + Drop> Drop for Cell<T> {
             taken: _,
             own_line: _,
             promised: _,
-            settled: _,
             unsaved: _,
         } = self;
     }
@@ -109,16 +110,16 @@ impl<T: Topic> Model for Cell<T> {
 
     ghost coded = { Prim.hlevel (codes, coded_positions, coded_pending, coded_counts) };
 
-    ghost view = { λ c. record { opening = T.state c.opening.value; state = T.state c.topic; viewed = T.state c.viewed.value; lines = c.lines.items; limit = c.limit; taken = c.taken.items; own_line = c.own_line; promised = c.promised; settled = c.settled; unsaved = c.unsaved } };
+    ghost view = { λ c. record { began = T.state c.began.value; opening = T.state c.opening.value; state = T.state c.topic; viewed = T.state c.viewed.value; lines = c.lines.items; limit = c.limit; taken = c.taken.items; own_line = c.own_line; promised = c.promised; unsaved = c.unsaved } };
 
-    ghost invariant = { λ c. IsKept (record { opening = T.state c.opening.value; state = T.state c.topic; viewed = T.state c.viewed.value; lines = c.lines.items; limit = c.limit; taken = c.taken.items; own_line = c.own_line; promised = c.promised; settled = c.settled; unsaved = c.unsaved }) c.producers.items c.consumers.items (vec_capacity c.lines) };
+    ghost invariant = { λ c. IsKept (record { began = T.state c.began.value; opening = T.state c.opening.value; state = T.state c.topic; viewed = T.state c.viewed.value; lines = c.lines.items; limit = c.limit; taken = c.taken.items; own_line = c.own_line; promised = c.promised; unsaved = c.unsaved }) c.producers.items c.consumers.items (vec_capacity c.lines) };
 }
 
 impl<T: Topic + Drop> Cell<T> {
     /// A cell over a topic where nobody is attached, with its own line kept. All seats are free.
     pub fn new(alloc: Global, base: T, limit: LineLimit, seats: SeatCount) -> Result<Cell<T>, Fault>
         requires nobody { ((T.state base).producers ≡ []) × ((T.state base).members ≡ []) }
-        ensures ok { IfOk result (λ c. c ≡ record { opening = T.state base; state = T.state base; viewed = T.state base; lines = []; limit = limit; taken = replicate seats false; own_line = true; promised = false; settled = true; unsaved = false }) }
+        ensures ok { IfOk result (λ c. c ≡ record { began = T.state base; opening = T.state base; state = T.state base; viewed = T.state base; lines = []; limit = limit; taken = replicate seats false; own_line = true; promised = false; unsaved = false }) }
         ensures err { IfErr result (λ fault. fault ≡ NoMemory) }
     {
         let Ok(lines) = Vec::with_capacity(alloc, 1) else {
@@ -128,11 +129,13 @@ impl<T: Topic + Drop> Cell<T> {
             Ok(taken) => taken,
             Err(fault) => return Err(fault),
         };
+        let began = Snapshot::of(&base);
         let opening = Snapshot::of(&base);
         let viewed = Snapshot::of(&base);
         Ok(Cell {
             alloc,
             topic: base,
+            began,
             opening,
             viewed,
             lines,
@@ -142,7 +145,6 @@ impl<T: Topic + Drop> Cell<T> {
             taken,
             own_line: true,
             promised: false,
-            settled: true,
             unsaved: false,
         })
     }
@@ -155,7 +157,7 @@ impl<T: Topic + Drop> Cell<T> {
         ensures receipt { IfOk result (λ r. (r.number ≡ length self.old.lines) × (r.seat ≡ seat)) }
         ensures step { IfOk result (λ r. Step self.old.state event r.reply self.new.state) }
         ensures same { KeepsSeats self.old self.new }
-        ensures marks { IfOk result (λ r. (self.new.settled ≡ false) × (self.new.unsaved ≡ (self.old.unsaved || changes_snapshot event r.reply))) }
+        ensures marks { IfOk result (λ r. self.new.unsaved ≡ (self.old.unsaved || changes_snapshot event r.reply)) }
         ensures within { length self.new.lines ≤ 16777216 }
         ensures err { OnErr result (self.new ≡ self.old) }
         ensures faults { IfErr result (λ fault. (fault ≡ NoMemory) ⊎ (fault ≡ JournalFull)) }
@@ -181,7 +183,7 @@ impl<T: Topic + Drop> Cell<T> {
         ensures receipt { IfOk result (λ r. (r.number ≡ length self.old.lines) × (r.seat ≡ seat)) }
         ensures step { IfOk result (λ r. Step self.old.state event r.reply self.new.state) }
         ensures same { KeepsSeats self.old self.new }
-        ensures marks { IfOk result (λ r. (self.new.settled ≡ false) × (self.new.unsaved ≡ (self.old.unsaved || changes_snapshot event r.reply))) }
+        ensures marks { IfOk result (λ r. self.new.unsaved ≡ (self.old.unsaved || changes_snapshot event r.reply)) }
         ensures within { length self.new.lines ≤ 16777216 }
         ensures err { OnErr result (self.new ≡ self.old) }
         ensures fault { IfErr result (λ fault. fault ≡ NoMemory) }
@@ -204,7 +206,6 @@ impl<T: Topic + Drop> Cell<T> {
         match answer_drafted(self.alloc, &mut self.topic, event) {
             Ok(answered) => {
                 self.unsaved = marked(self.unsaved, answered.draft.event(), &answered.reply);
-                self.settled = false;
                 Ok(note(
                     &mut self.lines,
                     &mut self.producers,
@@ -235,6 +236,7 @@ impl<T: Topic + Drop> Cell<T> {
         let Cell {
             alloc: _,
             topic: _,
+            began: _,
             opening: _,
             viewed: _,
             lines,
@@ -244,7 +246,6 @@ impl<T: Topic + Drop> Cell<T> {
             taken: _,
             own_line: _,
             promised: _,
-            settled: _,
             unsaved: _,
         } = self;
         Journal::new(lines)
@@ -315,11 +316,21 @@ impl<T: Topic> Cell<T> {
         self.lines.len() as u64
     }
 
-    /// No line was written since the cell was made, or the last one is the cell's own.
+    /// The journal has no line, or its last one is the cell's own.
     pub fn is_settled(&self) -> bool
-        ensures { result ≡ self.now.settled }
+        ensures { result ≡ is_settled self.now.lines }
     {
-        self.settled
+        match self.lines.as_slice().last() {
+            Some(line) => line.seat() == 0,
+            None => true,
+        }
+    }
+
+    /// However often the journal began anew, events alone lead from where the cell began to where the topic is.
+    pub fn leads(&self)
+        ensures { Leads self.now.began self.now.state }
+    {
+        let _ = &self.lines;
     }
 
     /// A snapshot may be another than when one was last taken. Where it is false, it is the same.

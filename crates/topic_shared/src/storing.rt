@@ -78,7 +78,6 @@ impl<T: Topic + Drop> Cell<T> {
         };
         let count = store_to(&mut self.topic, draft.event());
         self.promised = false;
-        self.settled = true;
         write(&mut self.lines, 0, draft, Reply::Durable(count));
         count
     }

@@ -120,8 +120,9 @@ fn roll<R: Abort + AllocGlobal, T: Topic + Drop>(rt: &R, mut cell: Cell<T>) {
     check_storing(rt, &cell, false);
     cell.roll();
     check_lines(rt, &cell, 0);
-    check_settled(rt, &cell, false);
+    check_settled(rt, &cell, true);
     check_asked(rt, &mut cell, publishing(3), Came::Published(4));
+    check_settled(rt, &cell, false);
     check_storing(rt, &cell, true);
     check_lines(rt, &cell, 1);
 }

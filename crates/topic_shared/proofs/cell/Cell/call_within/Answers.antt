@@ -28,7 +28,7 @@ invariant_of-self-in-Ok-answer_drafted g c =
     let kept = c.kept_lines-kept.ensures.value ∙ ap kept_lines (sym c.self.view_is) in
     kept_more _ _ _ _ _ _ _ _ c.args.seat c.args.event c.in-Ok-answer_drafted.answered.reply k
     c.in-Ok-answer_drafted.ensures.step
-    refl refl refl refl refl
+    refl refl refl refl refl refl
     (search rules)
     (search rules)
     (search rules)
