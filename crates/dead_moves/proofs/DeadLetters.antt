@@ -1,13 +1,15 @@
--- What an answer makes of the dead letters of a subscription: they leave by moves alone, and their ordinals rise.
-use Rattle.std.proofs.Common.{◌≡◌, ℕ, ◌<◌, ◌≤◌, List, [], ◌∷◌, ◌++◌, map, take, Some, None, Option, refl, ap, ◌∙◌, sym, subst, arith, ◌⊎◌, inl, inr, Contains}
+-- What an answer or a snapshot makes of the dead letters of a subscription: they leave by moves alone, and their ordinals rise.
+use Rattle.std.proofs.Common.{◌≡◌, ℕ, ◌<◌, ◌≤◌, List, [], ◌∷◌, ◌++◌, map, take, Some, None, Option, Bool, true, false, cond, refl, ap, ◌∙◌, sym, subst, arith, ◌⊎◌, inl, inr, Contains}
 use Rattle.std.specs.List.{All, find}
 use Rattle.std.specs.List.Sorted.{IsStrictlyIncreasing}
 use Rattle.std.specs.Option.{option_map_or}
+use Rattle.std.specs.Str.{bytes_eq}
 use Rattle.std.proofs.lemmas.List.{append-nil}
-use Rattle.std.proofs.lemmas.List.Elements.{All-from_recursion, All-nil, All-contains_itself, All-weaker, Contains-append_cases}
+use Rattle.std.proofs.lemmas.List.Elements.{All-from_recursion, All-nil, All-take, All-contains_itself, All-weaker, Contains-append_cases}
 use mathlib.Core.List.{IsPrefix}
 use Rattle.delivery_machine.specs.State.{State, Subscription, DeadLetter}
 use Rattle.delivery_machine.specs.Words.{is_named}
+use Rattle.delivery_machine.specs.Snapshot.{Snapshot, KeptSubscription, snapshot_of, kept_of, restarted, subscription_from}
 use Rattle.delivery_machine.specs.Laws.{IsReached}
 use Rattle.delivery_machine.specs.declared.event.Event.{Event}
 use Rattle.delivery_machine.specs.declared.reply.Reply.{Reply}
@@ -17,8 +19,8 @@ use Rattle.delivery_machine.proofs.Ordinals.{below_next}
 use Rattle.delivery_machine.proofs.ReachedOn.{reached_step}
 use Rattle.delivery_machine.proofs.WellKept.{letters}
 use Rattle.dead_moves.specs.Worlds.{done_with}
-use Rattle.dead_moves.specs.Letters.{dead_of, safe_of, LettersLeaveByMoves, OrdinalsRise}
-use Rattle.dead_moves.proofs.Fronts.{front_same, front_pushed}
+use Rattle.dead_moves.specs.Letters.{dead_of, safe_of, dead_in, LettersLeaveByMoves, OrdinalsRise}
+use Rattle.dead_moves.proofs.Fronts.{front_same, front_pushed, taken_whole}
 use Rattle.dead_moves.proofs.LettersAt.{Letters, letters_found}
 use Rattle.dead_moves.proofs.SourceSteps.{Dies}
 use Rattle.dead_moves.proofs.Outcomes.{Tells, IsDone, Outcome, outcome}
@@ -40,8 +42,49 @@ safe_is s n = by (find (is_named n) s.subscriptions)
     by None = refl
     by (Some sub) = refl
 
+-- ---- in a snapshot, and in what goes on from it
+
+pub dead_kept : (s : State) (n : List ℕ) → dead_in (snapshot_of s) n ≡ dead_of s n
+dead_kept s n = by s.subscriptions
+  where
+    by : (subs : List Subscription) → option_map_or (λ (kept : KeptSubscription). kept.dead) (find (λ (kept : KeptSubscription). bytes_eq kept.name n) (map kept_of subs)) []
+        ≡ option_map_or (λ (sub : Subscription). sub.dead) (find (is_named n) subs) []
+    by [] = refl
+    by (sub ∷ subs) = at (is_named n sub) (by subs)
+      where
+        at : (b : Bool) → option_map_or (λ (kept : KeptSubscription). kept.dead) (find (λ (kept : KeptSubscription). bytes_eq kept.name n) (map kept_of subs)) []
+            ≡ option_map_or (λ (sub : Subscription). sub.dead) (find (is_named n) subs) []
+            → option_map_or (λ (kept : KeptSubscription). kept.dead) (cond b (Some (kept_of sub)) (find (λ (kept : KeptSubscription). bytes_eq kept.name n) (map kept_of subs))) []
+            ≡ option_map_or (λ (sub : Subscription). sub.dead) (cond b (Some sub) (find (is_named n) subs)) []
+        at true rest = refl
+        at false rest = rest
+
+-- all of them are safe then
+pub safe_restarted : (kept : Snapshot) (n : List ℕ) → safe_of (restarted kept) n ≡ dead_in kept n
+safe_restarted kept n = by kept.subscriptions
+  where
+    by : (subs : List KeptSubscription) → option_map_or (λ (sub : Subscription). take sub.safe sub.dead) (find (is_named n) (map subscription_from subs)) []
+        ≡ option_map_or (λ (kept : KeptSubscription). kept.dead) (find (λ (kept : KeptSubscription). bytes_eq kept.name n) subs) []
+    by [] = refl
+    by (sub ∷ subs) = at (bytes_eq sub.name n) (by subs)
+      where
+        at : (b : Bool) → option_map_or (λ (sub : Subscription). take sub.safe sub.dead) (find (is_named n) (map subscription_from subs)) []
+            ≡ option_map_or (λ (kept : KeptSubscription). kept.dead) (find (λ (kept : KeptSubscription). bytes_eq kept.name n) subs) []
+            → option_map_or (λ (sub : Subscription). take sub.safe sub.dead) (cond b (Some (subscription_from sub)) (find (is_named n) (map subscription_from subs))) []
+            ≡ option_map_or (λ (kept : KeptSubscription). kept.dead) (cond b (Some sub) (find (λ (kept : KeptSubscription). bytes_eq kept.name n) subs)) []
+        at true rest = taken_whole sub.dead
+        at false rest = rest
+
+-- what is safe is among the letters
+pub safe_among : (s : State) (n : List ℕ) → All (Contains (dead_of s n)) (safe_of s n)
+safe_among s n = by (find (is_named n) s.subscriptions)
+  where
+    by : (o : Option Subscription) → All (Contains (option_map_or (λ (sub : Subscription). sub.dead) o [])) (option_map_or (λ (sub : Subscription). take sub.safe sub.dead) o [])
+    by None = All-nil (Contains [])
+    by (Some sub) = All-take (Contains sub.dead) sub.safe sub.dead (All-contains_itself sub.dead)
+
 module _ (n : List ℕ) where
-  told_dead : (s : State) (e : Event) (t : State) → Tells s e t → dead_at t n ≡ dead_at s n
+  pub told_dead : (s : State) (e : Event) (t : State) → Tells s e t → dead_at t n ≡ dead_at s n
   told_dead s e t tells = ap (λ (u : State). dead_at u n) tells.2 ∙ ap (λ (l : Letters). l.0) (told_letters n s.subscriptions tells.1)
 
   -- ---- none leaves but by a move

@@ -1,1 +1,2 @@
+pub mod SafeKept
 pub mod Sound

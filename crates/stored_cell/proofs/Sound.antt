@@ -1,14 +1,14 @@
 -- What a stored cell keeps, after each of its calls.
 use Rattle.std.proofs.Common.{◌≡◌, ℕ, zero, suc, ◌≤◌, ◌++◌, List, [], ◌∷◌, slice_index_or, Bool, true, false, Option, Some, None, IfSome, MatchOption, length, inl, inr, refl, sym, ap, subst, ◌∙◌, arith, length-append, true≢false}
-use Rattle.std.specs.Prelude.{All, ◌||◌, ◌&&◌, not, ◌==◌, min, max, nat_lt, if◌then◌else◌}
-use Rattle.std.proofs.lemmas.Bool.Decides.{nat_tests}
+use Rattle.std.specs.Prelude.{All, ◌||◌, min, max, nat_lt, if◌then◌else◌}
 use Rattle.std.proofs.lemmas.List.Elements.{All-append, All-nil}
-use Rattle.std.proofs.lemmas.Grind.{common_steps}
 use mathlib.Core.List.{IsPrefix}
 use base.Growing.{prefix_trans}
-use Rattle.delivery_machine.specs.State.{State}
+use Rattle.delivery_machine.specs.State.{State, fresh}
 use Rattle.delivery_machine.specs.Snapshot.{Snapshot, snapshot_of, restarted}
 use Rattle.delivery_machine.specs.Places.{KeptTopic, snapshot_in}
+use Rattle.delivery_machine.specs.WellFormed.{IsSound as IsSoundSnapshot}
+use Rattle.delivery_machine.specs.Laws.{IsReached}
 use Rattle.delivery_machine.specs.Run.{Step}
 use Rattle.delivery_machine.specs.Journals.{is_storing}
 use Rattle.delivery_machine.specs.declared.event.Event.{Event}
@@ -16,11 +16,13 @@ use Rattle.delivery_machine.specs.declared.event.Event.TheVariants.{Stored, Stor
 use Rattle.delivery_machine.specs.declared.reply.Reply.{Reply}
 use Rattle.delivery_machine.specs.declared.reply.Reply.TheVariants.{Durable}
 use Rattle.delivery_machine.proofs.Growing.{step_grows, prefix_same}
+use Rattle.delivery_machine.proofs.ReachedOn.{reached_fresh, reached_restarted}
 use Rattle.journal_lines.specs.Lines.{line}
 use Rattle.journal_lines.proofs.Legality.{legal_snoc}
 use Rattle.topic_shared.specs.Kept.{Kept, StoresLine, spoken_for, with_promise}
 use Rattle.stored_cell.specs.Noted.{Noted, GoesOn, IsOfView, IsStored, marked}
-use Rattle.stored_cell.specs.Held.{Held, IsBeginning, IsProof, IsSound, bases_of, outstanding_in}
+use Rattle.stored_cell.specs.Held.{Held, IsBeginning, KeepsSafe, KeepsLetters, IsProof, HasNoneStored, IsSound, bases_of, outstanding_in}
+use Rattle.stored_cell.proofs.SafeKept.{reached_on, safe_on, none_on, letters_on, safe_viewed, letters_viewed, safe_confirmed, safe_all, safe_opened, none_fresh}
 
 prefix_shorter : {A : Type 0} (xs ys : List A) → IsPrefix xs ys → length xs ≤ length ys
 prefix_shorter xs ys p = let whole = ap length p.1 in omega (arith, whole, length-append xs p.0)
@@ -51,16 +53,23 @@ beginning_of s kept same = record {
   events = (s, [], inl same, refl);
 }
 
-proof_grows : (s t : State) (e : Event) (r : Reply) (n : Noted) → Step s e r t → is_storing e ≡ false → IsProof s n → IsProof t n
-proof_grows s t e r n step silent at = record {
+proof_grows : (s t : State) (e : Event) (r : Reply) (n : Noted) → Step s e r t → IsReached s → is_storing e ≡ false → IsProof s n → IsProof t n
+proof_grows s t e r n step reached silent at = record {
   kept = beginning_grows s t e r n.kept step at.kept;
   durable = subst (λ d. d ≤ length n.kept.log) (sym ((step_grows s e r t step).durable silent)) at.durable;
+  safe = safe_on s e r t n.kept step reached silent at.safe;
   stored = at.stored;
 }
 
+none_grows : (s t : State) (e : Event) (r : Reply) → Step s e r t → IsReached s → is_storing e ≡ false → HasNoneStored s → HasNoneStored t
+none_grows s t e r step reached silent at = record {
+  durable = (step_grows s e r t step).durable silent ∙ at.durable;
+  safe = none_on s e r t step reached silent at.safe;
+}
+
 -- what is durable is of the log
-durable_within : (s : State) (o : Option Noted) → MatchOption o (s.durable ≡ 0) (IsProof s) → s.durable ≤ length s.log
-durable_within s None none = omega (arith, none)
+durable_within : (s : State) (o : Option Noted) → MatchOption o (HasNoneStored s) (IsProof s) → s.durable ≤ length s.log
+durable_within s None none = omega (arith, none.durable)
 durable_within s (Some n) at = omega (arith, at.durable, prefix_shorter n.kept.log s.log at.kept.log)
 
 -- a promise leaves the state as it was
@@ -100,18 +109,54 @@ all_go_on s kept bases same begin n d less =
 
 -- ---- the calls
 
-pub sound_restarted : (k : Kept) (n : Noted) → k.viewed ≡ k.state → k.state ≡ restarted (snapshot_in n.kept) → IsStored n → IsSound (record { cell = k; stored = Some n; outstanding = None; by_word = false })
-sound_restarted k n viewed is stands =
+-- nothing else of the cell is spoken of
+pub sound_same : (h : Held) (l : Kept) → IsSound h → l.state ≡ h.cell.state → l.viewed ≡ h.cell.viewed → l.promised ≡ h.cell.promised → IsSound (record h { cell = l })
+sound_same h l sound state viewed promised =
+    subst (λ (x : State × State × Bool). IsSound (record h { cell = record l { state = x.0; viewed = x.1; promised = x.2 } })) (λ i. (sym state i, sym viewed i, sym promised i))
+    (record {
+      reached = sound.reached;
+      stored = sound.stored;
+      durable = sound.durable;
+      outstanding = sound.outstanding;
+      within = sound.within;
+      letters = sound.letters;
+      promised = sound.promised;
+      views = sound.views;
+      stores_view = sound.stores_view;
+    })
+
+pub sound_fresh : (k : Kept) → k.state ≡ fresh k.state.name k.state.ledger_size → IsSound (record { cell = k; stored = None; outstanding = None; by_word = false })
+sound_fresh k is = record {
+  reached = subst IsReached (sym is) (reached_fresh k.state.name k.state.ledger_size);
+  stored = tt;
+  durable = λ _. none_fresh k.state is;
+  outstanding = tt;
+  within = λ _. tt;
+  letters = tt;
+  promised = λ none. absurd cc;
+  views = tt;
+  stores_view = λ _ _. tt;
+}
+
+pub sound_restarted : (k : Kept) (n : Noted) → IsSoundSnapshot (snapshot_in n.kept) → k.viewed ≡ k.state → k.state ≡ restarted (snapshot_in n.kept) → IsStored n → IsSound (record { cell = k; stored = Some n; outstanding = None; by_word = false })
+sound_restarted k n sound viewed is stands =
     let kept : IsBeginning k.state n.kept = record {
       name = sym (ap (λ (s : State). s.name) is);
       log = subst (IsPrefix n.kept.log) (sym (ap (λ (s : State). s.log) is)) (prefix_same n.kept.log);
       events = (k.state, [], inr is, refl);
     } in
     record {
+      reached = subst IsReached (sym is) (reached_restarted (snapshot_in n.kept) sound);
       stored = (kept, stands);
-      durable = λ _. record { kept = kept; durable = subst (λ d. d ≤ length n.kept.log) (sym (ap (λ (s : State). s.durable) is)) (omega arith); stored = stands };
+      durable = λ _. record {
+        kept = kept;
+        durable = subst (λ d. d ≤ length n.kept.log) (sym (ap (λ (s : State). s.durable) is)) (omega arith);
+        safe = safe_opened k.state n.kept is;
+        stored = stands;
+      };
       outstanding = tt;
       within = λ _. tt;
+      letters = tt;
       promised = λ none. absurd cc;
       views = tt;
       stores_view = λ _ _. inr (viewed ∙ is);
@@ -122,14 +167,17 @@ pub sound_called : (h : Held) (l : Kept) (e : Event) (r : Reply) → IsSound h �
 sound_called h l e r sound step promised viewed =
     let grown = step_grows h.cell.state e r l.state step in
     record {
+      reached = reached_on h.cell.state e r l.state step sound.reached;
       stored = some_weaker h.stored _ _ (λ n at. (beginning_grows h.cell.state l.state e r n.kept step at.0, at.1)) sound.stored;
       durable = λ said.
           let both = or_false h.by_word (is_storing e) said in
-          of_stored h.stored (grown.durable both.1) (λ n at. proof_grows h.cell.state l.state e r n step both.1 at) (sound.durable both.0);
+          of_stored h.stored (none_grows h.cell.state l.state e r step sound.reached both.1) (λ n at. proof_grows h.cell.state l.state e r n step sound.reached both.1 at) (sound.durable both.0);
       outstanding = some_weaker h.outstanding _ _ (λ kept at. beginning_grows h.cell.state l.state e r kept step at) sound.outstanding;
       within = λ said.
           let both = or_false h.by_word (is_storing e) said in
-          some_weaker h.outstanding _ _ (λ (kept : KeptTopic) within. subst (λ d. d ≤ length kept.log) (sym (grown.durable both.1)) within) (sound.within both.0);
+          some_weaker h.outstanding _ _ (λ (kept : KeptTopic) within.
+          (subst (λ d. d ≤ length kept.log) (sym (grown.durable both.1)) within.0, safe_on h.cell.state e r l.state kept step sound.reached both.1 within.1)) (sound.within both.0);
+      letters = some_weaker h.outstanding _ _ (λ kept at. letters_on h.cell.state e r l.state kept step sound.reached at) sound.letters;
       promised = λ some. promised ∙ sound.promised some;
       views = subst (λ (v : State). IfSome h.outstanding (λ (kept : KeptTopic). snapshot_in kept ≡ snapshot_of v)) (sym viewed) sound.views;
       stores_view = λ said none.
@@ -137,22 +185,24 @@ sound_called h l e r sound step promised viewed =
           subst (λ (v : State). IfSome h.stored (λ n. IsOfView v n.kept)) (sym viewed) (sound.stores_view both.0 none);
     }
   where
-    of_stored : (o : Option Noted) → l.state.durable ≡ h.cell.state.durable → ((n : Noted) → IsProof h.cell.state n → IsProof l.state n)
-        → MatchOption o (h.cell.state.durable ≡ 0) (IsProof h.cell.state) → MatchOption o (l.state.durable ≡ 0) (IsProof l.state)
-    of_stored None same all at = same ∙ at
-    of_stored (Some n) same all at = all n at
+    of_stored : (o : Option Noted) → (HasNoneStored h.cell.state → HasNoneStored l.state) → ((n : Noted) → IsProof h.cell.state n → IsProof l.state n)
+        → MatchOption o (HasNoneStored h.cell.state) (IsProof h.cell.state) → MatchOption o (HasNoneStored l.state) (IsProof l.state)
+    of_stored None none all at = none at
+    of_stored (Some n) none all at = all n at
 
 pub sound_viewed : (h : Held) (l : Kept) (kept : KeptTopic) → IsSound h → l.state ≡ h.cell.state → l.viewed ≡ l.state → l.promised ≡ true → snapshot_in kept ≡ snapshot_of l.state
     → IsSound (record h { cell = l; outstanding = Some kept })
 sound_viewed h l kept sound same last promised viewed =
     let log : kept.log ≡ l.state.log = ap (λ (x : Snapshot). x.log) viewed in
     record {
+      reached = subst IsReached (sym same) sound.reached;
       stored = subst (λ (s : State). IfSome h.stored (λ n. IsBeginning s n.kept × IsStored n)) (sym same) sound.stored;
-      durable = subst (λ (s : State). h.by_word ≡ false → MatchOption h.stored (s.durable ≡ 0) (IsProof s)) (sym same) sound.durable;
+      durable = subst (λ (s : State). h.by_word ≡ false → MatchOption h.stored (HasNoneStored s) (IsProof s)) (sym same) sound.durable;
       outstanding = beginning_of l.state kept viewed;
       within = λ said.
           let all : l.state.durable ≤ length l.state.log = subst (λ (s : State). s.durable ≤ length s.log) (sym same) (durable_within h.cell.state h.stored (sound.durable said)) in
-          omega (arith, all, ap length log);
+          (omega (arith, all, ap length log), safe_viewed l.state kept viewed);
+      letters = letters_viewed l.state kept viewed;
       promised = λ _. promised;
       views = viewed ∙ ap snapshot_of (sym last);
       stores_view = λ _ none. absurd cc;
@@ -160,30 +210,36 @@ sound_viewed h l kept sound same last promised viewed =
 
 pub sound_confirmed : (h : Held) (l : Kept) (n : Noted) (count : ℕ) → IsSound h → h.outstanding ≡ Some n.kept → IsStored n
     → StoresLine h.cell (StoredTo (length n.kept.log) n.kept.next_ordinal) count l
-    → IsSound (record { cell = l; stored = Some n; outstanding = None; by_word = h.by_word && not (count == length n.kept.log) })
+    → IsSound (record { cell = l; stored = Some n; outstanding = None; by_word = h.by_word })
 sound_confirmed h l n count sound viewed stands stores =
     let before : IsBeginning h.cell.state n.kept = subst (λ o. IfSome o (IsBeginning h.cell.state)) viewed sound.outstanding in
-    let within : h.by_word ≡ false → h.cell.state.durable ≤ length n.kept.log = subst (λ o. h.by_word ≡ false → IfSome o (λ (kept : KeptTopic). h.cell.state.durable ≤ length kept.log)) viewed sound.within in
-    let kept = beginning_grows h.cell.state l.state (StoredTo (length n.kept.log) n.kept.next_ordinal) (Durable count) n.kept stores.step before in
+    let letters : KeepsLetters h.cell.state n.kept = subst (λ o. IfSome o (KeepsLetters h.cell.state)) viewed sound.letters in
+    let kept = beginning_grows h.cell.state l.state told (Durable count) n.kept stores.step before in
     record {
+      reached = reached_on h.cell.state told (Durable count) l.state stores.step sound.reached;
       stored = (kept, stands);
-      durable = λ said. record { kept = kept; durable = all h.by_word refl said within; stored = stands };
+      durable = λ said.
+          let within = subst (λ o. IfSome o (λ (kept : KeptTopic). (h.cell.state.durable ≤ length kept.log) × KeepsSafe h.cell.state kept)) viewed (sound.within said) in
+          let most : h.cell.state.durable ≤ length n.kept.log = within.0 in
+          record {
+            kept = kept;
+            durable = omega (arith, after, most);
+            safe = safe_confirmed h.cell.state (length n.kept.log) (Durable count) l.state n.kept stores.step sound.reached letters within.1;
+            stored = stands;
+          };
       outstanding = tt;
       within = λ _. tt;
+      letters = tt;
       promised = λ none. absurd cc;
       views = tt;
       stores_view = λ _ _. inl (subst (λ o. IfSome o (λ (kept : KeptTopic). snapshot_in kept ≡ snapshot_of h.cell.viewed)) viewed sound.views ∙ ap (λ (k : Kept). snapshot_of k.viewed) (sym stores.others));
     }
   where
+    told : Event
+    told = StoredTo (length n.kept.log) n.kept.next_ordinal
+
     after : l.state.durable ≡ max h.cell.state.durable (min (length n.kept.log) (length h.cell.state.log))
     after = ap (λ (s : State). s.durable) stores.step.1.1
-
-    counted : count ≡ max h.cell.state.durable (min (length n.kept.log) (length h.cell.state.log))
-    counted = let reply = stores.step.1.0 in cc
-
-    all : (b : Bool) → h.by_word ≡ b → (b && not (count == length n.kept.log)) ≡ false → (h.by_word ≡ false → h.cell.state.durable ≤ length n.kept.log) → l.state.durable ≤ length n.kept.log
-    all true is said within = let so = after in let many = counted in grind (arith, nat_tests, common_steps)
-    all false is said within = let most = within is in let so = after in grind (arith, common_steps)
 
 -- all that there is is durable, since a snapshot of now was stored
 pub sound_all : (h : Held) (l : Kept) (n : Noted) (count : ℕ) → IsSound h → snapshot_in n.kept ≡ snapshot_of h.cell.state → IsStored n → StoresLine (record h.cell { viewed = h.cell.state; unsaved = false }) Stored count l
@@ -193,10 +249,17 @@ sound_all h l n count sound now stands stores =
     let log : n.kept.log ≡ h.cell.state.log = ap (λ (x : Snapshot). x.log) now in
     let after : l.state.durable ≡ length h.cell.state.log = ap (λ (s : State). s.durable) stores.step.1.1 in
     record {
+      reached = reached_on h.cell.state Stored (Durable count) l.state stores.step sound.reached;
       stored = (kept, stands);
-      durable = λ _. record { kept = kept; durable = omega (arith, after, ap length log); stored = stands };
+      durable = λ _. record {
+        kept = kept;
+        durable = omega (arith, after, ap length log);
+        safe = safe_all h.cell.state (Durable count) l.state n.kept stores.step sound.reached now;
+        stored = stands;
+      };
       outstanding = tt;
       within = λ _. tt;
+      letters = tt;
       promised = λ none. absurd cc;
       views = tt;
       stores_view = λ _ _. inl (now ∙ ap (λ (k : Kept). snapshot_of k.viewed) (sym stores.others));
@@ -207,10 +270,12 @@ pub sound_stored : (h : Held) (l : Kept) (count : ℕ) → IsSound h → StoresL
     → IsSound (record { cell = l; stored = h.stored; outstanding = None; by_word = true })
 sound_stored h l count sound stores =
     record {
+      reached = reached_on h.cell.state Stored (Durable count) l.state stores.step sound.reached;
       stored = some_weaker h.stored _ _ (λ n at. (beginning_grows h.cell.state l.state Stored (Durable count) n.kept stores.step at.0, at.1)) sound.stored;
       durable = λ said. absurd cc;
       outstanding = tt;
       within = λ _. tt;
+      letters = tt;
       promised = λ none. absurd cc;
       views = tt;
       stores_view = λ said. absurd cc;

@@ -1,15 +1,18 @@
--- A topic with its journal and with what of it is stored, and why what it calls durable is durable.
-use Rattle.std.specs.Prelude.{◌≡◌, ◌≤◌, ◌++◌, Bool, true, false, List, [], ◌∷◌, Option, None, Some, IfSome, IsSome, MatchOption, length}
+-- A topic with its journal and with what of it is stored, and why what it calls durable, or safe to be moved, is stored.
+use Rattle.std.specs.Prelude.{◌≡◌, ℕ, ◌≤◌, ◌⊎◌, ◌++◌, Bool, true, false, List, [], ◌∷◌, Option, None, Some, IfSome, IsSome, MatchOption, length, All, Contains}
 use mathlib.Core.List.{IsPrefix}
 use Rattle.delivery_machine.specs.State.{State}
 use Rattle.delivery_machine.specs.Places.{KeptTopic, snapshot_in}
 use Rattle.delivery_machine.specs.Snapshot.{snapshot_of}
+use Rattle.delivery_machine.specs.Laws.{IsReached}
+use Rattle.dead_moves.specs.Letters.{dead_of, safe_of, dead_in}
 use Rattle.journal_lines.specs.Lines.{Line, Legal}
 use Rattle.topic_shared.specs.Kept.{Kept}
 use Rattle.stored_cell.specs.Noted.{Noted, IsOfView, IsStored, marked}
 
 -- `stored` is the snapshot that was confirmed last, with rows that were committed; `outstanding`, the one that was viewed
--- last, if it was not confirmed; `by_word`, whether more is durable than was confirmed, by the word of a caller alone
+-- last, if it was not confirmed; `by_word`, whether more may be durable, or safe, than was confirmed, by the word of a caller
+-- alone
 pub record Held : Type 0 where
   pub cell : Kept
   pub stored : Option Noted
@@ -22,22 +25,40 @@ pub record IsBeginning (s : State) (kept : KeptTopic) : Type 0 where
   pub log : IsPrefix kept.log s.log
   pub events : (first : State) × (lines : List Line) × IsOfView first kept × Legal first lines s
 
--- all that is durable is kept of the topic, and that stands in rows that were committed
+-- each letter that is safe to be moved, of whatever subscription, is among the dead letters that are kept of that subscription
+abbrev pub KeepsSafe : State → KeptTopic → Type 0
+KeepsSafe s kept = (name : List ℕ) → All (Contains (dead_in (snapshot_in kept) name)) (safe_of s name)
+
+-- the topic gives no ordinal below the next one of what is kept, and each dead letter with an ordinal below that one is kept
+pub record KeepsLetters (s : State) (kept : KeptTopic) : Type 0 where
+  pub next : kept.next_ordinal ≤ s.next_ordinal
+  pub letters : (name : List ℕ) → All (λ d. Contains (dead_in (snapshot_in kept) name) d ⊎ kept.next_ordinal ≤ d.ordinal) (dead_of s name)
+
+-- all that is durable, and each letter that is safe, is in what is kept of the topic, and that stands in rows that were committed
 pub record IsProof (s : State) (n : Noted) : Type 0 where
   pub kept : IsBeginning s n.kept
   pub durable : s.durable ≤ length n.kept.log
+  pub safe : KeepsSafe s n.kept
   pub stored : IsStored n
 
--- what is durable stands in rows that were committed, but for what a caller's word made durable
+-- nothing is durable, and no letter is safe
+pub record HasNoneStored (s : State) : Type 0 where
+  pub durable : s.durable ≡ 0
+  pub safe : (name : List ℕ) → safe_of s name ≡ []
+
+-- what is durable, and each letter that is safe, stands in rows that were committed, but for what a caller's word made so
 abbrev pub IsDurable : Held → Type 0
-IsDurable h = h.by_word ≡ false → MatchOption h.stored (h.cell.state.durable ≡ 0) (IsProof h.cell.state)
+IsDurable h = h.by_word ≡ false → MatchOption h.stored (HasNoneStored h.cell.state) (IsProof h.cell.state)
 
 -- what every such cell keeps
 pub record IsSound (h : Held) : Type 0 where
+  -- a run comes to its state
+  pub reached : IsReached h.cell.state
   pub stored : IfSome h.stored (λ n. IsBeginning h.cell.state n.kept × IsStored n)
   pub durable : IsDurable h
   pub outstanding : IfSome h.outstanding (IsBeginning h.cell.state)
-  pub within : h.by_word ≡ false → IfSome h.outstanding (λ kept. h.cell.state.durable ≤ length kept.log)
+  pub within : h.by_word ≡ false → IfSome h.outstanding (λ kept. (h.cell.state.durable ≤ length kept.log) × KeepsSafe h.cell.state kept)
+  pub letters : IfSome h.outstanding (KeepsLetters h.cell.state)
   pub promised : IsSome h.outstanding → h.cell.promised ≡ true
   -- what is outstanding is kept of the last view, and where nothing is, what was stored last is
   pub views : IfSome h.outstanding (λ kept. snapshot_in kept ≡ snapshot_of h.cell.viewed)

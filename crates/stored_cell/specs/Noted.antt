@@ -73,6 +73,10 @@ pub record ToStore : Type 0 where
 abbrev pub IsOfView : Machine → KeptTopic → Type 0
 IsOfView viewed kept = (snapshot_in kept ≡ snapshot_of viewed) ⊎ (viewed ≡ restarted (snapshot_in kept))
 
+-- what is kept is the state's snapshot; or the state's is that of the topic as it went on from what is kept: the same but for the ledger
+abbrev pub IsOfNow : Machine → KeptTopic → Type 0
+IsOfNow s kept = (snapshot_in kept ≡ snapshot_of s) ⊎ (snapshot_of (restarted (snapshot_in kept)) ≡ snapshot_of s)
+
 -- both are of one topic, the second log begins with the first, and events alone lead from the first to the second
 pub record GoesOn (base kept : KeptTopic) : Type 0 where
   pub name : kept.name ≡ base.name

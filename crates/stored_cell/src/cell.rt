@@ -2,6 +2,8 @@
 ghost use Rattle.std.specs.Prelude.{◌≡◌, ◌↔◌, ◌⊎◌, ◌<◌, ◌≤◌, ◌+◌, ◌-◌, ◌||◌, [], ◌∷◌, ◌++◌, length, All, set, Err, None, Some, IfOk, IfErr, IfSome, OnErr, IsOk, true, false};
 ghost use Rattle.std.specs.Option.{option_copied};
 ghost use Rattle.position_core.specs.declared.fault.Fault.TheVariants.{NoMemory, JournalFull, NoRoom};
+ghost use Rattle.delivery_machine.specs.State.{fresh};
+ghost use Rattle.delivery_machine.specs.Laws.{IsReached};
 ghost use Rattle.delivery_machine.specs.Run.{Step};
 ghost use Rattle.delivery_machine.specs.Snapshot.{restarted};
 ghost use Rattle.delivery_machine.specs.Places.{snapshot_in};
@@ -10,7 +12,7 @@ ghost use Rattle.journal_lines.specs.Lines.{line, Legal};
 ghost use Rattle.topic_shared.specs.Kept.{KeepsSeats, needed_by, spoken_for, is_end};
 ghost use Rattle.topic_seats.specs.Seats.{IsFree, without_seat};
 ghost use Rattle.stored_cell.specs.Held.{IsDurable};
-ghost use Rattle.stored_cell.specs.Noted.{IsOfView};
+ghost use Rattle.stored_cell.specs.Noted.{IsOfNow, IsOfView};
 
 use crate::kept::Kept;
 use crate::viewed::{Stored, Viewed};
@@ -21,7 +23,8 @@ use topic_shared::{Cell, Receipt};
 
 /// A topic with its journal and with what of it is stored. Contracts see both. Unless a caller made
 /// something durable by its own word, by a `Stored` or a `StoredTo` at a seat, all that is durable stands
-/// in rows that were committed.
+/// in rows that were committed, and so does each dead letter that is safe to be moved. Some run of the delivery
+/// machine comes to its state: what holds of every state that a run comes to holds of this one.
 pub struct StoredCell<T: Topic, J: Naming> {
     pub(crate) cell: Cell<T>,
     pub(crate) stored: Option<Stored<J>>,
@@ -67,9 +70,9 @@ fn is_either(one: bool, other: bool) -> bool
 }
 
 impl<T: Topic + Drop, J: Naming> StoredCell<T, J> {
-    /// Over a topic of which nothing is durable, and nothing stored.
+    /// Over a topic with nothing in it, of which nothing is stored.
     pub fn fresh(cell: Cell<T>) -> Self
-        requires { cell.state.durable ≡ 0 }
+        requires { cell.state ≡ fresh cell.state.name cell.state.ledger_size }
         ensures { result ≡ record { cell = cell; stored = None; outstanding = None; by_word = false } }
     {
         StoredCell {
@@ -137,21 +140,32 @@ impl<T: Topic, J: Naming> StoredCell<T, J> {
         &self.cell
     }
 
+    /// What its type keeps: some run comes to the topic's state, so what the laws say of a state holds of it.
+    pub fn reached(&self)
+        ensures { IsReached self.now.cell.state }
+    {
+        let _ = &self.cell;
+    }
+
     /// The snapshot that was confirmed last, with the rows that hold it. Where nothing is durable by a
-    /// word alone, all that is durable is in it, and where nothing is outstanding, it is that of the last view,
-    /// or what the topic went on from.
+    /// word alone, all that is durable is in it, and each letter that is safe to be moved; and where nothing is
+    /// outstanding, it is that of the last view, or what the topic went on from. Where then nothing needs storing,
+    /// it is the topic as it is, but for the ledger of one that was only opened.
     pub fn stored(&self) -> Option<&Kept<J>>
         ensures stored { option_copied result ≡ self.now.stored }
         ensures durable { IsDurable self.now }
         ensures view { self.now.by_word ≡ false → self.now.outstanding ≡ None → IfSome self.now.stored (λ n. IsOfView self.now.cell.viewed n.kept) }
+        ensures now { self.now.by_word ≡ false → self.now.outstanding ≡ None → self.now.cell.unsaved ≡ false → IfSome self.now.stored (λ n. IsOfNow self.now.cell.state n.kept) }
     {
+        let _ = self.cell.needs_storing();
         match &self.stored {
             Some(stored) => Some(stored.kept()),
             None => None,
         }
     }
 
-    /// Something is durable by a caller's word alone.
+    /// Something may be durable, or a letter safe, by a caller's word alone. So it stays until all that the topic has
+    /// is confirmed.
     pub fn is_by_word(&self) -> bool
         ensures { result ≡ self.now.by_word }
     {

@@ -1,5 +1,5 @@
 // The three steps of a store, as a topic takes part in them: it is viewed, and later what was stored is confirmed.
-ghost use Rattle.std.specs.Prelude.{ℕ, ◌≡◌, ◌++◌, ◌==◌, ◌&&◌, not, ◌⊎◌, ◌≤◌, ◌↔◌, Err, None, Some, IfOk, IfErr, IfSome, OnOk, OnErr, IsTrue, IsFalse, length, false, true};
+ghost use Rattle.std.specs.Prelude.{ℕ, ◌≡◌, ◌++◌, ◌⊎◌, ◌≤◌, ◌↔◌, Err, None, Some, IfOk, IfErr, IfSome, OnOk, OnErr, IsTrue, IsFalse, length, false, true};
 ghost use Rattle.position_core.specs.declared.fault.Fault.TheVariants.{NoMemory, JournalFull, StoreFailed};
 ghost use Rattle.delivery_machine.specs.Snapshot.{snapshot_of};
 ghost use Rattle.delivery_machine.specs.Places.{snapshot_in};
@@ -48,17 +48,10 @@ pub(crate) fn bases_of<J: Naming>(
     Bases::new(base, outstanding_of(outstanding))
 }
 
-/// More is durable by a caller's word than was confirmed.
-fn is_more(by_word: bool, durable: u64, length: u64) -> bool
-    ensures { result ≡ (by_word && not (durable == length)) }
-{
-    by_word && durable != length
-}
-
 impl<T: Opened + Drop, J: Naming> StoredCell<T, J> {
     /// The topic as it is, to be stored. A line is kept for its confirmation, whatever is asked meanwhile;
-    /// an earlier view that was not confirmed is none any more, but that the part goes on from it too. Refused (F15) where not even the last line
-    /// is left, (F16) where 2^62 marks were drawn, or for want of memory.
+    /// an earlier view that was not confirmed is none any more, but that the part goes on from it too. Refused (F15)
+    /// where not even the last line is left, (F16) where 2^62 marks were drawn, or for want of memory.
     pub fn ready_view(&mut self, notes: &mut Notes<J>) -> Result<Part<J>, Fault>
         ensures part { IfOk result (λ part. (snapshot_in part.kept ≡ snapshot_of self.old.cell.state) × (part.bases ≡ bases_of self.old)) }
         ensures ok { IfOk result (λ part. self.new ≡ record self.old { cell = record (with_promise self.old.cell) { viewed = self.old.cell.state; unsaved = false }; outstanding = Some part.kept }) }
@@ -85,13 +78,13 @@ impl<T: Opened + Drop, J: Naming> StoredCell<T, J> {
     }
 
     /// Makes durable what was stored, if it is what was viewed last: the store holds its messages and its
-    /// deaths. Whether it was.
+    /// deaths. Whether it was. What a caller's word made durable is so by that word still.
     pub fn confirm(&mut self, kept: Kept<J>) -> bool
         ensures nothing { IsFalse result → self.new ≡ self.old }
         ensures outstanding { IsTrue result → self.old.outstanding ≡ Some kept.kept }
         ensures stored { IsTrue result → (self.new.stored ≡ Some kept) × (self.new.outstanding ≡ None) }
         ensures line { IsTrue result → (count : ℕ) × StoresLine self.old.cell (StoredTo (length kept.kept.log) kept.kept.next_ordinal) count self.new.cell }
-        ensures word { self.old.by_word ≡ false → self.new.by_word ≡ false }
+        ensures word { self.new.by_word ≡ self.old.by_word }
         ensures durable { self.old.cell.state.durable ≤ self.new.cell.state.durable }
     {
         let Some(viewed) = &self.outstanding else {
@@ -104,8 +97,7 @@ impl<T: Opened + Drop, J: Naming> StoredCell<T, J> {
         }
         let length = viewed.length();
         let ordinal = viewed.ordinal();
-        let durable = self.cell.confirm(length, ordinal);
-        self.by_word = is_more(self.by_word, durable, length);
+        self.cell.confirm(length, ordinal);
         self.stored = Some(Stored::new(kept, length));
         self.outstanding = None;
         true
