@@ -1,11 +1,13 @@
 -- Messages and their rows.
-use Rattle.std.proofs.Common.{◌≡◌, ℕ, ◌+◌, ◌≤◌, ◌<◌, ◌^◌, List, [], ◌∷◌, ◌++◌, take, length, pos, Option, Some, IfSome, ap, sym, ◌∙◌, arith, get_or}
+use Rattle.std.proofs.Common.{◌≡◌, ℕ, ◌+◌, ◌≤◌, ◌<◌, ◌^◌, List, [], ◌∷◌, ◌++◌, take, length, pos, Option, Some, None, IfSome, refl, ap, sym, ◌∙◌, arith, get_or}
+use Rattle.std.specs.Prelude.{Result, Ok, Err, IfNone, IfOk}
 use Rattle.std.specs.List.{AllByRecursion}
 use Rattle.std.specs.List.Sorted.{IsStrictlySortedBy}
 use Rattle.std.proofs.lemmas.List.{map-append, take_more}
 use Rattle.std.proofs.lemmas.List.Elements.{All-nil, All-push}
 use Rattle.std.specs.declared.cmp.Ordering.TheVariants.{Less}
 use Rattle.sqlite.specs.declared.types.Value.TheVariants.{Int, Text as Words, Blob as Octets}
+use Rattle.sqlite.specs.declared.types.Value.{Value}
 use Rattle.sqlite.specs.Order.{Row, column}
 use Rattle.position_core.specs.declared.position.Position.{Position}
 use Rattle.position_core.specs.declared.message.Entry.{Entry}
@@ -67,3 +69,79 @@ log_none size ledger within = record {
   entries = λ some. All-nil _;
   last_ledger = within;
 }
+
+-- each position that all of the log are below is above the last one
+abbrev pub IsLast : Option Position → List Entry → Type 0
+IsLast last log = (p : Position) → AllByRecursion (λ (e : Entry). position_cmp e.position p ≡ Less) log → IfSome last (λ l. position_cmp l p ≡ Less)
+
+pub last_more : (log : List Entry) (e : Entry) → IsLast (Some e.position) (log ++ e ∷ [])
+last_more [] e p all = all.0
+last_more (x ∷ xs) e p all = last_more xs e p all.1
+
+-- ---- a row that shows a message
+
+pub record HasColumns (row : Row) (place : ℕ) (e : Entry) : Type 0 where
+  pub long : length row ≡ 10
+  pub at : column row 0 ≡ Int (pos place)
+  pub ledger : column row 1 ≡ Int (pos e.position.ledger)
+  pub entry : column row 2 ≡ Int (pos e.position.entry)
+  pub producer : column row 3 ≡ Words e.producer
+  pub sequence : column row 4 ≡ Int e.sequence
+  pub time : column row 5 ≡ Int (pos e.time)
+  pub key : column row 6 ∷ column row 7 ∷ [] ≡ key_cells e.body.key
+  pub properties : column row 8 ≡ Words (properties_text e.body.properties)
+  pub payload : column row 9 ≡ Octets e.body.payload
+
+-- what a message's row is without its topic
+message_cells : ℕ → Entry → Row
+message_cells place e = Int (pos place) ∷ Int (pos e.position.ledger) ∷ Int (pos e.position.entry) ∷ Words e.producer ∷ Int e.sequence ∷ Int (pos e.time)
+    ∷ (key_cells e.body.key ++ Words (properties_text e.body.properties) ∷ Octets e.body.payload ∷ [])
+
+cells_shown : (row : Row) (place : ℕ) (e : Entry) → IsEntryAt place row e → row ≡ message_cells place e
+unfolding message_cells
+cells_shown row place e shown = let here : Words [] ∷ row ≡ entry_row [] place e = shown [] in cc
+
+last_columns : (a b c d e f : Value) (k : Option (List ℕ)) (p o : List ℕ)
+    → (let r : Row = a ∷ b ∷ c ∷ d ∷ e ∷ f ∷ (key_cells k ++ Words p ∷ Octets o ∷ []) in (length r ≡ 10) × (column r 6 ∷ column r 7 ∷ [] ≡ key_cells k) × (column r 8 ≡ Words p) × (column r 9 ≡ Octets o))
+last_columns a b c d e f None p o = (refl, refl, refl, refl)
+last_columns a b c d e f (Some key) p o = (refl, refl, refl, refl)
+
+pub columns_of : (row : Row) (place : ℕ) (e : Entry) → IsEntryAt place row e → HasColumns row place e
+unfolding message_cells
+columns_of row place e shown =
+    let is : row ≡ message_cells place e = cells_shown row place e shown in
+    let h = last_columns (Int (pos place)) (Int (pos e.position.ledger)) (Int (pos e.position.entry)) (Words e.producer) (Int e.sequence) (Int (pos e.time)) e.body.key (properties_text e.body.properties) e.body.payload in
+    record {
+      long = ap length is ∙ h.0;
+      at = ap (λ (r : Row). column r 0) is;
+      ledger = ap (λ (r : Row). column r 1) is;
+      entry = ap (λ (r : Row). column r 2) is;
+      producer = ap (λ (r : Row). column r 3) is;
+      sequence = ap (λ (r : Row). column r 4) is;
+      time = ap (λ (r : Row). column r 5) is;
+      key = ap (λ (r : Row). column r 6 ∷ column r 7 ∷ []) is ∙ h.1;
+      properties = ap (λ (r : Row). column r 8) is ∙ h.2;
+      payload = ap (λ (r : Row). column r 9) is ∙ h.3;
+    }
+
+pub one_position : (row : Row) (place : ℕ) (e f : Entry) → IsEntryAt place row e → IsEntryAt place row f → e.position ≡ f.position
+one_position row place e f one other =
+    let a = columns_of row place e one in
+    let b = columns_of row place f other in
+    position_is e.position f.position (numbers (column row 1) e.position.ledger f.position.ledger a.ledger b.ledger) (numbers (column row 2) e.position.entry f.position.entry a.entry b.entry)
+  where
+    numbers : (v : Value) (n m : ℕ) → v ≡ Int (pos n) → v ≡ Int (pos m) → n ≡ m
+    numbers v n m x y = cc
+
+    position_is : (p q : Position) → p.ledger ≡ q.ledger → p.entry ≡ q.entry → p ≡ q
+    position_is p q ledgers entries = let put : ℕ → ℕ → Position = λ l n. record { ledger = l; entry = n } in ap (λ l. put l p.entry) ledgers ∙ ap (put q.ledger) entries
+
+-- a value is one text
+pub one_text : (v : Value) (s t : List ℕ) → v ≡ Words s → v ≡ Words t → s ≡ t
+one_text v s t a b = cc
+
+-- what holds anyway holds where nothing was found
+pub anyway : {A E P : Type 0} (r : Result (Option A) E) → P → IfOk r (λ (found : Option A). IfNone found P)
+anyway (Ok (Some x)) p = tt
+anyway (Ok None) p = p
+anyway (Err e) p = tt

@@ -1,6 +1,6 @@
 -- Dead letters and their rows.
-use Rattle.std.proofs.Common.{◌≡◌, ℕ, ◌+◌, ◌<◌, ◌≤◌, Bool, true, false, cond, List, [], ◌∷◌, ◌++◌, map, Some, refl, ap, sym, ◌∙◌, arith}
-use Rattle.std.specs.Prelude.{◌==◌, ◌||◌}
+use Rattle.std.proofs.Common.{◌≡◌, ℕ, ◌+◌, ◌<◌, ◌≤◌, Bool, true, false, cond, List, [], ◌∷◌, ◌++◌, map, length, pos, Some, refl, ap, sym, ◌∙◌, arith}
+use Rattle.std.specs.Prelude.{◌==◌, ◌||◌, if◌then◌else◌}
 use Rattle.std.specs.List.{All, AllByRecursion, count_by, list_any, slice_get, IsDistinct}
 use Rattle.std.specs.FinSet as set
 use Rattle.std.specs.Ordering.{nat_cmp}
@@ -9,9 +9,13 @@ use Rattle.std.proofs.lemmas.Bool.Decides.{nat_tests}
 use Rattle.std.proofs.lemmas.List.Elements.{All-push, All-weaker, recursion_from_All}
 use Rattle.std.proofs.lemmas.List.Sums.{sum_by-append, sum_by-cons, sum_by_push}
 use Rattle.std.proofs.lemmas.Option.{get_or_from_slice_get, slice_get_within}
-use Rattle.sqlite.specs.declared.types.Value.TheVariants.{Text as Words}
-use Rattle.sqlite.specs.Order.{Row}
+use Rattle.sqlite.specs.declared.types.Value.TheVariants.{Int, Text as Words}
+use Rattle.sqlite.specs.Order.{Row, column}
+use Rattle.sqlite.specs.declared.types.Value.{Value}
 use Rattle.position_core.specs.declared.message.Entry.{Entry}
+use Rattle.position_core.specs.declared.position.Position.{Position}
+use Rattle.position_core.specs.declared.topic_name.TopicName.{TopicName}
+use Rattle.position_core.specs.TopicName.{topic_text}
 use Rattle.position_core.specs.Position.{positions_total, same_position}
 use Rattle.log_pieces.proofs.Searching.{found}
 use Rattle.ack_ranges.proofs.Covers.{or_first, or_second}
@@ -24,8 +28,9 @@ use Rattle.delivery_machine.proofs.Tended.{position_is}
 use Rattle.row_forms.specs.Forms.{dead_row, place_in}
 use Rattle.row_forms.specs.Parts.{IsRising}
 use Rattle.row_forms.proofs.Deads.{found_place}
-use Rattle.row_reading.specs.Reading.{BeginsWithLetters, OrdinalsCame, times_in}
+use Rattle.row_reading.specs.Reading.{BeginsWithLetters, IsLetterAt, OrdinalsCame, times_in}
 use Rattle.row_reading.proofs.Beginnings.{one_more}
+use Rattle.row_reading.proofs.Columns.{four}
 
 -- ---- the message at a place
 
@@ -117,7 +122,7 @@ came_then xs ys a b c first second n =
     let two = second n in
     omega (arith, both, one, two)
 
-counted : (n : ℕ) (ds : List DeadLetter) → times n ds ≡ count_by (λ (x : DeadLetter). x.ordinal == n) ds
+pub counted : (n : ℕ) (ds : List DeadLetter) → times n ds ≡ count_by (λ (x : DeadLetter). x.ordinal == n) ds
 counted n [] = refl
 counted n (d ∷ ds) = ap (λ k. cond {A = ℕ} (d.ordinal == n) 1 0 + k) (counted n ds) ∙ sym (sum_by-cons (λ (x : DeadLetter). cond {A = ℕ} (x.ordinal == n) 1 0) d ds)
 
@@ -128,3 +133,68 @@ came_once ds new came = distinct_once ds (λ n. once n (set.contains new n) (cam
     once : (n : ℕ) (b : Bool) → cond {A = ℕ} b 1 0 ≡ times_in set.empty n + count_by (λ (x : DeadLetter). x.ordinal == n) ds → times n ds ≤ 1
     once n true is = omega (arith, counted n ds)
     once n false is = omega (arith, counted n ds)
+
+-- ---- a row that shows a letter
+
+pub letter_row : (sub : List ℕ) (log : List Entry) (row : Row) (d : DeadLetter) → IsLetterAt sub log row d → row ≡ Words sub ∷ Int (pos d.ordinal) ∷ Int (pos (place_in log d.position)) ∷ Words (topic_text d.target) ∷ []
+letter_row sub log row d shown = let here : Words [] ∷ row ≡ dead_row [] sub log d = shown [] in cc
+
+-- a row shows one ordinal and one place
+pub same_cells : (sub : List ℕ) (log : List Entry) (row : Row) (d e : DeadLetter) → IsLetterAt sub log row d → IsLetterAt sub log row e → (d.ordinal ≡ e.ordinal) × (place_in log d.position ≡ place_in log e.position)
+same_cells sub log row d e one other =
+    let a = letter_row sub log row d one in
+    let b = letter_row sub log row e other in
+    (cc (a, b), cc (a, b))
+
+-- a message of the log stands below its end
+pub place_below : (log : List Entry) (p : Position) → has_message log p ≡ true → place_in log p < length log
+place_below [] p there = absurd (cc)
+place_below (e ∷ log) p there = by (same_position e.position p) there (place_below log p)
+  where
+    by : (b : Bool) → (b || has_message log p) ≡ true → (has_message log p ≡ true → place_in log p < length log) → (if b then 0 else place_in log p + 1) < length (e ∷ log)
+    by true there later = omega arith
+    by false there later = let below = later there in omega arith
+
+-- the place that was read is that of the letter, and so below the log's end
+pub place_told : (log : List Entry) (p : Position) (place : ℕ) (v : Value) → v ≡ Int (pos (place_in log p)) → v ≡ Int (pos place) → place_in log p < length log → length log ≤ place → ⊥
+place_told log p place v at found below past = let same : place ≡ place_in log p = cc in absurd (omega (arith, same, below, past))
+
+pub letter_shown : (sub : List ℕ) (log : List Entry) (row : Row) (p : Position) (target : TopicName) (ordinal place : ℕ) → length row ≡ 4 → column row 0 ≡ Words sub → column row 1 ≡ Int (pos ordinal) → column row 2 ≡ Int (pos place)
+    → column row 3 ≡ Words (topic_text target) → place ≡ place_in log p → IsLetterAt sub log row (record { position = p; target = target; ordinal = ordinal })
+letter_shown sub log row p target ordinal place long named at stands goes is topic =
+    ap (λ (r : Row). Words topic ∷ r) (four row long) ∙ rw (named, at, stands, goes, is) refl
+
+-- ---- what may come next
+
+-- the number is the least that is above all of their ordinals
+abbrev pub HasLeast : ℕ → List DeadLetter → Type 0
+HasLeast least ds = (n : ℕ) → AllByRecursion (λ (x : DeadLetter). x.ordinal < n) ds → least ≤ n
+
+pub no_least : HasLeast 0 []
+no_least n all = omega arith
+
+pub least_below_more : (ds : List DeadLetter) (d : DeadLetter) → HasLeast (d.ordinal + 1) (ds ++ d ∷ [])
+least_below_more [] d n all = let below = all.0 in omega arith
+least_below_more (x ∷ xs) d n all = least_below_more xs d n all.1
+
+-- the set has no place but those of their messages
+abbrev pub HasNoOthers : List Entry → set.FinSet nat_cmp → List DeadLetter → Type 0
+HasNoOthers log places ds = (n : ℕ) → AllByRecursion (λ (x : DeadLetter). place_in log x.position ≡ n → ⊥) ds → set.contains places n ≡ false
+
+pub no_others : (log : List Entry) → HasNoOthers log set.empty []
+no_others log n all = set.contains-empty nat_cmp n
+
+pub no_others_more : (log : List Entry) (s t : set.FinSet nat_cmp) (ds : List DeadLetter) (d : DeadLetter) → HasNoOthers log s ds → t ≡ set.insert s (place_in log d.position) → HasNoOthers log t (ds ++ d ∷ [])
+no_others_more log s t ds d others is n all =
+    let parts = halves ds all in
+    contains_inserted s t (place_in log d.position) n is ∙ neither (n == place_in log d.position) (set.contains s n) (other (place_in log d.position) parts.1) (others n parts.0)
+  where
+    halves : (xs : List DeadLetter) → AllByRecursion (λ (x : DeadLetter). place_in log x.position ≡ n → ⊥) (xs ++ d ∷ []) → AllByRecursion (λ (x : DeadLetter). place_in log x.position ≡ n → ⊥) xs × (place_in log d.position ≡ n → ⊥)
+    halves [] all = (tt, all.0)
+    halves (x ∷ xs) all = let rest = halves xs all.1 in ((all.0, rest.0), rest.1)
+
+    other : (k : ℕ) → (k ≡ n → ⊥) → (n == k) ≡ false
+    other k apart = elim (n == k) as (λ b. (n == k) ≡ b → b ≡ false) [ true ↦ λ e. let same : k ≡ n = grind (arith, nat_tests) in absurd (apart same) | false ↦ λ _. refl ] refl
+
+    neither : (a b : Bool) → a ≡ false → b ≡ false → (a || b) ≡ false
+    neither a b x y = rw (x, y) refl

@@ -1,7 +1,17 @@
 pub mod Beginnings
 pub mod Columns
 pub mod Entries
+pub mod LeftSubs
 pub mod Letters
+pub mod NextEntries
+pub mod NextLetters
+pub mod NextRuns
+pub mod Nexts
+pub mod Orders
 pub mod Restarts
 pub mod Runs
+pub mod SortedLists
+pub mod SortedRows
 pub mod Subs
+pub mod Told
+pub mod Whole

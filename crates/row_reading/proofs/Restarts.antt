@@ -23,7 +23,7 @@ use Rattle.row_forms.specs.declared.raw_rows.RawRows.{RawRows}
 use Rattle.row_forms.specs.Changes.{with_topic}
 use Rattle.row_forms.specs.Forms.{AreAckRows, AreRowsOf, dead_rows, entry_rows, sub_rows}
 use Rattle.row_reading.specs.declared.topic_row.Head.{Head}
-use Rattle.row_reading.specs.Reading.{AreSubsOf, IsHead, IsLetterOf, IsSubOf, put}
+use Rattle.row_reading.specs.Reading.{AreSubsOf, IsHead, IsLetterOf, IsNamed, IsSubOf, put}
 
 -- ---- what is acknowledged
 
@@ -46,7 +46,7 @@ acknowledged_are log places q there =
 
 -- ---- the snapshot
 
-same_names : (log : List Entry) (subs : List KeptPlaces) → map (λ (sub : KeptSubscription). sub.name) (map (kept_in log) subs) ≡ map (λ (sub : KeptPlaces). sub.name) subs
+pub same_names : (log : List Entry) (subs : List KeptPlaces) → map (λ (sub : KeptSubscription). sub.name) (map (kept_in log) subs) ≡ map (λ (sub : KeptPlaces). sub.name) subs
 same_names log [] = refl
 same_names log (sub ∷ subs) = ap (λ names. sub.name ∷ names) (same_names log subs)
 
@@ -81,7 +81,7 @@ rows_shown name head log subs raw row one is entries own acks deads = record {
 }
 
 -- every dead letter goes to another topic
-pub targets_elsewhere : (own : TopicName) (log : List Entry) (next : ℕ) (subs : List KeptPlaces) → AreSubsOf own log next subs → All (λ (sub : KeptPlaces). All (λ (d : DeadLetter). same_topic d.target own ≡ false) sub.dead) subs
+pub targets_elsewhere : (own : TopicName) (log : List Entry) (next : ℕ) (subs : List KeptPlaces) → AreSubsOf own log next subs → All (λ (sub : KeptPlaces). All (λ (d : DeadLetter). IsNamed d.target × (same_topic d.target own ≡ false)) sub.dead) subs
 targets_elsewhere own log next subs sound =
-    All-weaker (IsSubOf own log next) (λ (sub : KeptPlaces). All (λ (d : DeadLetter). same_topic d.target own ≡ false) sub.dead)
-    (λ sub is. All-weaker (IsLetterOf own next) (λ (d : DeadLetter). same_topic d.target own ≡ false) (λ d letter. letter.elsewhere) sub.dead is.letters) subs sound.each
+    All-weaker (IsSubOf own log next) (λ (sub : KeptPlaces). All (λ (d : DeadLetter). IsNamed d.target × (same_topic d.target own ≡ false)) sub.dead)
+    (λ sub is. All-weaker (IsLetterOf own next) (λ (d : DeadLetter). IsNamed d.target × (same_topic d.target own ≡ false)) (λ d letter. (letter.named, letter.elsewhere)) sub.dead is.letters) subs sound.each

@@ -1,5 +1,5 @@
 -- Subscriptions and their rows.
-use Rattle.std.proofs.Common.{◌≡◌, ℕ, zero, suc, ◌+◌, ◌-◌, ◌<◌, ◌≤◌, ◌^◌, List, [], ◌∷◌, ◌++◌, map, take, length, Some, None, refl, ap, sym, subst, ◌∙◌, append-nil, append_assoc, get_or, arith, Bool, true}
+use Rattle.std.proofs.Common.{◌≡◌, ℕ, zero, suc, ◌+◌, ◌-◌, ◌<◌, ◌≤◌, ◌^◌, List, [], ◌∷◌, ◌++◌, map, take, length, Some, None, refl, ap, sym, subst, ◌∙◌, append-nil, append_assoc, get_or, pos, arith, Bool, true}
 use Rattle.std.specs.Prelude.{◌==◌}
 use Rattle.std.specs.List.{All, AllByRecursion, flat_map, slice_get}
 use Rattle.std.specs.List.Sorted.{IsStrictlySortedBy}
@@ -11,15 +11,16 @@ use Rattle.std.proofs.lemmas.Bool.Decides.{nat_tests}
 use Rattle.std.proofs.lemmas.List.{map-append, nil_from_length, take_more}
 use Rattle.std.proofs.lemmas.List.Elements.{All-append, All-nil, All-weaker, recursion_from_All}
 use Rattle.std.proofs.lemmas.Option.{slice_get-get_or}
-use Rattle.sqlite.specs.declared.types.Value.TheVariants.{Text as Words}
+use Rattle.sqlite.specs.declared.types.Value.TheVariants.{Int, Text as Words}
 use Rattle.sqlite.specs.Order.{Row}
 use Rattle.position_core.specs.declared.topic_name.TopicName.{TopicName}
 use Rattle.position_core.specs.declared.message.Entry.{Entry}
+use Rattle.position_core.specs.declared.kind.Kind.{Kind}
 use Rattle.position_core.specs.Name.{name_order}
 use Rattle.delivery_machine.specs.State.{DeadLetter}
 use Rattle.delivery_machine.specs.Places.{KeptPlaces}
 use Rattle.delivery_machine.specs.WellFormed.{NamesRise}
-use Rattle.row_forms.specs.Forms.{AreAckRows, ack_row, dead_row, dead_rows, sub_row, sub_rows}
+use Rattle.row_forms.specs.Forms.{AreAckRows, ack_row, dead_row, dead_rows, kind_number, sub_row, sub_rows}
 use Rattle.row_forms.proofs.Acks.{join_rows, one_sub}
 use Rattle.row_forms.proofs.Deads.{rows-append}
 use Rattle.row_reading.specs.Reading.{AreSubsOf, BeginsWithAcks, BeginsWithDeads, BeginsWithLetters, BeginsWithRuns, IsLetterOf, IsSubOf, OrdinalsCame, put}
@@ -35,6 +36,13 @@ subs_more topic rows i row subs sub low is so_far shown =
     ∙ ap (λ l. l ++ (Words topic ∷ row) ∷ []) so_far
     ∙ ap (λ (r : Row). sub_rows topic subs ++ r ∷ []) shown
     ∙ sym (map-append (sub_row topic) subs (sub ∷ []))
+
+-- a subscription's own row without the topic
+pub own_row : (row : Row) (sub : KeptPlaces) → ((topic : List ℕ) → Words topic ∷ row ≡ sub_row topic sub) → row ≡ Words sub.name ∷ Int (pos (kind_number sub.kind)) ∷ []
+own_row row sub shown = let here : Words [] ∷ row ≡ sub_row [] sub = shown [] in cc
+
+pub one_name : (row : Row) (name other : List ℕ) (kind second : Kind) → row ≡ Words name ∷ Int (pos (kind_number kind)) ∷ [] → row ≡ Words other ∷ Int (pos (kind_number second)) ∷ [] → name ≡ other
+one_name row name other kind second a b = cc
 
 -- ---- the rows of runs
 
@@ -136,3 +144,17 @@ sound_subs own log next subs ordinals names each came last = record {
     last_ordinal = last;
   };
 }
+
+-- a name that may come after all is above the last one
+pub above_last : (subs : List KeptPlaces) (last : KeptPlaces) (name : List ℕ) → NamesRise (map (λ (sub : KeptPlaces). sub.name) subs ++ name ∷ []) → slice_get subs (length subs - 1) ≡ Some last → name_order last.name name ≡ Less
+unfolding IsStrictlySortedBy
+above_last subs last name rise at = go subs (length subs - 1) at rise
+  where
+    below : (xs : List KeptPlaces) (n : List ℕ) → AllByRecursion (λ k. name_order n k ≡ Less) (map (λ (sub : KeptPlaces). sub.name) xs ++ name ∷ []) → name_order n name ≡ Less
+    below [] n all = all.0
+    below (x ∷ xs) n all = below xs n all.1
+
+    go : (xs : List KeptPlaces) (i : ℕ) → slice_get xs i ≡ Some last → NamesRise (map (λ (sub : KeptPlaces). sub.name) xs ++ name ∷ []) → name_order last.name name ≡ Less
+    go [] i at rise = absurd (cc)
+    go (x ∷ xs) zero at rise = let same : x ≡ last = cc in ap (λ (sub : KeptPlaces). name_order sub.name name) (sym same) ∙ below xs x.name rise.0
+    go (x ∷ xs) (suc i) at rise = go xs i at rise.1

@@ -1,2 +1,5 @@
 -- What the contracts of reading cite.
+pub mod KeyOrder
+pub mod ReadRows
 pub mod Reading
+pub mod Telling

@@ -1,5 +1,5 @@
 -- Rows as they are read: each without the topic's text, which is put before it.
-use Rattle.std.specs.Prelude.{◌≡◌, ◌==◌, ℕ, ◌+◌, ◌^◌, ◌<◌, ◌≤◌, false, cond, Option, IfSome, List, [], ◌∷◌, ◌++◌, map, length, pos}
+use Rattle.std.specs.Prelude.{◌≡◌, ◌==◌, ℕ, ◌+◌, ◌^◌, ◌<◌, ◌≤◌, ◌≤ℤ◌, false, cond, Option, IfSome, IsTrue, IsUtf8, List, [], ◌∷◌, ◌++◌, map, length, pos}
 use Rattle.std.specs.List.{All, count_by, flat_map}
 use Rattle.std.specs.FinSet as set
 use Rattle.std.specs.Ordering.{nat_cmp}
@@ -7,15 +7,16 @@ use Rattle.std.specs.declared.cmp.Ordering.TheVariants.{Less}
 use Rattle.position_core.specs.declared.position.Position.{Position}
 use Rattle.position_core.specs.Position.{position_cmp}
 use Rattle.sqlite.specs.declared.types.Value.TheVariants.{Int, Text as Words}
-use Rattle.sqlite.specs.Order.{Row}
+use Rattle.sqlite.specs.Order.{Row, column}
 use Rattle.position_core.specs.declared.topic_name.TopicName.{TopicName}
-use Rattle.position_core.specs.TopicName.{same_topic}
+use Rattle.position_core.specs.Name.{is_name}
+use Rattle.position_core.specs.TopicName.{same_topic, topic_text}
 use Rattle.position_core.specs.declared.message.Entry.{Entry}
 use Rattle.delivery_machine.specs.State.{DeadLetter}
-use Rattle.delivery_machine.specs.Places.{AreBelow, KeptPlaces}
-use Rattle.delivery_machine.specs.WellFormed.{AreDeadLettersOf, HaveOrdinals, NamesRise}
+use Rattle.delivery_machine.specs.Places.{AreBelow, KeptPlaces, KeptTopic, MayRestart}
+use Rattle.delivery_machine.specs.WellFormed.{AreDeadLettersOf, HaveOrdinals, IsWellFormedLog, NamesRise, has_message}
 use Rattle.ack_ranges.specs.Ranges.{AreRangesOf}
-use Rattle.row_forms.specs.Forms.{AreAckRows, ack_row, dead_row, dead_rows, entry_row}
+use Rattle.row_forms.specs.Forms.{AreAckRows, ack_row, dead_row, dead_rows, entry_row, entry_rows, sub_rows}
 use Rattle.row_reading.specs.declared.topic_row.Head.{Head}
 
 -- the rows of the topic
@@ -28,14 +29,51 @@ pub record IsHead (row : Row) (head : Head) : Type 0 where
   pub last_ledger : head.ledger ≤ 2 ^ 62 + 1
   pub last_ordinal : head.next_ordinal ≤ 2 ^ 62
 
+-- a size of ledgers that a topic may have
+abbrev pub IsLedgerSize : ℕ → Type 0
+IsLedgerSize size = (1 ≤ size) × (size ≤ 50000)
+
+-- a text of UTF-8 of at least and at most so many bytes
+abbrev pub IsText : ℕ → ℕ → List ℕ → Type 0
+IsText least most text = IsUtf8 text × (least ≤ length text) × (length text ≤ most)
+
 -- the row of a message at a place
 abbrev pub IsEntryAt : ℕ → Row → Entry → Type 0
 IsEntryAt place row e = (topic : List ℕ) → Words topic ∷ row ≡ entry_row topic place e
+
+-- a message that is read: its values are within their limits, its texts of UTF-8, and it has no properties
+pub record IsReadableMessage (e : Entry) : Type 0 where
+  pub producer : IsText 1 1280 e.producer
+  pub sequence : pos 0 ≤ℤ e.sequence
+  pub time : e.time ≤ 253402300799999
+  pub key : IfSome e.body.key (IsText 0 1024)
+  pub properties : e.body.properties ≡ []
+  pub payload : length e.body.payload ≤ 1048576
+
+-- rows of messages that are read
+pub record ShowLog (ledger_size ledger : ℕ) (topic : List ℕ) (log : List Entry) (rows : List Row) : Type 0 where
+  pub size : IsLedgerSize ledger_size
+  pub each : All IsReadableMessage log
+  pub sound : IsWellFormedLog ledger_size ledger log
+  pub shown : put topic rows ≡ entry_rows topic 0 log
+
+-- the row of a run, given by its first place and its last
+abbrev pub IsRunAt : List ℕ → Row → ℕ → ℕ → Type 0
+IsRunAt sub row first last = row ≡ Words sub ∷ Int (pos first) ∷ Int (pos last) ∷ []
 
 -- the first rows are those of the subscription's runs, and others follow
 abbrev pub BeginsWithRuns : List ℕ → set.FinSet nat_cmp → List Row → List Row → Type 0
 BeginsWithRuns sub places rows rest =
     (runs : List (ℕ × ℕ)) × AreRangesOf places runs × ((topic : List ℕ) → put topic rows ≡ map (ack_row topic sub) runs ++ put topic rest)
+
+-- the subscription's rows are past: the first one is another's, if there is one
+abbrev pub ArePast : List ℕ → List Row → Type 0
+ArePast sub [] = Unit {0}
+ArePast sub (row ∷ rows) = column row 0 ≡ Words sub → ⊥
+
+-- the row of a dead letter of the subscription, where this is the log
+abbrev pub IsLetterAt : List ℕ → List Entry → Row → DeadLetter → Type 0
+IsLetterAt sub log row d = (topic : List ℕ) → Words topic ∷ row ≡ dead_row topic sub log d
 
 -- the first rows are those of the subscription's dead letters, and others follow
 abbrev pub BeginsWithLetters : List ℕ → List Entry → List DeadLetter → List Row → List Row → Type 0
@@ -50,10 +88,23 @@ pub record IsNext (ledger_size ledger : ℕ) (last : Option Position) (position 
 
 -- ---- dead letters
 
+-- the tenant, the namespace and the topic are names
+pub record IsNamed (name : TopicName) : Type 0 where
+  pub tenant : IsTrue (is_name name.tenant)
+  pub namespace : IsTrue (is_name name.namespace)
+  pub topic : IsTrue (is_name name.topic)
+
 -- a dead letter that a topic may have: its ordinal was given, and it goes to another topic
 pub record IsLetterOf (own : TopicName) (next : ℕ) (d : DeadLetter) : Type 0 where
   pub given : d.ordinal < next
+  pub named : IsNamed d.target
   pub elsewhere : same_topic d.target own ≡ false
+
+-- such a dead letter whose message is in the log, with a target of UTF-8
+pub record IsReadable (own : TopicName) (log : List Entry) (next : ℕ) (d : DeadLetter) : Type 0 where
+  pub letter : IsLetterOf own next d
+  pub message : IsTrue (has_message log d.position)
+  pub text : IsUtf8 (topic_text d.target)
 
 -- how often the number is in the set, at most once
 abbrev pub times_in : set.FinSet nat_cmp → ℕ → ℕ
@@ -62,6 +113,12 @@ times_in numbers n = cond (set.contains numbers n) 1 0
 -- the letters' ordinals came into the set: none of them was there before, and none stands twice
 abbrev pub OrdinalsCame : List DeadLetter → set.FinSet nat_cmp → set.FinSet nat_cmp → Type 0
 OrdinalsCame letters old new = (n : ℕ) → times_in new n ≡ times_in old n + count_by (λ (d : DeadLetter). d.ordinal == n) letters
+
+-- dead letters of one subscription that are read: each is, and their ordinals are none of the set
+pub record AreReadable (own : TopicName) (log : List Entry) (next : ℕ) (ordinals : set.FinSet nat_cmp) (ds : List DeadLetter) : Type 0 where
+  pub each : All (IsReadable own log next) ds
+  pub dead : AreDeadLettersOf log ds
+  pub fresh : All (λ d. set.contains ordinals d.ordinal ≡ false) ds
 
 -- ---- subscriptions
 
@@ -84,3 +141,40 @@ pub record AreSubsOf (own : TopicName) (log : List Entry) (next : ℕ) (subs : L
   pub names : NamesRise (map (λ sub. sub.name) subs)
   pub each : All (IsSubOf own log next) subs
   pub ordinals : HaveOrdinals next (flat_map (λ sub. sub.dead) subs)
+
+-- a subscription that is read, where these ordinals came before: it has a name of UTF-8, and what it keeps is of the log
+pub record IsReadableSub (own : TopicName) (log : List Entry) (next : ℕ) (ordinals : set.FinSet nat_cmp) (sub : KeptPlaces) : Type 0 where
+  pub name : IsTrue (is_name sub.name)
+  pub text : IsUtf8 sub.name
+  pub within : AreBelow (length log) sub.acknowledged
+  pub letters : AreReadable own log next ordinals sub.dead
+
+-- rows of subscriptions that are read: their own, those of their runs and those of their dead letters
+pub record ShowSubs (own : TopicName) (log : List Entry) (next : ℕ) (topic : List ℕ) (subs : List KeptPlaces) (rows acks deads : List Row) : Type 0 where
+  pub names : NamesRise (map (λ sub. sub.name) subs)
+  pub each : All (IsReadableSub own log next set.empty) subs
+  pub ordinals : HaveOrdinals next (flat_map (λ sub. sub.dead) subs)
+  pub shown : put topic rows ≡ sub_rows topic subs
+  pub runs : AreAckRows topic subs (put topic acks)
+  pub letters : put topic deads ≡ dead_rows topic log subs
+
+-- ---- the whole
+
+-- each message's sequence number is 0 or more
+abbrev pub CountFromZero : List Entry → Type 0
+CountFromZero log = All (λ e. pos 0 ≤ℤ e.sequence) log
+
+-- sequence numbers are 0 or more, subscriptions are at most 64, and dead letters go to other topics, which have names
+pub record MayBeTold (kept : KeptTopic) : Type 0 where
+  pub sequences : CountFromZero kept.log
+  pub few : length kept.subscriptions ≤ 64
+  pub targets : All (λ (sub : KeptPlaces). All (λ (d : DeadLetter). IsNamed d.target × (same_topic d.target kept.name ≡ false)) sub.dead) kept.subscriptions
+
+-- a snapshot that is read where its rows stand: a topic may go on from it, rows may tell it, and its values are such as are read
+pub record IsReadBack (kept : KeptTopic) : Type 0 where
+  pub may : MayRestart kept
+  pub told : MayBeTold kept
+  pub size : IsLedgerSize kept.ledger_size
+  pub messages : All IsReadableMessage kept.log
+  pub names : All (λ (sub : KeptPlaces). IsTrue (is_name sub.name) × IsUtf8 sub.name) kept.subscriptions
+  pub texts : All (λ (sub : KeptPlaces). All (λ (d : DeadLetter). IsUtf8 (topic_text d.target)) sub.dead) kept.subscriptions

@@ -1,8 +1,10 @@
 // The rows of runs of acknowledged messages.
-ghost use Rattle.std.specs.Prelude.{◌≡◌, ◌+◌, ◌<◌, ◌≤◌, ◌^◌, [], ◌∷◌, pos, IfOk, IfSome};
-ghost use Rattle.sqlite.specs.declared.types.Value.TheVariants.{Int, Text as Words};
+ghost use Rattle.std.specs.Prelude.{◌≡◌, ◌+◌, ◌<◌, ◌≤◌, ◌^◌, ℕ, List, IfNone, IfOk, IfSome};
+ghost use Rattle.std.specs.FinSet as set;
+ghost use Rattle.std.specs.Ordering.{nat_cmp};
+ghost use Rattle.sqlite.specs.Order.{Row};
 ghost use Rattle.delivery_machine.specs.Places.{AreBelow};
-ghost use Rattle.row_reading.specs.Reading.{BeginsWithRuns};
+ghost use Rattle.row_reading.specs.Reading.{ArePast, BeginsWithRuns, IsRunAt};
 
 use crate::cells::{is_text, whole_at};
 use ack_ranges::AckSet;
@@ -19,8 +21,9 @@ struct Run {
 
 /// The run of the subscription that the row shows.
 fn run_in(row: &Row, name: &SubscriptionName, count: u64) -> Option<Run>
-    ensures shown { IfSome result (λ run. row.now ≡ Words name.now ∷ Int (pos run.first) ∷ Int (pos run.last) ∷ []) }
+    ensures shown { IfSome result (λ run. IsRunAt name.now row.now run.first run.last) }
     ensures within { IfSome result (λ run. run.last < count) }
+    ensures all_read { IfNone result ((first last : ℕ) → IsRunAt name.now row.now first last → last < count → ⊥) }
 {
     if row.column_count() != 3 || !is_text(row, 0, name.as_str()) {
         return None;
@@ -45,6 +48,8 @@ pub(crate) fn runs_in<'a>(
     requires { count < 2 ^ 63 }
     ensures runs { IfOk result (λ found. IfSome found (λ r. BeginsWithRuns name.now r.0 rows.now r.1.now)) }
     ensures below { IfOk result (λ found. IfSome found (λ r. AreBelow count r.0)) }
+    ensures past { IfOk result (λ found. IfSome found (λ r. ArePast name.now r.1.now)) }
+    ensures all_read { IfOk result (λ found. IfNone found ((places : set.FinSet nat_cmp) (rest : List Row) → BeginsWithRuns name.now places rows.now rest → AreBelow count places → ArePast name.now rest → ⊥)) }
 {
     let mut places = AckSet::new(alloc);
     let mut rest = rows;

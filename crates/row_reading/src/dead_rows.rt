@@ -1,15 +1,17 @@
 // The rows of dead letters.
-ghost use Rattle.std.specs.Prelude.{◌≡◌, ◌+◌, ◌<◌, ◌≤◌, ◌∷◌, ◌^◌, [], ℕ, List, false, length, pos, IfOk, IfSome, IsTrue};
+ghost use Rattle.std.specs.Prelude.{◌≡◌, ◌+◌, ◌<◌, ◌≤◌, ◌∷◌, ◌^◌, [], ℕ, List, false, not, length, pos, IfNone, IfOk, IfSome, IsTrue, IsUtf8};
 ghost use Rattle.std.specs.List.{All};
 ghost use Rattle.std.specs.FinSet as set;
 ghost use Rattle.sqlite.specs.declared.types.Value.TheVariants.{Int, Text as Words};
-ghost use Rattle.sqlite.specs.Order.{column};
+ghost use Rattle.sqlite.specs.Order.{Row, column};
+ghost use Rattle.position_core.specs.declared.topic_name.TopicName.{TopicName};
 ghost use Rattle.position_core.specs.TopicName.{same_topic, topic_text};
 ghost use Rattle.log_pieces.specs.Pieces.{joined};
+ghost use Rattle.delivery_machine.specs.State.{DeadLetter};
 ghost use Rattle.delivery_machine.specs.WellFormed.{AreDeadLettersOf, has_message};
-ghost use Rattle.row_forms.specs.Forms.{dead_row, place_in};
+ghost use Rattle.row_forms.specs.Forms.{place_in};
 ghost use Rattle.row_forms.specs.Parts.{IsRising};
-ghost use Rattle.row_reading.specs.Reading.{BeginsWithLetters, IsLetterOf, OrdinalsCame};
+ghost use Rattle.row_reading.specs.Reading.{ArePast, AreReadable, BeginsWithLetters, IsLetterAt, IsLetterOf, IsNamed, IsReadable, OrdinalsCame};
 
 use crate::cells::{is_text, text_at, whole_at};
 use ack_ranges::AckSet;
@@ -34,6 +36,17 @@ struct Placed {
     place: u64,
 }
 
+/// Whether it is another topic's name.
+fn is_other(name: &TopicName, own: &TopicName) -> bool
+    ensures other { result ≡ not (same_topic name.now own.now) }
+    ensures named { IsNamed name.now }
+{
+    let _tenant = name.tenant.as_str();
+    let _namespace = name.namespace.as_str();
+    let _topic = name.topic.as_str();
+    !name.is(own)
+}
+
 /// Another topic's name.
 fn target_at(
     alloc: Global,
@@ -42,16 +55,18 @@ fn target_at(
     own: &TopicName,
 ) -> Result<Option<TopicName>, AllocError>
     ensures shown { IfOk result (λ found. IfSome found (λ name. column row.now at ≡ Words (topic_text name))) }
+    ensures named { IfOk result (λ found. IfSome found IsNamed) }
     ensures elsewhere { IfOk result (λ found. IfSome found (λ name. same_topic name own.now ≡ false)) }
+    ensures all_read { IfOk result (λ found. IfNone found ((name : TopicName) → IsNamed name → same_topic name own.now ≡ false → IsUtf8 (topic_text name) → column row.now at ≡ Words (topic_text name) → ⊥)) }
 {
     let Some(text) = text_at(row, at) else {
         return Ok(None);
     };
     match TopicName::from_text(alloc, text)? {
-        Some(name) => if name.is(own) {
-            Ok(None)
-        } else {
+        Some(name) => if is_other(&name, own) {
             Ok(Some(name))
+        } else {
+            Ok(None)
         },
         None => Ok(None),
     }
@@ -63,6 +78,7 @@ fn position_of(log: &Pieces, place: u64) -> Option<Position>
     ensures place { IfSome result (λ p. place ≡ place_in (joined log.now) p) }
     ensures message { IfSome result (λ p. IsTrue (has_message (joined log.now) p)) }
     ensures within { IfSome result (λ _. place < length (joined log.now)) }
+    ensures all_read { IfNone result (length (joined log.now) ≤ place) }
 {
     let message = log.get(usize::try_from(place).ok()?)?;
     Some(message.position())
@@ -72,6 +88,7 @@ fn position_of(log: &Pieces, place: u64) -> Option<Position>
 fn ordinal_at(row: &Row, at: usize, next: Ordinal) -> Option<Ordinal>
     ensures shown { IfSome result (λ n. column row.now at ≡ Int (pos n)) }
     ensures given { IfSome result (λ n. n < next) }
+    ensures all_read { IfNone result ((n : ℕ) → column row.now at ≡ Int (pos n) → n < next → ⊥) }
 {
     let ordinal = whole_at(row, at)?;
     if ordinal < next { Some(ordinal) } else { None }
@@ -85,11 +102,12 @@ fn letter_in(
     deaths: Deaths<'_>,
 ) -> Result<Option<Placed>, AllocError>
     requires { IsRising (joined deaths.log.now) }
-    ensures shown { IfOk result (λ found. IfSome found (λ f. (topic : List ℕ) → Words topic ∷ row.now ≡ dead_row topic name.now (joined deaths.entry.log.now) f.letter)) }
+    ensures shown { IfOk result (λ found. IfSome found (λ f. IsLetterAt name.now (joined deaths.entry.log.now) row.now f.letter)) }
     ensures place { IfOk result (λ found. IfSome found (λ f. f.place ≡ place_in (joined deaths.entry.log.now) f.letter.position)) }
     ensures within { IfOk result (λ found. IfSome found (λ f. f.place < length (joined deaths.entry.log.now))) }
     ensures message { IfOk result (λ found. IfSome found (λ f. IsTrue (has_message (joined deaths.entry.log.now) f.letter.position))) }
     ensures letter { IfOk result (λ found. IfSome found (λ f. IsLetterOf deaths.entry.topic.now deaths.entry.next_ordinal f.letter)) }
+    ensures all_read { IfOk result (λ found. IfNone found ((d : DeadLetter) → IsReadable deaths.entry.topic.now (joined deaths.entry.log.now) deaths.entry.next_ordinal d → IsLetterAt name.now (joined deaths.entry.log.now) row.now d → ⊥)) }
 {
     if row.column_count() != 4 || !is_text(row, 0, name.as_str()) {
         return Ok(None);
@@ -117,7 +135,7 @@ fn letter_in(
 /// Adds the number, and says whether it was not there.
 fn is_new(numbers: &mut AckSet, number: u64) -> Result<bool, AllocError>
     requires { number + 1 < 2 ^ 64 }
-    ensures new { IfOk result (λ b. IsTrue b → set.contains numbers.old number ≡ false) }
+    ensures new { IfOk result (λ b. b ≡ not (set.contains numbers.old number)) }
     ensures added { IfOk result (λ b. IsTrue b → numbers.new ≡ set.insert numbers.old number) }
 {
     if numbers.contains(number) {
@@ -141,6 +159,7 @@ fn may_come(
     requires place { place + 1 < 2 ^ 64 }
     requires ordinal { ordinal + 1 < 2 ^ 64 }
     ensures least { IfOk result (λ b. IsTrue b → least ≤ ordinal) }
+    ensures all_come { IfOk result (λ b. least ≤ ordinal → set.contains places.old place ≡ false → set.contains ordinals.old ordinal ≡ false → IsTrue b) }
     ensures new_place { IfOk result (λ b. IsTrue b → set.contains places.old place ≡ false) }
     ensures place { IfOk result (λ b. IsTrue b → places.new ≡ set.insert places.old place) }
     ensures new_ordinal { IfOk result (λ b. IsTrue b → set.contains ordinals.old ordinal ≡ false) }
@@ -166,7 +185,7 @@ fn next_letter(
     requires rising { IsRising (joined deaths.log.now) }
     requires short { length (joined deaths.log.now) ≤ 1048576 }
     requires last { deaths.next_ordinal ≤ 2 ^ 62 }
-    ensures shown { IfOk result (λ found. IfSome found (λ d. (topic : List ℕ) → Words topic ∷ row.now ≡ dead_row topic name.now (joined deaths.entry.log.now) d)) }
+    ensures shown { IfOk result (λ found. IfSome found (IsLetterAt name.now (joined deaths.entry.log.now) row.now)) }
     ensures message { IfOk result (λ found. IfSome found (λ d. IsTrue (has_message (joined deaths.entry.log.now) d.position))) }
     ensures letter { IfOk result (λ found. IfSome found (IsLetterOf deaths.entry.topic.now deaths.entry.next_ordinal)) }
     ensures least { IfOk result (λ found. IfSome found (λ d. least ≤ d.ordinal)) }
@@ -174,6 +193,8 @@ fn next_letter(
     ensures place { IfOk result (λ found. IfSome found (λ d. places.new ≡ set.insert places.old (place_in (joined deaths.entry.log.now) d.position))) }
     ensures new_ordinal { IfOk result (λ found. IfSome found (λ d. set.contains ordinals.old d.ordinal ≡ false)) }
     ensures ordinal { IfOk result (λ found. IfSome found (λ d. ordinals.new ≡ set.insert ordinals.old d.ordinal)) }
+    ensures all_come { IfOk result (λ found. IfNone found ((d : DeadLetter) → IsReadable deaths.entry.topic.now (joined deaths.entry.log.now) deaths.entry.next_ordinal d → IsLetterAt name.now (joined deaths.entry.log.now) row.now d
+        → least ≤ d.ordinal → set.contains places.old (place_in (joined deaths.entry.log.now) d.position) ≡ false → set.contains ordinals.old d.ordinal ≡ false → ⊥)) }
 {
     match letter_in(alloc, row, name, deaths) {
         Ok(Some(Placed { letter, place })) => match may_come(
@@ -213,10 +234,14 @@ fn put_letters<'a>(
     requires short { length (joined deaths.log.now) ≤ 1048576 }
     requires last { deaths.next_ordinal ≤ 2 ^ 62 }
     requires empty { letters.old.items ≡ [] }
+    requires no_places { places.old ≡ set.empty }
     ensures rows { IfOk result (λ found. IfSome found (λ rest. BeginsWithLetters name.now (joined deaths.entry.log.now) letters.new.items rows.now rest.now)) }
     ensures dead { IfOk result (λ found. IfSome found (λ _. AreDeadLettersOf (joined deaths.entry.log.now) letters.new.items)) }
     ensures letters { IfOk result (λ found. IfSome found (λ _. All (IsLetterOf deaths.entry.topic.now deaths.entry.next_ordinal) letters.new.items)) }
     ensures ordinals { IfOk result (λ found. IfSome found (λ _. OrdinalsCame letters.new.items ordinals.old ordinals.new)) }
+    ensures past { IfOk result (λ found. IfSome found (λ rest. ArePast name.now rest.now)) }
+    ensures all_read { IfOk result (λ found. IfNone found ((ds : List DeadLetter) (rest : List Row) → AreReadable deaths.entry.topic.now (joined deaths.entry.log.now) deaths.entry.next_ordinal ordinals.old ds
+        → BeginsWithLetters name.now (joined deaths.entry.log.now) ds rows.now rest → ArePast name.now rest → ⊥)) }
 {
     let mut least = 0;
     let mut rest = rows;
@@ -253,6 +278,9 @@ pub(crate) fn letters_in<'a>(
     ensures dead { IfOk result (λ found. IfSome found (λ r. AreDeadLettersOf (joined deaths.entry.log.now) r.0.items)) }
     ensures letters { IfOk result (λ found. IfSome found (λ r. All (IsLetterOf deaths.entry.topic.now deaths.entry.next_ordinal) r.0.items)) }
     ensures ordinals { IfOk result (λ found. IfSome found (λ r. OrdinalsCame r.0.items ordinals.old ordinals.new)) }
+    ensures past { IfOk result (λ found. IfSome found (λ r. ArePast name.now r.1.now)) }
+    ensures all_read { IfOk result (λ found. IfNone found ((ds : List DeadLetter) (rest : List Row) → AreReadable deaths.entry.topic.now (joined deaths.entry.log.now) deaths.entry.next_ordinal ordinals.old ds
+        → BeginsWithLetters name.now (joined deaths.entry.log.now) ds rows.now rest → ArePast name.now rest → ⊥)) }
 {
     let mut letters = Vec::new(alloc);
     let mut places = AckSet::new(alloc);

@@ -1,12 +1,14 @@
 // What is kept of subscriptions, from their rows, those of their runs and those of their dead letters.
-ghost use Rattle.std.specs.Prelude.{◌≡◌, ◌≤◌, ◌∷◌, ◌++◌, ◌^◌, [], ℕ, List, length, map, IfOk, IfSome, IsTrue};
+ghost use Rattle.std.specs.Prelude.{◌≡◌, ◌≤◌, ◌∷◌, ◌++◌, ◌^◌, [], ℕ, List, length, map, IfNone, IfOk, IfSome, IsTrue};
 ghost use Rattle.std.specs.FinSet as set;
 ghost use Rattle.sqlite.specs.declared.types.Value.TheVariants.{Text as Words};
 ghost use Rattle.log_pieces.specs.Pieces.{joined};
+ghost use Rattle.sqlite.specs.Order.{Row};
+ghost use Rattle.delivery_machine.specs.Places.{KeptPlaces};
 ghost use Rattle.delivery_machine.specs.WellFormed.{NamesRise};
 ghost use Rattle.row_forms.specs.Forms.{AreAckRows, dead_rows, sub_row, sub_rows};
 ghost use Rattle.row_forms.specs.Parts.{IsRising};
-ghost use Rattle.row_reading.specs.Reading.{AreSubsOf, BeginsWithAcks, BeginsWithDeads, IsSubOf, OrdinalsCame, put};
+ghost use Rattle.row_reading.specs.Reading.{ArePast, AreSubsOf, BeginsWithAcks, BeginsWithDeads, BeginsWithLetters, BeginsWithRuns, IsReadableSub, IsSubOf, OrdinalsCame, ShowSubs, put};
 
 use crate::ack_rows::runs_in;
 use crate::dead_rows::{Deaths, letters_in};
@@ -45,6 +47,10 @@ fn kept_in<'a>(
     ensures deads { IfOk result (λ found. IfSome found (λ r. BeginsWithDeads (joined deaths.entry.log.now) (r.0 ∷ []) left.entry.deads.now r.1.deads.now)) }
     ensures sound { IfOk result (λ found. IfSome found (λ r. IsSubOf deaths.entry.topic.now (joined deaths.entry.log.now) deaths.entry.next_ordinal r.0)) }
     ensures ordinals { IfOk result (λ found. IfSome found (λ r. OrdinalsCame r.0.dead ordinals.old ordinals.new)) }
+    ensures past_acks { IfOk result (λ found. IfSome found (λ r. ArePast r.0.name r.1.acks.now)) }
+    ensures past_deads { IfOk result (λ found. IfSome found (λ r. ArePast r.0.name r.1.deads.now)) }
+    ensures all_read { IfOk result (λ found. IfNone found ((sub : KeptPlaces) (acks deads : List Row) → IsReadableSub deaths.entry.topic.now (joined deaths.entry.log.now) deaths.entry.next_ordinal ordinals.old sub → ((topic : List ℕ) → Words topic ∷ row.now ≡ sub_row topic sub)
+        → BeginsWithRuns sub.name sub.acknowledged left.entry.acks.now acks → ArePast sub.name acks → BeginsWithLetters sub.name (joined deaths.entry.log.now) sub.dead left.entry.deads.now deads → ArePast sub.name deads → ⊥)) }
 {
     let Some(sub) = sub_in(alloc, row)? else {
         return Ok(None);
@@ -68,7 +74,8 @@ fn kept_in<'a>(
 /// Whether the name is above those of the subscriptions.
 fn is_above(subs: &[KeptSubscription], name: &SubscriptionName) -> bool
     requires { NamesRise (map (λ sub. sub.name) subs.now) }
-    ensures { IsTrue result → NamesRise (map (λ sub. sub.name) subs.now ++ name.now ∷ []) }
+    ensures rise { IsTrue result → NamesRise (map (λ sub. sub.name) subs.now ++ name.now ∷ []) }
+    ensures all_rise { NamesRise (map (λ sub. sub.name) subs.now ++ name.now ∷ []) → IsTrue result }
 {
     match subs.last() {
         Some(last) => last.name.order(name) == Ordering::Less,
@@ -81,6 +88,7 @@ fn put_sub(subs: &mut Vec<KeptSubscription>, sub: KeptSubscription) -> Result<bo
     requires { NamesRise (map (λ sub. sub.name) subs.old.items) }
     ensures put { IfOk result (λ b. IsTrue b → subs.new.items ≡ subs.old.items ++ sub ∷ []) }
     ensures above { IfOk result (λ b. IsTrue b → NamesRise (map (λ sub. sub.name) subs.new.items)) }
+    ensures all_put { IfOk result (λ b. NamesRise (map (λ sub. sub.name) (subs.old.items ++ sub ∷ [])) → IsTrue b) }
 {
     if is_above(subs, &sub.name) {
         subs.push(sub)?;
@@ -95,6 +103,7 @@ fn put_sub(subs: &mut Vec<KeptSubscription>, sub: KeptSubscription) -> Result<bo
 fn is_empty(left: Left<'_>) -> bool
     ensures acks { IsTrue result → left.entry.acks.now ≡ [] }
     ensures deads { IsTrue result → left.entry.deads.now ≡ [] }
+    ensures all_empty { left.entry.acks.now ≡ [] → left.entry.deads.now ≡ [] → IsTrue result }
 {
     left.acks.is_empty() && left.deads.is_empty()
 }
@@ -118,6 +127,7 @@ fn put_subs(
     ensures acks { IfOk result (λ whole. IsTrue whole → (topic : List ℕ) → AreAckRows topic subs.new.items (put topic others.entry.acks.now)) }
     ensures deads { IfOk result (λ whole. IsTrue whole → (topic : List ℕ) → put topic others.entry.deads.now ≡ dead_rows topic (joined deaths.entry.log.now) subs.new.items) }
     ensures sound { IfOk result (λ whole. IsTrue whole → AreSubsOf deaths.entry.topic.now (joined deaths.entry.log.now) deaths.entry.next_ordinal subs.new.items) }
+    ensures all_read { IfOk result (λ whole. (topic : List ℕ) (all : List KeptPlaces) → ShowSubs deaths.entry.topic.now (joined deaths.entry.log.now) deaths.entry.next_ordinal topic all rows.now others.entry.acks.now others.entry.deads.now → IsTrue whole × (subs.new.items ≡ all)) }
 {
     let mut left = others;
     'subs: for row in rows {
@@ -149,6 +159,7 @@ pub(crate) fn subs_in(
     ensures deads { IfOk result (λ found. IfSome found (λ subs. (topic : List ℕ) → put topic others.entry.deads.now ≡ dead_rows topic (joined deaths.entry.log.now) subs.items)) }
     ensures sound { IfOk result (λ found. IfSome found (λ subs. AreSubsOf deaths.entry.topic.now (joined deaths.entry.log.now) deaths.entry.next_ordinal subs.items)) }
     ensures few { IfOk result (λ found. IfSome found (λ subs. length subs.items ≤ 64)) }
+    ensures all_read { IfOk result (λ found. IfNone found ((topic : List ℕ) (all : List KeptPlaces) → length all ≤ 64 → ShowSubs deaths.entry.topic.now (joined deaths.entry.log.now) deaths.entry.next_ordinal topic all rows.now others.entry.acks.now others.entry.deads.now → ⊥)) }
 {
     let mut subs = Vec::new(alloc);
     let mut ordinals = AckSet::new(alloc);

@@ -6,6 +6,7 @@ mod cells;
 mod dead_rows;
 mod entry_rows;
 mod kept_subs;
+pub mod laws;
 mod snapshot;
 mod sub_rows;
 mod topic_row;

@@ -1,6 +1,8 @@
 // The rows of subscriptions.
-ghost use Rattle.std.specs.Prelude.{◌≡◌, [], ◌∷◌, pos, IfOk, IfSome};
+ghost use Rattle.std.specs.Prelude.{◌≡◌, ℕ, List, [], ◌∷◌, pos, IfNone, IfOk, IfSome, IsTrue, IsUtf8};
 ghost use Rattle.sqlite.specs.declared.types.Value.TheVariants.{Int, Text as Words};
+ghost use Rattle.position_core.specs.declared.kind.Kind.{Kind};
+ghost use Rattle.position_core.specs.Name.{is_name};
 ghost use Rattle.row_forms.specs.Forms.{kind_number};
 
 use crate::cells::{text_at, whole_at};
@@ -9,7 +11,8 @@ use sqlite::Row;
 use std::alloc::{AllocError, Global};
 
 fn kind_of(number: u64) -> Option<Kind>
-    ensures { IfSome result (λ kind. number ≡ kind_number kind) }
+    ensures shown { IfSome result (λ kind. number ≡ kind_number kind) }
+    ensures all_read { IfNone result ((kind : Kind) → number ≡ kind_number kind → ⊥) }
 {
     match number {
         0 => Some(Kind::Exclusive),
@@ -28,7 +31,8 @@ pub(crate) struct Sub {
 }
 
 pub(crate) fn sub_in(alloc: Global, row: &Row) -> Result<Option<Sub>, AllocError>
-    ensures { IfOk result (λ found. IfSome found (λ sub. row.now ≡ Words sub.name ∷ Int (pos (kind_number sub.kind)) ∷ [])) }
+    ensures shown { IfOk result (λ found. IfSome found (λ sub. row.now ≡ Words sub.name ∷ Int (pos (kind_number sub.kind)) ∷ [])) }
+    ensures all_read { IfOk result (λ found. IfNone found ((name : List ℕ) (kind : Kind) → IsUtf8 name → IsTrue (is_name name) → row.now ≡ Words name ∷ Int (pos (kind_number kind)) ∷ [] → ⊥)) }
 {
     if row.column_count() != 2 {
         return Ok(None);

@@ -1,6 +1,7 @@
 // The topic's own row.
-ghost use Rattle.std.specs.Prelude.{IfSome};
-ghost use Rattle.row_reading.specs.Reading.{IsHead};
+ghost use Rattle.std.specs.Prelude.{IfNone, IfSome};
+ghost use Rattle.row_reading.specs.declared.topic_row.Head.{Head};
+ghost use Rattle.row_reading.specs.Reading.{IsHead, IsLedgerSize};
 
 use crate::cells::whole_at;
 use position_core::{LedgerSize, Ordinal};
@@ -18,7 +19,8 @@ pub(crate) struct Head {
 }
 
 pub(crate) fn head_of(row: &Row) -> Option<Head>
-    ensures { IfSome result (λ head. IsHead row.now head) }
+    ensures shown { IfSome result (λ head. IsHead row.now head) }
+    ensures all_read { IfNone result ((head : Head) → IsHead row.now head → IsLedgerSize head.ledger_size → ⊥) }
 {
     if row.column_count() != 3 {
         return None;

@@ -1,15 +1,16 @@
 // A round: what changed of several topics is written in one transaction.
-ghost use Rattle.std.specs.Prelude.{◌≡◌, false, OnOk, All};
+ghost use Rattle.std.specs.Prelude.{◌≡◌, false, OnOk, All, IsTrue};
 ghost use Rattle.position_core.specs.TopicName.{topic_text};
 ghost use Rattle.sqlite.specs.State.{HasCleanDisk, Survives};
 ghost use Rattle.sqlite.specs.Held.{state};
 ghost use Rattle.row_tables.specs.Ready.{IsReady};
-ghost use Rattle.row_tables.specs.Goes.{Goes, Saves};
+ghost use Rattle.row_tables.specs.Goes.{Goes, Saves, Stays};
 ghost use Rattle.row_rounds.specs.Rounds.{Via, Empties, Changes, IsNamed, name_of, AreApart, WritesOne, Rounds};
 
 use crate::{clearing, differences, messages};
 use delivery_machine::Snapshot;
 use row_forms::Change;
+use row_tables::topics;
 use sqlite::{Alter, Connection, Error, Transaction};
 
 /// What a round makes of a topic's rows.
@@ -91,7 +92,35 @@ fn write_all<S: Alter>(
     Ok(())
 }
 
-/// Writes what changed of each of these topics, all or nothing. The properties of a message are written out
+/// Asks for a row. It fails where the connection was shut: over such a one nobody knows what a commit leaves.
+fn ask<S: Alter>(tx: &mut Transaction<'_, S>) -> Result<(), Error>
+    ensures same_reference { tx.new.conn.ghost_name ≡ tx.old.conn.ghost_name }
+    ensures survives { Survives (state S.Store tx.old.conn.now) (state S.Store tx.new.conn.now) (λ _. ⊥) }
+    ensures done { HasCleanDisk (state S.Store tx.new.conn.now) → OnOk result (Goes Stays (state S.Store tx.old.conn.now) (state S.Store tx.new.conn.now)) }
+    ensures shown { HasCleanDisk (state S.Store tx.new.conn.now) → OnOk result (IsTrue (state S.Store tx.old.conn.now).is_open) }
+{
+    drop(topics::read(tx, "")?);
+    Ok(())
+}
+
+/// Writes what changed of each of these topics, where the connection is open.
+fn write_open<S: Alter>(
+    tx: &mut Transaction<'_, S>,
+    writes: &[Write],
+    scratch: &mut String,
+) -> Result<(), Error>
+    requires named { All IsNamed writes.now }
+    requires apart { AreApart writes.now }
+    ensures same_reference { tx.new.conn.ghost_name ≡ tx.old.conn.ghost_name }
+    ensures survives { Survives (state S.Store tx.old.conn.now) (state S.Store tx.new.conn.now) (λ _. ⊥) }
+    ensures done { HasCleanDisk (state S.Store tx.new.conn.now) → OnOk result (Goes (Rounds writes.now) (state S.Store tx.old.conn.now) (state S.Store tx.new.conn.now)) }
+    ensures shown { HasCleanDisk (state S.Store tx.new.conn.now) → OnOk result (IsTrue (state S.Store tx.old.conn.now).is_open) }
+{
+    ask(tx)?;
+    write_all(tx, writes, scratch)
+}
+
+/// Writes what changed of each of these topics, all or nothing; nothing where the connection was shut. The properties of a message are written out
 /// in `scratch`, for which `room_for` takes room before; where it has none and cannot grow, nothing is written.
 pub fn save<S: Alter>(
     conn: &mut Connection<S>,
@@ -104,9 +133,9 @@ pub fn save<S: Alter>(
     ensures autocommit { conn.new.in_transaction ≡ false }
     ensures saved { HasCleanDisk (state S.Store conn.new) → OnOk result (Saves (Rounds writes.now) (state S.Store conn.old) (state S.Store conn.new)) }
     ensures durable { HasCleanDisk (state S.Store conn.new) → OnOk result ((db : _) → (state S.Store conn.new).may_leave db → db ≡ (state S.Store conn.new).now.trees) }
-    ensures crash { Survives (state S.Store conn.old) (state S.Store conn.new) (λ db. IsReady (state S.Store conn.old).now → Rounds writes.now (state S.Store conn.old).now.trees db) }
+    ensures crash { Survives (state S.Store conn.old) (state S.Store conn.new) (λ db. IsTrue (state S.Store conn.old).is_open × (IsReady (state S.Store conn.old).now → Rounds writes.now (state S.Store conn.old).now.trees db)) }
 {
     let mut tx = conn.transaction();
-    write_all(&mut tx, writes, scratch)?;
+    write_open(&mut tx, writes, scratch)?;
     tx.commit()
 }

@@ -1,16 +1,20 @@
 -- What the queries of a topic's rows show.
-use Rattle.std.proofs.Common.{◌≡◌, codes, List, [], ◌∷◌, map, filter, ℕ, Bool, true, false, inl, inr, Option, Some, None, IsTrue, refl, sym, ap, subst, ◌∙◌}
-use Rattle.std.specs.List.Sorted.{IsPermutation}
+use Rattle.std.proofs.Common.{◌≡◌, codes, List, [], ◌∷◌, map, filter, take, length, get_or, ℕ, ◌+◌, ◌<◌, Bool, true, false, inl, inr, Option, Some, None, Ordering, IsTrue, refl, sym, ap, subst, ◌∙◌, arith}
+use Rattle.std.specs.List.{All}
+use Rattle.std.specs.List.Sorted.{IsPermutation, IsSorted}
+use Rattle.std.specs.Ordering.{is_lt}
 use Rattle.std.proofs.lemmas.Bool.{cases_Bool}
-use Rattle.std.proofs.lemmas.List.Sorted.{IsPermutation-map, IsPermutation-sym}
+use Rattle.std.proofs.lemmas.List.{length-map, get_or-map}
+use Rattle.std.proofs.lemmas.List.Elements.{All-map}
+use Rattle.std.proofs.lemmas.List.Sorted.{All-permutation, IsPermutation-map, IsPermutation-sym}
 use Rattle.sqlite.specs.declared.types.Value.TheVariants.{Null, Text}
-use Rattle.sqlite.specs.Order.{Row, column}
+use Rattle.sqlite.specs.Order.{Row, column, row_cmp}
 use Rattle.sqlite.specs.Tree.{Trees}
 use Rattle.sqlite.specs.Term.{Term, col, eval_all}
 use Rattle.sqlite_value.specs.declared.keys.Key.{Key}
 use Rattle.sqlite_value.specs.Keys.{ascending}
 use Rattle.sqlite.specs.Collation.TheVariants.{Binary}
-use Rattle.sqlite.specs.Query.{Output}
+use Rattle.sqlite.specs.Query.{Output, output_cmp}
 use Rattle.sqlite.specs.Program.{overlay}
 use Rattle.sqlite.specs.Command.TheVariants.{Select}
 use Rattle.sqlite_trees.proofs.ListLemmas.{filter-map, map-map, filter_same, all_of}
@@ -24,6 +28,7 @@ use Rattle.row_forms.specs.Schema.{schema_6}
 use Rattle.row_forms.specs.Cells.{TOPIC, ENTRY, SUB, ACK, DEAD, width, cells, bodies, is_of, of_topic}
 use Rattle.row_tables.specs.Ready.{IsReady}
 use Rattle.row_tables.specs.Goes.{Goes, Stays, Shows}
+use Rattle.row_tables.specs.Ordered.{AreSortedBy}
 use Rattle.row_tables.proofs.Texts.{alone, matching, equals, select_topic, select_topic_is, select_entry, select_entry_is, select_sub, select_sub_is, select_ack, select_ack_is, select_dead, select_dead_is}
 use Rattle.row_tables.proofs.TableLemmas.{text_is}
 use Rattle.row_tables.proofs.StatementLemmas.{finds, agrees, IsTest, of_first, shows}
@@ -35,7 +40,19 @@ same_passed p f g same (x ∷ xs) = elim (cases_Bool (p x)) [
   | inr e ↦ rw (e, same_passed p f g same xs) refl
 ]
 
-module _ (tree : ℕ) (project : List Term) (order : List (Term × Key)) (topic : List ℕ) (first : (r : Row) → column (cells (width tree) r) 0 ≡ column r 1) (test : IsTest tree (equals 0 ∷ []) (Text topic ∷ []))
+-- things in an order are shown in that order, where what is shown of them has it
+sorted_shown : {A B : Type 0} (P : A → Type 0) (by : A → A → Ordering) (cmp : B → B → Ordering) (show : A → B) → ((x y : A) → P x → P y → cmp (show x) (show y) ≡ by x y) → (xs : List A) → All P xs → IsSorted by xs → IsSorted cmp (map show xs)
+sorted_shown P by cmp show same [] all sorted k d low below = absurd (omega (arith, below))
+sorted_shown P by cmp show same (x ∷ xs) all sorted k d low below =
+    let all_xs = x ∷ xs in
+    let second : k + 1 < length all_xs = subst (λ n. k + 1 < n) (length-map all_xs show) below in
+    let first : k < length all_xs = omega (arith, second) in
+    ap (λ y. is_lt (cmp y (get_or (map show all_xs) k d))) (get_or-map show all_xs (k + 1) x d second)
+    ∙ ap (λ y. is_lt (cmp (show (get_or all_xs (k + 1) x)) y)) (get_or-map show all_xs k x d first)
+    ∙ ap is_lt (same (get_or all_xs (k + 1) x) (get_or all_xs k x) (all (k + 1) x second) (all k x first))
+    ∙ sorted k x low second
+
+module _ (tree : ℕ) (project : List Term) (order : List (Term × Key)) (columns : ℕ) (topic : List ℕ) (first : (r : Row) → column (cells (width tree) r) 0 ≡ column r 1) (test : IsTest tree (equals 0 ∷ []) (Text topic ∷ []))
     (all : (r : Row) → column r 1 ≡ Text topic → Text topic ∷ eval_all project ((Text topic ∷ []) ∷ r ∷ []) ≡ cells (width tree) r) (seen : (db : Trees) → overlay db [] tree ≡ db tree) where
   abbrev put : Row → Row
   put r = Text topic ∷ r
@@ -46,21 +63,38 @@ module _ (tree : ℕ) (project : List Term) (order : List (Term × Key)) (topic 
   is_first : (r : Row) → passes r ≡ true → column r 1 ≡ Text topic
   is_first r h = sym (first r) ∙ text_is (column (cells (width tree) r) 0) topic (sym (of_first topic (cells (width tree) r)) ∙ h)
 
-  pub reads_rows : (sql : List ℕ) (names : List (List ℕ)) → command_of (understood schema_6 sql) ≡ Select (alone (matching tree (equals 0 ∷ []) project order)) names → IsPlain (understood schema_6 sql) → reads_listing schema_6 sql ≡ false
-      → (old new : State) (rows : List Row) → Shown sql (Text topic ∷ []) old new rows → IsReady old.now → Shows tree topic rows old.now.trees
-  reads_rows sql names is plain unlisted old new rows h ready =
+  abbrev show : Row → Output
+  show = shows project order (Text topic ∷ [])
+
+  -- what the query shows of a row
+  abbrev IsShown : Output → Type 0
+  IsShown o = (r : Row) × (o ≡ show r)
+
+  -- a row is shown by its first columns where it is put
+  abbrev LeadsByOrder : Type 0
+  LeadsByOrder = (r s : Row) → row_cmp (take columns (show r).1) (take columns (show s).1) ≡ output_cmp (matching tree (equals 0 ∷ []) project order) (show r) (show s)
+
+  in_order : LeadsByOrder → (outs : List Output) (stored : List Row) → IsPermutation (map show stored) outs → IsSorted (output_cmp (matching tree (equals 0 ∷ []) project order)) outs → AreSortedBy columns (map (λ o. o.1) outs)
+  in_order leads outs stored same sorted =
+      let all : All IsShown outs = All-permutation IsShown _ outs same (All-map IsShown show stored (λ k d low. (_, refl))) in
+      sorted_shown IsShown (output_cmp (matching tree (equals 0 ∷ []) project order)) (λ x y. row_cmp (take columns x) (take columns y)) (λ o. o.1) (λ x y (r, is) (s, too). rw (is, too) (leads r s)) outs all sorted
+
+  pub reads_rows : LeadsByOrder → (sql : List ℕ) (names : List (List ℕ)) → command_of (understood schema_6 sql) ≡ Select (alone (matching tree (equals 0 ∷ []) project order)) names → IsPlain (understood schema_6 sql) → reads_listing schema_6 sql ≡ false
+      → (old new : State) (rows : List Row) → Shown sql (Text topic ∷ []) old new rows → IsReady old.now → Shows tree topic rows old.now.trees × AreSortedBy columns rows
+  reads_rows leads sql names is plain unlisted old new rows h ready =
       let q = matching tree (equals 0 ∷ []) project order in
       let read = reads_as sql (Text topic ∷ []) old new schema_6 ready.schema (Select (alone q) names) is plain unlisted rows h in
       let found = finds tree (equals 0 ∷ []) project order (Text topic ∷ []) (overlay old.now.trees []) rows test (read.answer Null) in
-      let show = shows project order (Text topic ∷ []) in
       let stored = old.now.trees tree in
       let here : IsPermutation (map show (filter passes stored)) found.0 = subst (λ xs. IsPermutation (map show (filter passes xs)) found.0) (seen old.now.trees) found.1 in
       let second = λ (o : Output). put o.1 in
       let left : map second (map show (filter passes stored)) ≡ of_topic topic (bodies tree stored) =
       map-map second show (filter passes stored) ∙ same_passed passes (λ r. second (show r)) (cells (width tree)) (λ r h. all r (is_first r h)) stored
       ∙ sym (filter-map (agrees (Text topic ∷ [])) (cells (width tree)) stored) ∙ filter_same (agrees (Text topic ∷ [])) (is_of topic) (bodies tree stored) (all_of _ (of_first topic) (bodies tree stored)) in
-      let right : map second found.0 ≡ map put rows = sym (map-map put (λ (o : Output). o.1) found.0) ∙ ap (map put) (sym found.2) in
-      IsPermutation-sym _ _ (subst (λ l. IsPermutation l (map put rows)) left (subst (IsPermutation _) right (IsPermutation-map second _ _ here)))
+      let right : map second found.0 ≡ map put rows = sym (map-map put (λ (o : Output). o.1) found.0) ∙ ap (map put) (sym found.2) in (
+        IsPermutation-sym _ _ (subst (λ l. IsPermutation l (map put rows)) left (subst (IsPermutation _) right (IsPermutation-map second _ _ here))),
+        subst (AreSortedBy columns) (sym found.2) (in_order leads found.0 (filter passes stored) here found.3),
+      )
 
 -- ---- a query leaves all as it was
 
@@ -88,17 +122,17 @@ shown_goes sql params old new rows plain h =
       does = λ ready. let now = (unchanged_as sql params old new rows plain ready.schema h).0.now_is in (subst IsReady (sym now) ready, ap (λ (d : Database). d.trees) now);
     }
 
-pub reads_topic : (topic : List ℕ) (old new : State) (rows : List Row) → Shown select_topic (Text topic ∷ []) old new rows → IsReady old.now → Shows TOPIC topic rows old.now.trees
-reads_topic topic = reads_rows TOPIC (col 1 2 ∷ col 1 3 ∷ col 1 4 ∷ []) ([]) topic (λ _. refl) (λ _. refl) (λ r e. rw e refl) (λ _. refl) select_topic (codes "ledger_size" ∷ codes "ledger" ∷ codes "ordinal" ∷ []) select_topic_is.0 select_topic_is.2 select_topic_is.1
+pub reads_topic : (topic : List ℕ) (old new : State) (rows : List Row) → Shown select_topic (Text topic ∷ []) old new rows → IsReady old.now → Shows TOPIC topic rows old.now.trees × AreSortedBy 0 rows
+reads_topic topic = reads_rows TOPIC (col 1 2 ∷ col 1 3 ∷ col 1 4 ∷ []) ([]) 0 topic (λ _. refl) (λ _. refl) (λ r e. rw e refl) (λ _. refl) (λ _ _. refl) select_topic (codes "ledger_size" ∷ codes "ledger" ∷ codes "ordinal" ∷ []) select_topic_is.0 select_topic_is.2 select_topic_is.1
 
-pub reads_entry : (topic : List ℕ) (old new : State) (rows : List Row) → Shown select_entry (Text topic ∷ []) old new rows → IsReady old.now → Shows ENTRY topic rows old.now.trees
-reads_entry topic = reads_rows ENTRY (col 1 2 ∷ col 1 3 ∷ col 1 4 ∷ col 1 5 ∷ col 1 6 ∷ col 1 7 ∷ col 1 8 ∷ col 1 9 ∷ col 1 10 ∷ col 1 11 ∷ []) ((col 1 2, ascending Binary) ∷ []) topic (λ _. refl) (λ _. refl) (λ r e. rw e refl) (λ _. refl) select_entry (codes "idx" ∷ codes "ledger" ∷ codes "entry" ∷ codes "producer" ∷ codes "sequence" ∷ codes "time" ∷ codes "has_key" ∷ codes "key" ∷ codes "properties" ∷ codes "payload" ∷ []) select_entry_is.0 select_entry_is.2 select_entry_is.1
+pub reads_entry : (topic : List ℕ) (old new : State) (rows : List Row) → Shown select_entry (Text topic ∷ []) old new rows → IsReady old.now → Shows ENTRY topic rows old.now.trees × AreSortedBy 1 rows
+reads_entry topic = reads_rows ENTRY (col 1 2 ∷ col 1 3 ∷ col 1 4 ∷ col 1 5 ∷ col 1 6 ∷ col 1 7 ∷ col 1 8 ∷ col 1 9 ∷ col 1 10 ∷ col 1 11 ∷ []) ((col 1 2, ascending Binary) ∷ []) 1 topic (λ _. refl) (λ _. refl) (λ r e. rw e refl) (λ _. refl) (λ _ _. refl) select_entry (codes "idx" ∷ codes "ledger" ∷ codes "entry" ∷ codes "producer" ∷ codes "sequence" ∷ codes "time" ∷ codes "has_key" ∷ codes "key" ∷ codes "properties" ∷ codes "payload" ∷ []) select_entry_is.0 select_entry_is.2 select_entry_is.1
 
-pub reads_sub : (topic : List ℕ) (old new : State) (rows : List Row) → Shown select_sub (Text topic ∷ []) old new rows → IsReady old.now → Shows SUB topic rows old.now.trees
-reads_sub topic = reads_rows SUB (col 1 2 ∷ col 1 3 ∷ []) ((col 1 2, ascending Binary) ∷ []) topic (λ _. refl) (λ _. refl) (λ r e. rw e refl) (λ _. refl) select_sub (codes "name" ∷ codes "kind" ∷ []) select_sub_is.0 select_sub_is.2 select_sub_is.1
+pub reads_sub : (topic : List ℕ) (old new : State) (rows : List Row) → Shown select_sub (Text topic ∷ []) old new rows → IsReady old.now → Shows SUB topic rows old.now.trees × AreSortedBy 1 rows
+reads_sub topic = reads_rows SUB (col 1 2 ∷ col 1 3 ∷ []) ((col 1 2, ascending Binary) ∷ []) 1 topic (λ _. refl) (λ _. refl) (λ r e. rw e refl) (λ _. refl) (λ _ _. refl) select_sub (codes "name" ∷ codes "kind" ∷ []) select_sub_is.0 select_sub_is.2 select_sub_is.1
 
-pub reads_ack : (topic : List ℕ) (old new : State) (rows : List Row) → Shown select_ack (Text topic ∷ []) old new rows → IsReady old.now → Shows ACK topic rows old.now.trees
-reads_ack topic = reads_rows ACK (col 1 2 ∷ col 1 3 ∷ col 1 4 ∷ []) ((col 1 2, ascending Binary) ∷ (col 1 3, ascending Binary) ∷ []) topic (λ _. refl) (λ _. refl) (λ r e. rw e refl) (λ _. refl) select_ack (codes "sub" ∷ codes "first" ∷ codes "last" ∷ []) select_ack_is.0 select_ack_is.2 select_ack_is.1
+pub reads_ack : (topic : List ℕ) (old new : State) (rows : List Row) → Shown select_ack (Text topic ∷ []) old new rows → IsReady old.now → Shows ACK topic rows old.now.trees × AreSortedBy 2 rows
+reads_ack topic = reads_rows ACK (col 1 2 ∷ col 1 3 ∷ col 1 4 ∷ []) ((col 1 2, ascending Binary) ∷ (col 1 3, ascending Binary) ∷ []) 2 topic (λ _. refl) (λ _. refl) (λ r e. rw e refl) (λ _. refl) (λ _ _. refl) select_ack (codes "sub" ∷ codes "first" ∷ codes "last" ∷ []) select_ack_is.0 select_ack_is.2 select_ack_is.1
 
-pub reads_dead : (topic : List ℕ) (old new : State) (rows : List Row) → Shown select_dead (Text topic ∷ []) old new rows → IsReady old.now → Shows DEAD topic rows old.now.trees
-reads_dead topic = reads_rows DEAD (col 1 2 ∷ col 1 3 ∷ col 1 4 ∷ col 1 5 ∷ []) ((col 1 2, ascending Binary) ∷ (col 1 3, ascending Binary) ∷ []) topic (λ _. refl) (λ _. refl) (λ r e. rw e refl) (λ _. refl) select_dead (codes "sub" ∷ codes "ordinal" ∷ codes "idx" ∷ codes "target" ∷ []) select_dead_is.0 select_dead_is.2 select_dead_is.1
+pub reads_dead : (topic : List ℕ) (old new : State) (rows : List Row) → Shown select_dead (Text topic ∷ []) old new rows → IsReady old.now → Shows DEAD topic rows old.now.trees × AreSortedBy 2 rows
+reads_dead topic = reads_rows DEAD (col 1 2 ∷ col 1 3 ∷ col 1 4 ∷ col 1 5 ∷ []) ((col 1 2, ascending Binary) ∷ (col 1 3, ascending Binary) ∷ []) 2 topic (λ _. refl) (λ _. refl) (λ r e. rw e refl) (λ _. refl) (λ _ _. refl) select_dead (codes "sub" ∷ codes "ordinal" ∷ codes "idx" ∷ codes "target" ∷ []) select_dead_is.0 select_dead_is.2 select_dead_is.1

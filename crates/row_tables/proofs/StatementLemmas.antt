@@ -2,7 +2,7 @@
 use Rattle.std.proofs.Common.{◌≡◌, ◌≢◌, ◌⊎◌, inl, inr, ℕ, ◌+◌, ◌/◌, ℤ, List, [], ◌∷◌, ◌++◌, length, map, filter, flat_map, cond, slice_get, Bool, true, false, not, Option, Some, None, Ok, Err, Result, refl, sym, ap, subst, ◌∙◌}
 use Rattle.std.specs.Prelude.{◌&&◌}
 use Rattle.std.specs.List.{AllByRecursion, list_all}
-use Rattle.std.specs.List.Sorted.{IsPermutation}
+use Rattle.std.specs.List.Sorted.{IsPermutation, IsSorted}
 use Rattle.std.proofs.lemmas.Bool.{cases_Bool}
 use Rattle.std.proofs.lemmas.List.Sorted.{IsPermutation-map, length_permutation}
 use Rattle.std.proofs.lemmas.List.{length-map}
@@ -20,7 +20,7 @@ use Rattle.sqlite.specs.Collation.TheVariants.{Binary}
 use Rattle.sqlite_trees.proofs.ListLemmas.{filter_same, filter-map, all_of, map-map}
 use Rattle.sqlite.specs.Cast.{cast}
 use Rattle.sqlite.specs.Kind.TheVariants.{Integer}
-use Rattle.sqlite.specs.Query.{Query, Output, output, IsAnswerAs, IsSureAnswer}
+use Rattle.sqlite.specs.Query.{Query, Output, output, output_cmp, IsAnswerAs, IsSureAnswer}
 use Rattle.sqlite.specs.Program.{overlay}
 use Rattle.sqlite.specs.Schema.{Schema}
 use Rattle.sqlite.specs.Table.{Table}
@@ -161,7 +161,7 @@ IsTest tree tests values = (r : Row) → list_all (holds (values ∷ r ∷ [])) 
 pub finds : (tree : ℕ) (tests project : List Term) (order : List (Term × Key)) (values : Row) (db : Trees) (rows : List Row) → IsTest tree tests values
     → IsAnswerAs Null (matching tree tests project order) db values rows
     → (outs : List Output) × IsPermutation (map (shows project order values) (filter (λ r. agrees values (cells (width tree) r)) (db tree))) outs
-    × (rows ≡ map (λ o. o.1) outs)
+    × (rows ≡ map (λ o. o.1) outs) × IsSorted (output_cmp (matching tree tests project order)) outs
 finds tree tests project order values db rows test a =
     let q = matching tree tests project order in
     let env = λ (r : Row). values ∷ r ∷ [] in
@@ -170,7 +170,7 @@ finds tree tests project order values db rows test a =
     let kept : a.kept ≡ map (output q) (map env (filter (λ r. list_all (holds (env r)) tests) (db tree))) = a.distinct ∙ ap (map (output q)) matched in
     let picked : filter (λ r. list_all (holds (env r)) tests) (db tree) ≡ filter p (db tree) = filter_same _ p (db tree) (all_of _ test (db tree)) in
     let is : a.kept ≡ map (shows project order values) (filter p (db tree)) = kept ∙ map-map (output q) env _ ∙ ap (map (shows project order values)) picked in
-    (a.ordered, subst (λ xs. IsPermutation xs a.ordered) is a.same, a.shown)
+    (a.ordered, subst (λ xs. IsPermutation xs a.ordered) is a.same, a.shown, a.sorted)
 
 -- the rows that a DELETE takes, and how many they are
 pub leaves : (tree : ℕ) (tests : List Term) (values : Row) (db seen : Trees) (rows : List Row) → IsTest tree tests values → seen tree ≡ db tree → AreKeyed (db tree)

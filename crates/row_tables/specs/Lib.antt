@@ -1,3 +1,4 @@
--- What the contracts of the tables cite: a database that is ready, and what a call makes of its tables.
+-- What the contracts of the tables cite: a database that is ready, what a call makes of its tables, and the order in which rows are read.
 pub mod Ready
 pub mod Goes
+pub mod Ordered

@@ -6,6 +6,7 @@ ghost use Rattle.row_forms.specs.Cells.{ACK};
 ghost use Rattle.row_forms.specs.Changes.{ack_cells};
 ghost use Rattle.row_tables.specs.Ready.{IsReady};
 ghost use Rattle.row_tables.specs.Goes.{Goes, Stays, Clears, Adds, Takes, Shows};
+ghost use Rattle.row_tables.specs.Ordered.{AreSortedBy};
 
 use crate::numbers::{signed, took_one};
 use row_forms::AckRow;
@@ -58,6 +59,7 @@ pub fn read<S: Alter>(tx: &mut Transaction<'_, S>, topic: &str) -> Result<Vec<Ro
     ensures done { HasCleanDisk (state S.Store tx.new.conn.now) → OnOk result (Goes Stays (state S.Store tx.old.conn.now) (state S.Store tx.new.conn.now)) }
     ensures kept { HasCleanDisk (state S.Store tx.new.conn.now) → IsTrue (state S.Store tx.old.conn.now).in_transaction → KeepsCommit (state S.Store tx.old.conn.now) (state S.Store tx.new.conn.now) }
     ensures rows { HasCleanDisk (state S.Store tx.new.conn.now) → IfOk result (λ rows. IsReady (state S.Store tx.old.conn.now).now → Shows ACK topic.now rows.items (state S.Store tx.old.conn.now).now.trees) }
+    ensures ordered { HasCleanDisk (state S.Store tx.new.conn.now) → IfOk result (λ rows. IsReady (state S.Store tx.old.conn.now).now → AreSortedBy 2 rows.items) }
 {
     tx.query_all(
         "SELECT sub, first, last FROM ack WHERE topic = ?1 ORDER BY sub, first",

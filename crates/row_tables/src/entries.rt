@@ -9,6 +9,7 @@ ghost use Rattle.row_forms.specs.Forms.{entry_row, key_cells};
 ghost use Rattle.row_forms.specs.Properties.{properties_text};
 ghost use Rattle.row_tables.specs.Ready.{IsReady};
 ghost use Rattle.row_tables.specs.Goes.{Goes, Stays, Clears, Adds, Shows};
+ghost use Rattle.row_tables.specs.Ordered.{AreSortedBy};
 
 use crate::numbers::signed;
 use position_core::{Entry, Key};
@@ -87,6 +88,7 @@ pub fn read<S: Alter>(tx: &mut Transaction<'_, S>, topic: &str) -> Result<Vec<Ro
     ensures done { HasCleanDisk (state S.Store tx.new.conn.now) → OnOk result (Goes Stays (state S.Store tx.old.conn.now) (state S.Store tx.new.conn.now)) }
     ensures kept { HasCleanDisk (state S.Store tx.new.conn.now) → IsTrue (state S.Store tx.old.conn.now).in_transaction → KeepsCommit (state S.Store tx.old.conn.now) (state S.Store tx.new.conn.now) }
     ensures rows { HasCleanDisk (state S.Store tx.new.conn.now) → IfOk result (λ rows. IsReady (state S.Store tx.old.conn.now).now → Shows ENTRY topic.now rows.items (state S.Store tx.old.conn.now).now.trees) }
+    ensures ordered { HasCleanDisk (state S.Store tx.new.conn.now) → IfOk result (λ rows. IsReady (state S.Store tx.old.conn.now).now → AreSortedBy 1 rows.items) }
 {
     tx.query_all(
         "SELECT idx, ledger, entry, producer, sequence, time, has_key, key, properties, payload FROM entry WHERE topic = ?1 ORDER BY idx",

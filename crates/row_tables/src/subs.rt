@@ -7,6 +7,7 @@ ghost use Rattle.row_forms.specs.Changes.{sub_cells};
 ghost use Rattle.row_forms.specs.Forms.{kind_number};
 ghost use Rattle.row_tables.specs.Ready.{IsReady};
 ghost use Rattle.row_tables.specs.Goes.{Goes, Stays, Clears, Adds, Takes, Shows};
+ghost use Rattle.row_tables.specs.Ordered.{AreSortedBy};
 
 use crate::numbers::took_one;
 use position_core::Kind;
@@ -69,6 +70,7 @@ pub fn read<S: Alter>(tx: &mut Transaction<'_, S>, topic: &str) -> Result<Vec<Ro
     ensures done { HasCleanDisk (state S.Store tx.new.conn.now) → OnOk result (Goes Stays (state S.Store tx.old.conn.now) (state S.Store tx.new.conn.now)) }
     ensures kept { HasCleanDisk (state S.Store tx.new.conn.now) → IsTrue (state S.Store tx.old.conn.now).in_transaction → KeepsCommit (state S.Store tx.old.conn.now) (state S.Store tx.new.conn.now) }
     ensures rows { HasCleanDisk (state S.Store tx.new.conn.now) → IfOk result (λ rows. IsReady (state S.Store tx.old.conn.now).now → Shows SUB topic.now rows.items (state S.Store tx.old.conn.now).now.trees) }
+    ensures ordered { HasCleanDisk (state S.Store tx.new.conn.now) → IfOk result (λ rows. IsReady (state S.Store tx.old.conn.now).now → AreSortedBy 1 rows.items) }
 {
     tx.query_all(
         "SELECT name, kind FROM sub WHERE topic = ?1 ORDER BY name",

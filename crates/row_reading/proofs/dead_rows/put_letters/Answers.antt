@@ -1,4 +1,6 @@
-use Rattle.std.proofs.Common.{◌≡◌, ◌+◌, ◌<◌, ◌≤◌, ◌∷◌, ◌++◌, [], List, ap, sym, subst, refl, rules, ℕ, true}
+use Rattle.std.proofs.Common.{◌≡◌, ◌+◌, ◌<◌, ◌≤◌, ◌∷◌, ◌++◌, [], List, ap, sym, subst, refl, rules, ℕ, true, ◌∙◌}
+use Rattle.sqlite.specs.declared.types.Value.TheVariants.{Text as Words}
+use Rattle.sqlite.specs.Order.{column}
 use Rattle.std.specs.List.{All}
 use Rattle.std.specs.FinSet as set
 use Rattle.std.proofs.lemmas.List.Elements.{All-nil, All-push}
@@ -10,7 +12,8 @@ use Rattle.delivery_machine.specs.WellFormed.{AreDeadLettersOf}
 use Rattle.delivery_machine.proofs.Letters.{none_dead}
 use Rattle.row_forms.specs.Forms.{place_in}
 use Rattle.row_reading.specs.Reading.{IsLetterOf, OrdinalsCame}
-use Rattle.row_reading.proofs.Letters.{HavePlaces, came_more, came_none, dead_more, least_more, letters_more, places_more}
+use Rattle.row_reading.proofs.Letters.{HasLeast, HasNoOthers, HavePlaces, came_more, came_none, dead_more, least_below_more, least_more, letters_more, no_least, no_others, no_others_more, places_more}
+use Rattle.row_reading.proofs.NextLetters.{next_letter}
 use Rattle.row_reading.proofs.dead_rows.put_letters.Goals as goal
 
 pub letters-init : goal.letters-init
@@ -25,6 +28,8 @@ letters-init c =
       letters = subst (λ ds. All (IsLetterOf own next) ds) (sym none) (All-nil (IsLetterOf own next));
       least = subst (λ (ds : List DeadLetter). All (λ d. d.ordinal < 0) ds) (sym none) (All-nil _);
       places = subst (λ ds. HavePlaces log c.args.places.now ds) (sym none) (All-nil (λ d. set.contains c.args.places.now (place_in log d.position) ≡ true));
+      least_below = subst (λ ds. HasLeast 0 ds) (sym none) (no_least);
+      no_other_places = subst (λ s. HasNoOthers log s c.args.letters.now.items) (sym c.requires.no_places) (subst (λ ds. HasNoOthers log set.empty ds) (sym none) (no_others log));
       ordinals = subst (λ ds. OrdinalsCame ds c.args.ordinals.now c.args.ordinals.now) (sym none) (came_none c.args.ordinals.now);
     }
 
@@ -55,5 +60,18 @@ letters-preserved c =
       letters = subst (λ ds. All (IsLetterOf own next) ds) (sym pushed) (All-push (IsLetterOf own next) was d h.letters letter);
       least = subst (λ n. All (λ x. x.ordinal < n + 1) c.push.new.self.items) (sym ordinal) (subst (λ (ds : List DeadLetter). All (λ x. x.ordinal < d.ordinal + 1) ds) (sym pushed) (least_more was d c.letters.least h.least above));
       places = subst (λ ds. HavePlaces log c.next_letter.new.places ds) (sym pushed) (places_more log c.letters.places c.next_letter.new.places was d place h.places with_place refl);
+      least_below = subst (λ n. HasLeast (n + 1) c.push.new.self.items) (sym ordinal) (subst (λ ds. HasLeast (d.ordinal + 1) ds) (sym pushed) (least_below_more was d));
+      no_other_places = subst (λ ds. HasNoOthers log c.next_letter.new.places ds) (sym pushed) (no_others_more log c.letters.places c.next_letter.new.places was d h.no_other_places with_place);
       ordinals = subst (λ ds. OrdinalsCame ds c.args.ordinals.now c.next_letter.new.ordinals) (sym pushed) (came_more was d c.args.ordinals.now c.letters.ordinals c.next_letter.new.ordinals h.ordinals new_ordinal with_ordinal);
     }
+
+pub returns-in-None-clause-all_read : goal.returns-in-None-clause-all_read
+returns-in-None-clause-all_read c =
+    λ ds others read whole none.
+    let h = c.letters.invariant in
+    let split : c.letters.rest.now ≡ c.in-Some.row.now ∷ c.in-Some.after.now = search rules in
+    let named : column c.in-Some.row.now 0 ≡ Words c.args.name.now = c.is_text.ensures.shown (search rules) ∙ ap Words c.as_str.ensures.value in
+    let n = next_letter c.args.deaths.topic.now c.args.name.now (joined c.args.deaths.log.now) c.args.deaths.next_ordinal c.letters.least c.letters.places c.args.ordinals.now c.letters.ordinals c.letters.letters.items ds c.args.rows.now c.letters.rest.now
+    c.in-Some.after.now others c.in-Some.row.now h.dead h.letters h.least_below h.no_other_places h.ordinals h.rows split named read whole none in
+    let come = rw c.in-None.is at c.in_ok-letter.ensures.all_come in
+    come n.0 n.1.readable n.1.shown n.1.above n.1.new_place n.1.new_ordinal

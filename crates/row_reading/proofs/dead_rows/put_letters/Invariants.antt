@@ -3,7 +3,7 @@ use Rattle.std.specs.List.{All}
 use Rattle.log_pieces.specs.Pieces.{joined}
 use Rattle.delivery_machine.specs.WellFormed.{AreDeadLettersOf}
 use Rattle.row_reading.specs.Reading.{BeginsWithLetters, IsLetterOf, OrdinalsCame}
-use Rattle.row_reading.proofs.Letters.{HavePlaces}
+use Rattle.row_reading.proofs.Letters.{HasLeast, HasNoOthers, HavePlaces}
 use Rattle.row_reading.proofs.dead_rows.put_letters.Given as goal
 
 abbrev pub invariant-letters : goal.invariant-letters
@@ -13,6 +13,8 @@ invariant-letters l = record {
   letters : All (IsLetterOf l.deaths.topic.now l.deaths.next_ordinal) l.letters.items;
   least : All (λ d. d.ordinal < l.least) l.letters.items;
   places : HavePlaces (joined l.deaths.log.now) l.places l.letters.items;
+  least_below : HasLeast l.least l.letters.items;
+  no_other_places : HasNoOthers (joined l.deaths.log.now) l.places l.letters.items;
   ordinals : OrdinalsCame l.letters.items l.fn.ordinals l.ordinals;
 }
 

@@ -1,7 +1,8 @@
-use Rattle.std.proofs.Common.{◌≡◌, ◌+◌, ◌++◌, ◌∷◌, [], List, ℕ, map, take, refl, ap, sym, subst, ◌∙◌, append-nil}
+use Rattle.std.proofs.Common.{◌≡◌, ◌+◌, ◌++◌, ◌∷◌, [], List, ℕ, map, take, refl, ap, sym, subst, true, true≢false, ◌∙◌, append-nil}
 use Rattle.std.specs.List.{All, flat_map}
 use Rattle.std.specs.FinSet as set
 use Rattle.std.proofs.lemmas.Grind.{flat_map-append}
+use Rattle.std.proofs.lemmas.List.{take_all}
 use Rattle.std.proofs.lemmas.List.Elements.{All-nil, All-push}
 use Rattle.sqlite.specs.declared.types.Value.TheVariants.{Text as Words}
 use Rattle.position_core.specs.declared.topic_name.TopicName.{TopicName}
@@ -12,6 +13,7 @@ use Rattle.delivery_machine.specs.Places.{KeptPlaces}
 use Rattle.delivery_machine.specs.WellFormed.{NamesRise}
 use Rattle.row_forms.specs.Forms.{sub_row, sub_rows}
 use Rattle.row_reading.specs.Reading.{BeginsWithAcks, BeginsWithDeads, IsSubOf, OrdinalsCame, put}
+use Rattle.row_reading.proofs.LeftSubs.{AreLeft, left_more, none_left, readable_now, rises_so_far, the_next}
 use Rattle.row_reading.proofs.Letters.{came_none, came_then}
 use Rattle.row_reading.proofs.Subs.{acks_then, all_acks, all_deads, deads_then, no_acks_yet, no_names, sound_subs, subs_more}
 use Rattle.row_reading.proofs.kept_subs.put_subs.Goals as goal
@@ -30,6 +32,7 @@ subs-init c =
       names = subst (λ (subs : List KeptPlaces). NamesRise (map (λ (sub : KeptPlaces). sub.name) subs)) (sym none) no_names;
       each = subst (λ subs. All (IsSubOf own log next) subs) (sym none) (All-nil (IsSubOf own log next));
       ordinals = subst (λ (subs : List KeptPlaces). OrdinalsCame (flat_map (λ (sub : KeptPlaces). sub.dead) subs) set.empty c.args.ordinals.now) (sym none) (subst (λ s. OrdinalsCame [] set.empty s) (sym empty) (came_none set.empty));
+      left = λ topic all show. subst (λ done. AreLeft topic log all done c.args.others.acks.now c.args.others.deads.now) (sym none) (record { more = all; is = refl; runs = show.runs; letters = show.letters });
     }
 
 pub subs-preserved : goal.subs-preserved
@@ -56,6 +59,10 @@ subs-preserved c =
       each = subst (λ subs. All (IsSubOf own log next) subs) (sym pushed) (All-push (IsSubOf own log next) was sub h.each sound);
       ordinals = subst (λ (subs : List KeptPlaces). OrdinalsCame (flat_map dead subs) set.empty c.kept_in.new.ordinals) (sym pushed)
           (subst (λ ds. OrdinalsCame ds set.empty c.kept_in.new.ordinals) (sym letters) (came_then (flat_map dead was) sub.dead set.empty c.subs.ordinals c.kept_in.new.ordinals h.ordinals came));
+      left = λ topic all show.
+          let n = the_next own log next topic all was c.args.rows.now c.args.others.acks.now c.args.others.deads.now c.subs.left.acks.now c.subs.left.deads.now c.subs.row-index c.row-item.result show (h.left topic all show) c.subs-test.true c.row-item.is (h.rows topic) in
+          subst (λ done. AreLeft topic log all done c.in-Some.after.acks.now c.in-Some.after.deads.now) (sym pushed)
+          (left_more own log next topic all was c.row-item.result c.subs.left.acks.now c.subs.left.deads.now c.in-Some.after.acks.now c.in-Some.after.deads.now sub show.each n shown acks (rw c.in-Some.is at c.in_ok-sub.ensures.past_acks) deads (rw c.in-Some.is at c.in_ok-sub.ensures.past_deads) sound);
     }
 
 pub returns-clause-acks : goal.returns-clause-acks
@@ -67,3 +74,44 @@ returns-clause-deads c = λ whole. all_deads (joined c.args.deaths.log.now) c.su
 pub returns-clause-sound : goal.returns-clause-sound
 returns-clause-sound c = λ whole.
     sound_subs c.args.deaths.topic.now (joined c.args.deaths.log.now) c.args.deaths.next_ordinal c.subs.subs.items c.subs.ordinals c.subs.invariant.names c.subs.invariant.each c.subs.invariant.ordinals c.requires.last
+
+pub returns-then-not-branch-clause-all_read : goal.returns-then-not-branch-clause-all_read
+returns-then-not-branch-clause-all_read c =
+    λ topic all show.
+    let h = c.subs.invariant in
+    let own : TopicName = c.args.deaths.topic.now in
+    let next = c.args.deaths.next_ordinal in
+    let log : List Entry = joined c.args.deaths.log.now in
+    let was : List KeptPlaces = c.subs.subs.items in
+    let n = the_next own log next topic all was c.args.rows.now c.args.others.acks.now c.args.others.deads.now c.subs.left.acks.now c.subs.left.deads.now c.subs.row-index c.row-item.result show (h.left topic all show) c.subs-test.true c.row-item.is (h.rows topic) in
+    let sub : KeptPlaces = c.in-Some.sub in
+    let shown : (t : List ℕ) → Words t ∷ c.row-item.result ≡ sub_row t sub = rw c.in-Some.is at c.in_ok-sub.ensures.row in
+    let acks : BeginsWithAcks (sub ∷ []) c.subs.left.acks.now c.in-Some.after.acks.now = rw c.in-Some.is at c.in_ok-sub.ensures.acks in
+    let deads : BeginsWithDeads log (sub ∷ []) c.subs.left.deads.now c.in-Some.after.deads.now = rw c.in-Some.is at c.in_ok-sub.ensures.deads in
+    let sound : IsSubOf own log next sub = rw c.in-Some.is at c.in_ok-sub.ensures.sound in
+    let left = left_more own log next topic all was c.row-item.result c.subs.left.acks.now c.subs.left.deads.now c.in-Some.after.acks.now c.in-Some.after.deads.now sub show.each n shown acks (rw c.in-Some.is at c.in_ok-sub.ensures.past_acks) deads (rw c.in-Some.is at c.in_ok-sub.ensures.past_deads) sound in
+    let rise : NamesRise (map (λ (s : KeptPlaces). s.name) (was ++ sub ∷ [])) = rises_so_far all (was ++ sub ∷ []) left.more left.is show.names in
+    let yes : c.in_ok-put_sub-in-Some.field-0 ≡ true = c.in_ok-put_sub-in-Some.ensures.all_put rise in
+    absurd (true≢false (sym yes ∙ c.if-not-branch.true))
+
+pub returns-in-None-clause-all_read : goal.returns-in-None-clause-all_read
+returns-in-None-clause-all_read c =
+    λ topic all show.
+    let h = c.subs.invariant in
+    let own : TopicName = c.args.deaths.topic.now in
+    let next = c.args.deaths.next_ordinal in
+    let log : List Entry = joined c.args.deaths.log.now in
+    let was : List KeptPlaces = c.subs.subs.items in
+    let n = the_next own log next topic all was c.args.rows.now c.args.others.acks.now c.args.others.deads.now c.subs.left.acks.now c.subs.left.deads.now c.subs.row-index c.row-item.result show (h.left topic all show) c.subs-test.true c.row-item.is (h.rows topic) in
+    let ready = readable_now own log next all was n.sub n.others c.subs.ordinals show.each n.is show.ordinals.distinct h.ordinals in
+    let none = rw c.in-None.is at c.in_ok-sub.ensures.all_read in
+    absurd (none n.sub n.begins.later_acks n.begins.later_deads ready n.shown n.begins.runs n.begins.past_runs n.begins.letters n.begins.past_letters)
+
+pub returns-clause-all_read : goal.returns-clause-all_read
+returns-clause-all_read c =
+    λ topic all show.
+    let h = c.subs.invariant in
+    let log : List Entry = joined c.args.deaths.log.now in
+    let whole : put topic c.args.rows.now ≡ sub_rows topic c.subs.subs.items = ap (put topic) (sym (take_all c.subs.row-index c.args.rows.now c.subs-test.false)) ∙ h.rows topic in
+    let e = none_left c.args.deaths.topic.now log c.args.deaths.next_ordinal topic all c.subs.subs.items c.args.rows.now c.args.others.acks.now c.args.others.deads.now c.subs.left.acks.now c.subs.left.deads.now show (h.left topic all show) whole in
+    (c.is_empty.ensures.all_empty e.1 e.2, e.0)

@@ -2,9 +2,11 @@ use Rattle.std.proofs.Common.{◌≡◌, ℕ, List, map, take}
 use Rattle.std.specs.List.{All, flat_map}
 use Rattle.std.specs.FinSet as set
 use Rattle.log_pieces.specs.Pieces.{joined}
+use Rattle.delivery_machine.specs.Places.{KeptPlaces}
 use Rattle.delivery_machine.specs.WellFormed.{NamesRise}
 use Rattle.row_forms.specs.Forms.{sub_rows}
-use Rattle.row_reading.specs.Reading.{BeginsWithAcks, BeginsWithDeads, IsSubOf, OrdinalsCame, put}
+use Rattle.row_reading.specs.Reading.{BeginsWithAcks, BeginsWithDeads, IsSubOf, OrdinalsCame, ShowSubs, put}
+use Rattle.row_reading.proofs.LeftSubs.{AreLeft}
 use Rattle.row_reading.proofs.kept_subs.put_subs.Given as goal
 
 abbrev pub invariant-subs : goal.invariant-subs
@@ -15,4 +17,6 @@ invariant-subs l = record {
   names : NamesRise (map (λ sub. sub.name) l.subs.items);
   each : All (IsSubOf l.deaths.topic.now (joined l.deaths.log.now) l.deaths.next_ordinal) l.subs.items;
   ordinals : OrdinalsCame (flat_map (λ sub. sub.dead) l.subs.items) set.empty l.ordinals;
+  left : (topic : List ℕ) (all : List KeptPlaces) → ShowSubs l.deaths.topic.now (joined l.deaths.log.now) l.deaths.next_ordinal topic all l.rows l.others.acks.now l.others.deads.now
+      → AreLeft topic (joined l.deaths.log.now) all l.subs.items l.left.acks.now l.left.deads.now;
 }

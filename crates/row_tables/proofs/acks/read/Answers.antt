@@ -13,7 +13,12 @@ returns-clause-done g c clean =
 pub returns-clause-rows : goal.returns-clause-rows
 returns-clause-rows g c clean =
     let ok = rw c.params-to_sql.ensures at (c.query_all.ensures.ok clean) in
-    IfOk-weaker c.query_all.result _ _ (λ rows h. reads_ack c.args.topic.now (state g.S.Store c.args.tx.now.conn.now) (state g.S.Store c.query_all.new.self.conn.now) rows.items h) ok
+    IfOk-weaker c.query_all.result _ _ (λ rows h ready. (reads_ack c.args.topic.now (state g.S.Store c.args.tx.now.conn.now) (state g.S.Store c.query_all.new.self.conn.now) rows.items h ready).0) ok
+
+pub returns-clause-ordered : goal.returns-clause-ordered
+returns-clause-ordered g c clean =
+    let ok = rw c.params-to_sql.ensures at (c.query_all.ensures.ok clean) in
+    IfOk-weaker c.query_all.result _ _ (λ rows h ready. (reads_ack c.args.topic.now (state g.S.Store c.args.tx.now.conn.now) (state g.S.Store c.query_all.new.self.conn.now) rows.items h ready).1) ok
 
 pub returns-clause-kept : goal.returns-clause-kept
 returns-clause-kept g c clean =

@@ -1,0 +1,5 @@
+use Rattle.row_reading.proofs.Told.{one_stands}
+use Rattle.row_reading.proofs.laws.one_stands.Goals as goal
+
+pub returns : goal.returns
+returns c = one_stands

@@ -1,0 +1,5 @@
+use Rattle.row_reading.proofs.Told.{rows_tell_one}
+use Rattle.row_reading.proofs.laws.rows_tell_one.Goals as goal
+
+pub returns : goal.returns
+returns c = rows_tell_one
