@@ -3,3 +3,4 @@ pub mod Restarting
 pub mod Standing
 pub mod Storing
 pub mod Living
+pub mod Unfound

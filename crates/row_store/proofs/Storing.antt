@@ -45,11 +45,11 @@ module _ {S : Type 0} (g : Ghosts S) (old new : Held S) (failed : Bool) (known :
 
   -- and what a crash leaves of one
   pub leaves : (kepts : List KeptTopic) → map (λ (w : Write). w.snapshot) writes ≡ kepts
-      → Survives (state g old) (state g new) (λ db. IsReady (state g old).now → Rounds writes (state g old).now.trees db)
-      → Survives (state g old) (state g new) (λ db. IsTrue (state g old).is_open → StoresAll kepts (state g old).now.trees db)
-  leaves kepts same left = survives_weaker (state g old) (state g new) _ _ (λ clean db round shown.
+      → Survives (state g old) (state g new) (λ db. IsTrue (state g old).is_open × (IsReady (state g old).now → Rounds writes (state g old).now.trees db))
+      → Survives (state g old) (state g new) (λ db. IsTrue (state g old).is_open × StoresAll kepts (state g old).now.trees db)
+  leaves kepts same left = survives_weaker (state g old) (state g new) _ _ (λ clean db made.
       let early : HasCleanDisk (state g old) = omega (arith, less, clean) in
-      stores_all writes kepts (state g old).now.trees db same (round (kept.ready working early shown) (fits _ (kept.known working early shown)))) left
+      (made.0, stores_all writes kepts (state g old).now.trees db same (made.1 (kept.ready working early made.0) (fits _ (kept.known working early made.0))))) left
 
 -- what stands in a database stands among its rows
 pub among : (kept : KeptTopic) (db : Trees) → Stands kept db → StandsAmong kept (all_rows db)
@@ -117,16 +117,16 @@ kept_through g old new failed known written kept autocommit less same was leaves
 
 -- over a clean disk a crash leaves what stood before, or that
 pub left_from : (old new : State) (kepts : List KeptTopic) → (HasCleanDisk old → IsSettled old)
-    → Survives old new (λ db. IsTrue old.is_open → StoresAll kepts old.now.trees db)
+    → Survives old new (λ db. IsTrue old.is_open × StoresAll kepts old.now.trees db)
     → IsTrue old.is_open → HasCleanDisk new → (db : Trees) → new.may_leave db → (db ≡ old.now.trees) ⊎ StoresAll kepts old.now.trees db
 left_from old new kepts settled survives shown clean db may = by (survives.crash clean db may)
   where
     early : HasCleanDisk old
     early = omega (arith, survives.clean, clean)
 
-    by : old.may_leave db ⊎ (IsTrue old.is_open → StoresAll kepts old.now.trees db) → (db ≡ old.now.trees) ⊎ StoresAll kepts old.now.trees db
+    by : old.may_leave db ⊎ (IsTrue old.is_open × StoresAll kepts old.now.trees db) → (db ≡ old.now.trees) ⊎ StoresAll kepts old.now.trees db
     by (inl was) = inl (settled early db was)
-    by (inr all) = inr (all shown)
+    by (inr all) = inr all.1
 
 -- the rows that were read of the topic are those of the snapshot that they show
 pub read_stands : (kept : KeptTopic) (name : TopicName) (text : List ℕ) (raw : RawRows) (db : Trees) → text ≡ topic_text name → kept.name ≡ name → AreRowsOf kept (with_topic (topic_text name) raw) → Has text (with_topic text raw) db → Stands kept db

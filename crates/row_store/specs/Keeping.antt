@@ -14,6 +14,7 @@ use Rattle.delivery_machine.specs.Places.{KeptTopic, snapshot_in}
 use Rattle.row_forms.specs.Standing.{Stands, KeepsOthers}
 use Rattle.row_forms.specs.Schema.{schema_0, schema_6}
 use Rattle.row_tables.specs.Ready.{IsReady, IsBlank}
+use Rattle.row_reading.specs.Reading.{IsReadBack}
 use Rattle.stored_cell.specs.Noted.{Noted, ToStore, GoesOn, all_rows, is_shown}
 use Rattle.row_store.specs.declared.written.Written.{Written}
 
@@ -46,6 +47,10 @@ pub record IsKept {S : Type 0} (g : Ghosts S) (k : Keeping S) : Type 0 where
 pub record StoresAll (kepts : List KeptTopic) (old new : Trees) : Type 0 where
   pub each : All (λ (kept : KeptTopic). Stands kept new) kepts
   pub others : KeepsOthers (map (λ (kept : KeptTopic). topic_text kept.name) kepts) old new
+
+-- no snapshot of the topic stands in the database that is read back where it stands
+abbrev pub NoneStands : TopicName → Trees → Type 0
+NoneStands name db = (kept : KeptTopic) → IsReadBack kept → kept.name ≡ name → Stands kept db → ⊥
 
 -- what is kept of a topic, with the rows that a database committed
 abbrev pub stored_in : State → KeptTopic → Noted

@@ -91,7 +91,7 @@ impl<S: Alter, J: Naming> Keeper<S, J> {
         ensures rows { HasCleanDisk (state S.Store self.new.conn) → OnOk result (StoresAll (kepts parts.items) (state S.Store self.old.conn).now.trees (state S.Store self.new.conn).now.trees) }
         ensures durable { HasCleanDisk (state S.Store self.new.conn) → OnOk result ((db : _) → (state S.Store self.new.conn).may_leave db → db ≡ (state S.Store self.new.conn).now.trees) }
         ensures kept { IfOk result (λ kept. kept.items ≡ map (stored_in (state S.Store self.new.conn)) (kepts parts.items)) }
-        ensures crash { Survives (state S.Store self.old.conn) (state S.Store self.new.conn) (λ db. IsTrue (state S.Store self.old.conn).is_open → StoresAll (kepts parts.items) (state S.Store self.old.conn).now.trees db) }
+        ensures crash { Survives (state S.Store self.old.conn) (state S.Store self.new.conn) (λ db. IsTrue (state S.Store self.old.conn).is_open × StoresAll (kepts parts.items) (state S.Store self.old.conn).now.trees db) }
         ensures ok { OnOk result (self.new.failed ≡ false) }
         ensures written { HasCleanDisk (state S.Store self.new.conn) → OnOk result (Counts self.new.written (kepts parts.items) (state S.Store self.old.conn).now.trees) }
         ensures failed { self.old.failed ≡ true → (result ≡ Err StoreFailed) × (self.new ≡ self.old) }
@@ -112,7 +112,7 @@ impl<S: Alter, J: Naming> Keeper<S, J> {
         ensures rows { HasCleanDisk (state S.Store self.new.conn) → OnOk result (StoresAll (kepts parts.items) (state S.Store self.old.conn).now.trees (state S.Store self.new.conn).now.trees) }
         ensures durable { HasCleanDisk (state S.Store self.new.conn) → OnOk result ((db : _) → (state S.Store self.new.conn).may_leave db → db ≡ (state S.Store self.new.conn).now.trees) }
         ensures kept { IfOk result (λ kept. kept.items ≡ map (stored_in (state S.Store self.new.conn)) (kepts parts.items)) }
-        ensures crash { Survives (state S.Store self.old.conn) (state S.Store self.new.conn) (λ db. IsTrue (state S.Store self.old.conn).is_open → StoresAll (kepts parts.items) (state S.Store self.old.conn).now.trees db) }
+        ensures crash { Survives (state S.Store self.old.conn) (state S.Store self.new.conn) (λ db. IsTrue (state S.Store self.old.conn).is_open × StoresAll (kepts parts.items) (state S.Store self.old.conn).now.trees db) }
         ensures ok { OnOk result (self.new.failed ≡ false) }
         ensures written { HasCleanDisk (state S.Store self.new.conn) → OnOk result (Counts self.new.written (kepts parts.items) (state S.Store self.old.conn).now.trees) }
         ensures failed { self.old.failed ≡ true → (result ≡ Err StoreFailed) × (self.new ≡ self.old) }

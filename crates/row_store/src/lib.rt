@@ -17,5 +17,5 @@ mod written;
 pub use cause::Cause;
 pub use keeper::Keeper;
 pub use opening::Refused;
-pub use topics::open_cell;
+pub use topics::{OpenCell, open_cell};
 pub use written::Written;

@@ -1,11 +1,18 @@
 // A topic's snapshot, as its rows have it.
-ghost use Rattle.std.specs.Prelude.{◌≡◌, ◌⊎◌, ◌++◌, [], ◌∷◌, true, false, IfOk, IfErr, IfSome, OnErr, MatchOption, Err, IsTrue, string_bytes};
+ghost use Rattle.std.specs.Prelude.{◌≡◌, ◌⊎◌, ◌++◌, [], ◌∷◌, true, false, IfOk, IfErr, IfNone, IfSome, OnErr, MatchOption, Err, IsTrue, string_bytes};
 ghost use Rattle.position_core.specs.TopicName.{topic_text};
 ghost use Rattle.position_core.specs.declared.fault.Fault.TheVariants.{NoMemory, StoreFailed};
 ghost use Rattle.sqlite.specs.State.{HasCleanDisk, Survives};
 ghost use Rattle.sqlite.specs.Held.{state};
 ghost use Rattle.row_forms.specs.Standing.{Stands, HasNone};
-ghost use Rattle.row_store.specs.Keeping.{stored_in};
+ghost use Rattle.delivery_machine.specs.Places.{MayRestart};
+ghost use Rattle.row_forms.specs.Changes.{with_topic};
+ghost use Rattle.row_forms.specs.Forms.{AreRowsOf};
+ghost use Rattle.row_tables.specs.Ordered.{AreSorted};
+ghost use Rattle.row_rounds.specs.Rounds.{IsReadFrom};
+ghost use Rattle.row_reading.specs.Reading.{MayBeTold};
+ghost use Rattle.sqlite.specs.Tree.{Trees};
+ghost use Rattle.row_store.specs.Keeping.{NoneStands, stored_in};
 
 use crate::cause::Cause;
 use crate::keeper::Keeper;
@@ -13,19 +20,34 @@ use crate::known::Known;
 use delivery_machine::{Fault, Snapshot};
 use marks::Naming;
 use position_core::TopicName;
-use row_forms::topic_text;
+use row_forms::{RawRows, topic_text};
 use row_reading::snapshot_in;
 use row_rounds::read;
 use sqlite::Alter;
+use std::alloc::{AllocError, Global};
 use stored_cell::{Kept, Loaded};
+
+/// The snapshot that was read of the topic. None only where no snapshot that the reader takes stands in a database whose rows
+/// these are, in the order of their keys.
+fn shown_by(alloc: Global, name: &TopicName, raw: &RawRows) -> Result<Option<Snapshot>, AllocError>
+    ensures name { IfOk result (λ found. IfSome found (λ kept. kept.name ≡ name.now)) }
+    ensures rows { IfOk result (λ found. IfSome found (λ kept. AreRowsOf kept (with_topic (topic_text name.now) raw.now))) }
+    ensures may { IfOk result (λ found. IfSome found MayRestart) }
+    ensures told { IfOk result (λ found. IfSome found MayBeTold) }
+    ensures none { IfOk result (λ found. IfNone found ((db : Trees) → IsReadFrom (topic_text name.now) db raw.now → AreSorted raw.now → NoneStands name.now db)) }
+{
+    snapshot_in(alloc, name, raw)
+}
 
 impl<S: Alter, J: Naming> Keeper<S, J> {
     /// The snapshot whose rows stand there; none where the topic has no rows. The next store of the topic
-    /// writes what changed from then on, if it goes on from there. Refused (F16) where the rows are no snapshot's, or the store answers
-    /// an error; (F1) for want of memory. Nothing changes in any case.
+    /// writes what changed from then on, if it goes on from there. Refused (F16) where the rows are no snapshot's, or the
+    /// store answers an error; (F1) for want of memory. No row changes in any case.
     pub fn load(&mut self, name: &TopicName) -> Result<Option<Loaded<J>>, Fault>
         ensures rows { HasCleanDisk (state S.Store self.new.conn) → IfOk result (λ found. MatchOption found (HasNone (topic_text name.now) (state S.Store self.old.conn).now.trees) (λ loaded. (loaded.snapshot.name ≡ name.now) × Stands loaded.snapshot (state S.Store self.old.conn).now.trees)) }
         ensures kept { IfOk result (λ found. IfSome found (λ loaded. loaded.kept ≡ stored_in (state S.Store self.new.conn) loaded.snapshot)) }
+        ensures named { IfOk result (λ found. IfSome found (λ loaded. loaded.snapshot.name ≡ name.now)) }
+        ensures told { IfOk result (λ found. IfSome found (λ loaded. MayRestart loaded.snapshot × MayBeTold loaded.snapshot)) }
         ensures same { HasCleanDisk (state S.Store self.new.conn) → IsTrue (state S.Store self.new.conn).is_open → (state S.Store self.new.conn).now ≡ (state S.Store self.old.conn).now }
         ensures crash { Survives (state S.Store self.old.conn) (state S.Store self.new.conn) (λ _. ⊥) }
         ensures known { IfOk result (λ found. MatchOption found (self.new.known ≡ self.old.known) (λ loaded. self.new.known ≡ self.old.known ++ loaded.snapshot ∷ [])) }
@@ -54,7 +76,7 @@ impl<S: Alter, J: Naming> Keeper<S, J> {
             drop(raw);
             return Ok(None);
         }
-        let found = snapshot_in(self.alloc, name, &raw);
+        let found = shown_by(self.alloc, name, &raw);
         drop(raw);
         match found {
             Ok(Some(snapshot)) => match self.know_loaded(topic, snapshot) {

@@ -100,7 +100,7 @@ impl<S: Alter, J: Naming> Keeper<S, J> {
         ensures rows { HasCleanDisk (state S.Store self.new.conn) → OnOk result (StoresAll (part.kept ∷ []) (state S.Store self.old.conn).now.trees (state S.Store self.new.conn).now.trees) }
         ensures durable { HasCleanDisk (state S.Store self.new.conn) → OnOk result ((db : _) → (state S.Store self.new.conn).may_leave db → db ≡ (state S.Store self.new.conn).now.trees) }
         ensures kept { IfOk result (λ kept. kept ≡ stored_in (state S.Store self.new.conn) part.kept) }
-        ensures crash { Survives (state S.Store self.old.conn) (state S.Store self.new.conn) (λ db. IsTrue (state S.Store self.old.conn).is_open → StoresAll (part.kept ∷ []) (state S.Store self.old.conn).now.trees db) }
+        ensures crash { Survives (state S.Store self.old.conn) (state S.Store self.new.conn) (λ db. IsTrue (state S.Store self.old.conn).is_open × StoresAll (part.kept ∷ []) (state S.Store self.old.conn).now.trees db) }
         ensures ok { OnOk result (self.new.failed ≡ false) }
         ensures memory { result ≡ Err NoMemory → self.new ≡ self.old }
         ensures stuck { result ≡ Err StoreFailed → (self.new.failed ≡ true) ⊎ (self.new ≡ self.old) }
@@ -122,7 +122,7 @@ impl<S: Alter, J: Naming> Keeper<S, J> {
     pub fn round<T: Opened + Drop>(&mut self, cell: &mut StoredCell<T, J>) -> Result<u64, Fault>
         ensures rows { HasCleanDisk (state S.Store self.new.conn) → OnOk result (StoresState cell.old.cell.state (state S.Store self.old.conn).now.trees (state S.Store self.new.conn).now.trees) }
         ensures durable { HasCleanDisk (state S.Store self.new.conn) → OnOk result ((db : _) → (state S.Store self.new.conn).may_leave db → db ≡ (state S.Store self.new.conn).now.trees) }
-        ensures crash { Survives (state S.Store self.old.conn) (state S.Store self.new.conn) (λ db. IsTrue (state S.Store self.old.conn).is_open → StoresState cell.old.cell.state (state S.Store self.old.conn).now.trees db) }
+        ensures crash { Survives (state S.Store self.old.conn) (state S.Store self.new.conn) (λ db. IsTrue (state S.Store self.old.conn).is_open × StoresState cell.old.cell.state (state S.Store self.old.conn).now.trees db) }
         ensures line { IfOk result (λ count. StoresLine (record (with_promise cell.old.cell) { viewed = cell.old.cell.state; unsaved = false }) Stored count cell.new.cell) }
         ensures proof { OnOk result ((n : Noted) × (cell.new.stored ≡ Some n) × (snapshot_in n.kept ≡ snapshot_of cell.old.cell.state) × (n ≡ stored_in (state S.Store self.new.conn) n.kept) × (cell.new.by_word ≡ false)) }
         ensures cell { OnErr result (SameButPromise cell.old cell.new) }

@@ -1,7 +1,27 @@
+use Rattle.std.proofs.Common.{Ok, sym, subst}
+use Rattle.sqlite.specs.Effect.{Database}
 use Rattle.sqlite.specs.Held.{state}
-use Rattle.row_store.proofs.Restarting.{opens_found}
+use Rattle.sqlite.specs.State.{HasCleanDisk}
+use Rattle.stored_cell.specs.Opening.{Opens}
+use Rattle.row_store.specs.Keeping.{Keeping}
+use Rattle.row_store.proofs.Restarting.{as_cell, opens_found, opens_itself}
 use Rattle.row_store.proofs.topics.open_cell.Goals as goal
 
-pub returns-in-Ok-clause-opens : goal.returns-in-Ok-clause-opens
-returns-in-Ok-clause-opens g c = λ clean.
-    opens_found _ _ _ (state g.S.Store c.load.new.self.conn) _ c.opened_cell.result (c.in-Ok.ensures.rows clean) c.in-Ok.ensures.kept c.opened_cell.ensures.opens
+pub noted-requires-clause-opens : goal.noted-requires-clause-opens
+noted-requires-clause-opens g c = λ clean shown.
+    let old = state g.S.Store c.args.keeper.now.conn in
+    let new = state g.S.Store c.load.new.self.conn in
+    let cell = c.in-Ok-opened_cell.cell in
+    let opens = opens_found c.args.name.now c.args.terms old.now.trees new c.in-Ok.loaded (Ok cell) (c.in-Ok.ensures.rows clean) c.in-Ok.ensures.kept c.in-Ok-opened_cell.ensures.opens in (
+      c.args.terms,
+      subst (λ (db : Database). Opens cell.cell.state.name c.args.terms db.trees cell) (sym (c.in-Ok.ensures.same clean shown))
+          (opens_itself c.args.name.now c.args.terms old.now.trees cell opens),
+    )
+
+pub returns-in-Ok-opened_cell-clause-opens : goal.returns-in-Ok-opened_cell-clause-opens
+returns-in-Ok-opened_cell-clause-opens g c = λ clean.
+    let old = state g.S.Store c.args.keeper.now.conn in
+    let new = state g.S.Store c.load.new.self.conn in
+    let early = subst (λ (k : Keeping _). HasCleanDisk (state g.S.Store k.conn)) c.noted.ensures.same clean in
+    let opens = opens_found c.args.name.now c.args.terms old.now.trees new c.in-Ok.loaded (Ok c.in-Ok-opened_cell.cell) (c.in-Ok.ensures.rows early) c.in-Ok.ensures.kept c.in-Ok-opened_cell.ensures.opens in
+    as_cell (Opens c.args.name.now c.args.terms old.now.trees) c.noted.result c.in-Ok-opened_cell.cell c.noted.ensures.cell opens

@@ -3,10 +3,11 @@ use Rattle.position_core.specs.TopicName.{topic_text}
 use Rattle.sqlite.specs.Effect.{Database}
 use Rattle.sqlite.specs.State.{HasCleanDisk}
 use Rattle.sqlite.specs.Held.{state}
-use Rattle.delivery_machine.specs.Places.{KeptTopic}
+use Rattle.delivery_machine.specs.Places.{KeptTopic, MayRestart}
 use Rattle.row_forms.specs.Changes.{with_topic}
 use Rattle.row_forms.specs.Forms.{AreRowsOf}
 use Rattle.row_forms.specs.Standing.{Stands}
+use Rattle.row_reading.specs.Reading.{MayBeTold}
 use Rattle.row_store.proofs.Storing.{kept_through, none_read, read_stands}
 use Rattle.row_store.proofs.keeper.Keeper.load.Goals as goal
 
@@ -72,3 +73,14 @@ returns-in-Ok-know_loaded-clause-rows g c = λ clean.
     let there = read_stands c.in-Ok-Some.snapshot c.args.name.now c.as_str.result.now c.in-Ok-read.raw old.now.trees text named are (c.in-Ok-read.ensures.loaded late ready) in
     let same = c.in-Ok-know_loaded.ensures.snapshot in
     rw (← c.self.view_is) (ap (λ (s : KeptTopic). s.name) same ∙ named, subst (λ s. Stands s old.now.trees) (sym same) there)
+
+pub returns-in-Ok-know_loaded-clause-told : goal.returns-in-Ok-know_loaded-clause-told
+returns-in-Ok-know_loaded-clause-told g c =
+    let found : c.in-Ok-Some.field-0 ≡ Some c.in-Ok-Some.snapshot = search rules in
+    subst (λ s. MayRestart s × MayBeTold s) (sym c.in-Ok-know_loaded.ensures.snapshot)
+    (subst (λ o. IfSome o MayRestart) found c.in-Ok-Some.ensures.may, subst (λ o. IfSome o MayBeTold) found c.in-Ok-Some.ensures.told)
+
+pub returns-in-Ok-know_loaded-clause-named : goal.returns-in-Ok-know_loaded-clause-named
+returns-in-Ok-know_loaded-clause-named g c =
+    let found : c.in-Ok-Some.field-0 ≡ Some c.in-Ok-Some.snapshot = search rules in
+    ap (λ (s : KeptTopic). s.name) c.in-Ok-know_loaded.ensures.snapshot ∙ subst (λ o. IfSome o (λ kept. kept.name ≡ c.args.name.now)) found c.in-Ok-Some.ensures.name

@@ -9,4 +9,4 @@ pub returns-in-Err-store_one-clause-crash : goal.returns-in-Err-store_one-clause
 returns-in-Err-store_one-clause-crash g c =
     let same : snapshot_in c.in-Ok-part_of.part.kept ≡ snapshot_of c.args.cell.now.cell.state = search rules in
     let left = rw c.in-Ok-part_of.ensures.keeper at c.in-Err-store_one.ensures.crash in
-    survives_weaker (state g.S.Store c.args.self.now.conn) (state g.S.Store c.store_one.new.self.conn) _ _ (λ clean db stores shown. (c.in-Ok-part_of.part.kept, same, stores shown)) left
+    survives_weaker (state g.S.Store c.args.self.now.conn) (state g.S.Store c.store_one.new.self.conn) _ _ (λ clean db stores. (stores.0, (c.in-Ok-part_of.part.kept, same, stores.1))) left
