@@ -2,3 +2,4 @@
 pub mod Ends
 pub mod Handing
 pub mod Listing
+pub mod Refusing

@@ -11,3 +11,7 @@ names_of = map (λ topic. string_bytes topic.0)
 -- each is open under the text of its name
 abbrev pub AreNamed : {A X : Type 0} → (X → TopicName) → List (String A × X) → Type 0
 AreNamed name topics = All (λ topic. string_bytes topic.0 ≡ topic_text (name topic.1)) topics
+
+-- how many may be open
+abbrev pub most_open : ℕ
+most_open = 256

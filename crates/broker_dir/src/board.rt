@@ -148,8 +148,7 @@ impl<X: Drop> Board<X> {
     pub(crate) fn close<R: Wait>(&self, rt: &R) {
         let mut guard = self.queue.lock(rt);
         let queue = &mut *guard;
-        queue.is_closed = true;
-        queue.is_led = false;
+        queue.close();
         drop(guard);
         self.news.notify_all();
     }

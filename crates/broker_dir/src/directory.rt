@@ -1,12 +1,16 @@
 // The directory: topics by name, and who sits at them.
-ghost use Rattle.std.specs.Prelude.{◌≡◌, ◌∷◌, ◌++◌, [], IfErr, IfOk, None, OnOk, OnErr, false, true};
+ghost use Rattle.std.specs.Prelude.{◌≡◌, ◌≤◌, ◌<◌, ◌-◌, ◌↔◌, ◌⊎◌, ◌∷◌, ◌++◌, [], Err, IfErr, IfOk, IfSome, IsSome, MatchOption, None, Ok, OnOk, OnErr, length, set, false, true};
+ghost use Rattle.topic_seats.specs.Seats.{IsFree};
+ghost use Rattle.stored_cell.specs.Opening.{begins};
 ghost use Rattle.std.specs.String.{string_bytes};
 ghost use Rattle.indexmap.specs.IndexMap.{get_by_text};
 ghost use Rattle.position_core.specs.TopicName.{topic_text};
-ghost use Rattle.broker_dir.specs.Listing.{names_of};
+ghost use Rattle.broker_dir.specs.Listing.{most_open, names_of};
+ghost use Rattle.broker_dir.specs.Refusing.{IsLoadRefusal, IsRefusal, IsSeatRefusal};
 
 use crate::attached::{Attached, Seated};
 use crate::board::Board;
+use crate::closing::Closed;
 use crate::gate::Gate;
 use crate::inside::Inside;
 use crate::table::{MOST_OPEN, Table};
@@ -18,7 +22,6 @@ use row_store::{Cause, Keeper, open_cell};
 use session_bells::{Bell, Rest};
 use sqlite::Alter;
 use std::alloc::Global;
-use std::sync::atomic::{AtomicBool, Ordering};
 use std::sync::{Arc, Mutex, Wait};
 use stored_cell::Terms;
 
@@ -30,7 +33,8 @@ pub struct Directory<T: Opened + Drop, S: Alter, J: Naming, B: Bell + Drop> {
     table: Mutex<Table<T, J, B>>,
     pub(crate) keeper: Mutex<Keeper<S, J>>,
     pub(crate) board: Board<Arc<Shared<T, J, B>>>,
-    pub(crate) is_closed: AtomicBool,
+    /// Set once the store has failed: from then on all is refused (F16).
+    pub(crate) closed: Closed,
 }
 
 impl<T: Opened + Drop, S: Alter + Drop, J: Naming, B: Bell + Drop> Drop for Directory<T, S, J, B> {
@@ -41,7 +45,7 @@ impl<T: Opened + Drop, S: Alter + Drop, J: Naming, B: Bell + Drop> Drop for Dire
             table: _,
             keeper: _,
             board: _,
-            is_closed: _,
+            closed: _,
         } = self;
     }
 }
@@ -63,7 +67,7 @@ impl<T: Opened + Drop, S: Alter, J: Naming, B: Bell + Drop> Directory<T, S, J, B
             table: Mutex::new(Table::new(alloc)),
             keeper: Mutex::new(keeper),
             board: Board::new(alloc),
-            is_closed: AtomicBool::new(false),
+            closed: Closed::new(),
         }
     }
 
@@ -75,14 +79,9 @@ impl<T: Opened + Drop, S: Alter, J: Naming, B: Bell + Drop> Directory<T, S, J, B
             table: _,
             keeper,
             board: _,
-            is_closed: _,
+            closed: _,
         } = self;
         keeper.into_inner()
-    }
-
-    /// Whether the store failed, so that all is refused (F16).
-    pub fn is_closed(&self) -> bool {
-        self.is_closed.load(Ordering::SeqCst)
     }
 
     /// Why the store failed, or refused last where it has not; none where it never did.
@@ -104,9 +103,9 @@ impl<T: Opened + Drop, S: Alter, J: Naming, B: Bell + Drop> Directory<T, S, J, B
     }
 
     /// Takes a seat at the topic, which is opened where it is not open, and leaves the bell there. Refused in this order:
-    /// (F7) where it is not open and 256 are; (F16) where the store fails, or has rows of it that are none; (F11) where it
-    /// has no rows and is not to be made; (F21) where no seat is free; and (F1) for want of memory. A refusal leaves the
-    /// open topics as they were.
+    /// (F16) where the directory is closed; (F7) where it is not open and 256 are; (F16) where the store fails, or has rows
+    /// of it that are none; (F11) where it has no rows and is not to be made; (F21) where no seat is free; and (F1) for want
+    /// of memory, at any point. A refusal leaves the open topics as they were.
     pub fn attach<R: Wait>(
         &self,
         rt: &R,
@@ -114,7 +113,10 @@ impl<T: Opened + Drop, S: Alter, J: Naming, B: Bell + Drop> Directory<T, S, J, B
         create: bool,
         bell: Arc<B>,
     ) -> Result<Attached<T, J, B>, Fault>
-        ensures { IfOk result (λ attached. topic_text attached.topic.value.name ≡ topic_text name.now) }
+        ensures at { IfOk result (λ attached. topic_text attached.topic.value.name ≡ topic_text name.now) }
+        ensures seat { IfOk result (λ attached. 0 < attached.seat) }
+        ensures unknown { result ≡ Err Fault.NoSuchSubscription → create ≡ false }
+        ensures faults { IfErr result IsRefusal }
     {
         if self.is_closed() {
             drop(bell);
@@ -161,7 +163,11 @@ impl<T: Opened + Drop, S: Alter, J: Naming, B: Bell + Drop> Directory<T, S, J, B
         requires new { get_by_text table.old.list.topics (string_bytes text) ≡ None }
         ensures opened { OnOk result (names_of table.new.list.topics.entries ≡ names_of table.old.list.topics.entries ++ string_bytes text ∷ []) }
         ensures at { IfOk result (λ opened. opened.0.value.name ≡ name.now) }
+        ensures seat { IsSome bell → IfOk result (λ opened. 0 < opened.1) }
         ensures refused { OnErr result (table.new.list.topics.entries ≡ table.old.list.topics.entries) }
+        ensures full { (result ≡ Err Fault.TooMany) ↔ (most_open ≤ length table.old.list.topics.entries) }
+        ensures unknown { result ≡ Err Fault.NoSuchSubscription → create ≡ false }
+        ensures faults { IfErr result IsRefusal }
     {
         if table.count() >= MOST_OPEN {
             drop(text);
@@ -186,7 +192,10 @@ impl<T: Opened + Drop, S: Alter, J: Naming, B: Bell + Drop> Directory<T, S, J, B
         bell: Option<Arc<B>>,
         open: usize,
     ) -> Result<Made<Shared<T, J, B>>, Fault>
-        ensures { IfOk result (λ made. made.topic.value.name ≡ name.now) }
+        ensures at { IfOk result (λ made. made.topic.value.name ≡ name.now) }
+        ensures seat { IsSome bell → IfOk result (λ made. 0 < made.seat) }
+        ensures unknown { result ≡ Err Fault.NoSuchSubscription → create ≡ false }
+        ensures faults { IfErr result IsSeatRefusal }
     {
         match self.load(rt, name, create) {
             Ok(inside) => self.seated(rt, inside, name, bell, open),
@@ -205,7 +214,10 @@ impl<T: Opened + Drop, S: Alter, J: Naming, B: Bell + Drop> Directory<T, S, J, B
         bell: Option<Arc<B>>,
         open: usize,
     ) -> Result<Made<Shared<T, J, B>>, Fault>
-        ensures { IfOk result (λ made. made.topic.value.name ≡ name.now) }
+        requires { inside.name ≡ name.now }
+        ensures at { IfOk result (λ made. made.topic.value.name ≡ name.now) }
+        ensures seat { IsSome bell → IfOk result (λ made. 0 < made.seat) }
+        ensures faults { IfErr result (λ fault. (fault ≡ Fault.NoRoom) ⊎ (fault ≡ Fault.NoMemory)) }
     {
         let sends = inside.wants_courier();
         match seat_for(&mut inside, bell) {
@@ -231,8 +243,9 @@ impl<T: Opened + Drop, S: Alter, J: Naming, B: Bell + Drop> Directory<T, S, J, B
         requires text { string_bytes text ≡ topic_text made.topic.value.name }
         requires new { get_by_text table.old.list.topics (string_bytes text) ≡ None }
         ensures opened { OnOk result (names_of table.new.list.topics.entries ≡ names_of table.old.list.topics.entries ++ string_bytes text ∷ []) }
-        ensures at { IfOk result (λ opened. opened.0 ≡ made.topic) }
+        ensures at { IfOk result (λ opened. (opened.0 ≡ made.topic) × (opened.1 ≡ made.seat)) }
         ensures refused { OnErr result (table.new.list.topics.entries ≡ table.old.list.topics.entries) }
+        ensures fault { IfErr result (λ fault. fault ≡ Fault.NoMemory) }
     {
         let Made { topic, seat, sends } = made;
         let errand = match clone_of(&topic) {
@@ -262,7 +275,8 @@ impl<T: Opened + Drop, S: Alter, J: Naming, B: Bell + Drop> Directory<T, S, J, B
         rt: &R,
         name: &TopicName,
     ) -> Result<Arc<Shared<T, J, B>>, Fault>
-        ensures { IfOk result (λ topic. topic_text topic.value.name ≡ topic_text name.now) }
+        ensures at { IfOk result (λ topic. topic_text topic.value.name ≡ topic_text name.now) }
+        ensures faults { IfErr result IsRefusal }
     {
         let Ok(text) = topic_text(self.alloc, name) else {
             return Err(Fault::NoMemory);
@@ -282,20 +296,27 @@ impl<T: Opened + Drop, S: Alter, J: Naming, B: Bell + Drop> Directory<T, S, J, B
         }
     }
 
-    /// What the rows have of the topic, with the keeper's lock held.
+    /// What the rows have of the topic, with the keeper's lock held: `open_cell` says what that is. Of a topic that is not to
+    /// be made something is stored.
     fn load<R: Wait>(
         &self,
         rt: &R,
         name: &TopicName,
         create: bool,
-    ) -> Result<Inside<T, J, B>, Fault> {
+    ) -> Result<Inside<T, J, B>, Fault>
+        ensures name { IfOk result (λ inside. inside.name ≡ name.now) }
+        ensures begins { IfOk result (λ inside. inside.cell.cell ≡ begins inside.cell.cell.state self.now.terms) }
+        ensures known { create ≡ false → IfOk result (λ inside. IsSome inside.cell.stored) }
+        ensures unknown { result ≡ Err Fault.NoSuchSubscription → create ≡ false }
+        ensures faults { IfErr result IsLoadRefusal }
+    {
         let mut keeper = self.keeper.lock(rt);
-        let cell = match open_cell(self.alloc, &mut *keeper, name, create, self.terms) {
-            Ok(cell) => cell,
+        let topic = match open_cell(self.alloc, &mut *keeper, name, create, self.terms) {
+            Ok(topic) => topic,
             Err(fault) => return Err(fault),
         };
         drop(keeper);
-        Inside::opened(self.alloc, cell)
+        Inside::opened(self.alloc, topic)
     }
 
     /// The topic under a lock of its own, with room for it on the board.
@@ -306,7 +327,9 @@ impl<T: Opened + Drop, S: Alter, J: Naming, B: Bell + Drop> Directory<T, S, J, B
         name: &TopicName,
         open: usize,
     ) -> Result<Arc<Shared<T, J, B>>, Fault>
-        ensures { IfOk result (λ topic. topic.value.name ≡ name.now) }
+        requires { inside.name ≡ name.now }
+        ensures at { IfOk result (λ topic. topic.value.name ≡ name.now) }
+        ensures fault { IfErr result (λ fault. fault ≡ Fault.NoMemory) }
     {
         match self.name_with_room(rt, name, open) {
             Ok(name) => shared(self.alloc, name, inside),
@@ -324,7 +347,8 @@ impl<T: Opened + Drop, S: Alter, J: Naming, B: Bell + Drop> Directory<T, S, J, B
         name: &TopicName,
         open: usize,
     ) -> Result<TopicName, Fault>
-        ensures { IfOk result (λ copy. copy ≡ name.now) }
+        ensures ok { IfOk result (λ copy. copy ≡ name.now) }
+        ensures fault { IfErr result (λ fault. fault ≡ Fault.NoMemory) }
     {
         if !self.board.make_room(rt, open.saturating_add(1)) {
             return Err(Fault::NoMemory);
@@ -405,12 +429,15 @@ impl<T: Opened + Drop, S: Alter, J: Naming, B: Bell + Drop> Directory<T, S, J, B
     }
 }
 
+/// The topic under a lock, with its name beside it.
 fn shared<T: Opened + Drop, J: Naming, B: Bell + Drop>(
     alloc: Global,
     name: TopicName,
     inside: Inside<T, J, B>,
 ) -> Result<Arc<Shared<T, J, B>>, Fault>
-    ensures { IfOk result (λ topic. topic.value.name ≡ name) }
+    requires { inside.name ≡ name }
+    ensures at { IfOk result (λ topic. topic.value.name ≡ name) }
+    ensures fault { IfErr result (λ fault. fault ≡ Fault.NoMemory) }
 {
     let shared = Shared {
         name,
@@ -432,7 +459,8 @@ fn fall_behind<T: Opened + Drop, J: Naming, B: Bell + Drop, R: Wait>(
 }
 
 fn clone_of<X>(topic: &Arc<X>) -> Result<Arc<X>, Fault>
-    ensures { IfOk result (λ copy. copy.value ≡ topic.now.value) }
+    ensures ok { IfOk result (λ copy. copy.value ≡ topic.now.value) }
+    ensures fault { IfErr result (λ fault. fault ≡ Fault.NoMemory) }
 {
     match Arc::try_clone(topic) {
         Ok(topic) => Ok(topic),
@@ -464,7 +492,11 @@ fn add_to<T: Opened + Drop, J: Naming, B: Bell + Drop>(
 fn seat_for<T: Opened + Drop, J: Naming, B: Bell + Drop>(
     inside: &mut Inside<T, J, B>,
     bell: Option<Arc<B>>,
-) -> Result<u64, Fault> {
+) -> Result<u64, Fault>
+    ensures seat { MatchOption bell ((result ≡ Ok 0) × (inside.new.cell ≡ inside.old.cell)) (λ _. IfOk result (λ seat. IsFree inside.old.cell.cell.taken seat × (inside.new.cell.cell.taken ≡ set inside.old.cell.cell.taken (seat - 1) true))) }
+    ensures faults { IfErr result (λ fault. (fault ≡ Fault.NoRoom) ⊎ (fault ≡ Fault.NoMemory)) }
+    ensures name { inside.new.name ≡ inside.old.name }
+{
     match bell {
         Some(bell) => inside.enter(bell),
         None => Ok(0),
@@ -476,7 +508,9 @@ fn sit<T: Opened + Drop, J: Naming, B: Bell + Drop, R: Wait>(
     topic: Arc<Shared<T, J, B>>,
     bell: Arc<B>,
 ) -> Result<Attached<T, J, B>, Fault>
-    ensures { IfOk result (λ attached. attached.topic ≡ topic) }
+    ensures at { IfOk result (λ attached. attached.topic ≡ topic) }
+    ensures seat { IfOk result (λ attached. 0 < attached.seat) }
+    ensures faults { IfErr result (λ fault. (fault ≡ Fault.NoRoom) ⊎ (fault ≡ Fault.NoMemory)) }
 {
     let mut inside = topic.inside.lock(rt);
     let entered = inside.enter(bell);

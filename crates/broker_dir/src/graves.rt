@@ -1,5 +1,5 @@
 // The subscriptions of a topic, and in which of them letters may lie dead.
-ghost use Rattle.std.specs.Prelude.{◌≡◌};
+ghost use Rattle.std.specs.Prelude.{◌≡◌, IfErr};
 
 use delivery_machine::{Event, Fault, KeptSubscription, Reply, SubscriptionName};
 use std::alloc::Global;
@@ -74,7 +74,9 @@ impl Graves {
     }
 
     /// Those of a topic that was just opened: the courier is to look at each in which letters lie.
-    pub(crate) fn know(&mut self, subscriptions: &[KeptSubscription]) -> Result<(), Fault> {
+    pub(crate) fn know(&mut self, subscriptions: &[KeptSubscription]) -> Result<(), Fault>
+        ensures { IfErr result (λ fault. fault ≡ Fault.NoMemory) }
+    {
         for subscription in subscriptions {
             match self.know_one(&subscription.name, !subscription.dead.is_empty()) {
                 Ok(()) => {}
@@ -84,7 +86,9 @@ impl Graves {
         Ok(())
     }
 
-    fn know_one(&mut self, name: &SubscriptionName, is_open: bool) -> Result<(), Fault> {
+    fn know_one(&mut self, name: &SubscriptionName, is_open: bool) -> Result<(), Fault>
+        ensures { IfErr result (λ fault. fault ≡ Fault.NoMemory) }
+    {
         match self.room_for(name) {
             Ok(name) => {
                 self.add(name, is_open);
@@ -95,7 +99,9 @@ impl Graves {
     }
 
     /// Room for one more, of that name.
-    fn room_for(&mut self, name: &SubscriptionName) -> Result<SubscriptionName, Fault> {
+    fn room_for(&mut self, name: &SubscriptionName) -> Result<SubscriptionName, Fault>
+        ensures { IfErr result (λ fault. fault ≡ Fault.NoMemory) }
+    {
         if self.graves.reserve(1).is_err() {
             return Err(Fault::NoMemory);
         }

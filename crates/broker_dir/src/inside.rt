@@ -1,18 +1,21 @@
 // What a topic's lock guards: the topic with what is stored of it, and the bells of those who sit at it.
-ghost use Rattle.std.specs.Prelude.{◌≡◌, ◌-◌, ◌<◌, ◌⊎◌, IfOk, IfErr, IsOk, set, false, true};
+ghost use Rattle.std.specs.Prelude.{◌≡◌, ◌-◌, ◌<◌, ◌≤◌, ◌⊎◌, ◌↔◌, IfOk, IfErr, IsOk, OnErr, Err, All, length, set, false, true};
+ghost use Rattle.std.specs.Coded.{Coded-set};
 ghost use Rattle.delivery_machine.specs.Journals.{is_storing};
 ghost use Rattle.topic_shared.specs.Kept.{is_end};
+ghost use Rattle.row_store.specs.Opened.{has_origin};
 ghost use Rattle.broker_dir.specs.Ends.{is_ending};
 ghost use Rattle.broker_dir.specs.Handing.{HandsOn};
-ghost use Rattle.topic_seats.specs.Seats.{IsFree};
+ghost use Rattle.topic_seats.specs.Seats.{IsFree, without_seat};
 
 use crate::graves::{Change, Graves};
-use delivery_machine::{Event, Fault, KeptSubscription, Opened, Reply, Saved};
-use marks::Naming;
+use delivery_machine::{Event, Fault, Opened, Reply, Saved, Snapshot, TopicName};
+use marks::{Mark, Naming};
+use row_store::OpenCell;
 use session_bells::{Asked, Bell, Bells};
 use std::alloc::Global;
 use std::sync::{Arc, Wait};
-use stored_cell::{Kept, StoredCell};
+use stored_cell::{Kept, Note, StoredCell};
 
 /// After how many lines a journal begins anew, so that its memory is bounded.
 const LONG: u64 = 4_096;
@@ -38,7 +41,11 @@ fn is_storing(event: &Event) -> bool
 #[derive(Drop)]
 pub(crate) struct Inside<T: Opened + Drop, J: Naming, B: Bell + Drop> {
     alloc: Global,
+    /// The topic's.
+    pub(crate) name: TopicName,
     pub(crate) cell: StoredCell<T, J>,
+    /// The mark of the rows that the topic was opened from.
+    rows: Mark<Note, J>,
     pub(crate) bells: Bells<B>,
     /// It waits on the board to be stored, or is being stored.
     pub(crate) is_queued: bool,
@@ -51,16 +58,77 @@ pub(crate) struct Inside<T: Opened + Drop, J: Naming, B: Bell + Drop> {
     pub(crate) is_awaited: bool,
     /// All that is durable stands in rows that were committed: nothing is so by somebody's word.
     ghost by_proof: { cell.by_word ≡ false },
+    /// It is the topic of that name.
+    ghost named: { cell.cell.state.name ≡ name } by { Coded-set name-code cell.cell.state.name name },
+    /// Something of it is stored; or, where the database was open and the disk returned what was written, the rows that it
+    /// was opened from had nothing of it.
+    ghost origin: { has_origin rows cell.stored name ≡ true },
 }
 
 impl<T: Opened + Drop, J: Naming, B: Bell + Drop> Inside<T, J, B> {
-    pub(crate) fn new(alloc: Global, cell: StoredCell<T, J>) -> Self
-        requires { cell.by_word ≡ false }
-        ensures { result.cell ≡ cell }
+    /// Over a topic that was just opened: the courier is to look at each of its subscriptions in which letters lie.
+    pub(crate) fn opened(alloc: Global, topic: OpenCell<T, J>) -> Result<Self, Fault>
+        ensures ok { IfOk result (λ inside. (inside.cell ≡ topic) × (inside.name ≡ topic.cell.state.name)) }
+        ensures queue { IfOk result (λ inside. (inside.is_queued ≡ false) × (inside.is_behind ≡ false)) }
+        ensures fault { IfErr result (λ fault. fault ≡ Fault.NoMemory) }
+    {
+        let (cell, rows) = topic.into_parts();
+        match cell.view() {
+            Ok(snapshot) => {
+                let inside = Inside::knowing(alloc, cell, rows, &snapshot);
+                drop(snapshot);
+                inside
+            }
+            Err(fault) => {
+                drop(cell);
+                drop(rows);
+                Err(fault)
+            }
+        }
+    }
+
+    /// The snapshot is of the topic as it was opened.
+    fn knowing(
+        alloc: Global,
+        cell: StoredCell<T, J>,
+        rows: Mark<Note, J>,
+        snapshot: &Snapshot,
+    ) -> Result<Self, Fault>
+        requires word { cell.by_word ≡ false }
+        requires name { snapshot.now.name ≡ cell.cell.state.name }
+        requires origin { has_origin rows cell.stored cell.cell.state.name ≡ true }
+        ensures ok { IfOk result (λ inside. (inside.cell ≡ cell) × (inside.name ≡ cell.cell.state.name)) }
+        ensures queue { IfOk result (λ inside. (inside.is_queued ≡ false) × (inside.is_behind ≡ false)) }
+        ensures fault { IfErr result (λ fault. fault ≡ Fault.NoMemory) }
+    {
+        let Ok(name) = snapshot.name().clone() else {
+            drop(cell);
+            drop(rows);
+            return Err(Fault::NoMemory);
+        };
+        let mut inside = Inside::new(alloc, name, cell, rows);
+        match inside.graves.know(snapshot.subscriptions()) {
+            Ok(()) => Ok(inside),
+            Err(fault) => {
+                drop(inside);
+                Err(fault)
+            }
+        }
+    }
+
+    fn new(alloc: Global, name: TopicName, cell: StoredCell<T, J>, rows: Mark<Note, J>) -> Self
+        requires word { cell.by_word ≡ false }
+        requires name { cell.cell.state.name ≡ name }
+        requires origin { has_origin rows cell.stored name ≡ true }
+        ensures cell { result.cell ≡ cell }
+        ensures name { result.name ≡ name }
+        ensures queue { (result.is_queued ≡ false) × (result.is_behind ≡ false) }
     {
         Inside {
             alloc,
+            name,
             cell,
+            rows,
             bells: Bells::new(alloc, 0),
             is_queued: false,
             is_behind: false,
@@ -70,45 +138,15 @@ impl<T: Opened + Drop, J: Naming, B: Bell + Drop> Inside<T, J, B> {
         }
     }
 
-    /// Over a topic that was just opened: the courier is to look at each of its subscriptions in which letters lie.
-    pub(crate) fn opened(alloc: Global, cell: StoredCell<T, J>) -> Result<Self, Fault>
-        requires { cell.by_word ≡ false }
-        ensures { IfOk result (λ inside. inside.cell ≡ cell) }
-    {
-        match cell.view() {
-            Ok(snapshot) => {
-                let inside = Inside::knowing(alloc, cell, snapshot.subscriptions());
-                drop(snapshot);
-                inside
-            }
-            Err(fault) => {
-                drop(cell);
-                Err(fault)
-            }
-        }
-    }
-
-    fn knowing(
-        alloc: Global,
-        cell: StoredCell<T, J>,
-        subscriptions: &[KeptSubscription],
-    ) -> Result<Self, Fault>
-        requires { cell.by_word ≡ false }
-        ensures { IfOk result (λ inside. inside.cell ≡ cell) }
-    {
-        let mut inside = Inside::new(alloc, cell);
-        match inside.graves.know(subscriptions) {
-            Ok(()) => Ok(inside),
-            Err(fault) => {
-                drop(inside);
-                Err(fault)
-            }
-        }
-    }
-
-    /// Takes a free seat, and leaves the bell there. Refused (F21) where none is free, and (F1) for want of memory.
+    /// Takes a free seat, and leaves the bell there. Refused (F21) where none is free, and (F1) for want of memory, which
+    /// leaves the seat free.
     pub(crate) fn enter(&mut self, bell: Arc<B>) -> Result<u64, Fault>
-        ensures { IfOk result (λ seat. IsFree self.old.cell.cell.taken seat × (self.new.cell.cell.taken ≡ set self.old.cell.cell.taken (seat - 1) true)) }
+        ensures ok { IfOk result (λ seat. IsFree self.old.cell.cell.taken seat × (self.new.cell ≡ record self.old.cell { cell = record self.old.cell.cell { taken = set self.old.cell.cell.taken (seat - 1) true } })) }
+        ensures full { (result ≡ Err Fault.NoRoom) ↔ All (λ taken. taken ≡ true) self.old.cell.cell.taken }
+        ensures faults { IfErr result (λ fault. (fault ≡ Fault.NoRoom) ⊎ (fault ≡ Fault.NoMemory)) }
+        ensures refused { OnErr result (self.new.cell ≡ self.old.cell) }
+        ensures name { self.new.name ≡ self.old.name }
+        ensures queue { (self.new.is_queued ≡ self.old.is_queued) × (self.new.is_behind ≡ self.old.is_behind) }
     {
         let seat = match self.cell.enter() {
             Ok(seat) => seat,
@@ -119,14 +157,20 @@ impl<T: Opened + Drop, J: Naming, B: Bell + Drop> Inside<T, J, B> {
         };
         match self.bells.enter(seat, bell) {
             Ok(()) => Ok(seat),
-            Err(fault) => {
+            Err(_) => {
                 self.cell.exit(seat);
-                Err(fault)
+                Err(Fault::NoMemory)
             }
         }
     }
 
-    pub(crate) fn exit<R: Wait>(&mut self, rt: &R, seat: u64) {
+    /// Nobody sits at the seat any more, and its bell is gone.
+    pub(crate) fn exit<R: Wait>(&mut self, rt: &R, seat: u64)
+        ensures cell { self.new.cell ≡ record self.old.cell { cell = record self.old.cell.cell { taken = without_seat self.old.cell.cell.taken seat } } }
+        ensures free { 0 < seat → seat ≤ length self.old.cell.cell.taken → IsFree self.new.cell.cell.taken seat }
+        ensures name { self.new.name ≡ self.old.name }
+        ensures queue { (self.new.is_queued ≡ self.old.is_queued) × (self.new.is_behind ≡ self.old.is_behind) }
+    {
         self.cell.exit(seat);
         self.bells.exit(rt, seat);
     }
@@ -140,7 +184,8 @@ impl<T: Opened + Drop, J: Naming, B: Bell + Drop> Inside<T, J, B> {
         asked: &Asked,
         event: Event,
     ) -> Result<Reply, Fault>
-        ensures { HandsOn self.old.cell.cell.state event result self.new.cell.cell.state }
+        ensures hands_on { HandsOn self.old.cell.cell.state event result self.new.cell.cell.state }
+        ensures name { self.new.name ≡ self.old.name }
     {
         match self.make_room(seat, asked, &event) {
             Ok(change) => self.answer_with_room(rt, seat, asked, event, change),
@@ -164,6 +209,7 @@ impl<T: Opened + Drop, J: Naming, B: Bell + Drop> Inside<T, J, B> {
         ensures hands_on { HandsOn self.old.cell.cell.state event result self.new.cell.cell.state }
         ensures ends { is_end self.old.cell.cell event ≡ true → IsOk result }
         ensures faults { IfErr result (λ fault. (fault ≡ Fault.NoMemory) ⊎ (fault ≡ Fault.JournalFull)) }
+        ensures name { self.new.name ≡ self.old.name }
     {
         match self.cell.call(seat, event) {
             Ok(receipt) => {
@@ -180,7 +226,8 @@ impl<T: Opened + Drop, J: Naming, B: Bell + Drop> Inside<T, J, B> {
 
     /// The room is given back that one would have had who did not join.
     fn refused<R: Wait>(&mut self, rt: &R, seat: u64, asked: &Asked, fault: Fault)
-        ensures { self.new.cell ≡ self.old.cell }
+        ensures cell { self.new.cell ≡ self.old.cell }
+        ensures name { self.new.name ≡ self.old.name }
     {
         if let Asked::Joins(_) = asked {
             let reply = Reply::Refused(fault);
@@ -190,7 +237,8 @@ impl<T: Opened + Drop, J: Naming, B: Bell + Drop> Inside<T, J, B> {
     }
 
     fn answered<R: Wait>(&mut self, rt: &R, seat: u64, asked: &Asked, change: Change, reply: &Reply)
-        ensures { self.new.cell.cell.state ≡ self.old.cell.cell.state }
+        ensures state { self.new.cell.cell.state ≡ self.old.cell.cell.state }
+        ensures name { self.new.name ≡ self.old.name }
     {
         self.bells.answered(rt, seat, asked, reply);
         self.graves.answered(change, reply);
@@ -207,6 +255,7 @@ impl<T: Opened + Drop, J: Naming, B: Bell + Drop> Inside<T, J, B> {
         ensures seat { IfOk result (λ _. 0 < seat) }
         ensures not_storing { IfOk result (λ _. is_storing event.now ≡ false) }
         ensures stays { self.new.cell ≡ self.old.cell }
+        ensures name { self.new.name ≡ self.old.name }
     {
         if seat == 0 || is_storing(event) {
             return Err(Fault::NoSession);
@@ -230,7 +279,10 @@ impl<T: Opened + Drop, J: Naming, B: Bell + Drop> Inside<T, J, B> {
     }
 
     /// Whether the thread that stores is to be told now to send the courier. It counts as told then.
-    pub(crate) fn wants_courier(&mut self) -> bool {
+    pub(crate) fn wants_courier(&mut self) -> bool
+        ensures cell { self.new.cell ≡ self.old.cell }
+        ensures name { self.new.name ≡ self.old.name }
+    {
         let has_open = self.graves.first_open().is_some();
         let wants = !self.is_sent && (has_open || self.is_awaited);
         if wants {
@@ -245,6 +297,7 @@ impl<T: Opened + Drop, J: Naming, B: Bell + Drop> Inside<T, J, B> {
         ensures hands_on { HandsOn self.old.cell.cell.state event result self.new.cell.cell.state }
         ensures ends { is_end self.old.cell.cell event ≡ true → IsOk result }
         ensures faults { is_ending event ≡ true → IfErr result (λ fault. (fault ≡ Fault.NoMemory) ⊎ (fault ≡ Fault.JournalFull)) }
+        ensures name { self.new.name ≡ self.old.name }
     {
         if is_ending(&event) {
             self.answer_with_room(rt, VISITOR, &Asked::Nothing, event, Change::Nothing)
@@ -254,7 +307,8 @@ impl<T: Opened + Drop, J: Naming, B: Bell + Drop> Inside<T, J, B> {
     }
 
     fn visit_seated<R: Wait>(&mut self, rt: &R, event: Event) -> Result<Reply, Fault>
-        ensures { HandsOn self.old.cell.cell.state event result self.new.cell.cell.state }
+        ensures hands_on { HandsOn self.old.cell.cell.state event result self.new.cell.cell.state }
+        ensures name { self.new.name ≡ self.old.name }
     {
         match self.cell.enter() {
             Ok(seat) => {
@@ -271,7 +325,9 @@ impl<T: Opened + Drop, J: Naming, B: Bell + Drop> Inside<T, J, B> {
 
     /// What was viewed, with so many messages, is stored: those are rung whose answers are ready. Where it is not what was
     /// viewed last nobody is rung, and the topic is to be stored again.
-    pub(crate) fn confirmed<R: Wait>(&mut self, rt: &R, length: u64, kept: Kept<J>) {
+    pub(crate) fn confirmed<R: Wait>(&mut self, rt: &R, length: u64, kept: Kept<J>)
+        ensures { self.new.name ≡ self.old.name }
+    {
         let is_done = self.cell.confirm(kept);
         self.is_queued = false;
         self.is_behind = !is_done;
@@ -289,7 +345,8 @@ impl<T: Opened + Drop, J: Naming, B: Bell + Drop> Inside<T, J, B> {
     }
 
     fn roll_if_long(&mut self)
-        ensures { self.new.cell.cell.state ≡ self.old.cell.cell.state }
+        ensures state { self.new.cell.cell.state ≡ self.old.cell.cell.state }
+        ensures name { self.new.name ≡ self.old.name }
     {
         if self.cell.cell().lines() > LONG {
             self.cell.roll();

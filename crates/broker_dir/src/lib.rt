@@ -4,6 +4,7 @@
 mod attached;
 mod board;
 mod clock;
+mod closing;
 mod courier;
 mod directory;
 mod errand;

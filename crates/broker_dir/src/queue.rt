@@ -1,4 +1,6 @@
 // What waits at the board: topics to be stored, errands of the storing thread, and what found no memory.
+ghost use Rattle.std.specs.Prelude.{◌≡◌, Some, true};
+
 use crate::late::{Late, has_room};
 use crate::pause::{Due, shorter};
 use std::alloc::Global;
@@ -172,13 +174,23 @@ impl<X: Drop> Queue<X> {
         }
     }
 
-    /// What the thread does now. It ends once nothing waits to be stored.
+    /// Nothing is stored any more.
+    pub(crate) fn close(&mut self)
+        ensures { self.new.is_closed ≡ true }
+    {
+        self.is_closed = true;
+        self.is_led = false;
+    }
+
+    /// What the thread does now. It ends once nothing waits to be stored, and at once where nothing is stored any more.
     pub(crate) fn task(
         &mut self,
         alloc: Global,
         turn: Turn,
         time: Option<Instant>,
-    ) -> Option<Task<X>> {
+    ) -> Option<Task<X>>
+        ensures { self.old.is_closed ≡ true → result ≡ Some Task.End }
+    {
         if self.is_closed {
             return Some(Task::End);
         }

@@ -1,4 +1,10 @@
 // Storing: topics are viewed, each under its lock, stored together with all locks free, and confirmed, each under its lock.
+ghost use Rattle.std.specs.Prelude.{◌≡◌, false, OnOk, Err};
+ghost use Rattle.sqlite.specs.State.{HasCleanDisk};
+ghost use Rattle.sqlite.specs.Held.{state};
+ghost use Rattle.row_store.specs.Keeping.{StoresAll, kepts};
+
+use crate::closing::Unstored;
 use crate::directory::Directory;
 use crate::errand::Errands;
 use crate::queue::Task;
@@ -10,7 +16,6 @@ use session_bells::Bell;
 use sqlite::Alter;
 use std::alloc::Global;
 use std::rt::Clock;
-use std::sync::atomic::Ordering;
 use std::sync::{Arc, Wait};
 use stored_cell::{Kept, Part};
 
@@ -128,18 +133,12 @@ impl<T: Opened + Drop, S: Alter, J: Naming, B: Bell + Drop> Directory<T, S, J, B
         self.board.finish(rt);
     }
 
-    /// Nothing is stored any more, and all is refused (F16). All sessions are rung, so that they learn of it.
-    pub fn close<R: Wait>(&self, rt: &R) {
-        self.is_closed.store(true, Ordering::SeqCst);
-        self.board.close(rt);
-        self.ring_all(rt);
-    }
-
+    /// Where the store fails the directory is closed.
     fn store<R: Wait>(&self, rt: &R, topics: &[Arc<Shared<T, J, B>>]) {
         match self.store_together(rt, topics) {
             Ok(()) => {}
-            Err(Fault::NoMemory) => self.store_each(rt, topics),
-            Err(_) => self.close(rt),
+            Err(Unstored::NoMemory) => self.store_each(rt, topics),
+            Err(Unstored::Failed(failed)) => drop(self.close_after(rt, failed)),
         }
     }
 
@@ -149,9 +148,9 @@ impl<T: Opened + Drop, S: Alter, J: Naming, B: Bell + Drop> Directory<T, S, J, B
             let one = &topics[place..place + 1];
             match self.store_together(rt, one) {
                 Ok(()) => {}
-                Err(Fault::NoMemory) => self.put_off(rt, &topics[place]),
-                Err(_) => {
-                    self.close(rt);
+                Err(Unstored::NoMemory) => self.put_off(rt, &topics[place]),
+                Err(Unstored::Failed(failed)) => {
+                    drop(self.close_after(rt, failed));
                     return;
                 }
             }
@@ -162,10 +161,10 @@ impl<T: Opened + Drop, S: Alter, J: Naming, B: Bell + Drop> Directory<T, S, J, B
         &self,
         rt: &R,
         topics: &[Arc<Shared<T, J, B>>],
-    ) -> Result<(), Fault> {
+    ) -> Result<(), Unstored> {
         match Batch::for_topics(self.alloc, topics.len()) {
             Ok(batch) => self.store_batch(rt, topics, batch),
-            Err(fault) => Err(fault),
+            Err(fault) => Err(Unstored::of(fault)),
         }
     }
 
@@ -174,31 +173,36 @@ impl<T: Opened + Drop, S: Alter, J: Naming, B: Bell + Drop> Directory<T, S, J, B
         rt: &R,
         topics: &[Arc<Shared<T, J, B>>],
         mut batch: Batch<J>,
-    ) -> Result<(), Fault> {
+    ) -> Result<(), Unstored> {
         let mut keeper = self.keeper.lock(rt);
         match view_all(rt, &mut *keeper, topics, &mut batch) {
             Ok(()) => self.store_viewed(rt, &mut *keeper, topics, batch),
             Err(fault) => {
                 drop(batch);
-                Err(fault)
+                Err(Unstored::of(fault))
             }
         }
     }
 
+    /// Stores what was viewed, and confirms it. A keeper that has failed, now or before, is a failure.
     fn store_viewed<R: Wait>(
         &self,
         rt: &R,
         keeper: &mut Keeper<S, J>,
         topics: &[Arc<Shared<T, J, B>>],
         batch: Batch<J>,
-    ) -> Result<(), Fault> {
+    ) -> Result<(), Unstored>
+        ensures rows { HasCleanDisk (state S.Store keeper.new.conn) → OnOk result (StoresAll (kepts batch.parts.items) (state S.Store keeper.old.conn).now.trees (state S.Store keeper.new.conn).now.trees) }
+        ensures ok { OnOk result (keeper.new.failed ≡ false) }
+        ensures memory { result ≡ Err Unstored.NoMemory → (keeper.new.failed ≡ false) × (keeper.new ≡ keeper.old) }
+    {
         let Batch { parts, seen } = batch;
         match keeper.store(parts) {
             Ok(kept) => {
                 self.confirm_all(rt, topics, seen.as_slice(), kept);
                 Ok(())
             }
-            Err(fault) => Err(fault),
+            Err(fault) => Err(Unstored::of(fault)),
         }
     }
 

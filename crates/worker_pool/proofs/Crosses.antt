@@ -10,12 +10,14 @@ use Rattle.marks.specs.declared.history.Naming as naming
 use Rattle.sqlite_trees.specs.declared.store.Store as store
 use Rattle.position_core.proofs.topic_name.TopicName.TheSendSync.{the_send as name_send, the_sync as name_sync}
 use Rattle.topic_shared.proofs.Crosses.{Cell-send}
+use Rattle.marks.proofs.mark.Mark.TheSendSync.{the_send as mark_send}
 use Rattle.stored_cell.proofs.viewed.Stored.TheSendSync.{the_send as stored_send}
 use Rattle.stored_cell.proofs.viewed.Viewed.TheSendSync.{the_send as viewed_send}
 use Rattle.session_bells.proofs.bells.Bells.TheSendSync.{the_send as bells_send}
 use Rattle.broker_dir.proofs.table.Listed.TheSendSync.{the_send as listed_send}
 use Rattle.broker_dir.proofs.graves.Graves.TheSendSync.{the_send as graves_send}
 use Rattle.broker_dir.proofs.board.Board.TheSendSync.{the_send as board_send, the_sync as board_sync}
+use Rattle.broker_dir.proofs.closing.Closed.TheSendSync.{the_send as closed_send, the_sync as closed_sync}
 use Rattle.stored_cell.proofs.opening.Terms.TheSendSync.{the_send as terms_send, the_sync as terms_sync}
 use Rattle.row_store.proofs.keeper.Keeper.TheSendSync.{the_send as keeper_send}
 use Rattle.worker_loops.proofs.post.Doorbell.TheSendSync.{the_send as doorbell_send, the_sync as doorbell_sync}
@@ -49,14 +51,20 @@ Inside-send : (T I B : RattleType) (g : topic.Ghosts T.Denot) (v : saved.Ghosts 
 Inside-send T I B g v n s b c = let cell = StoredCell-send T I g n s in let bells = bells_send B b c in declared_send (Inside.the_type T I B g v n) (
   search (sendable, crosses) depth 20,
   (
-    cell,
+    name_send,
     (
-      bells,
+      cell,
       (
-        search sendable,
+        search (sendable, crosses, mark_send) depth 20,
         (
-          search sendable,
-          (graves_send, (search sendable, (search sendable, tt))),
+          bells,
+          (
+            search sendable,
+            (
+              search sendable,
+              (graves_send, (search sendable, (search sendable, tt))),
+            ),
+          ),
         ),
       ),
     ),
@@ -86,7 +94,7 @@ Directory-send T K I B g v o n s k b c = let X = Arc.the_row (Shared.the_row T I
         terms_send,
         (
           as_row_send (Mutex.the_field (Table.the_row T I B g v n)) (search (sendable, crosses, t) depth 20),
-          (as_row_send (Mutex.the_field (Keeper.the_row K I n o)) (search (sendable, crosses, e) depth 20), (d, (search (sendable, crosses) depth 20, tt))),
+          (as_row_send (Mutex.the_field (Keeper.the_row K I n o)) (search (sendable, crosses, e) depth 20), (d, (closed_send, tt))),
         ),
       ),
     )
@@ -99,7 +107,7 @@ Directory-sync T K I B g v o n s k b c = let X = Arc.the_row (Shared.the_row T I
         terms_sync,
         (
           as_row_sync (Mutex.the_field (Table.the_row T I B g v n)) (search (sendable, crosses, t) depth 20),
-          (as_row_sync (Mutex.the_field (Keeper.the_row K I n o)) (search (sendable, crosses, e) depth 20), (d, (search (sendable, crosses) depth 20, tt))),
+          (as_row_sync (Mutex.the_field (Keeper.the_row K I n o)) (search (sendable, crosses, e) depth 20), (d, (closed_sync, tt))),
         ),
       ),
     )

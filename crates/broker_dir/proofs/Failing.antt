@@ -1,0 +1,17 @@
+-- What a refused store says of the keeper.
+use Rattle.std.proofs.Common.{◌≡◌, Bool, true, false, Result, Ok, Err, refl, ap}
+use Rattle.position_core.specs.declared.fault.Fault.{Fault}
+use Rattle.position_core.specs.declared.fault.Fault.TheVariants.{NoMemory, StoreFailed}
+
+-- a keeper that lacked memory had not failed
+pub had_worked : {V : Type 0} (r : Result V Fault) (failed : Bool) → r ≡ Err NoMemory → (failed ≡ true → r ≡ Err StoreFailed) → failed ≡ false
+had_worked r true lacked stuck = absurd (cc (lacked, stuck refl))
+had_worked r false lacked stuck = refl
+
+err_or : {W E : Type 0} → E → Result W E → E
+err_or d (Ok w) = d
+err_or d (Err e) = e
+
+pub same_err : {W E : Type 0} (a b : E) → ◌≡◌ {A = Result W E} (Err a) (Err b) → a ≡ b
+unfolding err_or
+same_err a b is = ap (err_or a) is

@@ -1,0 +1,82 @@
+// How a directory is closed, for good: by a store that failed.
+ghost use Rattle.std.specs.Prelude.{◌≡◌, ◌↔◌};
+
+use crate::directory::Directory;
+use delivery_machine::{Fault, Opened};
+use marks::Naming;
+use session_bells::Bell;
+use sqlite::Alter;
+use std::sync::{OnceLock, OnceToken, Wait};
+
+/// Whether a directory is closed: set once, and for good.
+#[derive(Drop)]
+pub(crate) struct Closed {
+    cell: OnceLock<()>,
+}
+
+impl Closed {
+    pub(crate) fn new() -> Self {
+        Closed {
+            cell: OnceLock::new(),
+        }
+    }
+}
+
+/// A store that failed. It is neither copied nor dropped: whoever has it can do no more with it than close the directory.
+pub(crate) struct Failed(());
+
+/// Why topics were not stored.
+pub(crate) enum Unstored {
+    /// There was no memory: they may be stored later.
+    NoMemory,
+    Failed(Failed),
+}
+
+impl Unstored {
+    /// What the refusal comes to. Only want of memory is no failure.
+    pub(crate) fn of(fault: Fault) -> Unstored
+        ensures { (result ≡ Unstored.NoMemory) ↔ (fault ≡ Fault.NoMemory) }
+    {
+        if fault == Fault::NoMemory {
+            Unstored::NoMemory
+        } else {
+            Unstored::Failed(Failed(()))
+        }
+    }
+}
+
+impl<T: Opened + Drop, S: Alter, J: Naming, B: Bell + Drop> Directory<T, S, J, B> {
+    /// Whether the store failed, so that all is refused (F16).
+    pub fn is_closed(&self) -> bool {
+        self.closed.cell.witness().is_some()
+    }
+
+    /// Nothing is stored any more, and all is refused (F16). All sessions are rung, so that they learn of it. What is given
+    /// shows that the directory is closed.
+    pub fn close<R: Wait>(&self, rt: &R) -> OnceToken<'_, ()>
+        ensures { result.of ≡ self.now.closed.cell.id }
+    {
+        let closed = self.shut(rt);
+        self.board.close(rt);
+        self.ring_all(rt);
+        closed
+    }
+
+    /// The directory counts as closed from now on.
+    fn shut<R: Wait>(&self, rt: &R) -> OnceToken<'_, ()>
+        ensures { result.of ≡ self.now.closed.cell.id }
+    {
+        match self.closed.cell.try_insert(rt, ()) {
+            Ok(closed) => closed,
+            Err((closed, _)) => closed,
+        }
+    }
+
+    /// Closes the directory, since the store failed.
+    pub(crate) fn close_after<R: Wait>(&self, rt: &R, failed: Failed) -> OnceToken<'_, ()>
+        ensures { result.of ≡ self.now.closed.cell.id }
+    {
+        let Failed(()) = failed;
+        self.close(rt)
+    }
+}
