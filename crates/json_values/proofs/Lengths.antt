@@ -76,7 +76,7 @@ escape_length (x ∷ xs) = omega (arith, length-append (escape_byte x) (escape x
 quoted_length : (s : List ℕ) → length (quoted s) ≤ length s + 5 * count_by needs_escape s + 2
 quoted_length s = omega (arith, escape_length s, length-append (escape s) (34 ∷ []))
 
-both : (a b : Bool) → (a && b) ≡ true → (a ≡ true) × (b ≡ true)
+pub both : (a b : Bool) → (a && b) ≡ true → (a ≡ true) × (b ≡ true)
 both true b h = (refl, h)
 both false b h = absurd cc
 

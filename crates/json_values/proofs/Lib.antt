@@ -4,6 +4,7 @@ pub mod Calendar
 pub mod Escapes
 pub mod Parsed
 pub mod Pairs
+pub mod ReadBack
 pub mod PlainTimes
 pub mod Written
 pub mod Lengths

@@ -1,8 +1,11 @@
 -- Objects as they are written: compact JSON.
-use Rattle.std.specs.Prelude.{ℕ, List, [], ◌∷◌, ◌++◌, flat_map, map, codes}
+use Rattle.std.specs.Prelude.{ℕ, IsTrue, List, [], ◌∷◌, ◌++◌, flat_map, map, codes}
+use Rattle.std.specs.List.Sorted.{IsStrictlySortedBy}
 use Rattle.json.specs.Json.{Json, string, object, Members, no_members, member}
 use Rattle.json.specs.Print.{print, quoted}
 use Rattle.json.specs.Tree.{json_tokens}
+use Rattle.position_core.specs.Name.{name_order}
+use Rattle.position_core.specs.Properties.{are_properties}
 
 -- the fields, each a name and its value, in this order
 abbrev pub members_of : List (List ℕ × Json) → Members
@@ -38,3 +41,8 @@ property_field property = (property.0, string property.1)
 
 abbrev pub property_fields : List (List ℕ × List ℕ) → List (List ℕ × Json)
 property_fields properties = map property_field properties
+
+-- properties as a message has them: within their limits, in the order of their names' bytes, no name twice
+pub record AreProperties (properties : List (List ℕ × List ℕ)) : Type 0 where
+  pub within : IsTrue (are_properties properties)
+  pub rising : IsStrictlySortedBy name_order (map (λ p. p.0) properties)

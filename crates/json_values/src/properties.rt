@@ -1,7 +1,9 @@
 // Properties, written as a compact object and read back.
-ghost use Rattle.std.specs.Prelude.{◌≡◌, [], ◌++◌, ◌+◌, ◌<◌, ◌≤◌, codes, if◌then◌else◌, length, IfOk, IfSome, IsTrue, OnErr, OnOk, string_bytes, string_capacity, string_len};
+ghost use Rattle.std.specs.Prelude.{◌≡◌, ◌↔◌, ℕ, List, [], ◌++◌, ◌+◌, ◌<◌, ◌≤◌, codes, if◌then◌else◌, length, IfNone, IfOk, IfSome, IsTrue, OnErr, OnOk, option_and_then, string_bytes, string_capacity, string_len};
 ghost use Rattle.position_core.specs.Properties.{fits, pairs_of};
-ghost use Rattle.json_values.specs.Written.{field_text, fields_text, object_text, property_field, property_fields};
+ghost use Rattle.json_values.specs.Fields.{properties_of};
+ghost use Rattle.json_values.specs.Objects.{object_of};
+ghost use Rattle.json_values.specs.Written.{AreProperties, field_text, fields_text, object_text, property_field, property_fields};
 
 use crate::fields::pairs_in;
 use crate::objects::object_of;
@@ -87,7 +89,9 @@ pub fn room_for_properties(properties: &Properties) -> usize
 }
 
 /// The properties of the object that the text is, however it is written.
-fn said_by(alloc: Global, text: &str) -> Result<Option<Properties>, AllocError> {
+fn said_by(alloc: Global, text: &str) -> Result<Option<Properties>, AllocError>
+    ensures { IfOk result (λ found. found ≡ option_and_then properties_of (object_of text.now)) }
+{
     let Some(object) = object_of(alloc, text.as_bytes())? else {
         return Ok(None);
     };
@@ -101,7 +105,7 @@ fn said_by(alloc: Global, text: &str) -> Result<Option<Properties>, AllocError> 
 }
 
 fn is_text_of(alloc: Global, text: &str, properties: &Properties) -> Result<bool, AllocError>
-    ensures { IfOk result (λ same. IsTrue same → text.now ≡ object_text (property_fields properties.now)) }
+    ensures { IfOk result (λ same. IsTrue same ↔ text.now ≡ object_text (property_fields properties.now)) }
 {
     let mut written = String::with_capacity(alloc, text.len())?;
     append_properties(&mut written, properties)?;
@@ -110,7 +114,8 @@ fn is_text_of(alloc: Global, text: &str, properties: &Properties) -> Result<bool
 
 /// The properties that `append_properties` writes as this text.
 pub fn properties_in(alloc: Global, text: &str) -> Result<Option<Properties>, AllocError>
-    ensures { IfOk result (λ found. IfSome found (λ properties. text.now ≡ object_text (property_fields properties))) }
+    ensures shown { IfOk result (λ found. IfSome found (λ properties. text.now ≡ object_text (property_fields properties))) }
+    ensures all_read { IfOk result (λ found. IfNone found ((properties : List (List ℕ × List ℕ)) → AreProperties properties → text.now ≡ object_text (property_fields properties) → ⊥)) }
 {
     if text == "{}" {
         return Ok(Some(Properties::none(alloc)));

@@ -1,6 +1,5 @@
 -- Messages and their rows.
 use Rattle.std.proofs.Common.{◌≡◌, ℕ, ◌+◌, ◌≤◌, ◌<◌, ◌^◌, List, [], ◌∷◌, ◌++◌, take, length, pos, Option, Some, None, IfSome, refl, ap, sym, ◌∙◌, arith, get_or}
-use Rattle.std.specs.Prelude.{Result, Ok, Err, IfNone, IfOk}
 use Rattle.std.specs.List.{AllByRecursion}
 use Rattle.std.specs.List.Sorted.{IsStrictlySortedBy}
 use Rattle.std.proofs.lemmas.List.{map-append, take_more}
@@ -135,13 +134,3 @@ one_position row place e f one other =
 
     position_is : (p q : Position) → p.ledger ≡ q.ledger → p.entry ≡ q.entry → p ≡ q
     position_is p q ledgers entries = let put : ℕ → ℕ → Position = λ l n. record { ledger = l; entry = n } in ap (λ l. put l p.entry) ledgers ∙ ap (put q.ledger) entries
-
--- a value is one text
-pub one_text : (v : Value) (s t : List ℕ) → v ≡ Words s → v ≡ Words t → s ≡ t
-one_text v s t a b = cc
-
--- what holds anyway holds where nothing was found
-pub anyway : {A E P : Type 0} (r : Result (Option A) E) → P → IfOk r (λ (found : Option A). IfNone found P)
-anyway (Ok (Some x)) p = tt
-anyway (Ok None) p = p
-anyway (Err e) p = tt

@@ -1,8 +1,15 @@
+pub mod AutoNames
 pub mod Beginnings
 pub mod Columns
 pub mod Entries
 pub mod LeftSubs
 pub mod Letters
+pub mod Limits
+pub mod LimitsJoined
+pub mod LimitsKept
+pub mod LimitsPublished
+pub mod LimitsReached
+pub mod LimitsRead
 pub mod NextEntries
 pub mod NextLetters
 pub mod NextRuns

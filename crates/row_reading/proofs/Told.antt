@@ -12,10 +12,10 @@ use Rattle.std.proofs.lemmas.List.Elements.{All-from_recursion, recursion_from_A
 use Rattle.std.proofs.lemmas.List.Sorted.{All-permutation, IsPermutation-sym, IsPermutation-trans, length_permutation}
 use Rattle.std.proofs.lemmas.Map.Keys.{sorted_from_strictly_increasing}
 use Rattle.json.specs.Json.{document}
-use Rattle.json.specs.Tree.{MembersHaveNumbers, members_depth}
 use Rattle.sqlite.specs.declared.types.Value.TheVariants.{Text as Words, Blob as Octets}
 use Rattle.sqlite.specs.Order.{Row, column}
 use Rattle.json_values.specs.Written.{members_of, object_with, property_fields}
+use Rattle.json_values.proofs.ReadBack.{flat, no_numbers}
 use Rattle.json_values.proofs.Written.{reads_back}
 use Rattle.position_core.specs.declared.position.Position.{Position}
 use Rattle.position_core.specs.declared.topic_name.TopicName.{TopicName}
@@ -44,14 +44,6 @@ abbrev Pairs : Type 0
 Pairs = List (List ℕ × List ℕ)
 
 -- ---- properties
-
-no_numbers : (properties : Pairs) → MembersHaveNumbers (members_of (property_fields properties))
-no_numbers [] = tt
-no_numbers (p ∷ others) = (tt, no_numbers others)
-
-flat : (properties : Pairs) → members_depth (members_of (property_fields properties)) ≡ 0
-flat [] = refl
-flat (p ∷ others) = rw (flat others) refl
 
 reads_properties : (ps : Pairs) → document (properties_text ps) ≡ Some (object_with (property_fields ps))
 reads_properties ps = reads_back (property_fields ps) (no_numbers ps) (rw (flat ps) (omega arith))

@@ -1,5 +1,6 @@
 -- What the contracts of reading cite.
 pub mod KeyOrder
+pub mod Limits
 pub mod ReadRows
 pub mod Reading
 pub mod Telling

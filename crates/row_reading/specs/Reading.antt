@@ -11,11 +11,13 @@ use Rattle.sqlite.specs.Order.{Row, column}
 use Rattle.position_core.specs.declared.topic_name.TopicName.{TopicName}
 use Rattle.position_core.specs.Name.{is_name}
 use Rattle.position_core.specs.TopicName.{same_topic, topic_text}
+use Rattle.position_core.specs.declared.body.Content.{Content}
 use Rattle.position_core.specs.declared.message.Entry.{Entry}
 use Rattle.delivery_machine.specs.State.{DeadLetter}
 use Rattle.delivery_machine.specs.Places.{AreBelow, KeptPlaces, KeptTopic, MayRestart}
 use Rattle.delivery_machine.specs.WellFormed.{AreDeadLettersOf, HaveOrdinals, IsWellFormedLog, NamesRise, has_message}
 use Rattle.ack_ranges.specs.Ranges.{AreRangesOf}
+use Rattle.json_values.specs.Written.{AreProperties}
 use Rattle.row_forms.specs.Forms.{AreAckRows, ack_row, dead_row, dead_rows, entry_row, entry_rows, sub_rows}
 use Rattle.row_reading.specs.declared.topic_row.Head.{Head}
 
@@ -41,14 +43,23 @@ IsText least most text = IsUtf8 text × (least ≤ length text) × (length text 
 abbrev pub IsEntryAt : ℕ → Row → Entry → Type 0
 IsEntryAt place row e = (topic : List ℕ) → Words topic ∷ row ≡ entry_row topic place e
 
--- a message that is read: its values are within their limits, its texts of UTF-8, and it has no properties
+-- each name and each value is of UTF-8
+abbrev pub AreTexts : List (List ℕ × List ℕ) → Type 0
+AreTexts properties = All (λ p. IsUtf8 p.0 × IsUtf8 p.1) properties
+
+-- content that a message may have: within the limits, its texts of UTF-8
+pub record IsContent (body : Content) : Type 0 where
+  pub key : IfSome body.key (IsText 0 1024)
+  pub properties : AreProperties body.properties
+  pub texts : AreTexts body.properties
+  pub payload : length body.payload ≤ 1048576
+
+-- a message that is read: its values are within their limits, its texts of UTF-8, and its content is such as a message may have
 pub record IsReadableMessage (e : Entry) : Type 0 where
   pub producer : IsText 1 1280 e.producer
   pub sequence : pos 0 ≤ℤ e.sequence
   pub time : e.time ≤ 253402300799999
-  pub key : IfSome e.body.key (IsText 0 1024)
-  pub properties : e.body.properties ≡ []
-  pub payload : length e.body.payload ≤ 1048576
+  pub content : IsContent e.body
 
 -- rows of messages that are read
 pub record ShowLog (ledger_size ledger : ℕ) (topic : List ℕ) (log : List Entry) (rows : List Row) : Type 0 where

@@ -7,9 +7,10 @@ ghost use Rattle.sqlite.specs.declared.types.Value.TheVariants.{Int, Text as Wor
 ghost use Rattle.sqlite.specs.Order.{column};
 ghost use Rattle.log_pieces.specs.Pieces.{joined};
 ghost use Rattle.delivery_machine.specs.WellFormed.{IsWellFormedLog};
+ghost use Rattle.json_values.specs.Written.{AreProperties};
 ghost use Rattle.row_forms.specs.Forms.{entry_rows, key_cells};
 ghost use Rattle.row_forms.specs.Properties.{properties_text};
-ghost use Rattle.row_reading.specs.Reading.{CountFromZero, IsEntryAt, IsNext, IsReadableMessage, IsText, ShowLog, put};
+ghost use Rattle.row_reading.specs.Reading.{AreTexts, CountFromZero, IsEntryAt, IsNext, IsReadableMessage, IsText, ShowLog, put};
 
 use crate::cells::{bytes_at, number_at, text_at, whole_at};
 use crate::topic_row::Head;
@@ -67,17 +68,12 @@ fn key_at(alloc: Global, row: &Row) -> Result<Option<Option<Key>>, AllocError>
     }
 }
 
-/// The properties; `{}` for none needs no reading.
 fn properties_at(alloc: Global, row: &Row) -> Result<Option<Properties>, AllocError>
     ensures shown { IfOk result (λ found. IfSome found (λ properties. column row.now 8 ≡ Words (properties_text properties))) }
-    ensures none_read { IfOk result (λ found. IfNone found (column row.now 8 ≡ Words (properties_text []) → ⊥)) }
+    ensures all_read { IfOk result (λ found. IfNone found ((properties : List (List ℕ × List ℕ)) → AreProperties properties → AreTexts properties → column row.now 8 ≡ Words (properties_text properties) → ⊥)) }
 {
     match text_at(row, 8) {
-        Some(text) => if text == "{}" {
-            Ok(Some(Properties::none(alloc)))
-        } else {
-            properties_in(alloc, text)
-        },
+        Some(text) => properties_in(alloc, text),
         None => Ok(None),
     }
 }
@@ -96,8 +92,8 @@ fn content_at(alloc: Global, row: &Row) -> Result<Option<Content>, AllocError>
     ensures key { IfOk result (λ found. IfSome found (λ content. column row.now 6 ∷ column row.now 7 ∷ [] ≡ key_cells content.key)) }
     ensures properties { IfOk result (λ found. IfSome found (λ content. column row.now 8 ≡ Words (properties_text content.properties))) }
     ensures payload { IfOk result (λ found. IfSome found (λ content. column row.now 9 ≡ Octets content.payload)) }
-    ensures all_read { IfOk result (λ found. IfNone found ((key : Option (List ℕ)) (payload : List ℕ) → IfSome key (IsText 0 1024) → length payload ≤ 1048576
-        → column row.now 6 ∷ column row.now 7 ∷ [] ≡ key_cells key → column row.now 8 ≡ Words (properties_text []) → column row.now 9 ≡ Octets payload → ⊥)) }
+    ensures all_read { IfOk result (λ found. IfNone found ((key : Option (List ℕ)) (properties : List (List ℕ × List ℕ)) (payload : List ℕ) → IfSome key (IsText 0 1024) → AreProperties properties → AreTexts properties → length payload ≤ 1048576
+        → column row.now 6 ∷ column row.now 7 ∷ [] ≡ key_cells key → column row.now 8 ≡ Words (properties_text properties) → column row.now 9 ≡ Octets payload → ⊥)) }
 {
     let Some(key) = key_at(alloc, row)? else {
         return Ok(None);

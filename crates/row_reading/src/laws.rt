@@ -1,5 +1,6 @@
 // What holds of rows and what they tell.
 ghost use Rattle.row_reading.specs.KeyOrder.{InOrderAreIts};
+ghost use Rattle.row_reading.specs.Limits.{WhatRunsKeepIsRead};
 ghost use Rattle.row_reading.specs.ReadRows.{WhatStandsIsRead};
 ghost use Rattle.row_reading.specs.Telling.{OneStands, RowsTellOne};
 
@@ -23,4 +24,10 @@ pub fn in_order_are_its()
 /// that stands there.
 pub fn what_stands_is_read()
     ensures { WhatStandsIsRead }
+{}
+
+/// Whatever a topic's store keeps after any run is read back where its rows stand: as long as the values of what was
+/// asked are within the limits of their types, and the run began with a topic with nothing in it, or one that was read back.
+pub fn what_runs_keep_is_read()
+    ensures { WhatRunsKeepIsRead }
 {}

@@ -131,7 +131,7 @@ fn snapshot_of(
 
 /// The snapshot that the topic's rows show. None where they are not those of a snapshot that a topic may go
 /// on from: then a row is missing or too many, or a value is not one that the topic can have. Where they are,
-/// it is found: this is proved of messages without properties.
+/// it is found: this is proved of snapshots whose values are within the limits of their types.
 pub fn snapshot_in(
     alloc: Global,
     name: &TopicName,

@@ -2,8 +2,6 @@ use Rattle.std.proofs.Common.{◌≡◌, true, true≢false, ap, sym, subst, ◌
 use Rattle.std.proofs.lemmas.Int.{to_z-of_z}
 use Rattle.position_core.specs.declared.message.Entry.{Entry}
 use Rattle.position_core.specs.declared.body.Content.{Content}
-use Rattle.sqlite.specs.declared.types.Value.TheVariants.{Text as Words}
-use Rattle.row_forms.specs.Properties.{properties_text}
 use Rattle.row_reading.specs.Reading.{IsEntryAt}
 use Rattle.row_reading.proofs.Entries.{columns_of, entry_shown}
 use Rattle.row_reading.proofs.entry_rows.entry_in.Goals as goal
@@ -62,4 +60,4 @@ returns-in_default-3-clause-all_read c =
     λ e readable shown.
     let h = columns_of c.args.row.now c.args.place e shown in
     let none = rw c.in_default-3.is at c.in_ok-content.ensures.all_read in
-    none e.body.key e.body.payload readable.key readable.payload h.key (h.properties ∙ ap (λ p. Words (properties_text p)) readable.properties) h.payload
+    none e.body.key e.body.properties e.body.payload readable.content.key readable.content.properties readable.content.texts readable.content.payload h.key h.properties h.payload
