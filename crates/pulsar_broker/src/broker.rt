@@ -1,5 +1,9 @@
 // A database, the topics in it, and those who serve them at an address.
-ghost use Rattle.std.specs.Prelude.{◌≡◌};
+ghost use Rattle.std.specs.Prelude.{◌≡◌, IsTrue};
+ghost use Rattle.sqlite.specs.State.{HasCleanDisk};
+ghost use Rattle.sqlite.specs.Held.{state};
+ghost use Rattle.row_forms.specs.Schema.{schema_6};
+ghost use Rattle.row_tables.specs.Ready.{AreKeyed};
 
 use crate::arguments::Asked;
 use crate::causes::{Why, say_why};
@@ -86,7 +90,8 @@ fn serve_named<
     S: Alter + Send + Drop + 'static,
     J: Naming + Send + Sync + 'static,
 >(rt: &R, asked: &Asked<'_>, conn: Connection<S>, history: Unnamed<Note>) -> Fate
-    requires { history ≡ J.book }
+    requires book { history ≡ J.book }
+    requires keyed { HasCleanDisk (state S.Store conn) → IsTrue (state S.Store conn).is_open → (state S.Store conn).now.schema ≡ schema_6 → AreKeyed (state S.Store conn).now.trees }
 {
     let alloc = rt.alloc();
     let notes: Notes<J> = Notes::new(history);
@@ -137,6 +142,8 @@ pub fn serve_over<
         + Drop
         + 'static,
     S: Alter + Send + Drop + 'static,
->(rt: &R, asked: &Asked<'_>, conn: Connection<S>) -> Fate {
+>(rt: &R, asked: &Asked<'_>, conn: Connection<S>) -> Fate
+    requires keyed { HasCleanDisk (state S.Store conn) → IsTrue (state S.Store conn).is_open → (state S.Store conn).now.schema ≡ schema_6 → AreKeyed (state S.Store conn).now.trees }
+{
     serve_named::<R, S, Brand>(rt, asked, conn, Unnamed::new())
 }

@@ -8,7 +8,8 @@ mod causes;
 use arguments::read_arguments;
 use broker::{Fate, serve_over};
 use causes::{say_why, why_unopened};
-use sqlite::Connection;
+use row_found::{open, open_in_memory};
+use sqlite::Unknown;
 use std::env;
 use std::io::ErrorKind;
 use std::process::ExitCode;
@@ -67,12 +68,12 @@ fn main(rt: HostRuntime) -> ExitCode {
         return ExitCode::from(2);
     };
     let fate = if asked.database == IN_MEMORY {
-        match Connection::open_in_memory(rt.alloc()) {
+        match open_in_memory(rt.alloc()) {
             Ok(conn) => serve_over(&rt, &asked, conn),
             Err(_) => Fate::CannotServe,
         }
     } else {
-        match Connection::open(&rt, asked.database) {
+        match open(&rt, asked.database, Unknown) {
             Ok(conn) => serve_over(&rt, &asked, conn),
             Err(error) => {
                 let why = why_unopened(&rt, asked.database, error);

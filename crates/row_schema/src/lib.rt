@@ -7,5 +7,5 @@ mod reopening;
 mod version;
 
 pub use making::create;
-pub use reopening::reopen;
+pub use reopening::{reopen, settle};
 pub use version::{has_no_schema, is_version_1};

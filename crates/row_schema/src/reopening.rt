@@ -1,5 +1,5 @@
-// Reading a database again, so that its rows are known to be in order.
-ghost use Rattle.std.specs.Prelude.{◌≡◌, false, IfOk, IfErr};
+// Undoing what was not committed, so that a database is known to be as it was committed, with its rows in order.
+ghost use Rattle.std.specs.Prelude.{◌≡◌, ◌⊎◌, false, IfOk, IfErr, IsTrue};
 ghost use Rattle.sqlite.specs.State.{HasCleanDisk};
 ghost use Rattle.sqlite.specs.Held.{state};
 ghost use Rattle.sqlite.specs.Tree.{Trees};
@@ -29,5 +29,28 @@ pub fn reopen<S: Alter + Drop>(
     match Connection::over(alloc, store) {
         Ok(again) => Ok(again),
         Err((error, store)) => Err((Some(error), store)),
+    }
+}
+
+/// What was not committed is undone. Where no transaction is under way, nothing is read, and the connection is left
+/// as it is, also where a failure has shut it.
+pub fn settle<S: Alter + Drop>(
+    alloc: Global,
+    conn: Connection<S>,
+) -> Result<Connection<S>, (Option<Error>, S)>
+    requires keyed { HasCleanDisk (state S.Store conn) → IsTrue (state S.Store conn).is_open → (state S.Store conn).now.schema ≡ schema_6 → AreKeyed (state S.Store conn).now.trees }
+    ensures keyed { IfOk result (λ c. HasCleanDisk (state S.Store c) → IsTrue (state S.Store c).is_open → (state S.Store c).now.schema ≡ schema_6 → AreKeyed (state S.Store c).now.trees) }
+    ensures autocommit { IfOk result (λ c. c.in_transaction ≡ false) }
+    ensures same { IfOk result (λ c. HasCleanDisk (state S.Store c) → IsTrue (state S.Store c).is_open → (state S.Store c).now.trees ≡ (state S.Store conn).committed.trees) }
+    ensures crash { IfOk result (λ c. HasCleanDisk (state S.Store c) → IsTrue (state S.Store c).is_open → (db : Trees) → (state S.Store c).may_leave db → db ≡ (state S.Store c).now.trees) }
+    ensures left { IfOk result (λ c. HasCleanDisk (state S.Store c) → (db : Trees) → (state S.Store c).may_leave db → (state S.Store conn).may_leave db ⊎ (db ≡ (state S.Store conn).committed.trees)) }
+    ensures given_back { IfErr result (λ e. (db : Trees) → S.Store.recovers e.1 db → (state S.Store conn).may_leave db) }
+{
+    if conn.is_autocommit() {
+        return Ok(conn);
+    }
+    match reopen(alloc, conn) {
+        Ok(again) => Ok(again),
+        Err(refused) => Err(refused),
     }
 }

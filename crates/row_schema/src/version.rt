@@ -1,5 +1,5 @@
 // Whether a database is empty, or has the tables of version 1.
-ghost use Rattle.std.specs.Prelude.{◌≡◌, [], ◌∷◌, false, pos, IfOk, IsTrue};
+ghost use Rattle.std.specs.Prelude.{◌≡◌, [], ◌∷◌, false, pos, IfOk, OnOk, IsTrue};
 ghost use Rattle.sqlite.specs.State.{HasCleanDisk, KeepsCommit, Survives};
 ghost use Rattle.sqlite.specs.Held.{state};
 ghost use Rattle.sqlite.specs.declared.types.Value.TheVariants.{Int as Number};
@@ -40,6 +40,7 @@ fn is_marked<S: Alter>(tx: &mut Transaction<'_, S>) -> Result<bool, Error>
     ensures same_reference { tx.new.conn.ghost_name ≡ tx.old.conn.ghost_name }
     ensures survives { Survives (state S.Store tx.old.conn.now) (state S.Store tx.new.conn.now) (λ _. ⊥) }
     ensures kept { HasCleanDisk (state S.Store tx.new.conn.now) → IsTrue (state S.Store tx.old.conn.now).in_transaction → KeepsCommit (state S.Store tx.old.conn.now) (state S.Store tx.new.conn.now) }
+    ensures open { HasCleanDisk (state S.Store tx.new.conn.now) → OnOk result (IsTrue (state S.Store tx.old.conn.now).is_open) }
     ensures marked { HasCleanDisk (state S.Store tx.new.conn.now) → IfOk result (λ yes. IsTrue yes → (state S.Store tx.old.conn.now).now.schema ≡ schema_6 → IsVersion1 (state S.Store tx.old.conn.now).now.trees) }
 {
     let rows = tx.query_all("SELECT id, version FROM meta", &[])?;
@@ -53,6 +54,7 @@ pub fn is_version_1<S: Alter>(conn: &mut Connection<S>) -> Result<bool, Error>
     ensures crash { Survives (state S.Store conn.old) (state S.Store conn.new) (λ _. ⊥) }
     ensures kept { HasCleanDisk (state S.Store conn.new) → IsTrue (state S.Store conn.new).is_open → (state S.Store conn.new).now ≡ (state S.Store conn.old).now }
     ensures was_open { HasCleanDisk (state S.Store conn.new) → IsTrue (state S.Store conn.new).is_open → IsTrue (state S.Store conn.old).is_open }
+    ensures open { HasCleanDisk (state S.Store conn.new) → IfOk result (λ yes. IsTrue yes → IsTrue (state S.Store conn.old).is_open) }
     ensures schema { HasCleanDisk (state S.Store conn.new) → IfOk result (λ yes. IsTrue yes → (state S.Store conn.old).now.schema ≡ schema_6) }
     ensures version { HasCleanDisk (state S.Store conn.new) → IfOk result (λ yes. IsTrue yes → IsVersion1 (state S.Store conn.old).now.trees) }
 {

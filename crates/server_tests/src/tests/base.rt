@@ -1,14 +1,44 @@
 // A keeper of a database in memory, and what topics begin with.
 ghost use Rattle.std.specs.Prelude.{◌≡◌};
+ghost use Rattle.sqlite.specs.State.{HasCleanDisk};
+ghost use Rattle.sqlite.specs.Held.{state};
+ghost use Rattle.sqlite.specs.Steps.{over_memory};
+ghost use Rattle.row_forms.specs.Schema.{schema_6};
+ghost use Rattle.row_tables.specs.Ready.{AreKeyed};
 
 use broker_dir::Terms;
 use marks::{Naming, Unnamed};
 use position_core::LedgerSize;
+use row_found::open_in_memory;
+use row_schema::reopen;
 use row_store::Keeper;
-use sqlite::{Connection, MemStore};
+use sqlite::{Alter, Connection, MemStore};
 use std::process::Abort;
 use stored_cell::{Note, Notes};
 use topic_shared::{LineLimit, SeatCount};
+
+/// A database in memory, with no table.
+pub(super) fn in_memory<R: Abort + AllocGlobal>(rt: &R) -> Connection<MemStore>
+    ensures keyed { (state over_memory result).now.schema ≡ schema_6 → AreKeyed (state over_memory result).now.trees }
+{
+    match open_in_memory(rt.alloc()) {
+        Ok(conn) => conn,
+        Err(_) => panic!(rt; "no memory"),
+    }
+}
+
+/// The database, read again: so it may be adopted whatever was done with it.
+pub(super) fn read_again<S: Alter + Drop, R: Abort + AllocGlobal>(
+    rt: &R,
+    conn: Connection<S>,
+) -> Connection<S>
+    ensures keyed { HasCleanDisk (state S.Store result) → (state S.Store result).now.schema ≡ schema_6 → AreKeyed (state S.Store result).now.trees }
+{
+    match reopen(rt.alloc(), conn) {
+        Ok(conn) => conn,
+        Err(_) => panic!(rt; "not read again"),
+    }
+}
 
 /// Over a database that has no rows.
 pub(super) fn keeper_over<J: Naming, R: Abort + AllocGlobal>(
@@ -17,8 +47,7 @@ pub(super) fn keeper_over<J: Naming, R: Abort + AllocGlobal>(
 ) -> Keeper<MemStore, J>
     requires { history ≡ J.book }
 {
-    let conn = Connection::open_in_memory(rt.alloc()).expect(rt, "no memory");
-    let keeper = Keeper::start(rt.alloc(), conn, Notes::new(history));
+    let keeper = Keeper::start(rt.alloc(), in_memory(rt), Notes::new(history));
     keeper.ok().expect(rt, "no memory for the tables")
 }
 

@@ -1,6 +1,7 @@
 // A broker that is stopped after each single step of its couriers, and started again from what is stored.
 use super::letters::{GRAVE, T, play};
 use super::world::{Rows, Scene, Topics, asked, open, settle, sit, with_rows};
+use crate::tests::base::read_again;
 use broker_dir::Errands;
 use delivery_machine::{Delivery, Reply};
 use marks::Naming;
@@ -242,7 +243,7 @@ fn do_steps<J: Naming, R: Abort + AllocGlobal + Wait + Clock>(
 /// The broker that is started again from what is stored.
 fn again<J: Naming, R: Abort + AllocGlobal>(rt: &R, topics: Topics<J>) -> Topics<J> {
     let (conn, notes) = topics.into_keeper().into_parts();
-    let keeper = Keeper::adopt(rt.alloc(), conn, notes);
+    let keeper = Keeper::adopt(rt.alloc(), read_again(rt, conn), notes);
     open(rt, keeper.ok().expect(rt, "no rows"), 8)
 }
 

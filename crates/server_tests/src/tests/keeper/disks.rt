@@ -1,5 +1,10 @@
 // Databases on disks in memory that stop after so many calls, and what a stop leaves of them.
-ghost use Rattle.std.specs.Prelude.{◌≡◌};
+ghost use Rattle.std.specs.Prelude.{◌≡◌, IfOk, IsTrue};
+ghost use Rattle.sqlite.specs.State.{HasCleanDisk};
+ghost use Rattle.sqlite.specs.Held.{state};
+ghost use Rattle.sqlite.specs.Files.{file_state};
+ghost use Rattle.row_forms.specs.Schema.{schema_6};
+ghost use Rattle.row_tables.specs.Ready.{AreKeyed};
 
 use super::keepers::{started, store_of};
 use super::keeps::{Keeps, Scene};
@@ -9,6 +14,7 @@ use super::stops::{Machine, NEVER, Outcome, Stop};
 use super::works::{Work, is_done};
 use delivery_machine::Snapshot;
 use marks::{Naming, Unnamed};
+use row_found::open_files;
 use row_store::Keeper;
 use sqlite::{Alter, Connection, FileStore, Files, Options};
 use sqlite_disk::{Crash, Disk, Fuse, Memory};
@@ -76,13 +82,15 @@ fn open<R: Abort + AllocGlobal>(
     rt: &R,
     image: &Image,
     stop: Stop,
-) -> Result<Connection<Store>, Outcome<Image>> {
+) -> Result<Connection<Store>, Outcome<Image>>
+    ensures keyed { IfOk result (λ c. HasCleanDisk (file_state c) → (file_state c).now.schema ≡ schema_6 → AreKeyed (file_state c).now.trees) }
+{
     let files = Files {
         log: disk(rt, &image.log, stop.log),
         db: disk(rt, &image.db, stop.db),
     };
     assert!(rt; files.may_be_used());
-    match Connection::open_files(rt.alloc(), files, options()) {
+    match open_files(rt.alloc(), files, options()) {
         Ok(conn) => Ok(conn),
         Err((_, left)) => Err(left_in(rt, left.into_files(), false)),
     }
@@ -121,7 +129,8 @@ fn run<S: Alter + Drop, J: Naming, X: Errand, R: Abort + AllocGlobal>(
     errand: &X,
     history: Unnamed<Note>,
 ) -> (Option<S>, Option<X::Gain>)
-    requires { history ≡ J.book }
+    requires book { history ≡ J.book }
+    requires keyed { HasCleanDisk (state S.Store conn) → IsTrue (state S.Store conn).is_open → (state S.Store conn).now.schema ≡ schema_6 → AreKeyed (state S.Store conn).now.trees }
 {
     match started::<S, J, R>(rt, conn, history) {
         Ok(keeper) => {
@@ -137,7 +146,9 @@ fn send<X: Errand, R: Abort + AllocGlobal>(
     rt: &R,
     conn: Connection<Store>,
     errand: &X,
-) -> (Option<Files<File>>, Option<X::Gain>) {
+) -> (Option<Files<File>>, Option<X::Gain>)
+    requires keyed { HasCleanDisk (file_state conn) → (file_state conn).now.schema ≡ schema_6 → AreKeyed (file_state conn).now.trees }
+{
     let (store, gain) = run::<Store, Brand, X, R>(rt, conn, errand, Unnamed::new());
     match store {
         Some(store) => (Some(store.close()), gain),
@@ -164,11 +175,9 @@ impl Errand for Working {
     }
 }
 
-fn work_over<R: Abort + AllocGlobal>(
-    rt: &R,
-    conn: Connection<Store>,
-    work: Work,
-) -> Outcome<Image> {
+fn work_over<R: Abort + AllocGlobal>(rt: &R, conn: Connection<Store>, work: Work) -> Outcome<Image>
+    requires keyed { HasCleanDisk (file_state conn) → (file_state conn).now.schema ≡ schema_6 → AreKeyed (file_state conn).now.trees }
+{
     let (files, done) = send(rt, conn, &Working { work });
     left_in(rt, files.expect(rt, "no files"), done.unwrap_or(false))
 }
@@ -199,13 +208,20 @@ impl Errand for Looking {
     }
 }
 
-fn look_over<R: Abort + AllocGlobal>(rt: &R, conn: Connection<Store>) -> Seen {
+fn look_over<R: Abort + AllocGlobal>(rt: &R, conn: Connection<Store>) -> Seen
+    requires keyed { HasCleanDisk (file_state conn) → (file_state conn).now.schema ≡ schema_6 → AreKeyed (file_state conn).now.trees }
+{
     let (_, seen) = send(rt, conn, &Looking);
     seen.expect(rt, "not taken")
 }
 
-fn whole<R: Abort + AllocGlobal>(rt: &R, image: &Image) -> Connection<Store> {
-    open(rt, image, NEVER).ok().expect(rt, "not opened")
+fn whole<R: Abort + AllocGlobal>(rt: &R, image: &Image) -> Connection<Store>
+    ensures keyed { HasCleanDisk (file_state result) → (file_state result).now.schema ≡ schema_6 → AreKeyed (file_state result).now.trees }
+{
+    match open(rt, image, NEVER) {
+        Ok(conn) => conn,
+        Err(_) => panic!(rt; "not opened"),
+    }
 }
 
 fn is_same(one: &Option<Snapshot>, other: &Option<Snapshot>) -> bool {

@@ -1,12 +1,18 @@
 // The keeper as what the tests see of it, and scenes over one.
-ghost use Rattle.std.specs.Prelude.{◌≡◌};
+ghost use Rattle.std.specs.Prelude.{◌≡◌, IsTrue};
+ghost use Rattle.sqlite.specs.State.{HasCleanDisk};
+ghost use Rattle.sqlite.specs.Held.{state};
+ghost use Rattle.row_forms.specs.Schema.{schema_6};
+ghost use Rattle.row_tables.specs.Ready.{AreKeyed};
 
 use super::answers::{Answer, topic_name};
 use super::keeps::{Keeps, Scene};
 use super::same::{changed, same};
 use super::topics::Lone;
+use crate::tests::base;
 use delivery_machine::{Event, Fault, Saved, Snapshot};
 use marks::{Naming, Unnamed};
+use row_schema::reopen;
 use row_store::{Keeper, Refused, Written};
 use sqlite::{Alter, Connection};
 use std::marker::Brand;
@@ -108,7 +114,7 @@ impl<S: Alter + Drop, J: Naming> Keeps for Keeper<S, J> {
         match loaded {
             Ok(Some(loaded)) => Ok(Some(loaded.snapshot)),
             Ok(None) => Ok(None),
-            Err(fault) => Err(fault),
+            Err(why) => Err(why.fault()),
         }
     }
 
@@ -134,7 +140,7 @@ impl<S: Alter + Drop, J: Naming> Keeps for Keeper<S, J> {
         match loaded {
             Ok(Some(loaded)) => Ok(Some(Lone::resumed(rt, loaded))),
             Ok(None) => Ok(None),
-            Err(fault) => Err(fault),
+            Err(why) => Err(why.fault()),
         }
     }
 
@@ -164,12 +170,18 @@ impl<S: Alter + Drop, J: Naming> Keeps for Keeper<S, J> {
 
     fn adopt<R: AllocGlobal>(rt: &R, database: Database<S, J>) -> Result<Self, Fault> {
         let Database { conn, notes } = database;
-        taken(Keeper::adopt(rt.alloc(), conn, notes))
+        match reopen(rt.alloc(), conn) {
+            Ok(conn) => taken(Keeper::adopt(rt.alloc(), conn, notes)),
+            Err(_) => Err(Fault::StoreFailed),
+        }
     }
 
     fn start<R: AllocGlobal>(rt: &R, database: Database<S, J>) -> Result<Self, Fault> {
         let Database { conn, notes } = database;
-        taken(Keeper::start(rt.alloc(), conn, notes))
+        match reopen(rt.alloc(), conn) {
+            Ok(conn) => taken(Keeper::start(rt.alloc(), conn, notes)),
+            Err(_) => Err(Fault::StoreFailed),
+        }
     }
 
     fn execute(database: &mut Database<S, J>, sql: &str) -> bool {
@@ -187,7 +199,8 @@ pub(super) fn started<S: Alter + Drop, J: Naming, R: AllocGlobal>(
     conn: Connection<S>,
     history: Unnamed<Note>,
 ) -> Result<Keeper<S, J>, Refused<S, J>>
-    requires { history ≡ J.book }
+    requires book { history ≡ J.book }
+    requires keyed { HasCleanDisk (state S.Store conn) → IsTrue (state S.Store conn).is_open → (state S.Store conn).now.schema ≡ schema_6 → AreKeyed (state S.Store conn).now.trees }
 {
     Keeper::start(rt.alloc(), conn, Notes::new(history))
 }
@@ -204,7 +217,8 @@ fn run<S: Alter + Drop, J: Naming, X: Scene, R: Abort + AllocGlobal>(
     history: Unnamed<Note>,
     scene: &X,
 )
-    requires { history ≡ J.book }
+    requires book { history ≡ J.book }
+    requires keyed { HasCleanDisk (state S.Store conn) → IsTrue (state S.Store conn).is_open → (state S.Store conn).now.schema ≡ schema_6 → AreKeyed (state S.Store conn).now.trees }
 {
     let keeper = taken(started::<S, J, R>(rt, conn, history));
     scene.play::<Keeper<S, J>, R>(rt, keeper.expect(rt, "no memory"));
@@ -215,12 +229,13 @@ pub(super) fn over<S: Alter + Drop, X: Scene, R: Abort + AllocGlobal>(
     rt: &R,
     conn: Connection<S>,
     scene: &X,
-) {
+)
+    requires keyed { HasCleanDisk (state S.Store conn) → IsTrue (state S.Store conn).is_open → (state S.Store conn).now.schema ≡ schema_6 → AreKeyed (state S.Store conn).now.trees }
+{
     run::<S, Brand, X, R>(rt, conn, Unnamed::new(), scene);
 }
 
 /// Plays the scene over an empty database in memory.
 pub(super) fn in_memory<X: Scene, R: Abort + AllocGlobal>(rt: &R, scene: &X) {
-    let conn = Connection::open_in_memory(rt.alloc());
-    over(rt, conn.expect(rt, "no memory"), scene);
+    over(rt, base::in_memory(rt), scene);
 }

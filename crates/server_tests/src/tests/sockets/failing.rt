@@ -1,5 +1,10 @@
 // A disk that fails under open sessions: all are closed, and what was answered stands on the disk.
-ghost use Rattle.std.specs.Prelude.{◌≡◌};
+ghost use Rattle.std.specs.Prelude.{◌≡◌, IfSome, IsTrue};
+ghost use Rattle.sqlite.specs.State.{HasCleanDisk};
+ghost use Rattle.sqlite.specs.Held.{state};
+ghost use Rattle.sqlite.specs.Files.{file_state};
+ghost use Rattle.row_forms.specs.Schema.{schema_6};
+ghost use Rattle.row_tables.specs.Ready.{AreKeyed};
 
 use super::client::{Heard, Socket, connect, hear, say};
 use super::leaving::Leaving;
@@ -8,6 +13,7 @@ use broker_dir::{Directory, Open};
 use log_pieces::Pieces;
 use marks::{Naming, Unnamed};
 use position_core::{Message, TopicName};
+use row_found::open_files;
 use row_store::Keeper;
 use sqlite::{Alter, Connection, FileStore, Files, Options};
 use sqlite_disk::{Disk, Fuse, Memory};
@@ -62,12 +68,14 @@ fn disk(alloc: Global, bytes: &[u8], calls: u64, left: &Left) -> Option<File> {
 }
 
 /// The database that both hold. None where it cannot be opened.
-fn opened<D: Disk + Drop>(alloc: Global, log: D, db: D) -> Option<Connection<FileStore<D>>> {
+fn opened<D: Disk + Drop>(alloc: Global, log: D, db: D) -> Option<Connection<FileStore<D>>>
+    ensures keyed { IfSome result (λ c. HasCleanDisk (file_state c) → (file_state c).now.schema ≡ schema_6 → AreKeyed (file_state c).now.trees) }
+{
     let files = Files { log, db };
     if !files.may_be_used() {
         return None;
     }
-    match Connection::open_files(alloc, files, Options::new(1)) {
+    match open_files(alloc, files, Options::new(1)) {
         Ok(conn) => Some(conn),
         Err(_) => None,
     }
@@ -156,7 +164,8 @@ fn place_over<S: Alter + Drop, J: Naming, R: Abort + AllocGlobal>(
     conn: Connection<S>,
     history: Unnamed<Note>,
 ) -> Arc<Place<TopicCore, S, J, Open>>
-    requires { history ≡ J.book }
+    requires book { history ≡ J.book }
+    requires keyed { HasCleanDisk (state S.Store conn) → IsTrue (state S.Store conn).is_open → (state S.Store conn).now.schema ≡ schema_6 → AreKeyed (state S.Store conn).now.trees }
 {
     let keeper = Keeper::start(rt.alloc(), conn, Notes::new(history));
     let keeper = keeper.ok().expect(rt, "no tables");
@@ -185,7 +194,8 @@ fn serve_failing<
     S: Alter + Send + Drop + 'static,
     J: Naming + Send + Sync + 'static,
 >(rt: &R, conn: Connection<S>, history: Unnamed<Note>) -> u64
-    requires { history ≡ J.book }
+    requires book { history ≡ J.book }
+    requires keyed { HasCleanDisk (state S.Store conn) → IsTrue (state S.Store conn).is_open → (state S.Store conn).now.schema ≡ schema_6 → AreKeyed (state S.Store conn).now.trees }
 {
     let place = place_over::<S, J, R>(rt, conn, history);
     let listener = TcpListener::bind(rt, "127.0.0.1:0")
@@ -234,7 +244,8 @@ fn check_stored<S: Alter + Drop, J: Naming, R: Abort + AllocGlobal>(
     history: Unnamed<Note>,
     stored: u64,
 )
-    requires { history ≡ J.book }
+    requires book { history ≡ J.book }
+    requires keyed { HasCleanDisk (state S.Store conn) → IsTrue (state S.Store conn).is_open → (state S.Store conn).now.schema ≡ schema_6 → AreKeyed (state S.Store conn).now.trees }
 {
     let keeper = Keeper::<S, J>::start(rt.alloc(), conn, Notes::new(history));
     let mut keeper = keeper.ok().expect(rt, "not taken");
@@ -260,12 +271,16 @@ fn served<
         + Drop
         + 'static,
     S: Alter + Send + Drop + 'static,
->(rt: &R, conn: Connection<S>) -> u64 {
+>(rt: &R, conn: Connection<S>) -> u64
+    requires keyed { HasCleanDisk (state S.Store conn) → IsTrue (state S.Store conn).is_open → (state S.Store conn).now.schema ≡ schema_6 → AreKeyed (state S.Store conn).now.trees }
+{
     serve_failing::<R, S, Brand>(rt, conn, Unnamed::new())
 }
 
 /// What the database has of the topic, by a keeper with a history that was just opened.
-fn check_left<S: Alter + Drop, R: Abort + AllocGlobal>(rt: &R, conn: Connection<S>, stored: u64) {
+fn check_left<S: Alter + Drop, R: Abort + AllocGlobal>(rt: &R, conn: Connection<S>, stored: u64)
+    requires keyed { HasCleanDisk (state S.Store conn) → IsTrue (state S.Store conn).is_open → (state S.Store conn).now.schema ≡ schema_6 → AreKeyed (state S.Store conn).now.trees }
+{
     check_stored::<S, Brand, R>(rt, conn, Unnamed::new(), stored);
 }
 
