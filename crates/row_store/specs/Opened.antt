@@ -1,12 +1,17 @@
 -- What a topic is opened from.
-use Rattle.std.specs.Prelude.{◌≡◌, ◌+◌, ◌==◌, ◌||◌, ℕ, Bool, true, not, is_some, List, Option, length}
+use Rattle.std.specs.Prelude.{◌≡◌, ◌+◌, ◌==◌, ◌||◌, ◌⊎◌, ℕ, Bool, true, not, is_some, List, Option, Some, length}
 use Rattle.position_core.specs.TopicName.{topic_text}
 use Rattle.position_core.specs.declared.topic_name.TopicName.{TopicName}
 use Rattle.sqlite.specs.Tree.{Trees}
+use Rattle.delivery_machine.specs.State.{State}
+use Rattle.delivery_machine.specs.Snapshot.{restarted, snapshot_of}
+use Rattle.delivery_machine.specs.Places.{KeptTopic, snapshot_in}
 use Rattle.row_forms.specs.Cells.{of_topic}
 use Rattle.row_forms.specs.Forms.{TopicRows}
+use Rattle.row_forms.specs.Standing.{Stands}
+use Rattle.row_reading.specs.Telling.{IsTold}
 use Rattle.stored_cell.specs.Noted.{Noted, all_rows}
-use Rattle.stored_cell.specs.Held.{Held}
+use Rattle.stored_cell.specs.Held.{Held, IsAtRest}
 use Rattle.stored_cell.specs.Opening.{Opens}
 use Rattle.stored_cell.specs.declared.opening.Terms.{Terms}
 
@@ -30,3 +35,15 @@ count_of topic all =
 -- something of the topic is stored; or the rows that were noted have none of it, where the database was open and the disk clean
 unfoldable pub has_origin : Noted → Option Noted → TopicName → Bool
 has_origin noted stored name = is_some stored || not noted.clean || count_of (topic_text name) noted.rows == 0
+
+-- ---- a topic that is opened again
+
+-- it goes on from the state's snapshot; or the state was only opened, and it is again as the state is
+abbrev pub GoesOnFrom : State → State → Type 0
+GoesOnFrom s again = (again ≡ restarted (snapshot_of s)) ⊎ (snapshot_of again ≡ snapshot_of s)
+
+-- where a topic is at rest, and what is stored of it stands, whatever is opened of its name from a snapshot that stands there goes on from it
+abbrev pub WhatRestsIsFound : Type 0
+WhatRestsIsFound =
+    (h : Held) (n : Noted) (kept : KeptTopic) (db : Trees) → IsAtRest h → h.stored ≡ Some n → IsTold n.kept → Stands n.kept db
+    → IsTold kept → kept.name ≡ n.kept.name → Stands kept db → GoesOnFrom h.cell.state (restarted (snapshot_in kept))

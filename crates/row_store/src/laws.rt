@@ -1,8 +1,14 @@
 // A law over a keeper's whole life.
+ghost use Rattle.row_store.specs.Opened.{WhatRestsIsFound};
 ghost use Rattle.row_store.specs.Lives.{CrashesCompose};
 
 /// Whatever a crash leaves, it is of each topic what was stored last of it, or, of all topics alike, what it is with the
 /// store that was under way. So it is after any stores, loads and rounds, and after a store that failed.
 pub fn crashes_compose()
     ensures { CrashesCompose }
+{}
+
+/// A topic at rest may be let go of: whatever is opened again of its name, from what stands, goes on from it.
+pub fn what_rests_is_found()
+    ensures { WhatRestsIsFound }
 {}

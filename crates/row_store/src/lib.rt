@@ -16,6 +16,7 @@ mod written;
 
 pub use cause::Cause;
 pub use keeper::Keeper;
+pub use loading::Unread;
 pub use opening::Refused;
 pub use topics::{OpenCell, open_cell};
 pub use written::Written;

@@ -1,7 +1,8 @@
 // A topic's snapshot, as its rows have it.
-ghost use Rattle.std.specs.Prelude.{◌≡◌, ◌⊎◌, ◌++◌, [], ◌∷◌, true, false, IfOk, IfErr, IfNone, IfSome, OnErr, MatchOption, Err, IsTrue, string_bytes};
+ghost use Rattle.std.specs.Prelude.{◌≡◌, ◌⊎◌, ◌++◌, ◌≢◌, ◌↔◌, [], ◌∷◌, true, false, IfOk, IfErr, IfNone, IfSome, OnErr, MatchOption, Err, IsTrue, string_bytes};
 ghost use Rattle.position_core.specs.TopicName.{topic_text};
 ghost use Rattle.position_core.specs.declared.fault.Fault.TheVariants.{NoMemory, StoreFailed};
+ghost use Rattle.delivery_machine.specs.Places.{KeptTopic};
 ghost use Rattle.sqlite.specs.State.{HasCleanDisk, Survives};
 ghost use Rattle.sqlite.specs.Held.{state};
 ghost use Rattle.row_forms.specs.Standing.{Stands, HasNone};
@@ -10,9 +11,10 @@ ghost use Rattle.row_forms.specs.Changes.{with_topic};
 ghost use Rattle.row_forms.specs.Forms.{AreRowsOf};
 ghost use Rattle.row_tables.specs.Ordered.{AreSorted};
 ghost use Rattle.row_rounds.specs.Rounds.{IsReadFrom};
-ghost use Rattle.row_reading.specs.Reading.{MayBeTold};
+ghost use Rattle.row_reading.specs.Reading.{IsReadBack, MayBeTold};
 ghost use Rattle.sqlite.specs.Tree.{Trees};
 ghost use Rattle.row_store.specs.Keeping.{NoneStands, stored_in};
+ghost use Rattle.row_store.specs.declared.loading.Unread.{Unread};
 
 use crate::cause::Cause;
 use crate::keeper::Keeper;
@@ -26,6 +28,30 @@ use row_rounds::read;
 use sqlite::Alter;
 use std::alloc::{AllocError, Global};
 use stored_cell::{Kept, Loaded};
+
+/// Why a topic was not loaded.
+#[derive(Clone, Copy, Debug, PartialEq, Eq)]
+pub enum Unread {
+    /// There was no memory (F1).
+    NoMemory,
+    /// The store had failed, or answered an error (F16).
+    StoreFailed,
+    /// The topic has rows that are no snapshot's (F16).
+    BadRows,
+}
+
+impl Unread {
+    /// The refusal that it comes to.
+    pub fn fault(self) -> Fault
+        ensures memory { (result ≡ NoMemory) ↔ (self ≡ Unread.NoMemory) }
+        ensures faults { (result ≡ NoMemory) ⊎ (result ≡ StoreFailed) }
+    {
+        match self {
+            Unread::NoMemory => Fault::NoMemory,
+            Unread::StoreFailed | Unread::BadRows => Fault::StoreFailed,
+        }
+    }
+}
 
 /// The snapshot that was read of the topic. None only where no snapshot that the reader takes stands in a database whose rows
 /// these are, in the order of their keys.
@@ -41,10 +67,12 @@ fn shown_by(alloc: Global, name: &TopicName, raw: &RawRows) -> Result<Option<Sna
 
 impl<S: Alter, J: Naming> Keeper<S, J> {
     /// The snapshot whose rows stand there; none where the topic has no rows. The next store of the topic
-    /// writes what changed from then on, if it goes on from there. Refused (F16) where the rows are no snapshot's, or the
-    /// store answers an error; (F1) for want of memory. No row changes in any case.
-    pub fn load(&mut self, name: &TopicName) -> Result<Option<Loaded<J>>, Fault>
+    /// writes what changed from then on, if it goes on from there. Refused where the rows are no snapshot's, where the
+    /// store answers an error, and for want of memory. No row changes in any case.
+    pub fn load(&mut self, name: &TopicName) -> Result<Option<Loaded<J>>, Unread>
         ensures rows { HasCleanDisk (state S.Store self.new.conn) → IfOk result (λ found. MatchOption found (HasNone (topic_text name.now) (state S.Store self.old.conn).now.trees) (λ loaded. (loaded.snapshot.name ≡ name.now) × Stands loaded.snapshot (state S.Store self.old.conn).now.trees)) }
+        ensures found { HasCleanDisk (state S.Store self.new.conn) → (kept : KeptTopic) → IsReadBack kept → kept.name ≡ name.now → Stands kept (state S.Store self.old.conn).now.trees → IfOk result (λ found. MatchOption found ⊥ (λ loaded. loaded.snapshot ≡ kept)) }
+        ensures bad { HasCleanDisk (state S.Store self.new.conn) → result ≡ Err Unread.BadRows → NoneStands name.now (state S.Store self.old.conn).now.trees }
         ensures kept { IfOk result (λ found. IfSome found (λ loaded. loaded.kept ≡ stored_in (state S.Store self.new.conn) loaded.snapshot)) }
         ensures named { IfOk result (λ found. IfSome found (λ loaded. loaded.snapshot.name ≡ name.now)) }
         ensures told { IfOk result (λ found. IfSome found (λ loaded. MayRestart loaded.snapshot × MayBeTold loaded.snapshot)) }
@@ -54,21 +82,20 @@ impl<S: Alter, J: Naming> Keeper<S, J> {
         ensures unknown { OnErr result (self.new.known ≡ self.old.known) }
         ensures left { self.old.failed ≡ false → IsTrue (state S.Store self.old.conn).is_open → HasCleanDisk (state S.Store self.new.conn) → (db : _) → (state S.Store self.new.conn).may_leave db → db ≡ (state S.Store self.old.conn).now.trees }
         ensures failed { self.new.failed ≡ self.old.failed }
-        ensures refused { self.old.failed ≡ true → (result ≡ Err StoreFailed) × (self.new ≡ self.old) }
-        ensures faults { IfErr result (λ fault. (fault ≡ NoMemory) ⊎ (fault ≡ StoreFailed)) }
+        ensures refused { self.old.failed ≡ true → (result ≡ Err Unread.StoreFailed) × (self.new ≡ self.old) }
     {
         if self.failed {
-            return Err(Fault::StoreFailed);
+            return Err(Unread::StoreFailed);
         }
         let Ok(topic) = topic_text(self.alloc, name) else {
-            return Err(Fault::NoMemory);
+            return Err(Unread::NoMemory);
         };
         let raw = match read(&mut self.conn, topic.as_str()) {
             Ok(raw) => raw,
             Err(error) => {
                 drop(topic);
                 self.refusal = Some(Cause::of(error, self.refusal));
-                return Err(Fault::StoreFailed);
+                return Err(Unread::StoreFailed);
             }
         };
         if raw.is_empty() {
@@ -86,17 +113,17 @@ impl<S: Alter, J: Naming> Keeper<S, J> {
             Ok(None) => {
                 self.refusal = Some(Cause::BadRows);
                 self.spoilt = Some(topic);
-                Err(Fault::StoreFailed)
+                Err(Unread::BadRows)
             }
             Err(_) => {
                 drop(topic);
-                Err(Fault::NoMemory)
+                Err(Unread::NoMemory)
             }
         }
     }
 
     /// What was read is known from now on.
-    fn know_loaded(&mut self, topic: String, snapshot: Snapshot) -> Result<Loaded<J>, Fault>
+    fn know_loaded(&mut self, topic: String, snapshot: Snapshot) -> Result<Loaded<J>, Unread>
         requires topic { string_bytes topic ≡ topic_text snapshot.name }
         requires stands { HasCleanDisk (state S.Store self.old.conn) → IsTrue (state S.Store self.old.conn).is_open → Stands snapshot (state S.Store self.old.conn).now.trees }
         ensures same { (self.new.conn ≡ self.old.conn) × (self.new.failed ≡ self.old.failed) }
@@ -104,7 +131,7 @@ impl<S: Alter, J: Naming> Keeper<S, J> {
         ensures kept { IfOk result (λ loaded. loaded.kept ≡ stored_in (state S.Store self.old.conn) snapshot) }
         ensures known { IfOk result (λ loaded. self.new.known ≡ self.old.known ++ loaded.snapshot ∷ []) }
         ensures unknown { OnErr result (self.new.known ≡ self.old.known) }
-        ensures faults { IfErr result (λ fault. (fault ≡ NoMemory) ⊎ (fault ≡ StoreFailed)) }
+        ensures faults { result ≢ Err Unread.BadRows }
     {
         match self.proof_of(&snapshot) {
             Ok(kept) => self.know_kept(topic, snapshot, kept),
@@ -117,11 +144,11 @@ impl<S: Alter, J: Naming> Keeper<S, J> {
     }
 
     /// The proof that the snapshot, which stands, does.
-    fn proof_of(&mut self, snapshot: &Snapshot) -> Result<Kept<J>, Fault>
+    fn proof_of(&mut self, snapshot: &Snapshot) -> Result<Kept<J>, Unread>
         requires stands { HasCleanDisk (state S.Store self.old.conn) → IsTrue (state S.Store self.old.conn).is_open → Stands snapshot.now (state S.Store self.old.conn).now.trees }
         ensures same { self.new ≡ self.old }
         ensures kept { IfOk result (λ kept. kept ≡ stored_in (state S.Store self.old.conn) snapshot.now) }
-        ensures faults { IfErr result (λ fault. fault ≡ StoreFailed) }
+        ensures faults { IfErr result (λ fault. fault ≡ Unread.StoreFailed) }
     {
         prove!(self.conn.is_autocommit());
         match self.notes.view(snapshot) {
@@ -130,12 +157,12 @@ impl<S: Alter, J: Naming> Keeper<S, J> {
                 None => {
                     drop(mark);
                     self.refusal = Some(Cause::NoMark);
-                    Err(Fault::StoreFailed)
+                    Err(Unread::StoreFailed)
                 }
             },
             None => {
                 self.refusal = Some(Cause::NoMark);
-                Err(Fault::StoreFailed)
+                Err(Unread::StoreFailed)
             }
         }
     }
@@ -146,7 +173,7 @@ impl<S: Alter, J: Naming> Keeper<S, J> {
         topic: String,
         snapshot: Snapshot,
         kept: Kept<J>,
-    ) -> Result<Loaded<J>, Fault>
+    ) -> Result<Loaded<J>, Unread>
         requires topic { string_bytes topic ≡ topic_text snapshot.name }
         requires stands { HasCleanDisk (state S.Store self.old.conn) → IsTrue (state S.Store self.old.conn).is_open → Stands snapshot (state S.Store self.old.conn).now.trees }
         requires kept { kept ≡ stored_in (state S.Store self.old.conn) snapshot }
@@ -155,13 +182,13 @@ impl<S: Alter, J: Naming> Keeper<S, J> {
         ensures kept { IfOk result (λ loaded. loaded.kept ≡ kept) }
         ensures known { IfOk result (λ loaded. self.new.known ≡ self.old.known ++ loaded.snapshot ∷ []) }
         ensures unknown { OnErr result (self.new.known ≡ self.old.known) }
-        ensures faults { IfErr result (λ fault. fault ≡ NoMemory) }
+        ensures faults { IfErr result (λ fault. fault ≡ Unread.NoMemory) }
     {
         let Ok(()) = self.known.reserve(1) else {
             drop(topic);
             drop(snapshot);
             drop(kept);
-            return Err(Fault::NoMemory);
+            return Err(Unread::NoMemory);
         };
         match snapshot.clone() {
             Ok(copy) => {
@@ -173,7 +200,7 @@ impl<S: Alter, J: Naming> Keeper<S, J> {
                 drop(topic);
                 drop(snapshot);
                 drop(kept);
-                Err(Fault::NoMemory)
+                Err(Unread::NoMemory)
             }
         }
     }

@@ -125,7 +125,7 @@ pub fn open_cell<T: Opened + Drop, S: Alter, J: Naming>(
 {
     let loaded = match keeper.load(name) {
         Ok(loaded) => loaded,
-        Err(fault) => return Err(fault),
+        Err(why) => return Err(why.fault()),
     };
     match opened_cell(alloc, loaded, name, create, terms) {
         Ok(cell) => noted(keeper, cell),

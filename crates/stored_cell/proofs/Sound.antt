@@ -19,9 +19,9 @@ use Rattle.delivery_machine.proofs.Growing.{step_grows, prefix_same}
 use Rattle.delivery_machine.proofs.ReachedOn.{reached_fresh, reached_restarted}
 use Rattle.journal_lines.specs.Lines.{line}
 use Rattle.journal_lines.proofs.Legality.{legal_snoc}
-use Rattle.topic_shared.specs.Kept.{Kept, StoresLine, spoken_for, with_promise}
-use Rattle.stored_cell.specs.Noted.{Noted, GoesOn, IsOfView, IsStored, marked}
-use Rattle.stored_cell.specs.Held.{Held, IsBeginning, KeepsSafe, KeepsLetters, IsProof, HasNoneStored, IsSound, bases_of, outstanding_in}
+use Rattle.topic_shared.specs.Kept.{Kept, IsVacant, StoresLine, spoken_for, with_promise}
+use Rattle.stored_cell.specs.Noted.{Noted, GoesOn, IsOfNow, IsOfView, IsStored, marked}
+use Rattle.stored_cell.specs.Held.{Held, IsBeginning, KeepsSafe, KeepsLetters, IsProof, HasNothing, HasNoneStored, IsAtRest, IsSound, bases_of, outstanding_in}
 use Rattle.stored_cell.proofs.SafeKept.{reached_on, safe_on, none_on, letters_on, safe_viewed, letters_viewed, safe_confirmed, safe_all, safe_opened, none_fresh}
 
 prefix_shorter : {A : Type 0} (xs ys : List A) → IsPrefix xs ys → length xs ≤ length ys
@@ -81,6 +81,15 @@ promise_stays k = by k.promised (nat_lt (spoken_for k) k.limit)
     by false true = refl
     by false false = refl
 
+-- and what was viewed
+pub promise_views : (k : Kept) → (with_promise k).viewed ≡ k.viewed
+promise_views k = by k.promised (nat_lt (spoken_for k) k.limit)
+  where
+    by : (b c : Bool) → (if b then k else if c then record k { promised = true } else record k { own_line = false; promised = true }).viewed ≡ k.viewed
+    by true c = refl
+    by false true = refl
+    by false false = refl
+
 all_of_one : {A : Type 0} (P : A → Type 0) (x : A) → P x → All P (x ∷ [])
 all_of_one P x h zero d less = h
 all_of_one P x h (suc n) d less = absurd (omega (arith, less))
@@ -123,10 +132,28 @@ sound_same h l sound state viewed promised =
       promised = sound.promised;
       views = sound.views;
       stores_view = sound.stores_view;
+      views_none = sound.views_none;
     })
 
-pub sound_fresh : (k : Kept) → k.state ≡ fresh k.state.name k.state.ledger_size → IsSound (record { cell = k; stored = None; outstanding = None; by_word = false })
-sound_fresh k is = record {
+-- a line is promised
+pub sound_ready : (h : Held) (l : Kept) → IsSound h → l.state ≡ h.cell.state → l.viewed ≡ h.cell.viewed → l.promised ≡ true → IsSound (record h { cell = l })
+sound_ready h l sound state viewed promised =
+    subst (λ (x : State × State). IsSound (record h { cell = record l { state = x.0; viewed = x.1 } })) (λ i. (sym state i, sym viewed i))
+    (record {
+      reached = sound.reached;
+      stored = sound.stored;
+      durable = sound.durable;
+      outstanding = sound.outstanding;
+      within = sound.within;
+      letters = sound.letters;
+      promised = λ _. promised;
+      views = sound.views;
+      stores_view = sound.stores_view;
+      views_none = sound.views_none;
+    })
+
+pub sound_fresh : (k : Kept) → k.viewed ≡ k.state → k.state ≡ fresh k.state.name k.state.ledger_size → IsSound (record { cell = k; stored = None; outstanding = None; by_word = false })
+sound_fresh k viewed is = record {
   reached = subst IsReached (sym is) (reached_fresh k.state.name k.state.ledger_size);
   stored = tt;
   durable = λ _. none_fresh k.state is;
@@ -136,6 +163,7 @@ sound_fresh k is = record {
   promised = λ none. absurd cc;
   views = tt;
   stores_view = λ _ _. tt;
+  views_none = λ _ _ _. subst (λ (s : State). s ≡ fresh s.name s.ledger_size) (sym viewed) is;
 }
 
 pub sound_restarted : (k : Kept) (n : Noted) → IsSoundSnapshot (snapshot_in n.kept) → k.viewed ≡ k.state → k.state ≡ restarted (snapshot_in n.kept) → IsStored n → IsSound (record { cell = k; stored = Some n; outstanding = None; by_word = false })
@@ -160,6 +188,7 @@ sound_restarted k n sound viewed is stands =
       promised = λ none. absurd cc;
       views = tt;
       stores_view = λ _ _. inr (viewed ∙ is);
+      views_none = λ _ _ none. absurd cc;
     }
 
 pub sound_called : (h : Held) (l : Kept) (e : Event) (r : Reply) → IsSound h → Step h.cell.state e r l.state → l.promised ≡ h.cell.promised → l.viewed ≡ h.cell.viewed
@@ -183,6 +212,9 @@ sound_called h l e r sound step promised viewed =
       stores_view = λ said none.
           let both = or_false h.by_word (is_storing e) said in
           subst (λ (v : State). IfSome h.stored (λ n. IsOfView v n.kept)) (sym viewed) (sound.stores_view both.0 none);
+      views_none = λ said none unstored.
+          let both = or_false h.by_word (is_storing e) said in
+          subst (λ (v : State). v ≡ fresh v.name v.ledger_size) (sym viewed) (sound.views_none both.0 none unstored);
     }
   where
     of_stored : (o : Option Noted) → (HasNoneStored h.cell.state → HasNoneStored l.state) → ((n : Noted) → IsProof h.cell.state n → IsProof l.state n)
@@ -206,6 +238,7 @@ sound_viewed h l kept sound same last promised viewed =
       promised = λ _. promised;
       views = viewed ∙ ap snapshot_of (sym last);
       stores_view = λ _ none. absurd cc;
+      views_none = λ _ none _. absurd cc;
     }
 
 pub sound_confirmed : (h : Held) (l : Kept) (n : Noted) (count : ℕ) → IsSound h → h.outstanding ≡ Some n.kept → IsStored n
@@ -233,6 +266,7 @@ sound_confirmed h l n count sound viewed stands stores =
       promised = λ none. absurd cc;
       views = tt;
       stores_view = λ _ _. inl (subst (λ o. IfSome o (λ (kept : KeptTopic). snapshot_in kept ≡ snapshot_of h.cell.viewed)) viewed sound.views ∙ ap (λ (k : Kept). snapshot_of k.viewed) (sym stores.others));
+      views_none = λ _ _ none. absurd cc;
     }
   where
     told : Event
@@ -263,6 +297,7 @@ sound_all h l n count sound now stands stores =
       promised = λ none. absurd cc;
       views = tt;
       stores_view = λ _ _. inl (now ∙ ap (λ (k : Kept). snapshot_of k.viewed) (sym stores.others));
+      views_none = λ _ _ none. absurd cc;
     }
 
 -- all that there is is durable by a word
@@ -279,4 +314,31 @@ sound_stored h l count sound stores =
       promised = λ none. absurd cc;
       views = tt;
       stores_view = λ said. absurd cc;
+      views_none = λ said. absurd cc;
     }
+
+-- ---- at rest
+
+of_now : (s viewed : State) (kept : KeptTopic) → snapshot_of s ≡ snapshot_of viewed → IsOfView viewed kept → IsOfNow s kept
+of_now s viewed kept same (inl is) = inl (is ∙ sym same)
+of_now s viewed kept same (inr on) = inr (ap snapshot_of (sym on) ∙ sym same)
+
+has_nothing : (s viewed : State) → snapshot_of s ≡ snapshot_of viewed → viewed ≡ fresh viewed.name viewed.ledger_size → HasNothing s
+has_nothing s viewed same is =
+    same ∙ ap snapshot_of is
+    ∙ ap (λ (x : Snapshot). snapshot_of (fresh x.name x.ledger_size)) (sym same)
+
+-- what is stored of it, if anything is, is the topic as it is
+pub at_rest : (h : Held) → IsSound h → snapshot_of h.cell.state ≡ snapshot_of h.cell.viewed → IsVacant h.cell.state → h.by_word ≡ false → h.outstanding ≡ None → h.cell.unsaved ≡ false → IsAtRest h
+at_rest h sound same vacant word none saved = record {
+  vacant = vacant;
+  by_proof = word;
+  confirmed = none;
+  saved = saved;
+  rows = rows h.stored (sound.stores_view word none) (sound.views_none word none);
+}
+  where
+    rows : (o : Option Noted) → IfSome o (λ n. IsOfView h.cell.viewed n.kept) → (o ≡ None → h.cell.viewed ≡ fresh h.cell.viewed.name h.cell.viewed.ledger_size)
+        → MatchOption o (HasNothing h.cell.state) (λ n. IsOfNow h.cell.state n.kept)
+    rows None view nothing = has_nothing h.cell.state h.cell.viewed same (nothing refl)
+    rows (Some n) view nothing = of_now h.cell.state h.cell.viewed n.kept same view

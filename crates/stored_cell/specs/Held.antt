@@ -1,14 +1,14 @@
 -- A topic with its journal and with what of it is stored, and why what it calls durable, or safe to be moved, is stored.
 use Rattle.std.specs.Prelude.{◌≡◌, ℕ, ◌≤◌, ◌⊎◌, ◌++◌, Bool, true, false, List, [], ◌∷◌, Option, None, Some, IfSome, IsSome, MatchOption, length, All, Contains}
 use mathlib.Core.List.{IsPrefix}
-use Rattle.delivery_machine.specs.State.{State}
+use Rattle.delivery_machine.specs.State.{State, fresh}
 use Rattle.delivery_machine.specs.Places.{KeptTopic, snapshot_in}
 use Rattle.delivery_machine.specs.Snapshot.{snapshot_of}
 use Rattle.delivery_machine.specs.Laws.{IsReached}
 use Rattle.dead_moves.specs.Letters.{dead_of, safe_of, dead_in}
 use Rattle.journal_lines.specs.Lines.{Line, Legal}
-use Rattle.topic_shared.specs.Kept.{Kept}
-use Rattle.stored_cell.specs.Noted.{Noted, IsOfView, IsStored, marked}
+use Rattle.topic_shared.specs.Kept.{Kept, IsVacant}
+use Rattle.stored_cell.specs.Noted.{Noted, IsOfNow, IsOfView, IsStored, marked}
 
 -- `stored` is the snapshot that was confirmed last, with rows that were committed; `outstanding`, the one that was viewed
 -- last, if it was not confirmed; `by_word`, whether more may be durable, or safe, than was confirmed, by the word of a caller
@@ -50,6 +50,19 @@ pub record HasNoneStored (s : State) : Type 0 where
 abbrev pub IsDurable : Held → Type 0
 IsDurable h = h.by_word ≡ false → MatchOption h.stored (HasNoneStored h.cell.state) (IsProof h.cell.state)
 
+-- nothing was ever asked of the topic that a snapshot shows
+abbrev pub HasNothing : State → Type 0
+HasNothing s = snapshot_of s ≡ snapshot_of (fresh s.name s.ledger_size)
+
+-- nobody is connected, nothing that was viewed is to be confirmed, and what was confirmed last is the topic as it is, or there is
+-- nothing in it; all that by proof
+pub record IsAtRest (h : Held) : Type 0 where
+  pub vacant : IsVacant h.cell.state
+  pub by_proof : h.by_word ≡ false
+  pub confirmed : h.outstanding ≡ None
+  pub saved : h.cell.unsaved ≡ false
+  pub rows : MatchOption h.stored (HasNothing h.cell.state) (λ n. IsOfNow h.cell.state n.kept)
+
 -- what every such cell keeps
 pub record IsSound (h : Held) : Type 0 where
   -- a run comes to its state
@@ -63,6 +76,8 @@ pub record IsSound (h : Held) : Type 0 where
   -- what is outstanding is kept of the last view, and where nothing is, what was stored last is
   pub views : IfSome h.outstanding (λ kept. snapshot_in kept ≡ snapshot_of h.cell.viewed)
   pub stores_view : h.by_word ≡ false → h.outstanding ≡ None → IfSome h.stored (λ n. IsOfView h.cell.viewed n.kept)
+  -- and where nothing was, none was viewed
+  pub views_none : h.by_word ≡ false → h.outstanding ≡ None → h.stored ≡ None → h.cell.viewed ≡ fresh h.cell.viewed.name h.cell.viewed.ledger_size
 
 -- what a snapshot of the topic goes on from: the snapshot that was confirmed last, and the one that is outstanding
 abbrev pub outstanding_in : Option KeptTopic → List KeptTopic

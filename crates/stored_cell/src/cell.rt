@@ -1,5 +1,5 @@
 // A topic with its journal and with what of it is stored.
-ghost use Rattle.std.specs.Prelude.{◌≡◌, ◌↔◌, ◌⊎◌, ◌<◌, ◌≤◌, ◌+◌, ◌-◌, ◌||◌, [], ◌∷◌, ◌++◌, length, All, set, Err, None, Some, IfOk, IfErr, IfSome, OnErr, IsOk, true, false};
+ghost use Rattle.std.specs.Prelude.{◌≡◌, ◌↔◌, ◌⊎◌, ◌<◌, ◌≤◌, ◌+◌, ◌-◌, ◌||◌, [], ◌∷◌, ◌++◌, length, All, set, Err, None, Some, IfOk, IfErr, IfSome, OnErr, IsOk, IsTrue, true, false};
 ghost use Rattle.std.specs.Option.{option_copied};
 ghost use Rattle.position_core.specs.declared.fault.Fault.TheVariants.{NoMemory, JournalFull, NoRoom};
 ghost use Rattle.delivery_machine.specs.State.{fresh};
@@ -9,9 +9,9 @@ ghost use Rattle.delivery_machine.specs.Snapshot.{restarted};
 ghost use Rattle.delivery_machine.specs.Places.{snapshot_in};
 ghost use Rattle.delivery_machine.specs.Journals.{changes_snapshot, is_storing};
 ghost use Rattle.journal_lines.specs.Lines.{line, Legal};
-ghost use Rattle.topic_shared.specs.Kept.{KeepsSeats, needed_by, spoken_for, is_end};
+ghost use Rattle.topic_shared.specs.Kept.{IsVacant, KeepsSeats, needed_by, spoken_for, is_end};
 ghost use Rattle.topic_seats.specs.Seats.{IsFree, without_seat};
-ghost use Rattle.stored_cell.specs.Held.{IsDurable};
+ghost use Rattle.stored_cell.specs.Held.{IsAtRest, IsDurable};
 ghost use Rattle.stored_cell.specs.Noted.{IsOfNow, IsOfView};
 
 use crate::kept::Kept;
@@ -72,7 +72,8 @@ fn is_either(one: bool, other: bool) -> bool
 impl<T: Topic + Drop, J: Naming> StoredCell<T, J> {
     /// Over a topic with nothing in it, of which nothing is stored.
     pub fn fresh(cell: Cell<T>) -> Self
-        requires { cell.state ≡ fresh cell.state.name cell.state.ledger_size }
+        requires fresh { cell.state ≡ fresh cell.state.name cell.state.ledger_size }
+        requires viewed { cell.viewed ≡ cell.state }
         ensures { result ≡ record { cell = cell; stored = None; outstanding = None; by_word = false } }
     {
         StoredCell {
@@ -162,6 +163,18 @@ impl<T: Topic, J: Naming> StoredCell<T, J> {
             Some(stored) => Some(stored.kept()),
             None => None,
         }
+    }
+
+    /// Whether the topic may be let go of: nobody is connected, and what is stored of it is the topic as it is, so that
+    /// whatever is opened again from its rows goes on from there.
+    pub fn is_at_rest(&self) -> bool
+        ensures value { IsTrue result ↔ IsVacant self.now.cell.state × (self.now.by_word ≡ false) × (self.now.outstanding ≡ None) × (self.now.cell.unsaved ≡ false) }
+        ensures rest { IsTrue result → IsAtRest self.now }
+    {
+        self.cell.is_vacant()
+            && !self.by_word
+            && self.outstanding.is_none()
+            && !self.cell.needs_storing()
     }
 
     /// Something may be durable, or a letter safe, by a caller's word alone. So it stays until all that the topic has

@@ -31,6 +31,10 @@ abbrev pub kept_lines : Kept → ℕ
 kept_lines k =
     length (producers_in k.state) + length (consumers_in k.state) + (if k.own_line then 1 else 0) + (if k.promised then 1 else 0)
 
+-- nobody is connected
+abbrev pub IsVacant : State → Type 0
+IsVacant s = (producers_in s ≡ []) × (consumers_in s ≡ [])
+
 -- the lines that are written, and those that are kept
 abbrev pub spoken_for : Kept → ℕ
 spoken_for k = length k.lines + kept_lines k

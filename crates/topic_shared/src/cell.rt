@@ -6,7 +6,7 @@ ghost use Rattle.delivery_machine.specs.Snapshot.{snapshot_of};
 ghost use Rattle.delivery_machine.specs.Journals.{changes_snapshot, producers_noted, consumers_noted};
 ghost use Rattle.journal_lines.specs.Lines.{line, Legal};
 ghost use Rattle.journal_lines.specs.Short.{is_long, is_long_reply};
-ghost use Rattle.topic_shared.specs.Kept.{Kept, KeepsSeats, Leads, is_settled, needed_by, kept_lines, spoken_for, is_end};
+ghost use Rattle.topic_shared.specs.Kept.{Kept, KeepsSeats, Leads, is_settled, needed_by, kept_lines, spoken_for, is_end, IsVacant};
 ghost use Rattle.topic_shared.specs.Attached.{attaches};
 ghost use Rattle.topic_seats.specs.Seats.{IsFree, without_seat};
 
@@ -314,6 +314,13 @@ impl<T: Topic> Cell<T> {
         ensures { result ≡ length self.now.lines }
     {
         self.lines.len() as u64
+    }
+
+    /// Whether no producer and no consumer is connected.
+    pub fn is_vacant(&self) -> bool
+        ensures { IsTrue result ↔ IsVacant self.now.state }
+    {
+        self.producers.is_empty() && self.consumers.is_empty()
     }
 
     /// The journal has no line, or its last one is the cell's own.
