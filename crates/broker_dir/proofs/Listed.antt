@@ -1,14 +1,15 @@
--- How a topic is found among the open ones, and listed.
-use Rattle.std.proofs.Common.{◌≡◌, ℕ, zero, suc, Bool, true, false, true≢false, List, [], ◌∷◌, ◌++◌, Option, None, Some, ap, sym, subst, ◌∙◌, cond, if◌then◌else◌, refl, Result, Ok, Err, is_ok, OnOk, arith}
+-- How a topic is found among the open ones, is listed, and leaves.
+use Rattle.std.proofs.Common.{◌≡◌, ℕ, zero, suc, Bool, true, false, true≢false, List, [], ◌∷◌, ◌++◌, Option, None, Some, ap, sym, subst, ◌∙◌, cond, if◌then◌else◌, refl, Result, Ok, Err, is_ok, OnOk, arith, map, take, drop, slice_get}
 use Rattle.std.proofs.lemmas.List.{map-append}
-use Rattle.std.proofs.lemmas.List.Elements.{All-append}
+use Rattle.std.proofs.lemmas.List.Elements.{All-append, All-drop, All-take}
 use Rattle.std.proofs.lemmas.Slice.Eq.{bytes_eq-Decides}
 use denote.Ref.{Bor}
 use Rattle.std.specs.Prelude.{String, All, IfSome, OnErr, option_copied}
 use Rattle.std.specs.String.{string_bytes, string_eq}
 use Rattle.std.specs.Str.{bytes_eq}
+use Rattle.std.specs.List.{remove}
 use Rattle.std.specs.Map.{lookup}
-use Rattle.indexmap.specs.IndexMap.{insert_entry}
+use Rattle.indexmap.specs.IndexMap.{insert_entry, set_value_at}
 use Rattle.position_core.specs.declared.topic_name.TopicName.{TopicName}
 use Rattle.position_core.specs.TopicName.{topic_text}
 use Rattle.broker_dir.specs.Listing.{AreNamed, names_of}
@@ -64,3 +65,32 @@ pub added : {A X V E : Type 0} (r : Result V E) (is_added : Bool) (es now : List
     → lookup (λ k. bytes_eq (string_bytes name) (string_bytes k)) es ≡ None → OnOk r (now ≡ insert_entry string_eq es name topic) → is_added ≡ true → now ≡ es ++ (name, topic) ∷ []
 added (Ok value) is_added es now name topic is none entries done = entries ∙ behind es name topic none
 added (Err fault) is_added es now name topic is none entries done = absurd (true≢false (sym done ∙ is))
+
+-- ---- a topic that leaves
+
+-- the others are open under their own names still
+pub removed : {A X : Type 0} (name_of : X → TopicName) (es : List (String A × X)) (place : ℕ) → AreNamed name_of es → AreNamed name_of (remove es place)
+removed name_of es place all =
+    let named = λ (t : String _ × _). string_bytes t.0 ≡ topic_text (name_of t.1) in
+    All-append named (take place es) (drop (suc place) es) (All-take named place es all) (All-drop named (suc place) es all)
+
+names_taken : {A X : Type 0} (es : List (String A × X)) (place : ℕ) → names_of (take place es) ≡ take place (names_of es)
+names_taken es zero = refl
+names_taken [] (suc n) = refl
+names_taken (e ∷ es) (suc n) = ap (λ names. string_bytes e.0 ∷ names) (names_taken es n)
+
+names_dropped : {A X : Type 0} (es : List (String A × X)) (place : ℕ) → names_of (drop place es) ≡ drop place (names_of es)
+names_dropped es zero = refl
+names_dropped [] (suc n) = refl
+names_dropped (e ∷ es) (suc n) = names_dropped es n
+
+pub names-removed : {A X : Type 0} (es : List (String A × X)) (place : ℕ) → names_of (remove es place) ≡ remove (names_of es) place
+names-removed es place =
+    map-append (λ (t : String _ × _). string_bytes t.0) (take place es) (drop (suc place) es)
+    ∙ ap (λ names. names ++ names_of (drop (suc place) es)) (names_taken es place) ∙ ap (λ names. take place (names_of es) ++ names) (names_dropped es (suc place))
+
+-- a value that is written where it stands already
+pub same_there : {K V : Type 0} (es : List (K × V)) (place : ℕ) (v : V) → Some v ≡ slice_get (map (λ e. e.1) es) place → set_value_at es place v ≡ es
+same_there [] place v is = refl
+same_there (e ∷ es) zero v is = let same : v ≡ e.1 = cc in ap (λ w. (e.0, w) ∷ es) same
+same_there (e ∷ es) (suc n) v is = ap (λ rest. e ∷ rest) (same_there es n v is)

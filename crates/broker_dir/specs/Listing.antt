@@ -1,8 +1,11 @@
 -- The open topics of a directory, in the order of opening.
-use Rattle.std.specs.Prelude.{◌≡◌, ℕ, List, map, All, String}
+use Rattle.std.specs.Prelude.{◌≡◌, ◌<◌, ◌≤◌, ◌⊎◌, ◌++◌, ◌∷◌, [], ℕ, List, map, length, All, String}
+use Rattle.std.specs.List.{remove}
 use Rattle.std.specs.String.{string_bytes}
 use Rattle.position_core.specs.declared.topic_name.TopicName.{TopicName}
 use Rattle.position_core.specs.TopicName.{topic_text}
+use Rattle.broker_dir.specs.declared.unloading.Room.{Room}
+use Rattle.broker_dir.specs.declared.unloading.Room.TheVariants.{Free, InPlaceOf}
 
 -- their names
 abbrev pub names_of : {A X : Type 0} → List (String A × X) → List (List ℕ)
@@ -15,3 +18,18 @@ AreNamed name topics = All (λ topic. string_bytes topic.0 ≡ topic_text (name 
 -- how many may be open
 abbrev pub most_open : ℕ
 most_open = 256
+
+-- there is room for one more beside so many: fewer are open than may be, or one of them may leave
+abbrev pub HasRoom : Room → ℕ → Type 0
+HasRoom Free count = count < most_open
+HasRoom (InPlaceOf place) count = (place < count) × (most_open ≤ count)
+
+-- what is left once the place is made
+abbrev pub after_making : {A : Type 0} → Room → List A → List A
+after_making Free xs = xs
+after_making (InPlaceOf place) xs = remove xs place
+
+-- the name stands behind the others, one of which has left where as many were open as may be
+abbrev pub IsListed : List (List ℕ) → List ℕ → List (List ℕ) → Type 0
+IsListed old name new =
+    (new ≡ old ++ name ∷ []) ⊎ ((place : ℕ) × (place < length old) × (most_open ≤ length old) × (new ≡ remove (old ++ name ∷ []) place))

@@ -32,6 +32,12 @@ impl<T: Opened + Drop, J: Naming, B: Bell + Drop> Attached<T, J, B> {
     pub fn seat(&self) -> u64 {
         self.seat
     }
+
+    /// The topic, at which the seat is free again.
+    pub(crate) fn into_topic(self) -> Arc<Shared<T, J, B>> {
+        let Attached { topic, seat: _ } = self;
+        topic
+    }
 }
 
 /// The calls of the one at a seat: each is one hold of the topic's lock, and of no other.

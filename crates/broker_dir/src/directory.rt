@@ -1,25 +1,14 @@
-// The directory: topics by name, and who sits at them.
-ghost use Rattle.std.specs.Prelude.{◌≡◌, ◌≤◌, ◌<◌, ◌-◌, ◌↔◌, ◌⊎◌, ◌∷◌, ◌++◌, [], Err, IfErr, IfOk, IfSome, IsSome, MatchOption, None, Ok, OnOk, OnErr, length, set, false, true};
-ghost use Rattle.topic_seats.specs.Seats.{IsFree};
-ghost use Rattle.stored_cell.specs.Opening.{begins};
-ghost use Rattle.std.specs.String.{string_bytes};
-ghost use Rattle.indexmap.specs.IndexMap.{get_by_text};
-ghost use Rattle.position_core.specs.TopicName.{topic_text};
-ghost use Rattle.broker_dir.specs.Listing.{most_open, names_of};
-ghost use Rattle.broker_dir.specs.Refusing.{IsLoadRefusal, IsRefusal, IsSeatRefusal};
-
-use crate::attached::{Attached, Seated};
+// The directory: topics by name, the keeper of all, and what waits to be stored.
 use crate::board::Board;
 use crate::closing::Closed;
-use crate::gate::Gate;
-use crate::inside::Inside;
-use crate::table::{MOST_OPEN, Table};
+use crate::table::Table;
 use crate::topic::Shared;
-use delivery_machine::{Fault, Opened, TopicName};
+use crate::uses::Uses;
+use delivery_machine::{Opened, TopicName};
 use marks::Naming;
 use row_forms::topic_text;
-use row_store::{Cause, Keeper, open_cell};
-use session_bells::{Bell, Rest};
+use row_store::{Cause, Keeper};
+use session_bells::Bell;
 use sqlite::Alter;
 use std::alloc::Global;
 use std::sync::{Arc, Mutex, Wait};
@@ -29,12 +18,13 @@ use stored_cell::Terms;
 /// keeper, topic.
 pub struct Directory<T: Opened + Drop, S: Alter, J: Naming, B: Bell + Drop> {
     pub(crate) alloc: Global,
-    terms: Terms,
-    table: Mutex<Table<T, J, B>>,
+    pub(crate) terms: Terms,
+    pub(crate) table: Mutex<Table<T, J, B>>,
     pub(crate) keeper: Mutex<Keeper<S, J>>,
     pub(crate) board: Board<Arc<Shared<T, J, B>>>,
     /// Set once the store has failed: from then on all is refused (F16).
     pub(crate) closed: Closed,
+    pub(crate) uses: Uses,
 }
 
 impl<T: Opened + Drop, S: Alter + Drop, J: Naming, B: Bell + Drop> Drop for Directory<T, S, J, B> {
@@ -46,16 +36,9 @@ impl<T: Opened + Drop, S: Alter + Drop, J: Naming, B: Bell + Drop> Drop for Dire
             keeper: _,
             board: _,
             closed: _,
+            uses: _,
         } = self;
     }
-}
-
-/// A topic that was just made, the seat of the one who sits there, and whether the courier is to be sent there.
-#[derive(Drop)]
-struct Made<X> {
-    topic: Arc<X>,
-    seat: u64,
-    sends: bool,
 }
 
 impl<T: Opened + Drop, S: Alter, J: Naming, B: Bell + Drop> Directory<T, S, J, B> {
@@ -68,6 +51,7 @@ impl<T: Opened + Drop, S: Alter, J: Naming, B: Bell + Drop> Directory<T, S, J, B
             keeper: Mutex::new(keeper),
             board: Board::new(alloc),
             closed: Closed::new(),
+            uses: Uses::new(),
         }
     }
 
@@ -80,6 +64,7 @@ impl<T: Opened + Drop, S: Alter, J: Naming, B: Bell + Drop> Directory<T, S, J, B
             keeper,
             board: _,
             closed: _,
+            uses: _,
         } = self;
         keeper.into_inner()
     }
@@ -100,294 +85,6 @@ impl<T: Opened + Drop, S: Alter, J: Naming, B: Bell + Drop> Directory<T, S, J, B
             Some(Cause::BadRows) if keeper.spoilt() != Some(text.as_str()) => None,
             cause => cause,
         }
-    }
-
-    /// Takes a seat at the topic, which is opened where it is not open, and leaves the bell there. Refused in this order:
-    /// (F16) where the directory is closed; (F7) where it is not open and 256 are; (F16) where the store fails, or has rows
-    /// of it that are none; (F11) where it has no rows and is not to be made; (F21) where no seat is free; and (F1) for want
-    /// of memory, at any point. A refusal leaves the open topics as they were.
-    pub fn attach<R: Wait>(
-        &self,
-        rt: &R,
-        name: &TopicName,
-        create: bool,
-        bell: Arc<B>,
-    ) -> Result<Attached<T, J, B>, Fault>
-        ensures at { IfOk result (λ attached. topic_text attached.topic.value.name ≡ topic_text name.now) }
-        ensures seat { IfOk result (λ attached. 0 < attached.seat) }
-        ensures unknown { result ≡ Err Fault.NoSuchSubscription → create ≡ false }
-        ensures faults { IfErr result IsRefusal }
-    {
-        if self.is_closed() {
-            drop(bell);
-            return Err(Fault::StoreFailed);
-        }
-        let Ok(text) = topic_text(self.alloc, name) else {
-            drop(bell);
-            return Err(Fault::NoMemory);
-        };
-        let mut guard = self.table.lock(rt);
-        let table = &mut *guard;
-        match table.find(text.as_str()) {
-            Some(topic) => {
-                let topic = clone_of(topic);
-                drop(text);
-                drop(guard);
-                match topic {
-                    Ok(topic) => sit(rt, topic, bell),
-                    Err(fault) => {
-                        drop(bell);
-                        Err(fault)
-                    }
-                }
-            }
-            None => match self.open_in(rt, table, text, name, create, Some(bell)) {
-                Ok((topic, seat)) => Ok(Attached { topic, seat }),
-                Err(fault) => Err(fault),
-            },
-        }
-    }
-
-    /// Opens the topic, with one who sits there where a bell is given, and lists it. All that may be refused comes before
-    /// it is listed. The topic, and the seat.
-    fn open_in<R: Wait>(
-        &self,
-        rt: &R,
-        table: &mut Table<T, J, B>,
-        text: String,
-        name: &TopicName,
-        create: bool,
-        bell: Option<Arc<B>>,
-    ) -> Result<(Arc<Shared<T, J, B>>, u64), Fault>
-        requires text { string_bytes text ≡ topic_text name.now }
-        requires new { get_by_text table.old.list.topics (string_bytes text) ≡ None }
-        ensures opened { OnOk result (names_of table.new.list.topics.entries ≡ names_of table.old.list.topics.entries ++ string_bytes text ∷ []) }
-        ensures at { IfOk result (λ opened. opened.0.value.name ≡ name.now) }
-        ensures seat { IsSome bell → IfOk result (λ opened. 0 < opened.1) }
-        ensures refused { OnErr result (table.new.list.topics.entries ≡ table.old.list.topics.entries) }
-        ensures full { (result ≡ Err Fault.TooMany) ↔ (most_open ≤ length table.old.list.topics.entries) }
-        ensures unknown { result ≡ Err Fault.NoSuchSubscription → create ≡ false }
-        ensures faults { IfErr result IsRefusal }
-    {
-        if table.count() >= MOST_OPEN {
-            drop(text);
-            drop(bell);
-            return Err(Fault::TooMany);
-        }
-        match self.made(rt, name, create, bell, table.count()) {
-            Ok(made) => self.list(rt, table, text, made),
-            Err(fault) => {
-                drop(text);
-                Err(fault)
-            }
-        }
-    }
-
-    /// The topic, which is not listed yet, with one who sits there where a bell is given.
-    fn made<R: Wait>(
-        &self,
-        rt: &R,
-        name: &TopicName,
-        create: bool,
-        bell: Option<Arc<B>>,
-        open: usize,
-    ) -> Result<Made<Shared<T, J, B>>, Fault>
-        ensures at { IfOk result (λ made. made.topic.value.name ≡ name.now) }
-        ensures seat { IsSome bell → IfOk result (λ made. 0 < made.seat) }
-        ensures unknown { result ≡ Err Fault.NoSuchSubscription → create ≡ false }
-        ensures faults { IfErr result IsSeatRefusal }
-    {
-        match self.load(rt, name, create) {
-            Ok(inside) => self.seated(rt, inside, name, bell, open),
-            Err(fault) => {
-                drop(bell);
-                Err(fault)
-            }
-        }
-    }
-
-    fn seated<R: Wait>(
-        &self,
-        rt: &R,
-        mut inside: Inside<T, J, B>,
-        name: &TopicName,
-        bell: Option<Arc<B>>,
-        open: usize,
-    ) -> Result<Made<Shared<T, J, B>>, Fault>
-        requires { inside.name ≡ name.now }
-        ensures at { IfOk result (λ made. made.topic.value.name ≡ name.now) }
-        ensures seat { IsSome bell → IfOk result (λ made. 0 < made.seat) }
-        ensures faults { IfErr result (λ fault. (fault ≡ Fault.NoRoom) ⊎ (fault ≡ Fault.NoMemory)) }
-    {
-        let sends = inside.wants_courier();
-        match seat_for(&mut inside, bell) {
-            Ok(seat) => match self.share(rt, inside, name, open) {
-                Ok(topic) => Ok(Made { topic, seat, sends }),
-                Err(fault) => Err(fault),
-            },
-            Err(fault) => {
-                drop(inside);
-                Err(fault)
-            }
-        }
-    }
-
-    /// Lists the topic, and sends the courier there where it is wanted.
-    fn list<R: Wait>(
-        &self,
-        rt: &R,
-        table: &mut Table<T, J, B>,
-        text: String,
-        made: Made<Shared<T, J, B>>,
-    ) -> Result<(Arc<Shared<T, J, B>>, u64), Fault>
-        requires text { string_bytes text ≡ topic_text made.topic.value.name }
-        requires new { get_by_text table.old.list.topics (string_bytes text) ≡ None }
-        ensures opened { OnOk result (names_of table.new.list.topics.entries ≡ names_of table.old.list.topics.entries ++ string_bytes text ∷ []) }
-        ensures at { IfOk result (λ opened. (opened.0 ≡ made.topic) × (opened.1 ≡ made.seat)) }
-        ensures refused { OnErr result (table.new.list.topics.entries ≡ table.old.list.topics.entries) }
-        ensures fault { IfErr result (λ fault. fault ≡ Fault.NoMemory) }
-    {
-        let Made { topic, seat, sends } = made;
-        let errand = match clone_of(&topic) {
-            Ok(errand) => errand,
-            Err(fault) => {
-                drop(text);
-                drop(topic);
-                return Err(fault);
-            }
-        };
-        if !add_to(table, text, &topic) {
-            drop(errand);
-            drop(topic);
-            return Err(Fault::NoMemory);
-        }
-        if sends {
-            self.board.send(rt, errand);
-        } else {
-            drop(errand);
-        }
-        Ok((topic, seat))
-    }
-
-    /// The open topic of the name, which is made where it is not known.
-    pub(crate) fn open_topic<R: Wait>(
-        &self,
-        rt: &R,
-        name: &TopicName,
-    ) -> Result<Arc<Shared<T, J, B>>, Fault>
-        ensures at { IfOk result (λ topic. topic_text topic.value.name ≡ topic_text name.now) }
-        ensures faults { IfErr result IsRefusal }
-    {
-        let Ok(text) = topic_text(self.alloc, name) else {
-            return Err(Fault::NoMemory);
-        };
-        let mut guard = self.table.lock(rt);
-        let table = &mut *guard;
-        match table.find(text.as_str()) {
-            Some(topic) => {
-                let topic = clone_of(topic);
-                drop(text);
-                topic
-            }
-            None => match self.open_in(rt, table, text, name, true, None) {
-                Ok((topic, _)) => Ok(topic),
-                Err(fault) => Err(fault),
-            },
-        }
-    }
-
-    /// What the rows have of the topic, with the keeper's lock held: `open_cell` says what that is. Of a topic that is not to
-    /// be made something is stored.
-    fn load<R: Wait>(
-        &self,
-        rt: &R,
-        name: &TopicName,
-        create: bool,
-    ) -> Result<Inside<T, J, B>, Fault>
-        ensures name { IfOk result (λ inside. inside.name ≡ name.now) }
-        ensures begins { IfOk result (λ inside. inside.cell.cell ≡ begins inside.cell.cell.state self.now.terms) }
-        ensures known { create ≡ false → IfOk result (λ inside. IsSome inside.cell.stored) }
-        ensures unknown { result ≡ Err Fault.NoSuchSubscription → create ≡ false }
-        ensures faults { IfErr result IsLoadRefusal }
-    {
-        let mut keeper = self.keeper.lock(rt);
-        let topic = match open_cell(self.alloc, &mut *keeper, name, create, self.terms) {
-            Ok(topic) => topic,
-            Err(fault) => return Err(fault),
-        };
-        drop(keeper);
-        Inside::opened(self.alloc, topic)
-    }
-
-    /// The topic under a lock of its own, with room for it on the board.
-    fn share<R: Wait>(
-        &self,
-        rt: &R,
-        inside: Inside<T, J, B>,
-        name: &TopicName,
-        open: usize,
-    ) -> Result<Arc<Shared<T, J, B>>, Fault>
-        requires { inside.name ≡ name.now }
-        ensures at { IfOk result (λ topic. topic.value.name ≡ name.now) }
-        ensures fault { IfErr result (λ fault. fault ≡ Fault.NoMemory) }
-    {
-        match self.name_with_room(rt, name, open) {
-            Ok(name) => shared(self.alloc, name, inside),
-            Err(fault) => {
-                drop(inside);
-                Err(fault)
-            }
-        }
-    }
-
-    /// The name of a further topic, for which there is room on the board.
-    fn name_with_room<R: Wait>(
-        &self,
-        rt: &R,
-        name: &TopicName,
-        open: usize,
-    ) -> Result<TopicName, Fault>
-        ensures ok { IfOk result (λ copy. copy ≡ name.now) }
-        ensures fault { IfErr result (λ fault. fault ≡ Fault.NoMemory) }
-    {
-        if !self.board.make_room(rt, open.saturating_add(1)) {
-            return Err(Fault::NoMemory);
-        }
-        match name.clone() {
-            Ok(name) => Ok(name),
-            Err(_) => Err(Fault::NoMemory),
-        }
-    }
-
-    /// Lends the one at the seat its calls.
-    pub fn caller<'a, R: Wait, G: Gate>(
-        &'a self,
-        rt: &'a R,
-        attached: &'a Attached<T, J, B>,
-        gate: &'a G,
-    ) -> Seated<'a, T, S, J, B, R, G> {
-        Seated {
-            rt,
-            directory: self,
-            attached,
-            gate,
-        }
-    }
-
-    /// The one at the seat has nothing to do until what it waits for has come, when its bell rings. False where it has
-    /// come already.
-    pub fn rest<R: Wait>(&self, rt: &R, attached: &Attached<T, J, B>, rest: Rest) -> bool {
-        if self.is_closed() {
-            return false;
-        }
-        let mut inside = attached.topic.inside.lock(rt);
-        inside.bells.rest(rt, attached.seat, rest)
-    }
-
-    /// Frees the seat.
-    pub fn detach<R: Wait>(&self, rt: &R, attached: Attached<T, J, B>) {
-        let mut inside = attached.topic.inside.lock(rt);
-        inside.exit(rt, attached.seat);
     }
 
     /// Puts the topic on the board.
@@ -429,26 +126,6 @@ impl<T: Opened + Drop, S: Alter, J: Naming, B: Bell + Drop> Directory<T, S, J, B
     }
 }
 
-/// The topic under a lock, with its name beside it.
-fn shared<T: Opened + Drop, J: Naming, B: Bell + Drop>(
-    alloc: Global,
-    name: TopicName,
-    inside: Inside<T, J, B>,
-) -> Result<Arc<Shared<T, J, B>>, Fault>
-    requires { inside.name ≡ name }
-    ensures at { IfOk result (λ topic. topic.value.name ≡ name) }
-    ensures fault { IfErr result (λ fault. fault ≡ Fault.NoMemory) }
-{
-    let shared = Shared {
-        name,
-        inside: Mutex::new(inside),
-    };
-    match Arc::new(alloc, shared) {
-        Ok(topic) => Ok(topic),
-        Err(_) => Err(Fault::NoMemory),
-    }
-}
-
 /// The topic has too many owners for one more, so that it is no place on the board: its next call puts it there.
 fn fall_behind<T: Opened + Drop, J: Naming, B: Bell + Drop, R: Wait>(
     rt: &R,
@@ -456,70 +133,4 @@ fn fall_behind<T: Opened + Drop, J: Naming, B: Bell + Drop, R: Wait>(
 ) {
     let mut inside = topic.inside.lock(rt);
     inside.fall_behind();
-}
-
-fn clone_of<X>(topic: &Arc<X>) -> Result<Arc<X>, Fault>
-    ensures ok { IfOk result (λ copy. copy.value ≡ topic.now.value) }
-    ensures fault { IfErr result (λ fault. fault ≡ Fault.NoMemory) }
-{
-    match Arc::try_clone(topic) {
-        Ok(topic) => Ok(topic),
-        Err(_) => Err(Fault::NoMemory),
-    }
-}
-
-/// The topic is open under the name. False for want of memory.
-fn add_to<T: Opened + Drop, J: Naming, B: Bell + Drop>(
-    table: &mut Table<T, J, B>,
-    name: String,
-    topic: &Arc<Shared<T, J, B>>,
-) -> bool
-    requires named { string_bytes name ≡ topic_text topic.now.value.name }
-    requires new { get_by_text table.old.list.topics (string_bytes name) ≡ None }
-    ensures added { result ≡ true → names_of table.new.list.topics.entries ≡ names_of table.old.list.topics.entries ++ string_bytes name ∷ [] }
-    ensures refused { result ≡ false → table.new.list.topics.entries ≡ table.old.list.topics.entries }
-{
-    match clone_of(topic) {
-        Ok(topic) => table.add(name, topic),
-        Err(_) => {
-            drop(name);
-            false
-        }
-    }
-}
-
-/// The seat of the one with the bell; 0 where nobody sits down.
-fn seat_for<T: Opened + Drop, J: Naming, B: Bell + Drop>(
-    inside: &mut Inside<T, J, B>,
-    bell: Option<Arc<B>>,
-) -> Result<u64, Fault>
-    ensures seat { MatchOption bell ((result ≡ Ok 0) × (inside.new.cell ≡ inside.old.cell)) (λ _. IfOk result (λ seat. IsFree inside.old.cell.cell.taken seat × (inside.new.cell.cell.taken ≡ set inside.old.cell.cell.taken (seat - 1) true))) }
-    ensures faults { IfErr result (λ fault. (fault ≡ Fault.NoRoom) ⊎ (fault ≡ Fault.NoMemory)) }
-    ensures name { inside.new.name ≡ inside.old.name }
-{
-    match bell {
-        Some(bell) => inside.enter(bell),
-        None => Ok(0),
-    }
-}
-
-fn sit<T: Opened + Drop, J: Naming, B: Bell + Drop, R: Wait>(
-    rt: &R,
-    topic: Arc<Shared<T, J, B>>,
-    bell: Arc<B>,
-) -> Result<Attached<T, J, B>, Fault>
-    ensures at { IfOk result (λ attached. attached.topic ≡ topic) }
-    ensures seat { IfOk result (λ attached. 0 < attached.seat) }
-    ensures faults { IfErr result (λ fault. (fault ≡ Fault.NoRoom) ⊎ (fault ≡ Fault.NoMemory)) }
-{
-    let mut inside = topic.inside.lock(rt);
-    let entered = inside.enter(bell);
-    drop(inside);
-    match entered {
-        Ok(seat) => Ok(Attached { topic, seat }),
-        Err(fault) => {
-            drop(topic);
-            Err(fault)
-        }
-    }
 }

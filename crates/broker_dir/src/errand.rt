@@ -3,6 +3,7 @@ use crate::clock::{instant, moment};
 use crate::courier::{Courier, Stay};
 use crate::directory::Directory;
 use crate::inside::Inside;
+use crate::looks::Looks;
 use crate::pause::Due;
 use crate::queue::Turn;
 use crate::topic::Shared;
@@ -21,7 +22,8 @@ use std::time::Instant;
 pub struct Errands<T: Opened + Drop, J: Naming, B: Bell + Drop> {
     couriers: Vec<Courier<T, J, B>>,
     now: Moment,
-    time: Option<Instant>,
+    pub(crate) time: Option<Instant>,
+    pub(crate) looks: Looks,
     /// When the first pause of a courier is over, where one pauses.
     due: Option<Due>,
     /// Its last task was a store, so that it has the right to store still.
@@ -34,6 +36,7 @@ impl<T: Opened + Drop, J: Naming, B: Bell + Drop> Drop for Errands<T, J, B> {
             couriers: _,
             now: _,
             time: _,
+            looks: _,
             due: _,
             has_stored: _,
         } = self;
@@ -56,6 +59,7 @@ impl<T: Opened + Drop, J: Naming, B: Bell + Drop> Errands<T, J, B> {
             couriers: Vec::new(alloc),
             now: Moment::new(0)?,
             time: None,
+            looks: Looks::new(),
             due: None,
             has_stored: false,
         })
@@ -65,13 +69,14 @@ impl<T: Opened + Drop, J: Naming, B: Bell + Drop> Errands<T, J, B> {
     pub(crate) fn turn(&self) -> Turn {
         Turn {
             has_stored: self.has_stored,
-            due: self.due,
+            due: earlier(self.due, self.looks.due()),
         }
     }
 
-    fn read_clocks<R: Clock>(&mut self, rt: &R) {
+    pub(crate) fn read_clocks<R: Clock>(&mut self, rt: &R) {
         self.now = moment(rt, self.now);
         self.time = instant(rt);
+        self.looks.begin(self.time);
     }
 
     /// Those go on that wait for more of the topic to be stored.

@@ -1,9 +1,10 @@
 // What a topic's lock guards: the topic with what is stored of it, and the bells of those who sit at it.
-ghost use Rattle.std.specs.Prelude.{◌≡◌, ◌-◌, ◌<◌, ◌≤◌, ◌⊎◌, ◌↔◌, IfOk, IfErr, IsOk, OnErr, Err, All, length, set, false, true};
+ghost use Rattle.std.specs.Prelude.{◌≡◌, ◌-◌, ◌<◌, ◌≤◌, ◌⊎◌, ◌↔◌, IfOk, IfErr, IfSome, IsOk, IsSome, None, OnErr, Err, All, length, set, false, true};
 ghost use Rattle.std.specs.Coded.{Coded-set};
 ghost use Rattle.delivery_machine.specs.Journals.{is_storing};
 ghost use Rattle.topic_shared.specs.Kept.{is_end};
 ghost use Rattle.row_store.specs.Opened.{has_origin};
+ghost use Rattle.stored_cell.specs.Held.{IsAtRest};
 ghost use Rattle.broker_dir.specs.Ends.{is_ending};
 ghost use Rattle.broker_dir.specs.Handing.{HandsOn};
 ghost use Rattle.topic_seats.specs.Seats.{IsFree, without_seat};
@@ -56,6 +57,8 @@ pub(crate) struct Inside<T: Opened + Drop, J: Naming, B: Bell + Drop> {
     pub(crate) is_sent: bool,
     /// A courier waits until more of the topic is stored.
     pub(crate) is_awaited: bool,
+    /// The number of its last use.
+    pub(crate) used: u64,
     /// All that is durable stands in rows that were committed: nothing is so by somebody's word.
     ghost by_proof: { cell.by_word ≡ false },
     /// It is the topic of that name.
@@ -106,7 +109,8 @@ impl<T: Opened + Drop, J: Naming, B: Bell + Drop> Inside<T, J, B> {
             drop(rows);
             return Err(Fault::NoMemory);
         };
-        let mut inside = Inside::new(alloc, name, cell, rows);
+        let durable = snapshot.log().count() as u64;
+        let mut inside = Inside::new(alloc, name, cell, rows, durable);
         match inside.graves.know(snapshot.subscriptions()) {
             Ok(()) => Ok(inside),
             Err(fault) => {
@@ -116,7 +120,14 @@ impl<T: Opened + Drop, J: Naming, B: Bell + Drop> Inside<T, J, B> {
         }
     }
 
-    fn new(alloc: Global, name: TopicName, cell: StoredCell<T, J>, rows: Mark<Note, J>) -> Self
+    /// So many of its messages are stored.
+    fn new(
+        alloc: Global,
+        name: TopicName,
+        cell: StoredCell<T, J>,
+        rows: Mark<Note, J>,
+        durable: u64,
+    ) -> Self
         requires word { cell.by_word ≡ false }
         requires name { cell.cell.state.name ≡ name }
         requires origin { has_origin rows cell.stored name ≡ true }
@@ -129,12 +140,13 @@ impl<T: Opened + Drop, J: Naming, B: Bell + Drop> Inside<T, J, B> {
             name,
             cell,
             rows,
-            bells: Bells::new(alloc, 0),
+            bells: Bells::new(alloc, durable),
             is_queued: false,
             is_behind: false,
             graves: Graves::new(alloc),
             is_sent: false,
             is_awaited: false,
+            used: 0,
         }
     }
 
@@ -271,6 +283,25 @@ impl<T: Opened + Drop, J: Naming, B: Bell + Drop> Inside<T, J, B> {
                 Err(fault)
             }
         }
+    }
+
+    /// The number of the topic's last use, where it may leave: nobody is connected, and what is stored of it is the topic as it is.
+    pub(crate) fn rests_since(&self) -> Option<u64>
+        ensures rest { IsSome result → IsAtRest self.now.cell }
+        ensures used { IfSome result (λ used. used ≡ self.now.used) }
+    {
+        if self.cell.is_at_rest() {
+            Some(self.used)
+        } else {
+            None
+        }
+    }
+
+    /// Nothing is stored of the topic, nobody is connected, and there is nothing in it.
+    pub(crate) fn is_blank(&self) -> bool
+        ensures { result ≡ true → IsAtRest self.now.cell × (self.now.cell.stored ≡ None) }
+    {
+        self.cell.stored().is_none() && self.cell.is_at_rest()
     }
 
     /// The topic was viewed, to be stored: what has died so far is in it.

@@ -2,6 +2,7 @@
 #![tactic(auto)]
 
 mod attached;
+mod attaching;
 mod board;
 mod clock;
 mod closing;
@@ -12,16 +13,20 @@ mod gate;
 mod graves;
 mod inside;
 mod late;
+mod looks;
+mod opening;
 mod pause;
 mod queue;
 mod storing;
 mod table;
 mod topic;
+mod unloading;
+mod uses;
 
 pub use attached::{Attached, Seated};
 pub use clock::moment;
 pub use directory::Directory;
 pub use errand::Errands;
 pub use gate::{Gate, Open};
-pub use row_store::{Cause, open_cell};
+pub use row_store::Cause;
 pub use stored_cell::Terms;

@@ -30,6 +30,10 @@ impl Due {
         Due::after(time, FIRST)
     }
 
+    pub(crate) fn in_a_minute(time: Option<Instant>) -> Due {
+        Due::after(time, LONGEST)
+    }
+
     /// How long it is until then; none where it has come. While the clock cannot be read nothing comes, and it is read
     /// again after the first pause.
     pub(crate) fn left(self, time: Option<Instant>) -> Option<Duration> {

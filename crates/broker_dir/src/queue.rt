@@ -38,8 +38,8 @@ pub(crate) struct Queue<X: Drop> {
 pub(crate) enum Task<X: Drop> {
     Store(Vec<X>),
     Errand(X),
-    /// Couriers whose pause is over go on.
-    Retry,
+    /// Couriers whose pause is over go on, or topics leave that nobody uses.
+    Look,
     End,
 }
 
@@ -48,7 +48,7 @@ pub(crate) enum Task<X: Drop> {
 pub(crate) struct Turn {
     /// It has stored, so that it had the right to.
     pub(crate) has_stored: bool,
-    /// When the first of its couriers goes on that were refused.
+    /// When it is to look for something that was due: the first of its couriers that were refused, or topics that nobody uses.
     pub(crate) due: Option<Due>,
 }
 
@@ -151,7 +151,7 @@ impl<X: Drop> Queue<X> {
             return None;
         }
         if is_due {
-            return Some(Task::Retry);
+            return Some(Task::Look);
         }
         match self.errands.pop_front() {
             Some(topic) => Some(Task::Errand(topic)),

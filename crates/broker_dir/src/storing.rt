@@ -75,6 +75,7 @@ impl<T: Opened + Drop, S: Alter, J: Naming, B: Bell + Drop> Directory<T, S, J, B
         let Some(mut errands) = Errands::new(self.alloc) else {
             return;
         };
+        errands.read_clocks(rt);
         for _ in rt.forever() {
             let task = self.board.next(rt, errands.turn());
             if !self.do_task(rt, task, &mut errands) {
@@ -122,7 +123,10 @@ impl<T: Opened + Drop, S: Alter, J: Naming, B: Bell + Drop> Directory<T, S, J, B
         match task {
             Task::Store(topics) => self.store(rt, topics.as_slice()),
             Task::Errand(topic) => self.begin_errand(rt, topic, errands),
-            Task::Retry => errands.call_due(rt),
+            Task::Look => {
+                errands.call_due(rt);
+                self.look(rt, errands);
+            }
             Task::End => return false,
         }
         true

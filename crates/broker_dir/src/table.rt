@@ -1,12 +1,13 @@
 // The open topics by their names, in the order of opening.
-ghost use Rattle.std.specs.Prelude.{◌≡◌, ◌∷◌, ◌++◌, false, true, [], length, IfSome, None, option_copied};
+ghost use Rattle.std.specs.List.{remove};
+ghost use Rattle.std.specs.Prelude.{◌≡◌, ◌<◌, ◌∷◌, ◌++◌, false, true, [], length, IfSome, None, option_copied};
 ghost use Rattle.std.specs.String.{string_bytes};
 ghost use Rattle.indexmap.specs.IndexMap.{get_by_text};
 ghost use Rattle.position_core.specs.TopicName.{topic_text};
 ghost use Rattle.broker_dir.specs.Listing.{AreNamed};
 
 use crate::topic::Shared;
-use delivery_machine::Opened;
+use delivery_machine::{Opened, TopicName};
 use indexmap::IndexMap;
 use marks::Naming;
 use session_bells::Bell;
@@ -70,5 +71,61 @@ impl<T: Opened + Drop, J: Naming, B: Bell + Drop> Table<T, J, B> {
             Some((_, topic)) => Some(topic),
             None => None,
         }
+    }
+
+    /// Where the topic of the name stands.
+    pub(crate) fn place_of(&self, name: &TopicName) -> Option<usize> {
+        for place in 0..self.count() {
+            if let Some(topic) = self.at(place)
+                && topic.name.is(name)
+            {
+                return Some(place);
+            }
+        }
+        None
+    }
+
+    /// Whether nobody but the table has the topic at the place. As long as the table is lent to nobody else, so it stays.
+    pub(crate) fn is_sole(&mut self, place: usize) -> bool
+        ensures same { self.new.list.topics.entries ≡ self.old.list.topics.entries }
+        ensures there { result ≡ true → place < length self.old.list.topics.entries }
+    {
+        self.list.is_sole(place)
+    }
+
+    /// The topic at the place is open no more.
+    pub(crate) fn remove(&mut self, place: usize) -> Option<Arc<Shared<T, J, B>>>
+        ensures { self.new.list.topics.entries ≡ remove self.old.list.topics.entries place }
+    {
+        match self.list.topics.shift_remove_index(place) {
+            Some((name, topic)) => {
+                drop(name);
+                Some(topic)
+            }
+            None => None,
+        }
+    }
+}
+
+impl<X: Drop> Listed<Arc<X>> {
+    /// Whether nobody else has the one at the place.
+    fn is_sole(&mut self, place: usize) -> bool
+        ensures same { self.new.topics.entries ≡ self.old.topics.entries }
+        ensures there { result ≡ true → place < length self.old.topics.entries }
+    {
+        match self.topics.get_index_mut(place) {
+            Some(topic) => is_sole(topic),
+            None => false,
+        }
+    }
+}
+
+/// Whether nobody else has it.
+fn is_sole<X>(topic: &mut Arc<X>) -> bool
+    ensures { topic.new ≡ topic.old }
+{
+    match Arc::get_mut(topic) {
+        Some(_) => true,
+        None => false,
     }
 }

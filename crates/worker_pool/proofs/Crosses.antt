@@ -18,6 +18,7 @@ use Rattle.broker_dir.proofs.table.Listed.TheSendSync.{the_send as listed_send}
 use Rattle.broker_dir.proofs.graves.Graves.TheSendSync.{the_send as graves_send}
 use Rattle.broker_dir.proofs.board.Board.TheSendSync.{the_send as board_send, the_sync as board_sync}
 use Rattle.broker_dir.proofs.closing.Closed.TheSendSync.{the_send as closed_send, the_sync as closed_sync}
+use Rattle.broker_dir.proofs.uses.Uses.TheSendSync.{the_send as uses_send, the_sync as uses_sync}
 use Rattle.stored_cell.proofs.opening.Terms.TheSendSync.{the_send as terms_send, the_sync as terms_sync}
 use Rattle.row_store.proofs.keeper.Keeper.TheSendSync.{the_send as keeper_send}
 use Rattle.worker_loops.proofs.post.Doorbell.TheSendSync.{the_send as doorbell_send, the_sync as doorbell_sync}
@@ -62,7 +63,7 @@ Inside-send T I B g v n s b c = let cell = StoredCell-send T I g n s in let bell
             search sendable,
             (
               search sendable,
-              (graves_send, (search sendable, (search sendable, tt))),
+              (graves_send, (search sendable, (search sendable, (search sendable, tt)))),
             ),
           ),
         ),
@@ -94,7 +95,7 @@ Directory-send T K I B g v o n s k b c = let X = Arc.the_row (Shared.the_row T I
         terms_send,
         (
           as_row_send (Mutex.the_field (Table.the_row T I B g v n)) (search (sendable, crosses, t) depth 20),
-          (as_row_send (Mutex.the_field (Keeper.the_row K I n o)) (search (sendable, crosses, e) depth 20), (d, (closed_send, tt))),
+          (as_row_send (Mutex.the_field (Keeper.the_row K I n o)) (search (sendable, crosses, e) depth 20), (d, (closed_send, (uses_send, tt)))),
         ),
       ),
     )
@@ -107,7 +108,7 @@ Directory-sync T K I B g v o n s k b c = let X = Arc.the_row (Shared.the_row T I
         terms_sync,
         (
           as_row_sync (Mutex.the_field (Table.the_row T I B g v n)) (search (sendable, crosses, t) depth 20),
-          (as_row_sync (Mutex.the_field (Keeper.the_row K I n o)) (search (sendable, crosses, e) depth 20), (d, (closed_sync, tt))),
+          (as_row_sync (Mutex.the_field (Keeper.the_row K I n o)) (search (sendable, crosses, e) depth 20), (d, (closed_sync, (uses_sync, tt)))),
         ),
       ),
     )

@@ -4,4 +4,5 @@ mod letters;
 mod memory;
 mod retries;
 mod stops;
+mod unloading;
 mod world;

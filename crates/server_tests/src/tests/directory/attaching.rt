@@ -1,4 +1,5 @@
 // Who may not attach.
+use super::letters::{BEFORE, play};
 use super::world::{Rows, Scene, Topics, bell, open, sit, topic_name, with_rows};
 use delivery_machine::Fault;
 use marks::Naming;
@@ -41,6 +42,7 @@ impl Scene for Refusals {
         check_refusal(rt, &topics, false, Some(Fault::NoSuchSubscription));
         let seat = sit(rt, &topics, "persistent://public/default/t");
         check_refusal(rt, &topics, false, Some(Fault::NoRoom));
+        play(rt, &topics, &seat, &BEFORE);
         topics.detach(rt, seat);
         check_refusal(rt, &topics, false, None);
         topics.close(rt);
@@ -58,26 +60,18 @@ fn numbered<R: Abort + AllocGlobal>(rt: &R, number: u32) -> String {
     name.expect(rt, "no memory")
 }
 
-/// Whether there are too many topics for one more, of this number.
-fn is_too_many<J: Naming, R: Abort + AllocGlobal + Wait>(
-    rt: &R,
-    topics: &Topics<J>,
-    number: u32,
-) -> bool {
-    match refusal(rt, topics, numbered(rt, number).as_str(), true) {
-        Some(Fault::TooMany) => true,
-        fault => {
-            expect_fault(rt, fault, None);
-            false
-        }
-    }
-}
-
+/// How many of so many topics are one too many, while somebody sits at each of the others.
 fn count_refused<J: Naming, R: Abort + AllocGlobal + Wait>(rt: &R, topics: &Topics<J>) -> u32 {
     let mut refused = 0u32;
+    let mut seats = Vec::new(rt.alloc());
     for number in 0..258 {
-        if is_too_many(rt, topics, number) {
-            refused = refused.saturating_add(1);
+        let name = topic_name(rt, numbered(rt, number).as_str());
+        match topics.attach(rt, &name, true, bell(rt)) {
+            Ok(seat) => seats.push(seat).expect(rt, "no memory"),
+            Err(fault) => {
+                expect_fault(rt, Some(fault), Some(Fault::TooMany));
+                refused = refused.saturating_add(1);
+            }
         }
     }
     refused

@@ -1,0 +1,131 @@
+// Who comes to a topic, and who goes.
+ghost use Rattle.std.specs.Prelude.{◌≡◌, ◌<◌, ◌⊎◌, Err, IfErr, IfOk, false};
+ghost use Rattle.position_core.specs.TopicName.{topic_text};
+ghost use Rattle.broker_dir.specs.Refusing.{IsRefusal};
+
+use crate::attached::{Attached, Seated};
+use crate::directory::Directory;
+use crate::gate::Gate;
+use crate::opening::clone_of;
+use crate::topic::Shared;
+use delivery_machine::{Fault, Opened, TopicName};
+use marks::Naming;
+use row_forms::topic_text;
+use session_bells::{Bell, Rest};
+use sqlite::Alter;
+use std::sync::{Arc, Wait};
+
+impl<T: Opened + Drop, S: Alter, J: Naming, B: Bell + Drop> Directory<T, S, J, B> {
+    /// Takes a seat at the topic, which is opened where it is not open, and leaves the bell there. Refused in this order:
+    /// (F16) where the directory is closed; (F7) where it is not open, and 256 are of which each is in use; (F16) where the store fails, or has rows
+    /// of it that are none; (F11) where it has no rows and is not to be made; (F21) where no seat is free; and (F1) for want
+    /// of memory, at any point. A refusal leaves the open topics as they were. Where 256 are open, the one that nobody has
+    /// used for the longest leaves for it.
+    pub fn attach<R: Wait>(
+        &self,
+        rt: &R,
+        name: &TopicName,
+        create: bool,
+        bell: Arc<B>,
+    ) -> Result<Attached<T, J, B>, Fault>
+        ensures at { IfOk result (λ attached. topic_text attached.topic.value.name ≡ topic_text name.now) }
+        ensures seat { IfOk result (λ attached. 0 < attached.seat) }
+        ensures unknown { result ≡ Err Fault.NoSuchSubscription → create ≡ false }
+        ensures faults { IfErr result IsRefusal }
+    {
+        if self.is_closed() {
+            drop(bell);
+            return Err(Fault::StoreFailed);
+        }
+        let Ok(text) = topic_text(self.alloc, name) else {
+            drop(bell);
+            return Err(Fault::NoMemory);
+        };
+        let mut guard = self.table.lock(rt);
+        let table = &mut *guard;
+        match table.find(text.as_str()) {
+            Some(topic) => {
+                let topic = clone_of(topic);
+                drop(text);
+                drop(guard);
+                match topic {
+                    Ok(topic) => sit(rt, topic, bell, self.uses.next()),
+                    Err(fault) => {
+                        drop(bell);
+                        Err(fault)
+                    }
+                }
+            }
+            None => match self.open_in(rt, table, text, name, create, Some(bell)) {
+                Ok((topic, seat)) => Ok(Attached { topic, seat }),
+                Err(fault) => Err(fault),
+            },
+        }
+    }
+
+    /// Lends the one at the seat its calls.
+    pub fn caller<'a, R: Wait, G: Gate>(
+        &'a self,
+        rt: &'a R,
+        attached: &'a Attached<T, J, B>,
+        gate: &'a G,
+    ) -> Seated<'a, T, S, J, B, R, G> {
+        Seated {
+            rt,
+            directory: self,
+            attached,
+            gate,
+        }
+    }
+
+    /// The one at the seat has nothing to do until what it waits for has come, when its bell rings. False where it has
+    /// come already.
+    pub fn rest<R: Wait>(&self, rt: &R, attached: &Attached<T, J, B>, rest: Rest) -> bool {
+        if self.is_closed() {
+            return false;
+        }
+        let mut inside = attached.topic.inside.lock(rt);
+        inside.bells.rest(rt, attached.seat, rest)
+    }
+
+    /// Frees the seat. A topic with nothing in it, of which nothing is stored, leaves with the last one who sat there: so a
+    /// name is made by what is done there, and by no attach.
+    pub fn detach<R: Wait>(&self, rt: &R, attached: Attached<T, J, B>) {
+        let seat = attached.seat;
+        let topic = attached.into_topic();
+        let mut inside = topic.inside.lock(rt);
+        inside.exit(rt, seat);
+        inside.used = self.uses.next();
+        let is_blank = inside.is_blank();
+        drop(inside);
+        if is_blank {
+            self.leave_blank(rt, topic);
+        } else {
+            drop(topic);
+        }
+    }
+}
+
+/// Takes a seat at the open topic, which is used now.
+fn sit<T: Opened + Drop, J: Naming, B: Bell + Drop, R: Wait>(
+    rt: &R,
+    topic: Arc<Shared<T, J, B>>,
+    bell: Arc<B>,
+    used: u64,
+) -> Result<Attached<T, J, B>, Fault>
+    ensures at { IfOk result (λ attached. attached.topic ≡ topic) }
+    ensures seat { IfOk result (λ attached. 0 < attached.seat) }
+    ensures faults { IfErr result (λ fault. (fault ≡ Fault.NoRoom) ⊎ (fault ≡ Fault.NoMemory)) }
+{
+    let mut inside = topic.inside.lock(rt);
+    let entered = inside.enter(bell);
+    inside.used = used;
+    drop(inside);
+    match entered {
+        Ok(seat) => Ok(Attached { topic, seat }),
+        Err(fault) => {
+            drop(topic);
+            Err(fault)
+        }
+    }
+}

@@ -1,0 +1,45 @@
+// When the storing thread looks for topics that nobody uses.
+use crate::pause::Due;
+use std::time::Instant;
+
+/// When the next look is, and how many uses had been counted at the last five.
+#[derive(Clone, Copy)]
+pub(crate) struct Looks {
+    due: Option<Due>,
+    marks: [u64; 5],
+}
+
+impl Looks {
+    pub(crate) fn new() -> Self {
+        Looks {
+            due: None,
+            marks: [0; 5],
+        }
+    }
+
+    /// The first look is a minute from now.
+    pub(crate) fn begin(&mut self, time: Option<Instant>) {
+        if self.due.is_none() {
+            self.due = Some(Due::in_a_minute(time));
+        }
+    }
+
+    pub(crate) fn due(&self) -> Option<Due> {
+        self.due
+    }
+
+    pub(crate) fn is_due(&self, time: Option<Instant>) -> bool {
+        match self.due {
+            Some(due) => due.left(time).is_none(),
+            None => false,
+        }
+    }
+
+    /// The look is made now, and the next one in a minute. How many uses had been counted five looks ago.
+    pub(crate) fn mark(&mut self, made: u64, time: Option<Instant>) -> u64 {
+        let [oldest, second, third, fourth, last] = self.marks;
+        self.marks = [second, third, fourth, last, made];
+        self.due = Some(Due::in_a_minute(time));
+        oldest
+    }
+}

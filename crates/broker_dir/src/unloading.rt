@@ -1,0 +1,172 @@
+// Topics leave the directory that nobody uses. The table's lock is held, so that nobody comes to one meanwhile.
+ghost use Rattle.std.specs.Prelude.{◌≡◌, ◌≤◌, ◌<◌, ◌⊎◌, IfNone, IfSome, MatchOption, length};
+ghost use Rattle.std.specs.List.{remove};
+ghost use Rattle.broker_dir.specs.Listing.{HasRoom, after_making, most_open, names_of};
+
+use crate::directory::Directory;
+use crate::errand::Errands;
+use crate::table::{MOST_OPEN, Table};
+use crate::topic::Shared;
+use delivery_machine::Opened;
+use marks::Naming;
+use session_bells::Bell;
+use sqlite::Alter;
+use std::sync::{Arc, Wait};
+
+/// Where a further topic has room.
+#[derive(Clone, Copy, Debug, PartialEq, Eq)]
+pub(crate) enum Room {
+    /// Fewer are open than may be.
+    Free,
+    /// Once the topic at the place has left.
+    InPlaceOf(usize),
+}
+
+/// A topic that nobody uses: its place, and the number of its last use.
+#[derive(Clone, Copy, Debug, PartialEq, Eq)]
+struct Unused {
+    place: usize,
+    used: u64,
+}
+
+/// The one whose last use is longer ago.
+fn longer(one: Option<Unused>, other: Unused) -> Unused
+    ensures { MatchOption one (result ≡ other) (λ one. (result ≡ one) ⊎ (result ≡ other)) }
+{
+    match one {
+        Some(one) if one.used <= other.used => one,
+        _ => other,
+    }
+}
+
+impl<T: Opened + Drop, S: Alter, J: Naming, B: Bell + Drop> Directory<T, S, J, B> {
+    /// The topic at the place, where nobody but the table has it, and what is stored of it is the topic as it is.
+    fn unused_at<R: Wait>(&self, rt: &R, table: &mut Table<T, J, B>, place: usize) -> Option<Unused>
+        ensures same { table.new.list.topics.entries ≡ table.old.list.topics.entries }
+        ensures there { IfSome result (λ unused. (unused.place ≡ place) × (place < length table.old.list.topics.entries)) }
+    {
+        if !table.is_sole(place) {
+            return None;
+        }
+        match table.at(place) {
+            Some(topic) => match rests_since(rt, topic) {
+                Some(used) => Some(Unused { place, used }),
+                None => None,
+            },
+            None => None,
+        }
+    }
+
+    /// The one that nobody has used for the longest; none where each is in use.
+    fn least_used<R: Wait>(&self, rt: &R, table: &mut Table<T, J, B>) -> Option<Unused>
+        ensures same { table.new.list.topics.entries ≡ table.old.list.topics.entries }
+        ensures there { IfSome result (λ unused. unused.place < length table.old.list.topics.entries) }
+    {
+        let mut least = None;
+        for place in 0..table.count() {
+            if let Some(unused) = self.unused_at(rt, table, place) {
+                least = Some(longer(least, unused));
+            }
+        }
+        least
+    }
+
+    /// Where a further topic has room; nowhere where as many are open as may be, and each is in use.
+    pub(crate) fn room_in<R: Wait>(&self, rt: &R, table: &mut Table<T, J, B>) -> Option<Room>
+        ensures same { table.new.list.topics.entries ≡ table.old.list.topics.entries }
+        ensures room { IfSome result (λ room. HasRoom room (length table.old.list.topics.entries)) }
+        ensures none { IfNone result (most_open ≤ length table.old.list.topics.entries) }
+    {
+        if table.count() < MOST_OPEN {
+            return Some(Room::Free);
+        }
+        match self.least_used(rt, table) {
+            Some(unused) => Some(Room::InPlaceOf(unused.place)),
+            None => None,
+        }
+    }
+
+    /// The topic leaves in whose place there was room.
+    pub(crate) fn make_place<R: Wait>(&self, rt: &R, table: &mut Table<T, J, B>, room: Room)
+        ensures { names_of table.new.list.topics.entries ≡ after_making room (names_of table.old.list.topics.entries) }
+    {
+        if let Room::InPlaceOf(place) = room {
+            self.let_go(rt, table, place);
+        }
+    }
+
+    /// The topic at the place leaves the directory, and the keeper lets go of what it knew of it.
+    fn let_go<R: Wait>(&self, rt: &R, table: &mut Table<T, J, B>, place: usize)
+        ensures { names_of table.new.list.topics.entries ≡ remove (names_of table.old.list.topics.entries) place }
+    {
+        let Some(topic) = table.remove(place) else {
+            return;
+        };
+        let mut keeper = self.keeper.lock(rt);
+        keeper.forget(&topic.name);
+        drop(keeper);
+        drop(topic);
+    }
+
+    /// Nothing is stored of the topic, and nothing was in it: it leaves, unless somebody has come to it since. The keeper
+    /// knows nothing of it.
+    pub(crate) fn leave_blank<R: Wait>(&self, rt: &R, topic: Arc<Shared<T, J, B>>) {
+        let mut guard = self.table.lock(rt);
+        let table = &mut *guard;
+        let place = table.place_of(&topic.name);
+        drop(topic);
+        if let Some(place) = place
+            && table.is_sole(place)
+            && is_blank_at(rt, table, place)
+        {
+            drop(table.remove(place));
+        }
+    }
+
+    /// Topics leave that nobody uses, and nobody has used for five minutes. It looks for them once a minute.
+    pub(crate) fn look<R: Wait>(&self, rt: &R, errands: &mut Errands<T, J, B>) {
+        let time = errands.time;
+        if errands.looks.is_due(time) {
+            let last = errands.looks.mark(self.uses.made(), time);
+            self.unload(rt, last);
+        }
+    }
+
+    /// Topics leave that nobody uses, and whose last use came before that of the number.
+    fn unload<R: Wait>(&self, rt: &R, last: u64) {
+        let mut guard = self.table.lock(rt);
+        let table = &mut *guard;
+        let count = table.count();
+        for passed in 0..count {
+            let place = count - 1 - passed;
+            if let Some(unused) = self.unused_at(rt, table, place)
+                && unused.used < last
+            {
+                self.let_go(rt, table, place);
+            }
+        }
+    }
+}
+
+/// The number of the topic's last use, where it may leave.
+fn rests_since<T: Opened + Drop, J: Naming, B: Bell + Drop, R: Wait>(
+    rt: &R,
+    topic: &Shared<T, J, B>,
+) -> Option<u64> {
+    let inside = topic.inside.lock(rt);
+    inside.rests_since()
+}
+
+fn is_blank_at<T: Opened + Drop, J: Naming, B: Bell + Drop, R: Wait>(
+    rt: &R,
+    table: &Table<T, J, B>,
+    place: usize,
+) -> bool {
+    match table.at(place) {
+        Some(topic) => {
+            let inside = topic.inside.lock(rt);
+            inside.is_blank()
+        }
+        None => false,
+    }
+}
