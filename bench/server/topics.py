@@ -9,13 +9,13 @@ import sys
 import threading
 import time
 
-from client import Broker, Client, consumer, producer, text_of
+from client import Broker, consumer, producer, text_of
 
 program = sys.argv[1]
 count = int(sys.argv[2]) if len(sys.argv) > 2 else 10000
 kills = int(sys.argv[3]) if len(sys.argv) > 3 else 200
 port = int(sys.argv[4]) if len(sys.argv) > 4 else 18088
-AT_ONCE, IN_USE, NAMES = 300, 256, 400
+AT_ONCE, NAMES = 300, 400
 
 
 def payload_of(message):
