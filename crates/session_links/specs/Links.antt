@@ -6,6 +6,8 @@ use Rattle.delivery_machine.specs.declared.reply.Reply.TheVariants.{Refused}
 use Rattle.position_core.specs.declared.fault.Fault.{Fault}
 use Rattle.session_links.specs.declared.conn.Incoming.{Incoming}
 use Rattle.session_links.specs.declared.conn.Incoming.TheVariants.{Nothing, Text, Gone}
+use Rattle.session_links.specs.declared.request.Request.{Request}
+use Rattle.session_links.specs.declared.request.Request.TheVariants.{Event as OfEvent}
 
 -- what came when a session received once: a text, nothing yet, or the end of the connection
 pub data Receipt : Type 0 where
@@ -24,10 +26,14 @@ pub record Exchange : Type 0 where
   pub sent : List (List ℕ)
   pub closes : List Closing
 
--- an event, and what it was answered
+-- a request, and what it was answered
 pub record Call : Type 0 where
-  pub event : Event
+  pub request : Request
   pub reply : Reply
+
+-- an event, and what it was answered
+abbrev pub event_call : Event → Reply → Call
+event_call event reply = record { request = OfEvent event; reply = reply }
 
 abbrev pub receipt_of : Incoming → Receipt
 receipt_of Nothing = nothing
@@ -55,7 +61,7 @@ abbrev pub goes_on : Incoming → Bool
 goes_on Gone = false
 goes_on incoming = true
 
--- a caller that fails refuses the event
+-- a caller that fails refuses the request
 abbrev pub reply_of : Result Reply Fault → Reply
 reply_of (Ok reply) = reply
 reply_of (Err fault) = Refused fault

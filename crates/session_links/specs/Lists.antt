@@ -3,11 +3,13 @@ use Rattle.std.specs.Prelude.{◌≡◌, List, [], map, string_bytes, Option, So
 use Rattle.position_core.specs.declared.fault.Fault.{Fault}
 use Rattle.delivery_machine.specs.State.{State}
 use Rattle.delivery_machine.specs.Run.{Answers}
-use Rattle.delivery_machine.specs.declared.event.Event.{Event}
 use Rattle.delivery_machine.specs.declared.reply.Reply.{Reply}
+use Rattle.delivery_machine.specs.declared.reply.Reply.TheVariants.{Done}
 use Rattle.session_links.specs.Links.{Call, Closing, Exchange, receipt_of}
 use Rattle.session_links.specs.declared.list_conn.Closed.{Closed}
 use Rattle.session_links.specs.declared.list_conn.Told.{Told}
+use Rattle.session_links.specs.declared.request.Request.{Request}
+use Rattle.session_links.specs.declared.request.Request.TheVariants.{DeleteTopic, Event as OfEvent}
 use Rattle.session_links.specs.declared.topic_caller.Line.{Line}
 use Rattle.session_links.specs.declared.topic_caller.Lines.{Lines}
 
@@ -25,14 +27,15 @@ exchange_of told = record { received = map receipt_of told.received.items; sent 
 
 -- a call of the list
 abbrev pub call_of : Line → Call
-call_of line = record { event = line.event; reply = line.reply }
+call_of line = record { request = line.request; reply = line.reply }
 
 -- what the lines have
 abbrev pub calls_of : Lines → List Call
 calls_of lines = map call_of lines.items.items
 
--- the topic answers the event, or else every event is refused so
-abbrev pub Asks : Option Fault → State → Event → Result Reply Fault → State → Type 0
-Asks None s event (Ok reply) t = Answers s event reply t
-Asks None s event (Err fault) t = ⊥
-Asks (Some refusal) s event answer t = (answer ≡ Err refusal) × (t ≡ s)
+-- the topic answers an event, and stays as it is where it is to be deleted; or else every request is refused so
+abbrev pub Asks : Option Fault → State → Request → Result Reply Fault → State → Type 0
+Asks None s (OfEvent event) (Ok reply) t = Answers s event reply t
+Asks None s (OfEvent event) (Err fault) t = ⊥
+Asks None s DeleteTopic answer t = (answer ≡ Ok Done) × (t ≡ s)
+Asks (Some refusal) s request answer t = (answer ≡ Err refusal) × (t ≡ s)

@@ -1,17 +1,18 @@
 // A caller over one topic, for tests and trials.
-ghost use Rattle.std.specs.Prelude.{◌≡◌, [], IfOk, IfSome, Some, None, option_map};
+ghost use Rattle.std.specs.Prelude.{◌≡◌, [], IfOk, IfSome, Ok, Some, None, option_map};
 ghost use Rattle.std.specs.Option.{option_copied};
 ghost use Rattle.session_links.specs.Links.{Tells, reply_of, with_call};
 ghost use Rattle.session_links.specs.Lists.{Asks, call_of, calls_of};
 
 use crate::caller::Caller;
-use delivery_machine::{Event, Fault, Reply, Topic};
+use crate::request::Request;
+use delivery_machine::{Fault, Reply, Topic};
 use std::alloc::{AllocError, Global};
 
-/// An event, and what it was answered.
+/// A request, and what it was answered.
 #[derive(Drop)]
 pub struct Line {
-    pub event: Event,
+    pub request: Request,
     pub reply: Reply,
 }
 
@@ -21,7 +22,7 @@ pub struct Lines {
     pub items: Vec<Line>,
 }
 
-// What the event was answered, where a call that fails refuses it.
+// What the request was answered, where a call that fails refuses it.
 fn reply_in(answer: &Result<Reply, Fault>) -> Result<Reply, AllocError>
     ensures { IfOk result (λ reply. reply ≡ reply_of answer.now) }
 {
@@ -46,36 +47,37 @@ impl Lines {
         }
     }
 
-    fn and_call(self, event: Event, answer: &Result<Reply, Fault>) -> Option<Lines>
-        ensures { IfSome result (λ lines. calls_of lines ≡ with_call (record { event = event; reply = reply_of answer.now }) (calls_of self)) }
+    fn and_call(self, request: Request, answer: &Result<Reply, Fault>) -> Option<Lines>
+        ensures { IfSome result (λ lines. calls_of lines ≡ with_call (record { request = request; reply = reply_of answer.now }) (calls_of self)) }
     {
         match reply_in(answer) {
-            Ok(reply) => self.and_line(Line { event, reply }),
+            Ok(reply) => self.and_line(Line { request, reply }),
             Err(_) => {
                 drop(self);
-                drop(event);
+                drop(request);
                 None
             }
         }
     }
 }
 
-fn tell(lines: Option<Lines>, event: Event, answer: &Result<Reply, Fault>) -> Option<Lines>
-    ensures { Tells (with_call (record { event = event; reply = reply_of answer.now })) (option_map calls_of lines) (option_map calls_of result) }
+fn tell(lines: Option<Lines>, request: Request, answer: &Result<Reply, Fault>) -> Option<Lines>
+    ensures { Tells (with_call (record { request = request; reply = reply_of answer.now })) (option_map calls_of lines) (option_map calls_of result) }
 {
     match lines {
-        Some(lines) => lines.and_call(event, answer),
+        Some(lines) => lines.and_call(request, answer),
         None => {
-            drop(event);
+            drop(request);
             None
         }
     }
 }
 
-/// Hands events to a topic of its own. It tells which, and what they were answered, as long as there is memory for that.
+/// Hands events to a topic of its own, and lets it be where it is to be deleted. It tells the requests, and what they were
+/// answered, as long as there is memory for that.
 pub struct TopicCaller<T: Drop> {
     pub topic: T,
-    /// What each call is refused with, where it is.
+    /// What each request is refused with, where it is.
     pub refusal: Option<Fault>,
     lines: Option<Lines>,
 }
@@ -114,14 +116,25 @@ impl<T: Drop> TopicCaller<T> {
 }
 
 impl<T: Topic + Drop> TopicCaller<T> {
-    fn answer_to(&mut self, event: &Event) -> Result<Reply, Fault>
+    fn reply_to(&mut self, request: &Request) -> Reply
         ensures lines { self.new.lines ≡ self.old.lines }
         ensures refusal { self.new.refusal ≡ self.old.refusal }
-        ensures asks { Asks self.old.refusal (T.state self.old.topic) event.now result (T.state self.new.topic) }
+        ensures asks { Asks None (T.state self.old.topic) request.now (Ok result) (T.state self.new.topic) }
+    {
+        match request {
+            Request::Event(event) => self.topic.apply(event),
+            Request::DeleteTopic => Reply::Done,
+        }
+    }
+
+    fn answer_to(&mut self, request: &Request) -> Result<Reply, Fault>
+        ensures lines { self.new.lines ≡ self.old.lines }
+        ensures refusal { self.new.refusal ≡ self.old.refusal }
+        ensures asks { Asks self.old.refusal (T.state self.old.topic) request.now result (T.state self.new.topic) }
     {
         match self.refusal {
             Some(fault) => Err(fault),
-            None => Ok(self.topic.apply(event)),
+            None => Ok(self.reply_to(request)),
         }
     }
 }
@@ -132,13 +145,13 @@ impl<T: Topic + Drop> Caller for TopicCaller<T> {
 
     ghost calls = { λ c. option_map calls_of c.lines };
 
-    fn call(&mut self, event: Event) -> Result<Reply, Fault>
-        ensures tells { Tells (with_call (record { event = event; reply = reply_of result })) (option_map calls_of self.old.lines) (option_map calls_of self.new.lines) }
-        ensures asks { Asks self.old.refusal (T.state self.old.topic) event result (T.state self.new.topic) }
+    fn call(&mut self, request: Request) -> Result<Reply, Fault>
+        ensures tells { Tells (with_call (record { request = request; reply = reply_of result })) (option_map calls_of self.old.lines) (option_map calls_of self.new.lines) }
+        ensures asks { Asks self.old.refusal (T.state self.old.topic) request result (T.state self.new.topic) }
         ensures refusal { self.new.refusal ≡ self.old.refusal }
     {
-        let answer = self.answer_to(&event);
-        self.lines = tell(self.lines.take(), event, &answer);
+        let answer = self.answer_to(&request);
+        self.lines = tell(self.lines.take(), request, &answer);
         answer
     }
 }
