@@ -10,7 +10,7 @@ use Rattle.delivery_machine.specs.declared.event.Target.TheVariants.{Earliest, L
 use Rattle.json_values.specs.Fields.{ok_as}
 use Rattle.json_values.specs.Objects.{between, object_of, text_at, whole_at}
 use Rattle.wire_json.specs.declared.admins.AdminCommand.{AdminCommand}
-use Rattle.wire_json.specs.declared.admins.AdminCommand.TheVariants.{Seek, SeekTime, Skip, DropSubscription, Stats}
+use Rattle.wire_json.specs.declared.admins.AdminCommand.TheVariants.{Seek, SeekTime, Skip, DropSubscription, Stats, DeleteTopic}
 use Rattle.wire_json.specs.Ids.{id_of}
 
 -- a text that is a name
@@ -53,16 +53,20 @@ admin_named type subscription d =
     else (if bytes_eq type (codes "dropSubscription") then Ok (DropSubscription subscription)
     else (if bytes_eq type (codes "stats") then Ok (Stats subscription) else Err BadJson))))
 
--- the type and the subscription have to be there
-abbrev pub admin_from : Option (List ℕ) → Option (List ℕ) → Data → Result AdminCommand Fault
-admin_from None subscription d = Err BadJson
-admin_from (Some type) None d = Err BadJson
-admin_from (Some type) (Some subscription) d = admin_named type subscription d
+-- the subscription has to be there
+abbrev pub admin_for : List ℕ → Option (List ℕ) → Data → Result AdminCommand Fault
+admin_for type None d = Err BadJson
+admin_for type (Some subscription) d = admin_named type subscription d
+
+-- the type has to be there; the deletion of the topic is for no subscription, and one that is there is not looked at
+abbrev pub admin_from : Option (List ℕ) → Data → Result AdminCommand Fault
+admin_from None d = Err BadJson
+admin_from (Some type) d = if bytes_eq type (codes "deleteTopic") then Ok DeleteTopic else admin_for type (subscription_in d) d
 
 -- what is no object is no command
 abbrev pub admin_in : Option Data → Result AdminCommand Fault
 admin_in None = Err BadJson
-admin_in (Some d) = admin_from (text_at (codes "type") d) (subscription_in d) d
+admin_in (Some d) = admin_from (text_at (codes "type") d) d
 
 -- what the text says
 abbrev pub admin_of : List ℕ → Result AdminCommand Fault

@@ -3,7 +3,7 @@ ghost use Rattle.std.specs.Prelude.{◌≡◌, IfOk, Some};
 ghost use Rattle.serde_json.specs.View.{view};
 ghost use Rattle.json_values.specs.Fields.{ok_as};
 ghost use Rattle.json_values.specs.Objects.{between};
-ghost use Rattle.wire_json.specs.Admins.{admin_in, admin_named, admin_of, count_in, moment_in, subscription_in, target_in, target_of};
+ghost use Rattle.wire_json.specs.Admins.{admin_for, admin_in, admin_named, admin_of, count_in, moment_in, subscription_in, target_in, target_of};
 
 use crate::commands::id_of;
 use delivery_machine::Target;
@@ -38,6 +38,8 @@ pub enum AdminCommand {
     Stats {
         subscription: SubscriptionName,
     },
+    /// The whole topic goes.
+    DeleteTopic,
 }
 
 /// The subscription that a command is of.
@@ -141,7 +143,7 @@ fn skip(subscription: SubscriptionName, object: &Value) -> Result<AdminCommand, 
     }
 }
 
-/// The command of the type, for the subscription.
+/// The command of the type, for this subscription.
 fn admin_named(
     name: &str,
     subscription: SubscriptionName,
@@ -168,16 +170,30 @@ fn admin_named(
     }
 }
 
+/// The command of the type, for the subscription that the object names.
+fn admin_for(
+    alloc: Global,
+    name: &str,
+    object: &Value,
+) -> Result<Result<AdminCommand, Fault>, AllocError>
+    ensures { IfOk result (λ said. said ≡ admin_for name.now (subscription_in (view object.now)) (view object.now)) }
+{
+    match subscription_in(alloc, object)? {
+        Some(subscription) => Ok(admin_named(name, subscription, object)),
+        None => Ok(Err(Fault::BadJson)),
+    }
+}
+
 fn admin_in(alloc: Global, object: &Value) -> Result<Result<AdminCommand, Fault>, AllocError>
     ensures { IfOk result (λ said. said ≡ admin_in (Some (view object.now))) }
 {
     let Some(name) = text_at("type", object) else {
         return Ok(Err(Fault::BadJson));
     };
-    match subscription_in(alloc, object)? {
-        Some(subscription) => Ok(admin_named(name, subscription, object)),
-        None => Ok(Err(Fault::BadJson)),
+    if name == "deleteTopic" {
+        return Ok(Ok(AdminCommand::DeleteTopic));
     }
+    admin_for(alloc, name, object)
 }
 
 /// Reads what an administrator sent.
