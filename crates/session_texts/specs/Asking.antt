@@ -5,11 +5,12 @@ use Rattle.position_core.specs.declared.fault.Fault.TheVariants.{TooMany}
 use Rattle.position_core.specs.declared.body.Content.{Content}
 use Rattle.delivery_machine.specs.declared.event.Event.{Event}
 use Rattle.delivery_machine.specs.declared.event.Event.TheVariants.{Publish}
+use Rattle.session_links.specs.declared.request.Request.TheVariants.{Event as OfEvent}
 use Rattle.wire_json.specs.declared.commands.Command.{Command}
 use Rattle.wire_json.specs.declared.admins.AdminCommand.{AdminCommand}
 use Rattle.wire_json.specs.declared.answers.SendError.{SendError}
 use Rattle.wire_json.specs.declared.answers.SendError.TheVariants.{Unknown}
-use Rattle.wire_json.specs.Publishes.{Reading, publish_of}
+use Rattle.wire_json.specs.Publishes.{publish_of}
 use Rattle.wire_json.specs.Commands.{command_of}
 use Rattle.wire_json.specs.Admins.{admin_of}
 use Rattle.wire_json.specs.Answers.{of_fault}
@@ -18,9 +19,8 @@ use Rattle.session_texts.specs.declared.party.Party.TheVariants.{Producer, Consu
 use Rattle.session_texts.specs.declared.close.Close.{Close}
 use Rattle.session_texts.specs.declared.asking.Asking.{Asking}
 use Rattle.session_texts.specs.declared.asking.Asking.TheVariants.{Asks, Answers, Closes}
-use Rattle.session_texts.specs.declared.answer.Answer.{Answer}
 use Rattle.session_texts.specs.declared.answer.Answer.TheVariants.{Refused, EndOfTopic}
-use Rattle.session_texts.specs.Requests.{event_of_command, event_of_admin}
+use Rattle.session_texts.specs.Requests.{event_of_command, request_of_admin}
 
 -- a text can't be read
 abbrev pub unreadable_close : Fault → Close
@@ -37,7 +37,7 @@ error_of fault = unwrap_or (of_fault fault) Unknown
 -- a content is published under the next number, where one is left
 abbrev pub publishes : ℕ → ℕ → Option ℤ → Option (List ℕ) → Content → Asking
 publishes producer now None context content = Closes (refusing TooMany)
-publishes producer now (Some number) context content = Asks (Publish producer number content now) context
+publishes producer now (Some number) context content = Asks (OfEvent (Publish producer number content now)) context
 
 -- what a producer's text says is published, or answered with an error
 abbrev pub asks_publish : ℕ → ℕ → Option ℤ → Option (List ℕ) → Result Content Fault → Asking
@@ -47,7 +47,7 @@ asks_publish producer now next context (Ok content) = publishes producer now nex
 -- a command without an event asks whether the topic has an end
 abbrev pub asks_event : Option Event → Asking
 asks_event None = Answers EndOfTopic
-asks_event (Some event) = Asks event None
+asks_event (Some event) = Asks (OfEvent event) None
 
 -- a consumer's text is a command, or closes the session
 abbrev pub asks_command : ℕ → ℕ → Result Command Fault → Asking
@@ -57,7 +57,7 @@ asks_command consumer now (Ok command) = asks_event (event_of_command consumer n
 -- an administrator's text is a command, or closes the session
 abbrev pub asks_admin : Result AdminCommand Fault → Asking
 asks_admin (Err fault) = Closes (unreadable_close fault)
-asks_admin (Ok command) = Asks (event_of_admin command) None
+asks_admin (Ok command) = Asks (request_of_admin command) None
 
 -- what the text asks for, of the party, at the moment, with the next number
 abbrev pub asks : Party → ℕ → Option ℤ → List ℕ → Asking

@@ -53,7 +53,7 @@ admin_outcome Done = Answers (Administered Done)
 admin_outcome (Stats kind members mark_delete acknowledged live pending dead) = Answers (Administered (Stats kind members mark_delete acknowledged live pending dead))
 admin_outcome reply = Passes
 
--- what comes of the reply to the event that a text asked for
+-- what comes of the reply to what a text asked for
 abbrev pub outcome_of : Party → Option (List ℕ) → Reply → Outcome
 outcome_of (Producer producer first) context reply = publish_outcome context reply
 outcome_of (Consumer consumer subscription) context reply = command_outcome reply

@@ -10,7 +10,7 @@ use crate::party::Party;
 use delivery_machine::{Fault, Position, Reply};
 use wire_json::SendError;
 
-/// What comes of the reply to the event that a text asked for.
+/// What comes of the reply to what a text asked for.
 #[derive(Drop)]
 pub enum Outcome {
     Answers(Answer),
@@ -122,7 +122,7 @@ fn outcome_by(party: &Party, context: Context, reply: &Reply) -> Outcome
     }
 }
 
-/// What comes of the reply to the event that a text asked for.
+/// What comes of the reply to what a text asked for.
 pub fn outcome_of(party: &Party, context: Context, reply: Reply) -> Outcome
     ensures { result ≡ outcome_of party.now context reply }
 {

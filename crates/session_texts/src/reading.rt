@@ -2,7 +2,7 @@
 ghost use Rattle.std.specs.Prelude.{◌≡◌, IfOk, ok_or, option_and_then};
 ghost use Rattle.session_texts.specs.Asking.{asks, asks_admin, asks_command, asks_publish, error_of, publishes};
 ghost use Rattle.session_texts.specs.Numbers.{number_after};
-ghost use Rattle.session_texts.specs.Requests.{event_of_admin, event_of_command};
+ghost use Rattle.session_texts.specs.Requests.{event_of_command, request_of_admin};
 ghost use Rattle.wire_json.specs.Admins.{admin_of};
 ghost use Rattle.wire_json.specs.Commands.{command_of};
 ghost use Rattle.wire_json.specs.Publishes.{publish_of};
@@ -14,6 +14,7 @@ use crate::context::Context;
 use crate::party::Party;
 use delivery_machine::{Body, ConsumerNumber, Event, Fault, Moment, ProducerNumber};
 use position_core::Content;
+use session_links::Request;
 use std::alloc::{AllocError, Global};
 use wire_json::{AdminCommand, Command, SendError, read_admin, read_command, read_publish};
 
@@ -55,12 +56,12 @@ fn publish(
     };
     let body = Body::new(alloc, content)?;
     Ok(Asking::Asks {
-        event: Event::Publish {
+        request: Request::Event(Event::Publish {
             producer,
             sequence,
             body,
             now,
-        },
+        }),
         context,
     })
 }
@@ -115,34 +116,39 @@ fn read_consumers(
     };
     match event_of_command(consumer, now, command) {
         Some(event) => Ok(Asking::Asks {
-            event,
+            request: Request::Event(event),
             context: Context::new(None),
         }),
         None => Ok(Asking::Answers(Answer::EndOfTopic)),
     }
 }
 
-fn event_of_admin(command: AdminCommand) -> Event
-    ensures { result ≡ event_of_admin command }
+fn request_of_admin(command: AdminCommand) -> Request
+    ensures { result ≡ request_of_admin command }
 {
     match command {
         AdminCommand::Seek {
             subscription,
             target,
-        } => Event::Seek {
+        } => Request::Event(Event::Seek {
             subscription,
             target,
-        },
-        AdminCommand::SeekTime { subscription, time } => Event::SeekTime { subscription, time },
+        }),
+        AdminCommand::SeekTime { subscription, time } => {
+            Request::Event(Event::SeekTime { subscription, time })
+        }
         AdminCommand::Skip {
             subscription,
             count,
-        } => Event::Skip {
+        } => Request::Event(Event::Skip {
             subscription,
             count,
-        },
-        AdminCommand::DropSubscription { subscription } => Event::DropSubscription { subscription },
-        AdminCommand::Stats { subscription } => Event::Stats { subscription },
+        }),
+        AdminCommand::DropSubscription { subscription } => {
+            Request::Event(Event::DropSubscription { subscription })
+        }
+        AdminCommand::Stats { subscription } => Request::Event(Event::Stats { subscription }),
+        AdminCommand::DeleteTopic => Request::DeleteTopic,
     }
 }
 
@@ -151,7 +157,7 @@ fn read_administrators(alloc: Global, text: &[u8]) -> Result<Asking, AllocError>
 {
     match read_admin(alloc, text)? {
         Ok(command) => Ok(Asking::Asks {
-            event: event_of_admin(command),
+            request: request_of_admin(command),
             context: Context::new(None),
         }),
         Err(fault) => Ok(Asking::Closes(Close::unreadable(fault))),
