@@ -2,6 +2,7 @@
 use Rattle.std.proofs.Common.{◌≡◌, ℕ, ◌≤◌, ℤ, List, [], ◌∷◌, ◌++◌, length, map, All, Bool, false, Option, Some, None, IsSome, is_some, option_map, refl, sym, ap, ◌∙◌, subst, append_assoc}
 use Rattle.std.proofs.lemmas.List.{map-append}
 use Rattle.std.proofs.lemmas.List.Elements.{All-append}
+use Rattle.session_links.specs.declared.request.Request.TheVariants.{Event as OfEvent}
 use Rattle.session_links.specs.Links.{Call, Exchange, Tells, with_close}
 use Rattle.session_texts.specs.declared.party.Party.{Party}
 use Rattle.session_texts.specs.declared.close.Close.{Close}
@@ -167,7 +168,7 @@ ends s t before now most e f h c d i stop was room is_open has_room run all clos
         turn = turn;
         is_now = k.is_now;
         is_most = k.is_most ∙ same;
-        is_turn = is_turn s t before now most e f c d (Some stop) was room last.farewell run all (last.event ∙ ap farewell_of k.party);
+        is_turn = is_turn s t before now most e f c d (Some stop) was room last.farewell run all (last.event ∙ ap (λ p. option_map OfEvent (farewell_of p)) k.party);
         exchange = by_stop stop k.is_stop closes;
         calls = tells_then _ _ _ c d i (subst (λ x. Tells (λ calls. and_one (calls_of_asked (calls_of_texts calls k.turn.taken) k.turn.asked) x) c d) k.no_farewell k.calls) last.calls (λ x. refl);
         fails = λ failed. fails (sym k.opens ∙ failed);

@@ -1,12 +1,13 @@
 -- A session's life goes on with its turns.
-use Rattle.std.proofs.Common.{◌≡◌, ℕ, List, [], ◌∷◌, map, Bool, Option, Some, None, IsSome, inl, inr, refl, sym, ap, ◌∙◌, subst}
+use Rattle.std.proofs.Common.{◌≡◌, ℕ, List, [], ◌∷◌, map, Bool, Option, Some, None, option_map, IsSome, inl, inr, refl, sym, ap, ◌∙◌, subst}
 use Rattle.position_core.specs.declared.fault.Fault.{Fault}
 use Rattle.position_core.specs.declared.fault.Fault.TheVariants.{NoMemory}
 use Rattle.delivery_machine.specs.declared.event.Event.{Event}
 use Rattle.delivery_machine.specs.declared.reply.Reply.{Reply}
 use Rattle.endpoint_core.specs.declared.routes.Endpoint.{Endpoint}
 use Rattle.endpoint_core.specs.declared.routes.Endpoint.TheVariants.{Producer, Consumer, Admin}
-use Rattle.session_links.specs.Links.{Call, Exchange, Tells}
+use Rattle.session_links.specs.declared.request.Request.TheVariants.{Event as OfEvent}
+use Rattle.session_links.specs.Links.{Call, Exchange, Tells, event_call}
 use Rattle.session_texts.specs.declared.party.Party.{Party}
 use Rattle.session_texts.specs.declared.party.Party.TheVariants.{Admin as AsAdmin}
 use Rattle.session_texts.specs.Outcomes.{farewell_of}
@@ -32,7 +33,7 @@ says_none party (Some stop) farewell is says = absurd (cc)
 
 -- one that does says that of its party
 pub says_one : (party : Party) (stop : Option Stop) (reason : Stop) (farewell : Option Call) → stop ≡ Some reason → SaysFarewell party stop farewell
-    → map (λ (call : Call). call.event) (and_one [] farewell) ≡ and_one [] (farewell_of party)
+    → map (λ (call : Call). call.request) (and_one [] farewell) ≡ and_one [] (option_map OfEvent (farewell_of party))
 says_one party None reason farewell is says = absurd (cc)
 says_one party (Some stop) reason None is says = ap (λ x. and_one [] x) says
 says_one party (Some stop) reason (Some call) is says = ap (λ x. and_one [] x) says
@@ -61,7 +62,7 @@ lived_so endpoint life s turn reason e0 e f c0 c d k ends says run exchange call
   ended = ends;
   tell = tell_on life turn e0 e f c0 c d k.tell exchange calls;
   closes = λ x. ap (λ stop. closed stop (exchanged_in life.turns x).closes) ends ∙ ap (λ l. closed (Some reason) l) (k.closes x);
-  farewell = ap (λ l. map (λ (call : Call). call.event) (and_one l turn.farewell)) k.farewell ∙ says_one s.party turn.stop reason turn.farewell ends says;
+  farewell = ap (λ l. map (λ (call : Call). call.request) (and_one l turn.farewell)) k.farewell ∙ says_one s.party turn.stop reason turn.farewell ends says;
 }
 
 -- A turn keeps the life.
@@ -104,14 +105,14 @@ refused_so endpoint opening code fault e f c d result is_open why calls (none, t
 
 -- it began, or not, by the reply to its event
 pub joins_by : (endpoint : Endpoint) (event : Event) (by : Reply → Option Party) (e f : Option Exchange) (c d : Option (List Call)) (result : Option Session) (is_open : Bool)
-    → Some event ≡ joins endpoint → ((reply : Reply) → party_of endpoint (Some (record { event = event; reply = reply })) ≡ by reply)
+    → Some event ≡ joins endpoint → ((reply : Reply) → party_of endpoint (Some (event_call event reply)) ≡ by reply)
     → JoinsBy event (refusal_code endpoint) by e c result f d is_open → BeginsLife endpoint e c result f d
 joins_by endpoint event by e f c d result is_open joined is (reply, calls, k) = by_party (by reply) (is reply) k
   where
-    by_party : (party : Option Party) → party_of endpoint (Some (record { event = event; reply = reply })) ≡ party → BeginsBy (refusal_code endpoint) reply party e result f is_open
+    by_party : (party : Option Party) → party_of endpoint (Some (event_call event reply)) ≡ party → BeginsBy (refusal_code endpoint) reply party e result f is_open
         → BeginsLife endpoint e c result f d
-    by_party None nobody k = refused_so endpoint (Some (record { event = event; reply = reply })) (refusal_code endpoint) (fault_of reply) e f c d result is_open (joined, nobody, refl, refl) calls k
-    by_party (Some party) named k = begins_so endpoint (Some (record { event = event; reply = reply })) party e f c d result is_open (record { event = joined; is_party = named }) calls k
+    by_party None nobody k = refused_so endpoint (Some (event_call event reply)) (refusal_code endpoint) (fault_of reply) e f c d result is_open (ap (option_map OfEvent) joined, nobody, refl, refl) calls k
+    by_party (Some party) named k = begins_so endpoint (Some (event_call event reply)) party e f c d result is_open (record { event = ap (option_map OfEvent) joined; is_party = named }) calls k
 
 -- A session that begins begins its life.
 pub begins_life : (endpoint : Endpoint) (e f : Option Exchange) (c d : Option (List Call)) (result : Option Session) (is_open : Bool) → Opens endpoint e c result f d is_open → BeginsLife endpoint e c result f d

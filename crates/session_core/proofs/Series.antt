@@ -9,7 +9,7 @@ use Rattle.delivery_machine.specs.declared.event.Event.{Event}
 use Rattle.delivery_machine.specs.declared.event.Event.TheVariants.{Collect, Dispatch, Progress, Tick}
 use Rattle.delivery_machine.specs.declared.reply.Reply.{Reply}
 use Rattle.delivery_machine.specs.declared.reply.Reply.TheVariants.{Refused}
-use Rattle.session_links.specs.Links.{Call, Tells, with_call}
+use Rattle.session_links.specs.Links.{Call, Tells, event_call, with_call}
 use Rattle.session_texts.specs.declared.close.Close.{Close}
 use Rattle.session_texts.specs.declared.party.Party.TheVariants.{Producer, Consumer, Admin}
 use Rattle.session_core.specs.declared.dues.Dues.{Dues}
@@ -24,7 +24,7 @@ use Rattle.session_core.specs.Steps.{AsksBoth, AsksCollect, AsksOne, AsksOwn, As
 use Rattle.session_core.proofs.Telling.{tells_nothing, tells_then}
 
 -- one was asked, and what follows is by its reply
-pub asked_so : (event : Event) (c d : Option (List Call)) (reply : Reply) (result : Result Bool Stop) → Tells (with_call (record { event = event; reply = reply })) c d
+pub asked_so : (event : Event) (c d : Option (List Call)) (reply : Reply) (result : Result Bool Stop) → Tells (with_call (event_call event reply)) c d
     → IfOk result (λ more. (own_close reply ≡ None) × (leaves_more reply ≡ more)) → IfErr result (λ stop. option_map Closed (own_close reply) ≡ Some stop) → AsksOne event c result d
 asked_so event c d reply (Ok more) tells ok err = (reply, tells, ok.0, ok.1)
 asked_so event c d reply (Err stop) tells ok err = inl (reply, tells, err)
@@ -36,7 +36,7 @@ asked_none event c = record { calls = []; left = tt; as_many = refl; tells = tel
 -- one more was asked, and left more
 pub asked_one : (event : Event) (n : ℕ) (c d e : Option (List Call)) → AsksSome event n c d → AsksOne event d (Ok true) e → AsksSome event (n + 1) c e
 asked_one event n c d e k (reply, tells, closes, more) = record {
-  calls = (record { event = event; reply = reply }) ∷ k.calls;
+  calls = event_call event reply ∷ k.calls;
   left = (refl, more, k.left);
   as_many = let m = k.as_many in omega (arith, m);
   tells = tells_then _ _ _ c d e k.tells tells (λ x. refl);
@@ -45,10 +45,10 @@ asked_one event n c d e k (reply, tells, closes, more) = record {
 -- the last one was asked
 pub asked_last : (event : Event) (n : ℕ) (c d e : Option (List Call)) → AsksSome event n c d → n < 64 → AsksOne event d (Ok false) e → AsksSeries event c None e
 asked_last event n c d e k less (reply, tells, closes, more) = record {
-  calls = (record { event = event; reply = reply }) ∷ k.calls;
+  calls = event_call event reply ∷ k.calls;
   series = (refl, k.left, let m = k.as_many in omega (arith, m, less));
   tells = tells_then _ _ _ c d e k.tells tells (λ x. refl);
-  ends = subst (λ x. EndsSeries x ((record { event = event; reply = reply }) ∷ k.calls) None) (sym closes) (inl (refl, inl more));
+  ends = subst (λ x. EndsSeries x (event_call event reply ∷ k.calls) None) (sym closes) (inl (refl, inl more));
 }
 
 -- a reply that leaves more closes nothing
@@ -82,13 +82,13 @@ asked_all event n c d k all = record {
 -- the session ends
 pub asked_end : (event : Event) (n : ℕ) (c d e : Option (List Call)) (stop : Stop) → AsksSome event n c d → n < 64 → AsksOne event d (Err stop) e → AsksSeries event c (Some stop) e
 asked_end event n c d e stop k less (inl (reply, tells, closes)) = record {
-  calls = (record { event = event; reply = reply }) ∷ k.calls;
+  calls = event_call event reply ∷ k.calls;
   series = (refl, k.left, let m = k.as_many in omega (arith, m, less));
   tells = tells_then _ _ _ c d e k.tells tells (λ x. refl);
   ends = closes_so (own_close reply) closes;
 }
   where
-    closes_so : (close : Option Close) → option_map Closed close ≡ Some stop → EndsSeries close ((record { event = event; reply = reply }) ∷ k.calls) (Some stop)
+    closes_so : (close : Option Close) → option_map Closed close ≡ Some stop → EndsSeries close (event_call event reply ∷ k.calls) (Some stop)
     closes_so None x = absurd (cc)
     closes_so (Some y) x = sym x
 asked_end event n c d e stop k less (inr (wants, same)) = record {
@@ -194,7 +194,7 @@ nothing_unsent s e =
 pub own_progress : (s t : Session) (now producer : ℕ) (first : Option ℤ) (has_room : Bool) (c d : Option (List Call)) → s.party ≡ Producer producer first
     → AsksProgress s c None t d → AsksOwn s now has_room c (Ok true) t d
 own_progress s t now producer first has_room c d is k =
-    let call : Call = record { event = Progress; reply = k.reply } in
+    let call : Call = event_call Progress k.reply in
     record {
       asked = record { ticks = []; dispatches = []; last = Some call };
       asks = subst (λ p. AsksAs p now (record { ticks = []; dispatches = []; last = Some call })) (sym is) (refl, refl, refl);
@@ -210,7 +210,7 @@ own_progress s t now producer first has_room c d is k =
 pub own_progress_ends : (s t : Session) (now producer : ℕ) (first : Option ℤ) (has_room : Bool) (c d : Option (List Call)) (stop : Stop) → s.party ≡ Producer producer first
     → AsksProgress s c (Some stop) t d → AsksOwn s now has_room c (Err stop) t d
 own_progress_ends s t now producer first has_room c d stop is k =
-    let call : Call = record { event = Progress; reply = k.reply } in
+    let call : Call = event_call Progress k.reply in
     record {
       asked = record { ticks = []; dispatches = []; last = Some call };
       asks = subst (λ p. AsksAs p now (record { ticks = []; dispatches = []; last = Some call })) (sym is) (refl, refl, refl);
@@ -282,10 +282,10 @@ own_both_ends s t now consumer subscription has_room is_free c d stop is free re
 pub own_collected : (s u t : Session) (now consumer : ℕ) (subscription : List ℕ) (has_room is_free : Bool) (c d e : Option (List Call)) (stop : Option Stop) (result : Result Bool Stop)
     → s.party ≡ Consumer consumer subscription → is_free ≡ (holds_nothing s && has_room) → Rests s u
     → (k : AsksBoth subscription now is_free c (Ok true) d) → (l : AsksCollect consumer u d stop t e)
-    → EndsAsking s.party s has_room (record { ticks = k.ticks; dispatches = k.dispatches; last = Some (record { event = Collect consumer; reply = l.reply }) }) (own_close l.reply) result
+    → EndsAsking s.party s has_room (record { ticks = k.ticks; dispatches = k.dispatches; last = Some (event_call (Collect consumer) l.reply) }) (own_close l.reply) result
     → AsksOwn s now has_room c result t e
 own_collected s u t now consumer subscription has_room is_free c d e stop result is free rests k l ends =
-    let call : Call = record { event = Collect consumer; reply = l.reply } in
+    let call : Call = event_call (Collect consumer) l.reply in
     let asked : Asked = record { ticks = k.ticks; dispatches = k.dispatches; last = Some call } in
     let nothing : unsent_of s ≡ [] = nothing_unsent s (both_true (holds_nothing s) has_room (sym free ∙ k.ends.0)).0 in
     record {
@@ -306,7 +306,7 @@ own_collected_all s u t now consumer subscription has_room is_free c d e is free
     own_collected s u t now consumer subscription has_room is_free c d e None (Ok true) is free rests k l (
       closes_none (own_close l.reply) l.stops,
       subst (λ p. true ≡ may_send p s has_room) (sym is) (sym k.ends.0 ∙ free),
-      subst (λ p. AsksAll p true (record { ticks = k.ticks; dispatches = k.dispatches; last = Some (record { event = Collect consumer; reply = l.reply }) })) (sym is) (k.ends.1, k.ends.3, refl),
+      subst (λ p. AsksAll p true (record { ticks = k.ticks; dispatches = k.dispatches; last = Some (event_call (Collect consumer) l.reply) })) (sym is) (k.ends.1, k.ends.3, refl),
       inl refl,
     )
 

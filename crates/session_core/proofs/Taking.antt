@@ -5,8 +5,8 @@ use Rattle.std.proofs.Common.{ℤ, is_some, if◌then◌else◌, count_by, Ok, E
 use Rattle.std.proofs.lemmas.List.Sums.{sum_by-append, sum_by-cons}
 use Rattle.std.proofs.lemmas.Bool.{leb-true, leb-false}
 use Rattle.position_core.specs.declared.fault.Fault.TheVariants.{NoMemory}
-use Rattle.delivery_machine.specs.declared.event.Event.{Event}
 use Rattle.delivery_machine.specs.declared.delivery.Delivery.{Delivery}
+use Rattle.session_links.specs.declared.request.Request.{Request}
 use Rattle.session_links.specs.Links.{Call, Exchange, Tells, came, gone, nothing, same, with_receipt}
 use Rattle.session_texts.specs.declared.answer.Answer.{Answer}
 use Rattle.session_texts.specs.declared.close.Close.{Close}
@@ -91,13 +91,13 @@ text_answered s t now text c answer is keeps next w =
     as_asked s now text c None t c (record { text = text; call = None; close = None }) (Answers answer) is refl (refl, refl) refl (tells_nothing _ c (λ x. refl)) keeps (next ∙ no_call s.next)
     (ap (map answering) w ∙ map-append answering s.waiting.items (answer ∷ []))
 
--- the text's event was called
-pub text_asked : (s t : Session) (now : ℕ) (text : List ℕ) (c d : Option (List Call)) (stop : Option Stop) (event : Event) (context : Option (List ℕ)) → asks s.party now s.next text ≡ Asks event context
-    → TakesReply s event context c stop t d → TakesText s now text c stop t d
-text_asked s t now text c d stop event context is r =
-    let call : Call = record { event = event; reply = r.reply } in
+-- the text's request was called
+pub text_asked : (s t : Session) (now : ℕ) (text : List ℕ) (c d : Option (List Call)) (stop : Option Stop) (request : Request) (context : Option (List ℕ)) → asks s.party now s.next text ≡ Asks request context
+    → TakesReply s request context c stop t d → TakesText s now text c stop t d
+text_asked s t now text c d stop request context is r =
+    let call : Call = record { request = request; reply = r.reply } in
     let close : Option Close = close_in (outcome_of s.party context r.reply) in
-    as_asked s now text c stop t d (record { text = text; call = Some call; close = close }) (Asks event context) is refl (r.reply, refl, refl) r.stops r.calls r.keeps r.next
+    as_asked s now text c stop t d (record { text = text; call = Some call; close = close }) (Asks request context) is refl (r.reply, refl, refl) r.stops r.calls r.keeps r.next
     (r.waiting ∙ ap (λ l. map answering s.waiting.items ++ l) (by_outcome (outcome_of s.party context r.reply)))
   where
     by_outcome : (o : Outcome) → answer_in o ≡ (if is_some (close_in o) then [] else answer_in o)

@@ -5,6 +5,7 @@ use Rattle.delivery_machine.specs.declared.event.Event.{Event}
 use Rattle.delivery_machine.specs.declared.event.Event.TheVariants.{Progress, Tick, Dispatch, Collect}
 use Rattle.delivery_machine.specs.declared.reply.Reply.{Reply}
 use Rattle.delivery_machine.specs.declared.reply.Reply.TheVariants.{Quiet, Idle, Refused, Progress as Progressed, Copies}
+use Rattle.session_links.specs.declared.request.Request.TheVariants.{Event as OfEvent}
 use Rattle.session_links.specs.Links.{Call}
 use Rattle.session_texts.specs.declared.party.Party.{Party}
 use Rattle.session_texts.specs.declared.party.Party.TheVariants.{Producer, Consumer, Admin}
@@ -22,12 +23,12 @@ leaves_more reply = true
 -- calls of one event, each of which left more to be asked
 abbrev pub AllLeftMore : Event → List Call → Type 0
 AllLeftMore event [] = Unit {0}
-AllLeftMore event (call ∷ before) = (call.event ≡ event) × (leaves_more call.reply ≡ true) × AllLeftMore event before
+AllLeftMore event (call ∷ before) = (call.request ≡ OfEvent event) × (leaves_more call.reply ≡ true) × AllLeftMore event before
 
 -- at most 64 calls of one event, each but the last of which left more to be asked
 abbrev pub IsSeries : Event → List Call → Type 0
 IsSeries event [] = Unit {0}
-IsSeries event (call ∷ before) = (call.event ≡ event) × AllLeftMore event before × (length (call ∷ before) ≤ 64)
+IsSeries event (call ∷ before) = (call.request ≡ OfEvent event) × AllLeftMore event before × (length (call ∷ before) ≤ 64)
 
 -- the series is at its end: the last call left no more, or it is the 64th
 abbrev pub IsWhole : List Call → Type 0
@@ -59,14 +60,14 @@ asked_nothing = record { ticks = []; dispatches = []; last = None }
 pub record ConsumerAsks (consumer : ℕ) (subscription : List ℕ) (now : ℕ) (asked : Asked) : Type 0 where
   pub ticks : IsSeries (Tick subscription now) asked.ticks
   pub dispatches : IsSeries (Dispatch subscription now) asked.dispatches
-  pub last : IfSome asked.last (λ call. call.event ≡ Collect consumer)
+  pub last : IfSome asked.last (λ call. call.request ≡ OfEvent (Collect consumer))
   -- in this order, and nothing after what closes the session
   pub ticks_first : (asked.dispatches ≡ []) ⊎ (IsWhole asked.ticks × (close_after asked.ticks ≡ None))
   pub dispatches_first : (asked.last ≡ None) ⊎ (IsWhole asked.dispatches × (close_after asked.dispatches ≡ None))
 
 -- what the party's session asks
 abbrev pub AsksAs : Party → ℕ → Asked → Type 0
-AsksAs (Producer producer first) now asked = (asked.ticks ≡ []) × (asked.dispatches ≡ []) × IfSome asked.last (λ call. call.event ≡ Progress)
+AsksAs (Producer producer first) now asked = (asked.ticks ≡ []) × (asked.dispatches ≡ []) × IfSome asked.last (λ call. call.request ≡ OfEvent Progress)
 AsksAs (Consumer consumer subscription) now asked = ConsumerAsks consumer subscription now asked
 AsksAs Admin now asked = asked ≡ asked_nothing
 

@@ -5,6 +5,7 @@ use Rattle.position_core.specs.declared.fault.Fault.TheVariants.{NoMemory}
 use Rattle.delivery_machine.specs.declared.event.Event.{Event}
 use Rattle.endpoint_core.specs.declared.routes.Endpoint.{Endpoint}
 use Rattle.endpoint_core.specs.declared.routes.Endpoint.TheVariants.{Producer, Consumer, Admin}
+use Rattle.session_links.specs.declared.request.Request.TheVariants.{Event as OfEvent}
 use Rattle.session_links.specs.Links.{Call, Exchange, Tells, with_close}
 use Rattle.session_texts.specs.declared.party.Party.{Party}
 use Rattle.session_texts.specs.declared.party.Party.TheVariants.{Admin as AsAdmin}
@@ -66,7 +67,7 @@ party_of endpoint opening = None
 
 -- A session of the party began at the endpoint.
 pub record Began (endpoint : Endpoint) (opening : Option Call) (party : Party) : Type 0 where
-  pub event : option_map (λ (call : Call). call.event) opening ≡ joins endpoint
+  pub event : option_map (λ (call : Call). call.request) opening ≡ option_map OfEvent (joins endpoint)
   pub is_party : party_of endpoint opening ≡ Some party
 
 -- all that the connection and the caller told since they told the first is the life
@@ -92,7 +93,7 @@ pub record HasLived (endpoint : Endpoint) (life : Life) (e0 : Option Exchange) (
   pub ended : stop_of life.turns ≡ Some stop
   pub tell : Tell life e0 c0 e c
   pub closes : (x : Exchange) → (exchanged_in life.turns x).closes ≡ closed (Some stop) x.closes
-  pub farewell : map (λ (call : Call). call.event) (farewells life.turns) ≡ and_one [] (farewell_of party)
+  pub farewell : map (λ (call : Call). call.request) (farewells life.turns) ≡ and_one [] (option_map OfEvent (farewell_of party))
 
 -- the session lives on, or has ended
 abbrev pub LivesOn : Endpoint → Life → Option Session → Option Exchange → Option (List Call) → Option Exchange → Option (List Call) → Type 0
@@ -114,7 +115,7 @@ refusal_code (Admin a) = 4008
 -- why no session begins, and with which code that is said: the topic refused its event, or there was no memory to call a consumer's
 abbrev pub Refuses : Endpoint → Option Call → ℕ → Fault → Type 0
 Refuses endpoint (Some call) code fault =
-    (Some call.event ≡ joins endpoint) × (party_of endpoint (Some call) ≡ None) × (code ≡ refusal_code endpoint) × (fault ≡ fault_of call.reply)
+    (Some call.request ≡ option_map OfEvent (joins endpoint)) × (party_of endpoint (Some call) ≡ None) × (code ≡ refusal_code endpoint) × (fault ≡ fault_of call.reply)
 Refuses (Consumer c) None code fault = (code ≡ 4008) × (fault ≡ NoMemory)
 Refuses endpoint None code fault = ⊥
 

@@ -10,7 +10,7 @@ use Rattle.endpoint_core.specs.declared.consumers.ConsumerEndpoint.{ConsumerEndp
 use Rattle.endpoint_core.specs.declared.producers.ProducerEndpoint.{ProducerEndpoint}
 use Rattle.endpoint_core.specs.declared.routes.Endpoint.{Endpoint}
 use Rattle.endpoint_core.specs.declared.routes.Endpoint.TheVariants.{Producer, Consumer, Admin}
-use Rattle.session_links.specs.Links.{Call, Exchange, Tells, with_call, with_close}
+use Rattle.session_links.specs.Links.{Call, Exchange, Tells, event_call, with_call, with_close}
 use Rattle.session_texts.specs.declared.party.Party.{Party}
 use Rattle.session_texts.specs.declared.party.Party.TheVariants.{Producer as AsProducer, Consumer as AsConsumer, Admin as AsAdmin}
 use Rattle.session_texts.specs.Numbers.{number_after, reason_of}
@@ -56,7 +56,7 @@ BeginsBy code reply (Some party) e result f is_open = Begins party e result f is
 -- the event is called, and the session begins by its reply
 abbrev pub JoinsBy : Event → ℕ → (Reply → Option Party) → Option Exchange → Option (List Call) → Option Session → Option Exchange → Option (List Call) → Bool → Type 0
 JoinsBy event code party e c result f d is_open =
-    (reply : Reply) × Tells (with_call (record { event = event; reply = reply })) c d × BeginsBy code reply (party reply) e result f is_open
+    (reply : Reply) × Tells (with_call (event_call event reply)) c d × BeginsBy code reply (party reply) e result f is_open
 
 -- the same; or there was no memory for that, and nothing is called
 abbrev pub OpensBy : Event → ℕ → (Reply → Option Party) → Option Exchange → Option (List Call) → Option Session → Option Exchange → Option (List Call) → Bool → Type 0

@@ -2,6 +2,7 @@
 use Rattle.std.specs.Prelude.{◌≡◌, ◌⊎◌, ℕ, ℤ, ◌≤◌, List, [], ◌∷◌, ◌++◌, length, count_by, Bool, true, false, Option, Some, None, IsSome, MatchOption, option_map}
 use Rattle.std.specs.Option.{option_or}
 use Rattle.position_core.specs.declared.fault.Fault.TheVariants.{NoMemory}
+use Rattle.session_links.specs.declared.request.Request.TheVariants.{Event as OfEvent}
 use Rattle.session_links.specs.Links.{Call, Exchange, Tells}
 use Rattle.session_texts.specs.declared.party.Party.{Party}
 use Rattle.session_texts.specs.declared.close.Close.{Close}
@@ -72,7 +73,7 @@ StopsBy None t durable left = StopsItself t
 -- the session ends with its last event, and only then
 abbrev pub SaysFarewell : Party → Option Stop → Option Call → Type 0
 SaysFarewell party None farewell = farewell ≡ None
-SaysFarewell party (Some stop) farewell = option_map (λ (call : Call). call.event) farewell ≡ farewell_of party
+SaysFarewell party (Some stop) farewell = option_map (λ (call : Call). call.request) farewell ≡ option_map OfEvent (farewell_of party)
 
 -- whether the session is free to send more
 abbrev pub is_free : Turn → List Unsent → Bool

@@ -5,7 +5,9 @@ use Rattle.position_core.specs.declared.fault.Fault.TheVariants.{NoMemory}
 use Rattle.delivery_machine.specs.declared.event.Event.{Event}
 use Rattle.delivery_machine.specs.declared.event.Event.TheVariants.{Collect, Dispatch, Progress, Tick}
 use Rattle.delivery_machine.specs.declared.reply.Reply.{Reply}
-use Rattle.session_links.specs.Links.{came, nothing, gone, Exchange, Call, Tells, same, with_call, with_close, with_receipt, with_sent}
+use Rattle.session_links.specs.declared.request.Request.{Request}
+use Rattle.session_links.specs.declared.request.Request.TheVariants.{Event as OfEvent}
+use Rattle.session_links.specs.Links.{came, event_call, nothing, gone, Exchange, Call, Tells, same, with_call, with_close, with_receipt, with_sent}
 use Rattle.session_texts.specs.declared.party.Party.{Party}
 use Rattle.session_texts.specs.declared.party.Party.TheVariants.{Producer, Consumer, Admin}
 use Rattle.session_texts.specs.declared.close.Close.{Close}
@@ -44,13 +46,13 @@ pub record Stays (s t : Session) : Type 0 where
   pub next : t.next ≡ s.next
   pub waiting : t.waiting.items ≡ s.waiting.items
 
--- the reply to an event that a text asked for was taken
-pub record TakesReply (s : Session) (event : Event) (context : Option (List ℕ)) (c : Option (List Call)) (stop : Option Stop) (t : Session) (d : Option (List Call)) : Type 0 where
+-- the reply to what a text asked for was taken
+pub record TakesReply (s : Session) (request : Request) (context : Option (List ℕ)) (c : Option (List Call)) (stop : Option Stop) (t : Session) (d : Option (List Call)) : Type 0 where
   pub reply : Reply
-  pub calls : Tells (with_call (record { event = event; reply = reply })) c d
+  pub calls : Tells (with_call (record { request = request; reply = reply })) c d
   pub stops : stop ≡ option_map Closed (close_in (outcome_of s.party context reply))
   pub keeps : KeepsCopies s t
-  pub next : t.next ≡ number_after_call s.next (Some (record { event = event; reply = reply }))
+  pub next : t.next ≡ number_after_call s.next (Some (record { request = request; reply = reply }))
   pub waiting : map answering t.waiting.items ≡ map answering s.waiting.items ++ answer_in (outcome_of s.party context reply)
 
 -- a text was taken
@@ -121,9 +123,9 @@ pub record TakesTexts (s : Session) (now most : ℕ) (e : Option Exchange) (c : 
 -- one event was asked, and whether more may be was told; or it closed the session, or there was no memory to ask
 abbrev pub AsksOne : Event → Option (List Call) → Result Bool Stop → Option (List Call) → Type 0
 AsksOne event c (Ok more) d =
-    (reply : Reply) × Tells (with_call (record { event = event; reply = reply })) c d × (own_close reply ≡ None) × (leaves_more reply ≡ more)
+    (reply : Reply) × Tells (with_call (event_call event reply)) c d × (own_close reply ≡ None) × (leaves_more reply ≡ more)
 AsksOne event c (Err stop) d =
-    ((reply : Reply) × Tells (with_call (record { event = event; reply = reply })) c d × (option_map Closed (own_close reply) ≡ Some stop))
+    ((reply : Reply) × Tells (with_call (event_call event reply)) c d × (option_map Closed (own_close reply) ≡ Some stop))
     ⊎ ((stop ≡ wanting_memory) × (d ≡ c))
 
 -- so many were asked, each of which left more
@@ -260,7 +262,7 @@ ClosesBy (Closed close) e f = Tells (with_close close.code (reason_of close.faul
 -- the last event was called
 pub record SaysLast (party : Party) (c d : Option (List Call)) : Type 0 where
   pub farewell : Option Call
-  pub event : option_map (λ (call : Call). call.event) farewell ≡ farewell_of party
+  pub event : option_map (λ (call : Call). call.request) farewell ≡ option_map OfEvent (farewell_of party)
   pub calls : Tells (λ all. and_one all farewell) c d
 
 -- the event of a series
@@ -271,7 +273,7 @@ series_event Dispatches subscription now = Dispatch subscription now
 -- how much is stored was asked
 pub record AsksProgress (s : Session) (c : Option (List Call)) (stop : Option Stop) (t : Session) (d : Option (List Call)) : Type 0 where
   pub reply : Reply
-  pub calls : Tells (with_call (record { event = Progress; reply = reply })) c d
+  pub calls : Tells (with_call (event_call Progress reply)) c d
   pub durable : t.durable ≡ max s.durable (durable_in reply)
   pub party : t.party ≡ s.party
   pub next : t.next ≡ s.next
@@ -281,7 +283,7 @@ pub record AsksProgress (s : Session) (c : Option (List Call)) (stop : Option St
 -- what the consumer was sent was asked for
 pub record AsksCollect (consumer : ℕ) (s : Session) (c : Option (List Call)) (stop : Option Stop) (t : Session) (d : Option (List Call)) : Type 0 where
   pub reply : Reply
-  pub calls : Tells (with_call (record { event = Collect consumer; reply = reply })) c d
+  pub calls : Tells (with_call (event_call (Collect consumer) reply)) c d
   pub keeps : KeepsState s t
   pub unsent : unsent_of t ≡ copies_in reply
   pub stops : stop ≡ option_map Closed (own_close reply)

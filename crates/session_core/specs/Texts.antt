@@ -30,15 +30,15 @@ abbrev pub close_in : Outcome → Option Close
 close_in (Closing close) = Some close
 close_in outcome = None
 
--- what it is that answers a text, by what came of its event
+-- what it is that answers a text, by what came of its request
 abbrev pub answer_in : Outcome → List Unsent
 answer_in (Answering answer) = answering answer ∷ []
 answer_in outcome = []
 
--- a text is taken as it asks: its event is called, or none is; and it closes the session where it or its reply does
+-- a text is taken as it asks: its request is called, or none is; and it closes the session where it or its reply does
 abbrev pub IsTakenAs : Party → Taken → Asking → Type 0
-IsTakenAs party taken (Asks event context) =
-    (reply : Reply) × (taken.call ≡ Some (record { event = event; reply = reply })) × (taken.close ≡ close_in (outcome_of party context reply))
+IsTakenAs party taken (Asks request context) =
+    (reply : Reply) × (taken.call ≡ Some (record { request = request; reply = reply })) × (taken.close ≡ close_in (outcome_of party context reply))
 IsTakenAs party taken (Answers answer) = (taken.call ≡ None) × (taken.close ≡ None)
 IsTakenAs party taken (Closes close) = (taken.call ≡ None) × (taken.close ≡ Some close)
 
@@ -65,7 +65,7 @@ answer_to_call party context (Some call) = answer_in (outcome_of party context c
 
 -- what answers a text by what it asks
 abbrev pub answer_as : Party → Option Call → Asking → List Unsent
-answer_as party call (Asks event context) = answer_to_call party context call
+answer_as party call (Asks request context) = answer_to_call party context call
 answer_as party call (Answers answer) = answering answer ∷ []
 answer_as party call (Closes close) = []
 

@@ -1,5 +1,5 @@
-//! Sessions: what a producer, a consumer or an administrator says over a connection becomes events of one topic, and what the
-//! topic replies becomes texts.
+//! Sessions: what a producer, a consumer or an administrator says over a connection is asked of one topic, and what that is
+//! answered becomes texts.
 #![tactic(auto)]
 
 mod asking;

@@ -7,7 +7,7 @@ ghost use Rattle.session_core.specs.Steps.{TakesNext, TakesReply, TakesText, Tak
 use crate::session::Session;
 use crate::stop::Stop;
 use delivery_machine::{Event, Moment};
-use session_links::{Caller, Conn, Incoming, ask};
+use session_links::{Caller, Conn, Incoming, Request, ask_for};
 use session_texts::{Asking, Context, Outcome, number_after, outcome_of, read_text};
 
 /// What came of receiving once.
@@ -18,26 +18,33 @@ pub(crate) enum Received {
     Nothing,
 }
 
-impl Session {
-    /// Calls the event that a text asks for, and keeps its answer.
-    fn take_reply<K: Caller>(
-        &mut self,
-        caller: &mut K,
-        event: Event,
-        context: Context,
-    ) -> Result<(), Stop>
-        requires { deque_len self.old.waiting < deque_capacity self.old.waiting }
-        ensures { TakesReply self.old event context (K.calls caller.old) (result_err result) self.new (K.calls caller.new) }
-    {
-        if let Event::Nack {
+/// Whether a message is refused, which comes again after its delay.
+fn is_nack(request: &Request) -> bool {
+    matches!(
+        request,
+        Request::Event(Event::Nack {
             consumer: _,
             position: _,
             now: _,
-        } = &event
-        {
+        })
+    )
+}
+
+impl Session {
+    /// Calls what a text asks for, and keeps its answer.
+    fn take_reply<K: Caller>(
+        &mut self,
+        caller: &mut K,
+        request: Request,
+        context: Context,
+    ) -> Result<(), Stop>
+        requires { deque_len self.old.waiting < deque_capacity self.old.waiting }
+        ensures { TakesReply self.old request context (K.calls caller.old) (result_err result) self.new (K.calls caller.new) }
+    {
+        if is_nack(&request) {
             self.dues.nack();
         }
-        let reply = ask(caller, event);
+        let reply = ask_for(caller, request);
         self.next = number_after(self.next);
         match outcome_of(&self.party, context, reply) {
             Outcome::Answers(answer) => {
@@ -57,7 +64,7 @@ impl Session {
             return Err(Stop::wants_memory());
         };
         match asking {
-            Asking::Asks { event, context } => self.take_reply(caller, event, context),
+            Asking::Asks { request, context } => self.take_reply(caller, request, context),
             Asking::Answers(answer) => {
                 self.waiting.push_back_reserved(answer);
                 Ok(())
