@@ -3,7 +3,7 @@ use Rattle.std.specs.Prelude.{◌≡◌, ◌⊎◌, ℕ, List, Option, nat_le, i
 use Rattle.delivery_machine.specs.declared.event.Event.{Event}
 use Rattle.delivery_machine.specs.declared.reply.Reply.{Reply}
 use Rattle.delivery_machine.specs.declared.reply.Reply.TheVariants.{ProducerAdded, Progress, Dead, NoDead, Done}
-use Rattle.session_links.specs.Links.{Call, Tells, with_call}
+use Rattle.session_links.specs.Links.{Call, Tells, event_call, with_call}
 use Rattle.dead_courier.specs.declared.route.Route.{Route}
 use Rattle.dead_courier.specs.declared.hand.Hand.{Hand}
 use Rattle.dead_courier.specs.declared.hand.Hand.TheVariants.{Empty, Holds, Joined, Copied, Leaves, Waits as Waiting, Moved}
@@ -32,9 +32,9 @@ outcome_of (Moved letter) reply = Fails
 -- the event is asked at its side, which gives the reply, and the other side hears nothing
 abbrev pub AsksAt : Side → Event → Reply → Option (List Call) → Option (List Call) → Option (List Call) → Option (List Call) → Type 0
 AsksAt Source event reply source target source' target' =
-    Tells (with_call (record { event = event; reply = reply })) source source' × (target' ≡ target)
+    Tells (with_call (event_call event reply)) source source' × (target' ≡ target)
 AsksAt Target event reply source target source' target' =
-    Tells (with_call (record { event = event; reply = reply })) target target' × (source' ≡ source)
+    Tells (with_call (event_call event reply)) target target' × (source' ≡ source)
 
 -- One step: the courier's next event is asked at the topic that it is for, and the answer is taken; or there was no memory for
 -- the event, nothing is asked, and the hand stays.
