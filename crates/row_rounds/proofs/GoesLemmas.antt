@@ -7,9 +7,11 @@ use Rattle.std.proofs.lemmas.List.Sorted.{IsPermutation-trans, IsPermutation-app
 use Rattle.sqlite_trees.proofs.ListLemmas.{all_both, all_of}
 use Rattle.sqlite.specs.Order.{Row}
 use Rattle.sqlite.specs.Tree.{Trees}
-use Rattle.sqlite.specs.State.{State, Shows, KeepsCounts}
+use Rattle.sqlite.specs.State.{State, HasCleanDisk, Shows, Survives, KeepsCounts}
 use Rattle.sqlite.specs.Effect.{Database}
 use Rattle.sqlite.specs.Held.{Held, state}
+use Rattle.sqlite.proofs.StateLemmas.{survives_then}
+use Rattle.sqlite.proofs.Callers.{survives_begin}
 use Rattle.sqlite_trees.specs.declared.store.Store.{Ghosts}
 use Rattle.row_forms.specs.Schema.{schema_6}
 use Rattle.position_core.specs.declared.message.Entry.{Entry}
@@ -113,6 +115,16 @@ module _ {S : Type 0} (g : Ghosts S) (old : Held S) (mid last : State) (P : Tree
     does = λ ready. let d = went.does ready in (subst IsReady (sym h.1.now_is) d.0, subst (λ (db : Database). P (state g old).now.trees db.trees) (sym h.1.now_is) d.1);
   }
   saves_from (Err e) went h = tt
+
+  -- and a crash leaves what it could before, or that
+  pub crash_from : Survives (state g (record old { in_transaction = true })) mid (λ _. ⊥)
+      → (HasCleanDisk mid → IsTrue (state g old).is_open × Goes P (state g (record old { in_transaction = true })) mid)
+      → Survives mid last (λ db. db ≡ mid.now.trees)
+      → Survives (state g old) last (λ db. IsTrue (state g old).is_open × (IsReady (state g old).now → P (state g old).now.trees db))
+  crash_from inside went ends = survives_then (state g old) mid last _ _ _ (λ _ db none. absurd none) (λ clean db is.
+      let early : HasCleanDisk mid = omega (arith, ends.clean) in
+      let both = went early in
+      (both.0, λ ready. rw is (both.1.does ready).1)) (survives_begin g old mid _ inside) ends
 
 module _ {S : Type 0} (g : Ghosts S) (mid last : Held S) where
   -- while it is open, a crash leaves what was committed

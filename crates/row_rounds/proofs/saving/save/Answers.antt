@@ -2,12 +2,10 @@ use Rattle.std.proofs.Common.{◌≡◌, arith, rules, subst, OnOk, IsTrue}
 use Rattle.sqlite.specs.Tree.{Trees}
 use Rattle.sqlite.specs.State.{HasCleanDisk, Survives}
 use Rattle.sqlite.specs.Held.{state}
-use Rattle.sqlite.proofs.StateLemmas.{survives_then}
-use Rattle.sqlite.proofs.Callers.{survives_begin}
 use Rattle.row_tables.specs.Goes.{Goes, Saves}
 use Rattle.row_tables.specs.Ready.{IsReady}
 use Rattle.row_rounds.specs.Rounds.{Rounds}
-use Rattle.row_rounds.proofs.GoesLemmas.{saves_from, durable_from}
+use Rattle.row_rounds.proofs.GoesLemmas.{crash_from, durable_from, saves_from}
 use Rattle.row_rounds.proofs.saving.save.Goals as goal
 
 pub returns-clause-saved : goal.returns-clause-saved
@@ -24,20 +22,14 @@ returns-clause-saved g c clean =
 
 pub returns-clause-crash : goal.returns-clause-crash
 returns-clause-crash g c =
-    let old = c.args.conn.now in
-    let mid = c.write_open.new.tx.conn.now in
+    let old = state g.S.Store c.args.conn.now in
     let last = c.commit.new.self.0 in
     let same : last ≡ c.conn-2-1.given.0 = search rules in
-    let R = Rounds c.args.writes.now in
-    let P = λ (db : Trees). IsTrue (state g.S.Store old).is_open × (IsReady (state g.S.Store old).now → R (state g.S.Store old).now.trees db) in
     let begun = c.transaction-tx.ensures.begun in
-    let whole = survives_then (state g.S.Store old) (state g.S.Store mid) (state g.S.Store last) _ _ P (λ _ db none. absurd none)
-    (λ clean db is.
-    let early : HasCleanDisk (state g.S.Store mid) = omega (arith, c.commit.ensures.survives.clean) in
-    let went : Goes R (state g.S.Store c.transaction-tx.result.conn.now) (state g.S.Store mid) = c.in_ok-write_open.ensures.done early in
-    (rw begun at (c.in_ok-write_open.ensures.shown early), λ ready. rw is ((rw begun at went).does ready).1))
-    (survives_begin g.S.Store old (state g.S.Store mid) _ (rw begun at c.write_open.ensures.survives)) c.commit.ensures.survives in
-    subst (λ h. Survives (state g.S.Store old) (state g.S.Store h) P) same whole
+    let P = Rounds c.args.writes.now in
+    subst (λ h. Survives old (state g.S.Store h) (λ db. IsTrue old.is_open × (IsReady old.now → P old.now.trees db))) same
+    (crash_from g.S.Store c.args.conn.now (state g.S.Store c.write_open.new.tx.conn.now) (state g.S.Store last) P (rw begun at c.write_open.ensures.survives)
+    (λ early. (rw begun at (c.in_ok-write_open.ensures.shown early), rw begun at (c.in_ok-write_open.ensures.done early))) c.commit.ensures.survives)
 
 pub returns-clause-durable : goal.returns-clause-durable
 returns-clause-durable g c clean =
