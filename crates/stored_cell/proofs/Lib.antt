@@ -1,2 +1,3 @@
 pub mod SafeKept
+pub mod Letters
 pub mod Sound

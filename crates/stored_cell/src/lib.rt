@@ -5,6 +5,7 @@
 mod bases;
 mod cell;
 mod confirming;
+mod deleting;
 pub mod kept;
 pub mod notes;
 pub mod opening;
