@@ -1,16 +1,16 @@
--- A list of stores leaves of each topic what was stored last of it.
+-- A list of stores and deletions leaves of each topic what was done last with it.
 use Rattle.std.proofs.Common.{◌≡◌, ◌≢◌, ◌++◌, ℕ, zero, suc, Bool, true, false, List, [], ◌∷◌, map, Option, None, Some, inl, inr, refl, sym, subst, arith}
-use Rattle.std.specs.Prelude.{All, MatchOption, cond, find}
+use Rattle.std.specs.Prelude.{All, MatchOption, cond, find, if◌then◌else◌}
 use Rattle.std.specs.List.{AllByRecursion}
+use Rattle.std.specs.Option.{option_map_or}
 use Rattle.std.specs.Str.{bytes_eq}
 use Rattle.std.proofs.lemmas.Slice.Eq.{bytes_eq-Decides}
 use Rattle.std.proofs.lemmas.List.Sorted.{IsPermutation-refl, IsPermutation-trans}
 use Rattle.position_core.specs.TopicName.{topic_text}
 use Rattle.sqlite.specs.Tree.{Trees}
 use Rattle.delivery_machine.specs.Places.{KeptTopic}
-use Rattle.row_forms.specs.Standing.{Same, Stands}
-use Rattle.row_store.specs.Keeping.{StoresAll}
-use Rattle.row_store.specs.Lives.{AllStored, CrashesCompose, StandsLast, last_stored, later_of}
+use Rattle.row_forms.specs.Standing.{HasNone, Same, Stands}
+use Rattle.row_store.specs.Lives.{Act, store, delete, AllDone, CrashesCompose, Does, IsLeft, Left, untouched, gone, stored, StandsLast, last_left, later_of, left_by}
 use Rattle.row_store.proofs.Standing.{same_stands}
 
 same_here : (text : List ℕ) (db : Trees) → Same text db db
@@ -29,6 +29,15 @@ same_on text old mid new first second = record {
   subs = IsPermutation-trans _ _ _ first.subs second.subs;
   acks = IsPermutation-trans _ _ _ first.acks second.acks;
   deads = IsPermutation-trans _ _ _ first.deads second.deads;
+}
+
+same_none : (text : List ℕ) (mid new : Trees) → HasNone text mid → Same text mid new → HasNone text new
+same_none text mid new none same = record {
+  topics = IsPermutation-trans _ _ _ none.topics same.topics;
+  entries = IsPermutation-trans _ _ _ none.entries same.entries;
+  subs = IsPermutation-trans _ _ _ none.subs same.subs;
+  acks = IsPermutation-trans _ _ _ none.acks same.acks;
+  deads = IsPermutation-trans _ _ _ none.deads same.deads;
 }
 
 abbrev is_of : List ℕ → KeptTopic → Bool
@@ -55,24 +64,35 @@ found text (k ∷ kepts) P all = by (found text kepts P (λ n d less. all (suc n
         let other : text ≢ topic_text k.name = λ e. absurd (cc (is, (bytes_eq-Decides (topic_text k.name) text).1 (sym e))) in
         more (find (is_of text) kepts) other rest
 
-stands_last : (stores : List (List KeptTopic)) (old new : Trees) → AllStored stores old new → StandsLast stores old new
-stands_last [] old new same text = subst (Same text old) (sym same) (same_here text old)
-stands_last (stored ∷ stores) old new all text = by (last_stored text stores) (stands_last stores all.0 new all.2 text)
+-- one act
+left_after : (act : Act) (old new : Trees) → Does act old new → (text : List ℕ) → IsLeft text (left_by text act) old new
+left_after (store kepts) old new all text = by (find (is_of text) kepts) (found text kepts (λ kept. Stands kept new) all.each)
   where
-    first : (o : Option KeptTopic) → Same text all.0 new → MatchOption o (AllByRecursion (λ name. text ≢ name) (names stored)) (λ kept. (topic_text kept.name ≡ text) × Stands kept all.0)
-        → MatchOption o (Same text old new) (λ kept. (topic_text kept.name ≡ text) × Stands kept new)
-    first None same none = same_on text old all.0 new (all.1.others text none) same
-    first (Some kept) same at = (at.0, same_stands kept all.0 new (subst (λ t. Same t all.0 new) (sym at.0) same) at.1)
-
-    by : (o : Option KeptTopic) → MatchOption o (Same text all.0 new) (λ kept. (topic_text kept.name ≡ text) × Stands kept new)
-        → MatchOption (later_of o (find (is_of text) stored)) (Same text old new) (λ kept. (topic_text kept.name ≡ text) × Stands kept new)
-    by None same = first (find (is_of text) stored) same (found text stored (λ kept. Stands kept all.0) all.1.each)
+    by : (o : Option KeptTopic) → MatchOption o (AllByRecursion (λ name. text ≢ name) (names kepts)) (λ kept. (topic_text kept.name ≡ text) × Stands kept new) → IsLeft text (option_map_or stored o untouched) old new
+    by None none = all.others text none
     by (Some kept) at = at
+left_after (delete topic) old new all text = by (bytes_eq topic text) refl
+  where
+    by : (b : Bool) → bytes_eq topic text ≡ b → IsLeft text (if b then gone else untouched) old new
+    by true is = subst (λ t. HasNone t new) ((bytes_eq-Decides topic text).0 is) all.0
+    by false is = all.1 text ((λ e. absurd (cc (is, (bytes_eq-Decides topic text).1 (sym e)))), tt)
 
-one_more : (stores : List (List KeptTopic)) (stored : List KeptTopic) (old now new : Trees) → AllStored stores old now → StoresAll stored now new → AllStored (stores ++ stored ∷ []) old new
-one_more [] stored old now new same stores = (new, subst (λ db. StoresAll stored db new) same stores, refl)
-one_more (first ∷ stores) stored old now new all last = (all.0, all.1, one_more stores stored all.0 now new all.2 last)
+-- and others after it
+left_later : (text : List ℕ) (last first : Left) (old mid new : Trees) → IsLeft text first old mid → IsLeft text last mid new → IsLeft text (later_of last first) old new
+left_later text untouched untouched old mid new at same = same_on text old mid new at same
+left_later text untouched gone old mid new none same = same_none text mid new none same
+left_later text untouched (stored kept) old mid new at same = (at.0, same_stands kept mid new (subst (λ t. Same t mid new) (sym at.0) same) at.1)
+left_later text gone first old mid new at none = none
+left_later text (stored kept) first old mid new at stands = stands
+
+stands_last : (acts : List Act) (old new : Trees) → AllDone acts old new → StandsLast acts old new
+stands_last [] old new same text = subst (Same text old) (sym same) (same_here text old)
+stands_last (act ∷ acts) old new all text = left_later text (last_left text acts) (left_by text act) old all.0 new (left_after act old all.0 all.1 text) (stands_last acts all.0 new all.2 text)
+
+one_more : (acts : List Act) (act : Act) (old now new : Trees) → AllDone acts old now → Does act now new → AllDone (acts ++ act ∷ []) old new
+one_more [] act old now new same does = (new, subst (λ db. Does act db new) same does, refl)
+one_more (first ∷ acts) act old now new all last = (all.0, all.1, one_more acts act all.0 now new all.2 last)
 
 pub crashes_compose : CrashesCompose
-crashes_compose stores under_way old now left all (inl same) = inl (stands_last stores old left (subst (AllStored stores old) (sym same) all))
-crashes_compose stores under_way old now left all (inr last) = inr (stands_last (stores ++ under_way ∷ []) old left (one_more stores under_way old now left all last))
+crashes_compose acts under_way old now left all (inl same) = inl (stands_last acts old left (subst (AllDone acts old) (sym same) all))
+crashes_compose acts under_way old now left all (inr last) = inr (stands_last (acts ++ under_way ∷ []) old left (one_more acts under_way old now left all last))

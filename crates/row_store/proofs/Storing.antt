@@ -1,5 +1,5 @@
 -- What a store leads to, for any connection.
-use Rattle.std.proofs.Common.{◌≡◌, ◌≤◌, ℕ, zero, suc, Bool, true, false, List, [], ◌∷◌, map, slice_index_or, inl, inr, ◌⊎◌, refl, ap, sym, subst, ◌∙◌, arith}
+use Rattle.std.proofs.Common.{◌≡◌, ◌≤◌, ℕ, Bool, true, false, List, [], ◌∷◌, map, slice_index_or, inl, inr, ◌⊎◌, refl, ap, sym, subst, ◌∙◌, arith}
 use Rattle.std.specs.Prelude.{All, IsTrue, ◌&&◌}
 use Rattle.position_core.specs.TopicName.{topic_text}
 use Rattle.position_core.specs.declared.topic_name.TopicName.{TopicName}
@@ -23,14 +23,10 @@ use Rattle.row_tables.specs.Ready.{IsReady}
 use Rattle.row_rounds.specs.declared.saving.Write.{Write}
 use Rattle.row_rounds.specs.Rounds.{Fits, Rounds, StandAll}
 use Rattle.stored_cell.specs.Noted.{Noted, StandsAmong, all_rows, is_shown}
+use Rattle.stored_cell.proofs.Letters.{all_of_map}
 use Rattle.row_store.specs.declared.written.Written.{Written}
 use Rattle.row_store.specs.Keeping.{IsKept, IsSettled, StoresAll, stored_in}
 use Rattle.row_store.proofs.Standing.{stores_all}
-
-pub all_of_map : {X Y : Type 0} (P : X → Type 0) (f : Y → X) (ys : List Y) → All P (map f ys) → All (λ y. P (f y)) ys
-all_of_map P f [] all n d lt = absurd (omega (arith, lt))
-all_of_map P f (y ∷ ys) all zero d lt = all 0 (f d) (omega arith)
-all_of_map P f (y ∷ ys) all (suc n) d lt = all_of_map P f ys (λ m e within. all (suc m) e (omega (arith, within))) n d (omega (arith, lt))
 
 module _ {S : Type 0} (g : Ghosts S) (old new : Held S) (failed : Bool) (known : List KeptTopic) (written : Written) (writes : List Write)
     (kept : IsKept g (record { conn = old; failed = failed; known = known; written = written })) (working : failed ≡ false)

@@ -1,5 +1,5 @@
--- What a keeper holds true, and what a store of several snapshots does.
-use Rattle.std.specs.Prelude.{◌≡◌, ◌⊎◌, ◌++◌, Bool, false, not, List, [], ◌∷◌, All, Contains, filter, map, reverse, IsTrue}
+-- What a keeper holds true, and what a store of several snapshots and a deletion do.
+use Rattle.std.specs.Prelude.{ℕ, ◌≡◌, ◌⊎◌, ◌++◌, Bool, false, not, List, [], ◌∷◌, All, Contains, filter, map, reverse, IsTrue}
 use Rattle.std.specs.List.{list_any}
 use Rattle.std.specs.Str.{bytes_eq}
 use Rattle.position_core.specs.declared.topic_name.TopicName.{TopicName}
@@ -11,7 +11,7 @@ use Rattle.sqlite.specs.Held.{Held, state}
 use Rattle.delivery_machine.specs.State.{State as MachineState}
 use Rattle.delivery_machine.specs.Snapshot.{snapshot_of}
 use Rattle.delivery_machine.specs.Places.{KeptTopic, snapshot_in}
-use Rattle.row_forms.specs.Standing.{Stands, KeepsOthers}
+use Rattle.row_forms.specs.Standing.{HasNone, Stands, KeepsOthers}
 use Rattle.row_forms.specs.Schema.{schema_0, schema_6}
 use Rattle.row_tables.specs.Ready.{IsReady, IsBlank}
 use Rattle.row_reading.specs.Reading.{IsReadBack}
@@ -47,6 +47,10 @@ pub record IsKept {S : Type 0} (g : Ghosts S) (k : Keeping S) : Type 0 where
 pub record StoresAll (kepts : List KeptTopic) (old new : Trees) : Type 0 where
   pub each : All (λ (kept : KeptTopic). Stands kept new) kepts
   pub others : KeepsOthers (map (λ (kept : KeptTopic). topic_text kept.name) kepts) old new
+
+-- the topic with this text has no rows any more, and those of all others are as they were
+abbrev pub Deletes : List ℕ → Trees → Trees → Type 0
+Deletes topic old new = HasNone topic new × KeepsOthers (topic ∷ []) old new
 
 -- no snapshot of the topic stands in the database that is read back where it stands
 abbrev pub NoneStands : TopicName → Trees → Type 0

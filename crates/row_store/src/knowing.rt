@@ -1,5 +1,5 @@
 // What a keeper knows to stand in the rows.
-ghost use Rattle.std.specs.Prelude.{◌≡◌, ◌≤◌, ◌+◌, ◌++◌, [], not, true, All, map, filter, reverse, length, vec_capacity, string_bytes};
+ghost use Rattle.std.specs.Prelude.{◌≡◌, ◌≢◌, ◌≤◌, ◌+◌, ◌++◌, [], not, true, All, map, filter, reverse, length, vec_capacity, string_bytes};
 ghost use Rattle.std.specs.List.{list_any};
 ghost use Rattle.std.specs.Str.{bytes_eq};
 ghost use Rattle.position_core.specs.TopicName.{topic_text};
@@ -74,7 +74,8 @@ pub fn keep_all<J: Naming>(rows: &Mark<Note, J>, marks: &[Mark<Note, J>], kept: 
 
 /// What was known of the topic is known no more.
 pub fn forget_topic<J: Naming>(known: &mut Vec<Known<J>>, name: &TopicName)
-    ensures { known.new.items ≡ known_without name.now known.old.items }
+    ensures left { known.new.items ≡ known_without name.now known.old.items }
+    ensures others { All (λ kept. topic_text kept.name ≢ topic_text name.now) known.new.items }
 {
     known.retain(|one| !one.is_of(name));
 }

@@ -1,5 +1,7 @@
 // A topic whose rows are known.
-ghost use Rattle.std.specs.Prelude.{◌≡◌, string_bytes};
+ghost use Rattle.std.specs.Prelude.{◌≡◌, IsTrue, string_bytes};
+ghost use Rattle.std.specs.Str.{bytes_eq};
+ghost use Rattle.position_core.specs.Name.{is_name};
 ghost use Rattle.position_core.specs.TopicName.{same_topic, topic_text};
 
 use delivery_machine::Snapshot;
@@ -41,6 +43,14 @@ impl<J: Naming> Model for Known<J> {
     ghost invariant = { λ k. (string_bytes k.topic ≡ topic_text k.snapshot.name) × (k.mark.kept ≡ k.snapshot) };
 }
 
+/// What a topic's name keeps: its tenant and its namespace are names.
+fn has_names(name: &TopicName)
+    ensures { IsTrue (is_name name.now.tenant) × IsTrue (is_name name.now.namespace) }
+{
+    let _ = name.tenant.as_str();
+    let _ = name.namespace.as_str();
+}
+
 impl<J: Naming> Known<J> {
     pub fn new(topic: String, snapshot: Snapshot, mark: Mark<Note, J>) -> Self
         requires topic { string_bytes topic ≡ topic_text snapshot.name }
@@ -61,11 +71,15 @@ impl<J: Naming> Known<J> {
         self.topic.as_str()
     }
 
-    /// Whether it is of the topic of this name.
+    /// Whether it is of the topic of this name, and so has its text.
     pub fn is_of(&self, name: &TopicName) -> bool
-        ensures { result ≡ same_topic self.now.name name.now }
+        ensures value { result ≡ same_topic self.now.name name.now }
+        ensures text { result ≡ bytes_eq (topic_text self.now.name) (topic_text name.now) }
     {
-        self.snapshot.name().is(name)
+        let own = self.snapshot.name();
+        has_names(own);
+        has_names(name);
+        own.is(name)
     }
 
     pub fn snapshot(&self) -> &Snapshot

@@ -2,8 +2,9 @@
 ghost use Rattle.row_store.specs.Opened.{WhatRestsIsFound};
 ghost use Rattle.row_store.specs.Lives.{CrashesCompose};
 
-/// Whatever a crash leaves, it is of each topic what was stored last of it, or, of all topics alike, what it is with the
-/// store that was under way. So it is after any stores, loads and rounds, and after a store that failed.
+/// Whatever a crash leaves, it is of each topic what was stored last of it, or nothing where it was deleted since, or, of all
+/// topics alike, what it is with the store or deletion that was under way. So it is after any stores, deletions, loads and
+/// rounds, and after one that failed.
 pub fn crashes_compose()
     ensures { CrashesCompose }
 {}

@@ -3,6 +3,7 @@
 #![tactic(auto)]
 
 mod cause;
+mod deleting;
 mod keeper;
 mod knowing;
 mod known;

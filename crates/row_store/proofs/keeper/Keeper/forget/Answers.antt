@@ -19,7 +19,7 @@ invariant_of-self g c =
         known = λ working clean shown.
             let db = (state g.S.Store k.conn).now.trees in
             let others = All-filter p (λ (kept : KeptTopic). Stands kept db) k.known.items (holds.known working clean shown) in
-            subst (All (λ (kept : KeptTopic). Stands kept db)) (sym {A = List KeptTopic} c.forget_topic.ensures) others;
+            subst (All (λ (kept : KeptTopic). Stands kept db)) (sym {A = List KeptTopic} c.forget_topic.ensures.left) others;
       },
       c.self.invariant.1,
     )
