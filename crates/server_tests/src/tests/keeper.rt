@@ -4,6 +4,7 @@ mod bodies;
 mod breaks;
 mod broken;
 mod confirming;
+mod deleting;
 mod dice;
 mod differences;
 mod disks;

@@ -150,6 +150,13 @@ impl<S: Alter + Drop, J: Naming> Keeps for Keeper<S, J> {
         drop(name);
     }
 
+    fn delete<R: Abort + AllocGlobal>(&mut self, rt: &R, name: &str) -> Result<(), Fault> {
+        let name = topic_name(rt, name);
+        let deleted = self.delete(&name);
+        drop(name);
+        deleted
+    }
+
     fn written(&self) -> Written {
         self.written()
     }

@@ -78,6 +78,9 @@ pub(super) trait Keeps: Drop {
 
     fn forget<R: Abort + AllocGlobal>(&mut self, rt: &R, name: &str);
 
+    /// Takes away all rows of the topic.
+    fn delete<R: Abort + AllocGlobal>(&mut self, rt: &R, name: &str) -> Result<(), Fault>;
+
     /// What the last store wrote.
     fn written(&self) -> Written;
 

@@ -1,4 +1,4 @@
-// A disk stops at each of its calls, while tables are made, and while one or two topics are stored.
+// A disk stops at each of its calls, while tables are made, while one or two topics are stored, and while one is deleted.
 use super::disks::Disks;
 use super::works::Work;
 use std::process::Abort;
@@ -74,7 +74,7 @@ impl<'a, M: Machine> Trial<'a, M> {
         }
     }
 
-    /// The rows tell whether a store was made; that tables were made they do not tell.
+    /// The rows tell whether a store or a deletion was made; that tables were made they do not tell.
     fn check_tells<R: Abort>(&self, rt: &R) {
         let is_told = !M::is_seen(&self.before, &self.after);
         assert!(rt; is_told == !matches!(self.work, Work::Create));
@@ -137,11 +137,11 @@ fn both<M: Machine, R: Abort + AllocGlobal>(rt: &R) -> M::Image {
     outcome.synced
 }
 
-/// Tables are made in files that hold nothing, and topics stored in some that hold two.
+/// Tables are made in files that hold nothing, and topics stored in or deleted from some that hold two.
 fn check_work<M: Machine, R: Abort + AllocGlobal>(rt: &R, work: Work) {
     let image = match work {
         Work::Create => M::empty(rt),
-        Work::Round | Work::Store => both::<M, R>(rt),
+        Work::Round | Work::Store | Work::Delete => both::<M, R>(rt),
     };
     check::<M, R>(rt, &image, work);
 }
@@ -163,4 +163,9 @@ fn a_round_is_made_or_not(rt: HostRuntime) {
 #[test]
 fn a_store_of_two_is_made_or_not(rt: HostRuntime) {
     check_on_disks(&rt, Work::Store);
+}
+
+#[test]
+fn a_deletion_is_made_or_not(rt: HostRuntime) {
+    check_on_disks(&rt, Work::Delete);
 }

@@ -28,6 +28,8 @@ pub(super) enum Work {
     Round,
     /// Two topics are stored at once.
     Store,
+    /// One topic is deleted.
+    Delete,
 }
 
 fn first<K: Keeps, R: Abort + AllocGlobal>(rt: &R, name: &str) -> K::Topic {
@@ -89,5 +91,6 @@ pub(super) fn is_done<K: Keeps, R: Abort + AllocGlobal>(
         Work::Create => true,
         Work::Round => is_one_stored(rt, keeper),
         Work::Store => are_both_stored(rt, keeper),
+        Work::Delete => keeper.delete(rt, T).is_ok(),
     }
 }
