@@ -33,7 +33,7 @@ all_pass (x ∷ xs) = ap (λ more. x ∷ more) (all_pass xs)
 pub marked : (old new : State) (rows : List Row) → Shown select_meta [] old new rows → rows ≡ (Int (pos 1) ∷ Int (pos 1) ∷ []) ∷ [] → old.now.schema ≡ schema_6 → IsVersion1 old.now.trees
 marked old new rows h one has =
     let read = reads_as select_meta [] old new schema_6 has (Select (alone marks) (codes "id" ∷ codes "version" ∷ [])) select_meta_is.0 select_meta_is.2 select_meta_is.1 rows h in
-    let found = finds META [] (col 1 0 ∷ col 1 2 ∷ []) [] [] (overlay old.now.trees []) rows (λ _. refl) (read.answer Null) in
+    let found = finds META [] (col 1 0 ∷ col 1 2 ∷ []) [] [] (λ _. true) (overlay old.now.trees []) rows (λ _. refl) (read.answer Null) in
     let stored = old.now.trees META in
     let show = shows (col 1 0 ∷ col 1 2 ∷ []) [] [] in
     let second = λ (o : Output). o.1 in

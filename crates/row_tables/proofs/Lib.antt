@@ -5,3 +5,4 @@ pub mod PartLemmas
 pub mod PerTable
 pub mod ReadLemmas
 pub mod CommitLemmas
+pub mod PieceLemmas

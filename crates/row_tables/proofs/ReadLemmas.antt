@@ -25,13 +25,13 @@ use Rattle.sqlite_resolve.specs.declared.compiled.Compiled.{Compiled}
 use Rattle.sqlite_schema.specs.declared.command.Returning.{Returning}
 use Rattle.sqlite.proofs.Callers.{IsPlain, command_of, reads_as}
 use Rattle.row_forms.specs.Schema.{schema_6}
-use Rattle.row_forms.specs.Cells.{TOPIC, ENTRY, SUB, ACK, DEAD, width, cells, bodies, is_of, of_topic}
+use Rattle.row_forms.specs.Cells.{TOPIC, SUB, ACK, DEAD, width, cells, bodies, is_of}
 use Rattle.row_tables.specs.Ready.{IsReady}
 use Rattle.row_tables.specs.Goes.{Goes, Stays, Shows}
 use Rattle.row_tables.specs.Ordered.{AreSortedBy}
-use Rattle.row_tables.proofs.Texts.{alone, matching, equals, select_topic, select_topic_is, select_entry, select_entry_is, select_sub, select_sub_is, select_ack, select_ack_is, select_dead, select_dead_is}
+use Rattle.row_tables.proofs.Texts.{alone, matching, equals, select_topic, select_topic_is, select_sub, select_sub_is, select_ack, select_ack_is, select_dead, select_dead_is}
 use Rattle.row_tables.proofs.TableLemmas.{text_is}
-use Rattle.row_tables.proofs.StatementLemmas.{finds, agrees, IsTest, of_first, shows}
+use Rattle.row_tables.proofs.StatementLemmas.{finds, agrees, IsTest, IsTestBy, of_first, shows}
 
 same_passed : {A B : Type 0} (p : A → Bool) (f g : A → B) → ((x : A) → p x ≡ true → f x ≡ g x) → (xs : List A) → map f (filter p xs) ≡ map g (filter p xs)
 same_passed p f g same [] = refl
@@ -52,19 +52,14 @@ sorted_shown P by cmp show same (x ∷ xs) all sorted k d low below =
     ∙ ap is_lt (same (get_or all_xs (k + 1) x) (get_or all_xs k x) (all (k + 1) x second) (all k x first))
     ∙ sorted k x low second
 
-module _ (tree : ℕ) (project : List Term) (order : List (Term × Key)) (columns : ℕ) (topic : List ℕ) (first : (r : Row) → column (cells (width tree) r) 0 ≡ column r 1) (test : IsTest tree (equals 0 ∷ []) (Text topic ∷ []))
-    (all : (r : Row) → column r 1 ≡ Text topic → Text topic ∷ eval_all project ((Text topic ∷ []) ∷ r ∷ []) ≡ cells (width tree) r) (seen : (db : Trees) → overlay db [] tree ≡ db tree) where
+module _ (tree : ℕ) (tests project : List Term) (order : List (Term × Key)) (columns : ℕ) (values : Row) (passes : Row → Bool) (topic : List ℕ) (test : IsTestBy tree tests values passes)
+    (of : (r : Row) → passes (cells (width tree) r) ≡ true → column r 1 ≡ Text topic) (all : (r : Row) → column r 1 ≡ Text topic → Text topic ∷ eval_all project (values ∷ r ∷ []) ≡ cells (width tree) r)
+    (seen : (db : Trees) → overlay db [] tree ≡ db tree) where
   abbrev put : Row → Row
   put r = Text topic ∷ r
 
-  abbrev passes : Row → Bool
-  passes r = agrees (Text topic ∷ []) (cells (width tree) r)
-
-  is_first : (r : Row) → passes r ≡ true → column r 1 ≡ Text topic
-  is_first r h = sym (first r) ∙ text_is (column (cells (width tree) r) 0) topic (sym (of_first topic (cells (width tree) r)) ∙ h)
-
   abbrev show : Row → Output
-  show = shows project order (Text topic ∷ [])
+  show = shows project order values
 
   -- what the query shows of a row
   abbrev IsShown : Output → Type 0
@@ -72,29 +67,46 @@ module _ (tree : ℕ) (project : List Term) (order : List (Term × Key)) (column
 
   -- a row is shown by its first columns where it is put
   abbrev LeadsByOrder : Type 0
-  LeadsByOrder = (r s : Row) → row_cmp (take columns (show r).1) (take columns (show s).1) ≡ output_cmp (matching tree (equals 0 ∷ []) project order) (show r) (show s)
+  LeadsByOrder = (r s : Row) → row_cmp (take columns (show r).1) (take columns (show s).1) ≡ output_cmp (matching tree tests project order) (show r) (show s)
 
-  in_order : LeadsByOrder → (outs : List Output) (stored : List Row) → IsPermutation (map show stored) outs → IsSorted (output_cmp (matching tree (equals 0 ∷ []) project order)) outs → AreSortedBy columns (map (λ o. o.1) outs)
+  in_order : LeadsByOrder → (outs : List Output) (stored : List Row) → IsPermutation (map show stored) outs → IsSorted (output_cmp (matching tree tests project order)) outs → AreSortedBy columns (map (λ o. o.1) outs)
   in_order leads outs stored same sorted =
       let all : All IsShown outs = All-permutation IsShown _ outs same (All-map IsShown show stored (λ k d low. (_, refl))) in
-      sorted_shown IsShown (output_cmp (matching tree (equals 0 ∷ []) project order)) (λ x y. row_cmp (take columns x) (take columns y)) (λ o. o.1) (λ x y (r, is) (s, too). rw (is, too) (leads r s)) outs all sorted
+      sorted_shown IsShown (output_cmp (matching tree tests project order)) (λ x y. row_cmp (take columns x) (take columns y)) (λ o. o.1) (λ x y (r, is) (s, too). rw (is, too) (leads r s)) outs all sorted
 
-  pub reads_rows : LeadsByOrder → (sql : List ℕ) (names : List (List ℕ)) → command_of (understood schema_6 sql) ≡ Select (alone (matching tree (equals 0 ∷ []) project order)) names → IsPlain (understood schema_6 sql) → reads_listing schema_6 sql ≡ false
-      → (old new : State) (rows : List Row) → Shown sql (Text topic ∷ []) old new rows → IsReady old.now → Shows tree topic rows old.now.trees × AreSortedBy columns rows
-  reads_rows leads sql names is plain unlisted old new rows h ready =
-      let q = matching tree (equals 0 ∷ []) project order in
-      let read = reads_as sql (Text topic ∷ []) old new schema_6 ready.schema (Select (alone q) names) is plain unlisted rows h in
-      let found = finds tree (equals 0 ∷ []) project order (Text topic ∷ []) (overlay old.now.trees []) rows test (read.answer Null) in
+  -- the rows that pass are shown, each without its first column
+  pub reads_those : LeadsByOrder → (sql : List ℕ) (names : List (List ℕ)) → command_of (understood schema_6 sql) ≡ Select (alone (matching tree tests project order)) names → IsPlain (understood schema_6 sql) → reads_listing schema_6 sql ≡ false
+      → (old new : State) (rows : List Row) → Shown sql values old new rows → IsReady old.now → IsPermutation (map put rows) (filter passes (bodies tree (old.now.trees tree))) × AreSortedBy columns rows
+  reads_those leads sql names is plain unlisted old new rows h ready =
+      let q = matching tree tests project order in
+      let read = reads_as sql values old new schema_6 ready.schema (Select (alone q) names) is plain unlisted rows h in
+      let found = finds tree tests project order values passes (overlay old.now.trees []) rows test (read.answer Null) in
       let stored = old.now.trees tree in
-      let here : IsPermutation (map show (filter passes stored)) found.0 = subst (λ xs. IsPermutation (map show (filter passes xs)) found.0) (seen old.now.trees) found.1 in
+      let those = filter (λ r. passes (cells (width tree) r)) in
+      let here : IsPermutation (map show (those stored)) found.0 = subst (λ xs. IsPermutation (map show (those xs)) found.0) (seen old.now.trees) found.1 in
       let second = λ (o : Output). put o.1 in
-      let left : map second (map show (filter passes stored)) ≡ of_topic topic (bodies tree stored) =
-      map-map second show (filter passes stored) ∙ same_passed passes (λ r. second (show r)) (cells (width tree)) (λ r h. all r (is_first r h)) stored
-      ∙ sym (filter-map (agrees (Text topic ∷ [])) (cells (width tree)) stored) ∙ filter_same (agrees (Text topic ∷ [])) (is_of topic) (bodies tree stored) (all_of _ (of_first topic) (bodies tree stored)) in
+      let left : map second (map show (those stored)) ≡ filter passes (bodies tree stored) =
+      map-map second show (those stored) ∙ same_passed (λ r. passes (cells (width tree) r)) (λ r. second (show r)) (cells (width tree)) (λ r h. all r (of r h)) stored ∙ sym (filter-map passes (cells (width tree)) stored) in
       let right : map second found.0 ≡ map put rows = sym (map-map put (λ (o : Output). o.1) found.0) ∙ ap (map put) (sym found.2) in (
         IsPermutation-sym _ _ (subst (λ l. IsPermutation l (map put rows)) left (subst (IsPermutation _) right (IsPermutation-map second _ _ here))),
-        subst (AreSortedBy columns) (sym found.2) (in_order leads found.0 (filter passes stored) here found.3),
+        subst (AreSortedBy columns) (sym found.2) (in_order leads found.0 (those stored) here found.3),
       )
+
+module _ (tree : ℕ) (project : List Term) (order : List (Term × Key)) (columns : ℕ) (topic : List ℕ) (first : (r : Row) → column (cells (width tree) r) 0 ≡ column r 1) (test : IsTest tree (equals 0 ∷ []) (Text topic ∷ []))
+    (all : (r : Row) → column r 1 ≡ Text topic → Text topic ∷ eval_all project ((Text topic ∷ []) ∷ r ∷ []) ≡ cells (width tree) r) (seen : (db : Trees) → overlay db [] tree ≡ db tree) where
+  abbrev is_topic : Row → Bool
+  is_topic = agrees (Text topic ∷ [])
+
+  pub is_first : (r : Row) → is_topic (cells (width tree) r) ≡ true → column r 1 ≡ Text topic
+  is_first r h = sym (first r) ∙ text_is (column (cells (width tree) r) 0) topic (sym (of_first topic (cells (width tree) r)) ∙ h)
+
+  pub reads_rows : LeadsByOrder tree (equals 0 ∷ []) project order columns (Text topic ∷ []) is_topic topic test is_first all seen → (sql : List ℕ) (names : List (List ℕ))
+      → command_of (understood schema_6 sql) ≡ Select (alone (matching tree (equals 0 ∷ []) project order)) names → IsPlain (understood schema_6 sql) → reads_listing schema_6 sql ≡ false
+      → (old new : State) (rows : List Row) → Shown sql (Text topic ∷ []) old new rows → IsReady old.now → Shows tree topic rows old.now.trees × AreSortedBy columns rows
+  reads_rows leads sql names is plain unlisted old new rows h ready =
+      let read = reads_those tree (equals 0 ∷ []) project order columns (Text topic ∷ []) is_topic topic test is_first all seen leads sql names is plain unlisted old new rows h ready in
+      let body = bodies tree (old.now.trees tree) in
+      (subst (IsPermutation (map (λ (r : Row). Text topic ∷ r) rows)) (filter_same is_topic (is_of topic) body (all_of _ (of_first topic) body)) read.0, read.1)
 
 -- ---- a query leaves all as it was
 
@@ -124,9 +136,6 @@ shown_goes sql params old new rows plain h =
 
 pub reads_topic : (topic : List ℕ) (old new : State) (rows : List Row) → Shown select_topic (Text topic ∷ []) old new rows → IsReady old.now → Shows TOPIC topic rows old.now.trees × AreSortedBy 0 rows
 reads_topic topic = reads_rows TOPIC (col 1 2 ∷ col 1 3 ∷ col 1 4 ∷ []) ([]) 0 topic (λ _. refl) (λ _. refl) (λ r e. rw e refl) (λ _. refl) (λ _ _. refl) select_topic (codes "ledger_size" ∷ codes "ledger" ∷ codes "ordinal" ∷ []) select_topic_is.0 select_topic_is.2 select_topic_is.1
-
-pub reads_entry : (topic : List ℕ) (old new : State) (rows : List Row) → Shown select_entry (Text topic ∷ []) old new rows → IsReady old.now → Shows ENTRY topic rows old.now.trees × AreSortedBy 1 rows
-reads_entry topic = reads_rows ENTRY (col 1 2 ∷ col 1 3 ∷ col 1 4 ∷ col 1 5 ∷ col 1 6 ∷ col 1 7 ∷ col 1 8 ∷ col 1 9 ∷ col 1 10 ∷ col 1 11 ∷ []) ((col 1 2, ascending Binary) ∷ []) 1 topic (λ _. refl) (λ _. refl) (λ r e. rw e refl) (λ _. refl) (λ _ _. refl) select_entry (codes "idx" ∷ codes "ledger" ∷ codes "entry" ∷ codes "producer" ∷ codes "sequence" ∷ codes "time" ∷ codes "has_key" ∷ codes "key" ∷ codes "properties" ∷ codes "payload" ∷ []) select_entry_is.0 select_entry_is.2 select_entry_is.1
 
 pub reads_sub : (topic : List ℕ) (old new : State) (rows : List Row) → Shown select_sub (Text topic ∷ []) old new rows → IsReady old.now → Shows SUB topic rows old.now.trees × AreSortedBy 1 rows
 reads_sub topic = reads_rows SUB (col 1 2 ∷ col 1 3 ∷ []) ((col 1 2, ascending Binary) ∷ []) 1 topic (λ _. refl) (λ _. refl) (λ r e. rw e refl) (λ _. refl) (λ _ _. refl) select_sub (codes "name" ∷ codes "kind" ∷ []) select_sub_is.0 select_sub_is.2 select_sub_is.1

@@ -1,5 +1,5 @@
 -- What INSERT of one row and DELETE do to a table with no foreign key, and what SELECT shows of it.
-use Rattle.std.proofs.Common.{◌≡◌, ◌≢◌, ◌⊎◌, inl, inr, ℕ, ◌+◌, ◌/◌, ℤ, List, [], ◌∷◌, ◌++◌, length, map, filter, flat_map, cond, slice_get, Bool, true, false, not, Option, Some, None, Ok, Err, Result, refl, sym, ap, subst, ◌∙◌}
+use Rattle.std.proofs.Common.{◌≡◌, ◌≢◌, ◌⊎◌, inl, inr, negsuc, ℕ, ◌+◌, ◌/◌, ℤ, List, [], ◌∷◌, ◌++◌, length, map, filter, flat_map, cond, slice_get, Bool, true, false, not, Option, Some, None, Ok, Err, Result, refl, sym, ap, subst, ◌∙◌}
 use Rattle.std.specs.Prelude.{◌&&◌}
 use Rattle.std.specs.List.{AllByRecursion, list_all}
 use Rattle.std.specs.List.Sorted.{IsPermutation, IsSorted}
@@ -11,7 +11,7 @@ use Rattle.sqlite.specs.declared.types.Value.{Value}
 use Rattle.sqlite.specs.declared.types.Value.TheVariants.{Null, Int, Text}
 use Rattle.sqlite.specs.Order.{Row, column}
 use Rattle.sqlite.specs.Tree.{Trees, rowid, put_row}
-use Rattle.sqlite.specs.Term.{Term, col, holds, eval_all}
+use Rattle.sqlite.specs.Term.{Term, lit, col, holds, eval_all}
 use Rattle.sqlite.specs.Ops.{unary, binary, is_true}
 use Rattle.sqlite_value.specs.declared.keys.Key.{Key}
 use Rattle.sqlite_sql.specs.declared.ops.BinaryOp.TheVariants.{Compare}
@@ -20,7 +20,7 @@ use Rattle.sqlite.specs.Collation.TheVariants.{Binary}
 use Rattle.sqlite_trees.proofs.ListLemmas.{filter_same, filter-map, all_of, map-map}
 use Rattle.sqlite.specs.Cast.{cast}
 use Rattle.sqlite.specs.Kind.TheVariants.{Integer}
-use Rattle.sqlite.specs.Query.{Query, Output, output, output_cmp, IsAnswerAs, IsSureAnswer}
+use Rattle.sqlite.specs.Query.{Query, Output, output, output_cmp, page, IsAnswerAs, IsSureAnswer}
 use Rattle.sqlite.specs.Program.{overlay}
 use Rattle.sqlite.specs.Schema.{Schema}
 use Rattle.sqlite.specs.Table.{Table}
@@ -40,7 +40,7 @@ use Rattle.sqlite.specs.declared.run.Mode.{Mode}
 use Rattle.sqlite.proofs.Callers.{one_step}
 use Rattle.row_forms.specs.Schema.{table_of}
 use Rattle.row_forms.specs.Cells.{width, cells, bodies, but_topic, is_of}
-use Rattle.row_tables.proofs.Texts.{alone, matching}
+use Rattle.row_tables.proofs.Texts.{alone, matching, matching_most}
 use Rattle.row_tables.proofs.TableLemmas.{AreKeyed, text_test, removed}
 
 -- a part that gave a value did not stop on the way
@@ -154,30 +154,39 @@ flat_passed p f (x ∷ xs) = elim (cases_Bool (p x)) [
   | inr e ↦ rw (e, flat_passed p f xs)
 ]
 
+-- a test of the rows of the table: those pass whose cells do
+abbrev pub IsTestBy : ℕ → List Term → Row → (Row → Bool) → Type 0
+IsTestBy tree tests values passes = (r : Row) → list_all (holds (values ∷ r ∷ [])) tests ≡ passes (cells (width tree) r)
+
 -- a test of the columns of the table against the parameters
 abbrev pub IsTest : ℕ → List Term → Row → Type 0
-IsTest tree tests values = (r : Row) → list_all (holds (values ∷ r ∷ [])) tests ≡ agrees values (cells (width tree) r)
+IsTest tree tests values = IsTestBy tree tests values (agrees values)
 
-pub finds : (tree : ℕ) (tests project : List Term) (order : List (Term × Key)) (values : Row) (db : Trees) (rows : List Row) → IsTest tree tests values
-    → IsAnswerAs Null (matching tree tests project order) db values rows
-    → (outs : List Output) × IsPermutation (map (shows project order values) (filter (λ r. agrees values (cells (width tree) r)) (db tree))) outs
-    × (rows ≡ map (λ o. o.1) outs) × IsSorted (output_cmp (matching tree tests project order)) outs
-finds tree tests project order values db rows test a =
-    let q = matching tree tests project order in
-    let env = λ (r : Row). values ∷ r ∷ [] in
-    let p = λ (r : Row). agrees values (cells (width tree) r) in
-    let matched : a.staged ≡ map env (filter (λ r. list_all (holds (env r)) tests) (db tree)) = a.grouped ∙ flat_passed (λ r. list_all (holds (env r)) tests) env (db tree) in
-    let kept : a.kept ≡ map (output q) (map env (filter (λ r. list_all (holds (env r)) tests) (db tree))) = a.distinct ∙ ap (map (output q)) matched in
-    let picked : filter (λ r. list_all (holds (env r)) tests) (db tree) ≡ filter p (db tree) = filter_same _ p (db tree) (all_of _ test (db tree)) in
-    let is : a.kept ≡ map (shows project order values) (filter p (db tree)) = kept ∙ map-map (output q) env _ ∙ ap (map (shows project order values)) picked in
-    (a.ordered, subst (λ xs. IsPermutation xs a.ordered) is a.same, a.shown, a.sorted)
+module _ (tree : ℕ) (tests project : List Term) (order : List (Term × Key)) (values : Row) (passes : Row → Bool) (db : Trees) (rows : List Row) (test : IsTestBy tree tests values passes) where
+  pub finds_most : (limit : Term) → IsAnswerAs Null (matching_most tree tests project order limit) db values rows
+      → (outs : List Output) × IsPermutation (map (shows project order values) (filter (λ r. passes (cells (width tree) r)) (db tree))) outs
+      × (rows ≡ page (matching_most tree tests project order limit) values (map (λ o. o.1) outs)) × IsSorted (output_cmp (matching_most tree tests project order limit)) outs
+  finds_most limit a =
+      let q = matching_most tree tests project order limit in
+      let env = λ (r : Row). values ∷ r ∷ [] in
+      let p = λ (r : Row). passes (cells (width tree) r) in
+      let matched : a.staged ≡ map env (filter (λ r. list_all (holds (env r)) tests) (db tree)) = a.grouped ∙ flat_passed (λ r. list_all (holds (env r)) tests) env (db tree) in
+      let kept : a.kept ≡ map (output q) (map env (filter (λ r. list_all (holds (env r)) tests) (db tree))) = a.distinct ∙ ap (map (output q)) matched in
+      let picked : filter (λ r. list_all (holds (env r)) tests) (db tree) ≡ filter p (db tree) = filter_same _ p (db tree) (all_of _ test (db tree)) in
+      let is : a.kept ≡ map (shows project order values) (filter p (db tree)) = kept ∙ map-map (output q) env _ ∙ ap (map (shows project order values)) picked in
+      (a.ordered, subst (λ xs. IsPermutation xs a.ordered) is a.same, a.shown, a.sorted)
+
+  pub finds : IsAnswerAs Null (matching tree tests project order) db values rows
+      → (outs : List Output) × IsPermutation (map (shows project order values) (filter (λ r. passes (cells (width tree) r)) (db tree))) outs
+      × (rows ≡ map (λ o. o.1) outs) × IsSorted (output_cmp (matching tree tests project order)) outs
+  finds a = finds_most (lit (Int (negsuc 0))) a
 
 -- the rows that a DELETE takes, and how many they are
 pub leaves : (tree : ℕ) (tests : List Term) (values : Row) (db seen : Trees) (rows : List Row) → IsTest tree tests values → seen tree ≡ db tree → AreKeyed (db tree)
     → IsSureAnswer (matching tree tests (col 1 0 ∷ []) []) seen values rows
     → (bodies tree (without_all (db tree) (ids_of rows)) ≡ filter (λ b. not (agrees values b)) (bodies tree (db tree))) × (length rows ≡ length (filter (agrees values) (bodies tree (db tree))))
 leaves tree tests values db seen rows test same keyed h =
-    let found = finds tree tests (col 1 0 ∷ []) [] values seen rows test (h Null) in
+    let found = finds tree tests (col 1 0 ∷ []) [] values (agrees values) seen rows test (h Null) in
     let p = λ (r : Row). agrees values (cells (width tree) r) in
     let show = shows (col 1 0 ∷ []) [] values in
     let here = subst (λ all. IsPermutation (map show (filter p all)) found.0) same found.1 in

@@ -2,8 +2,8 @@
 use Rattle.std.proofs.Common.{◌≡◌, ℕ, ◌+◌, pos, negsuc, List, [], ◌∷◌, codes, false, None, Ok, refl}
 use Rattle.sqlite.specs.declared.types.Value.TheVariants.{Null, Int}
 use Rattle.sqlite.specs.Term.{Term, lit, col, op2}
-use Rattle.sqlite_sql.specs.declared.ops.BinaryOp.TheVariants.{Compare}
-use Rattle.sqlite_sql.specs.declared.ops.CompareOp.TheVariants.{Eq}
+use Rattle.sqlite_sql.specs.declared.ops.BinaryOp.TheVariants.{Compare, Is, Or}
+use Rattle.sqlite_sql.specs.declared.ops.CompareOp.TheVariants.{Eq, Lt, Ge}
 use Rattle.sqlite.specs.Collation.TheVariants.{Binary}
 use Rattle.sqlite_value.specs.declared.keys.Key.{Key}
 use Rattle.sqlite_value.specs.Keys.{ascending}
@@ -21,9 +21,13 @@ use Rattle.row_forms.specs.Schema.{schema_0, schema_1, schema_2, schema_3, schem
 abbrev pub equals : ℕ → Term
 equals k = op2 (Compare Eq Binary) (col 1 (k + 1)) (col 0 k)
 
--- the rows of the table that pass the tests
+-- the rows of the table that pass the tests, as many as the limit says
+abbrev pub matching_most : ℕ → List Term → List Term → List (Term × Key) → Term → Query
+matching_most tree tests project order limit = record { from = inner tree end; filter = tests; group = None; project = project; distinct = false; collations = []; order = order; limit = limit; offset = lit (Int (pos 0)) }
+
+-- all of them
 abbrev pub matching : ℕ → List Term → List Term → List (Term × Key) → Query
-matching tree tests project order = record { from = inner tree end; filter = tests; group = None; project = project; distinct = false; collations = []; order = order; limit = lit (Int (negsuc 0)); offset = lit (Int (pos 0)) }
+matching tree tests project order = matching_most tree tests project order (lit (Int (negsuc 0)))
 
 -- the rows whose second column is the first parameter
 abbrev pub of_topic : ℕ → List Term → List (Term × Key) → Query
@@ -109,12 +113,30 @@ pub clear_entry_is : (command_of (understood schema_6 clear_entry) ≡ Delete 2 
 unfolding understood everything
 clear_entry_is = (refl, (refl, refl))
 
-abbrev pub select_entry : List ℕ
-select_entry = codes "SELECT idx, ledger, entry, producer, sequence, time, has_key, key, properties, payload FROM entry WHERE topic = ?1 ORDER BY idx"
+-- the place is this one at least, or below it
+abbrev pub place_from : Term
+place_from = op2 (Compare Ge Binary) (col 1 2) (col 0 1)
 
-pub select_entry_is : (command_of (understood schema_6 select_entry) ≡ Select (alone (of_topic 3 (col 1 2 ∷ col 1 3 ∷ col 1 4 ∷ col 1 5 ∷ col 1 6 ∷ col 1 7 ∷ col 1 8 ∷ col 1 9 ∷ col 1 10 ∷ col 1 11 ∷ []) ((col 1 2, ascending Binary) ∷ []))) (codes "idx" ∷ codes "ledger" ∷ codes "entry" ∷ codes "producer" ∷ codes "sequence" ∷ codes "time" ∷ codes "has_key" ∷ codes "key" ∷ codes "properties" ∷ codes "payload" ∷ [])) × (reads_listing schema_6 select_entry ≡ false) × IsPlain (understood schema_6 select_entry)
+abbrev pub place_below : Term
+place_below = op2 (Compare Lt Binary) (col 1 2) (col 0 2)
+
+abbrev pub select_piece : List ℕ
+select_piece = codes "SELECT idx, ledger, entry, producer, sequence, time, has_key, key, properties, payload FROM entry WHERE topic = ?1 AND idx >= ?2 AND idx < ?3 ORDER BY idx"
+
+pub select_piece_is : (command_of (understood schema_6 select_piece) ≡ Select (alone (matching 3 (equals 0 ∷ place_from ∷ place_below ∷ []) (col 1 2 ∷ col 1 3 ∷ col 1 4 ∷ col 1 5 ∷ col 1 6 ∷ col 1 7 ∷ col 1 8 ∷ col 1 9 ∷ col 1 10 ∷ col 1 11 ∷ []) ((col 1 2, ascending Binary) ∷ []))) (codes "idx" ∷ codes "ledger" ∷ codes "entry" ∷ codes "producer" ∷ codes "sequence" ∷ codes "time" ∷ codes "has_key" ∷ codes "key" ∷ codes "properties" ∷ codes "payload" ∷ [])) × (reads_listing schema_6 select_piece ≡ false) × IsPlain (understood schema_6 select_piece)
 unfolding understood everything
-select_entry_is = (refl, refl, (refl, refl))
+select_piece_is = (refl, refl, (refl, refl))
+
+-- the place is no number from 0 on that is below this
+abbrev pub place_elsewhere : Term
+place_elsewhere = op2 Or (op2 Or (op2 (Is Binary) (col 1 2) (lit Null)) (op2 (Compare Lt Binary) (col 1 2) (lit (Int (pos 0))))) (op2 (Compare Ge Binary) (col 1 2) (col 0 1))
+
+abbrev pub select_others : List ℕ
+select_others = codes "SELECT idx FROM entry WHERE topic = ?1 AND (idx IS NULL OR idx < 0 OR idx >= ?2) LIMIT 1"
+
+pub select_others_is : (command_of (understood schema_6 select_others) ≡ Select (alone (matching_most 3 (equals 0 ∷ place_elsewhere ∷ []) (col 1 2 ∷ []) [] (lit (Int (pos 1))))) (codes "idx" ∷ [])) × (reads_listing schema_6 select_others ≡ false) × IsPlain (understood schema_6 select_others)
+unfolding understood everything
+select_others_is = (refl, refl, (refl, refl))
 
 abbrev pub insert_sub : List ℕ
 insert_sub = codes "INSERT INTO sub (topic, name, kind) VALUES (?1, ?2, ?3)"

@@ -8,8 +8,9 @@ ghost use Rattle.row_forms.specs.Cells.{ENTRY};
 ghost use Rattle.row_forms.specs.Forms.{entry_row, key_cells};
 ghost use Rattle.row_forms.specs.Properties.{properties_text};
 ghost use Rattle.row_tables.specs.Ready.{IsReady};
-ghost use Rattle.row_tables.specs.Goes.{Goes, Stays, Clears, Adds, Shows};
+ghost use Rattle.row_tables.specs.Goes.{Goes, Stays, Clears, Adds};
 ghost use Rattle.row_tables.specs.Ordered.{AreSortedBy};
+ghost use Rattle.row_tables.specs.Pieces.{ShowsWithin, has_others};
 
 use crate::numbers::signed;
 use position_core::{Entry, Key};
@@ -81,17 +82,44 @@ pub fn clear<S: Alter>(tx: &mut Transaction<'_, S>, topic: &str) -> Result<(), E
     Ok(())
 }
 
-/// The messages of a topic, by their places.
-pub fn read<S: Alter>(tx: &mut Transaction<'_, S>, topic: &str) -> Result<Vec<Row>, Error>
+/// The messages of a topic from one place on and below another, by their places.
+pub fn read_within<S: Alter>(
+    tx: &mut Transaction<'_, S>,
+    topic: &str,
+    from: u64,
+    end: u64,
+) -> Result<Vec<Row>, Error>
     ensures same_reference { tx.new.conn.ghost_name ≡ tx.old.conn.ghost_name }
     ensures survives { Survives (state S.Store tx.old.conn.now) (state S.Store tx.new.conn.now) (λ _. ⊥) }
     ensures done { HasCleanDisk (state S.Store tx.new.conn.now) → OnOk result (Goes Stays (state S.Store tx.old.conn.now) (state S.Store tx.new.conn.now)) }
     ensures kept { HasCleanDisk (state S.Store tx.new.conn.now) → IsTrue (state S.Store tx.old.conn.now).in_transaction → KeepsCommit (state S.Store tx.old.conn.now) (state S.Store tx.new.conn.now) }
-    ensures rows { HasCleanDisk (state S.Store tx.new.conn.now) → IfOk result (λ rows. IsReady (state S.Store tx.old.conn.now).now → Shows ENTRY topic.now rows.items (state S.Store tx.old.conn.now).now.trees) }
+    ensures rows { HasCleanDisk (state S.Store tx.new.conn.now) → IfOk result (λ rows. IsReady (state S.Store tx.old.conn.now).now → ShowsWithin topic.now from end rows.items (state S.Store tx.old.conn.now).now.trees) }
     ensures ordered { HasCleanDisk (state S.Store tx.new.conn.now) → IfOk result (λ rows. IsReady (state S.Store tx.old.conn.now).now → AreSortedBy 1 rows.items) }
 {
+    let from = signed(from)?;
+    let end = signed(end)?;
     tx.query_all(
-        "SELECT idx, ledger, entry, producer, sequence, time, has_key, key, properties, payload FROM entry WHERE topic = ?1 ORDER BY idx",
-        params![topic],
+        "SELECT idx, ledger, entry, producer, sequence, time, has_key, key, properties, payload FROM entry WHERE topic = ?1 AND idx >= ?2 AND idx < ?3 ORDER BY idx",
+        params![topic, from, end],
     )
+}
+
+/// Whether a message of the topic has no place below this one.
+pub fn has_others<S: Alter>(
+    tx: &mut Transaction<'_, S>,
+    topic: &str,
+    end: u64,
+) -> Result<bool, Error>
+    ensures same_reference { tx.new.conn.ghost_name ≡ tx.old.conn.ghost_name }
+    ensures survives { Survives (state S.Store tx.old.conn.now) (state S.Store tx.new.conn.now) (λ _. ⊥) }
+    ensures done { HasCleanDisk (state S.Store tx.new.conn.now) → OnOk result (Goes Stays (state S.Store tx.old.conn.now) (state S.Store tx.new.conn.now)) }
+    ensures kept { HasCleanDisk (state S.Store tx.new.conn.now) → IsTrue (state S.Store tx.old.conn.now).in_transaction → KeepsCommit (state S.Store tx.old.conn.now) (state S.Store tx.new.conn.now) }
+    ensures found { HasCleanDisk (state S.Store tx.new.conn.now) → IfOk result (λ found. IsReady (state S.Store tx.old.conn.now).now → found ≡ has_others topic.now end (state S.Store tx.old.conn.now).now.trees) }
+{
+    let end = signed(end)?;
+    let others = tx.query_all(
+        "SELECT idx FROM entry WHERE topic = ?1 AND (idx IS NULL OR idx < 0 OR idx >= ?2) LIMIT 1",
+        params![topic, end],
+    )?;
+    Ok(!others.is_empty())
 }

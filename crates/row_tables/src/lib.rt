@@ -6,5 +6,8 @@ pub mod acks;
 pub mod deads;
 pub mod entries;
 mod numbers;
+mod side_rows;
 pub mod subs;
 pub mod topics;
+
+pub use side_rows::SideRows;

@@ -1,0 +1,212 @@
+-- What the queries of a piece of a topic's messages show, and how pieces join.
+use Rattle.std.proofs.Common.{◌≡◌, Some, ℕ, ◌<◌, ◌≤◌, codes, List, [], ◌∷◌, ◌++◌, map, filter, take, length, pos, Bool, true, false, not, inl, inr, Ordering, Less, Equal, Greater, refl, sym, ap, subst, ◌∙◌, arith}
+use Rattle.std.specs.Prelude.{◌&&◌, ◌||◌, ◌==◌}
+use Rattle.std.specs.List.{list_any}
+use Rattle.std.specs.List.Sorted.{IsPermutation}
+use Rattle.std.specs.Ordering.{is_lt, is_ge, int_cmp}
+use Rattle.std.proofs.lemmas.Bool.{cases_Bool, cases_lt}
+use Rattle.std.proofs.lemmas.Bool.Decides.{nat_tests}
+use Rattle.std.proofs.lemmas.List.Sorted.{IsPermutation-sym, IsPermutation-filter_both, list_any-IsPermutation}
+use Rattle.sqlite.specs.declared.types.Value.{Value}
+use Rattle.sqlite.specs.declared.types.Value.TheVariants.{Null, Int, Real, Text, Blob}
+use Rattle.sqlite.specs.Collation.TheVariants.{Binary}
+use Rattle.sqlite.specs.Order.{Row, column, value_cmp}
+use Rattle.sqlite.specs.Term.{lit, col}
+use Rattle.sqlite.specs.Ops.{binary, is_true, from_truth}
+use Rattle.sqlite_sql.specs.declared.ops.BinaryOp.TheVariants.{Compare, Is, Or}
+use Rattle.sqlite_sql.specs.declared.ops.CompareOp.TheVariants.{Lt, Ge}
+use Rattle.sqlite_value.specs.Keys.{ascending}
+use Rattle.sqlite_value.proofs.OrderLemmas.{value_cmp_total, value_cmp-Int, value_cmp-Null, value_cmp-apart}
+use Rattle.sqlite_trees.proofs.ListLemmas.{filter_same, all_of}
+use Rattle.sqlite.specs.State.{State, Shown}
+use Rattle.row_forms.specs.Cells.{ENTRY, width, cells, bodies, is_of}
+use Rattle.row_tables.specs.Ready.{IsReady}
+use Rattle.row_tables.specs.Ordered.{AreSortedBy}
+use Rattle.row_tables.specs.Pieces.{is_below, is_within, ShowsWithin, has_others}
+use Rattle.row_tables.proofs.Texts.{alone, matching_most, equals, place_from, place_below, place_elsewhere, select_piece, select_piece_is, select_others, select_others_is}
+use Rattle.row_tables.proofs.TableLemmas.{text_is, text_test, filter_twice}
+use Rattle.row_tables.proofs.StatementLemmas.{IsTestBy, finds_most}
+use Rattle.row_tables.proofs.ReadLemmas.{reads_those}
+use Rattle.row_forms.specs.Schema.{schema_6}
+use Rattle.sqlite.specs.Program.{overlay}
+use Rattle.sqlite.specs.Command.TheVariants.{Select}
+use Rattle.sqlite.specs.Query.{Output}
+use Rattle.sqlite.proofs.Callers.{reads_as}
+
+-- ---- the tests of a place
+
+truth_is : (b : Bool) → is_true (from_truth (Some b)) ≡ b
+truth_is true = refl
+truth_is false = refl
+
+from_is : (o : Ordering) → is_ge o ≡ not (is_lt o)
+from_is Less = refl
+from_is Equal = refl
+from_is Greater = refl
+
+from_below : (v : Value) (n m : ℕ) → (is_true (binary (Compare Ge Binary) v (Int (pos n))) && is_true (binary (Compare Lt Binary) v (Int (pos m)))) ≡ (not (is_lt (value_cmp v (Int (pos n)))) && is_lt (value_cmp v (Int (pos m))))
+unfolding binary
+from_below Null n m = rw (value_cmp-Null (Int (pos n))) refl
+from_below (Int k) n m = rw (truth_is (is_ge (value_cmp (Int k) (Int (pos n)))), truth_is (is_lt (value_cmp (Int k) (Int (pos m)))), from_is (value_cmp (Int k) (Int (pos n)))) refl
+from_below (Real x) n m = rw (truth_is (is_ge (value_cmp (Real x) (Int (pos n)))), truth_is (is_lt (value_cmp (Real x) (Int (pos m)))), from_is (value_cmp (Real x) (Int (pos n)))) refl
+from_below (Text t) n m = rw (truth_is (is_ge (value_cmp (Text t) (Int (pos n)))), truth_is (is_lt (value_cmp (Text t) (Int (pos m)))), from_is (value_cmp (Text t) (Int (pos n)))) refl
+from_below (Blob b) n m = rw (truth_is (is_ge (value_cmp (Blob b) (Int (pos n)))), truth_is (is_lt (value_cmp (Blob b) (Int (pos m)))), from_is (value_cmp (Blob b) (Int (pos n)))) refl
+
+-- the message is the topic's, and its place is in the range
+abbrev of_piece : List ℕ → ℕ → ℕ → Row → Bool
+of_piece topic from end body = is_of topic body && is_within from end body
+
+piece_test : (topic : List ℕ) (from end : ℕ) → IsTestBy ENTRY (equals 0 ∷ place_from ∷ place_below ∷ []) (Text topic ∷ Int (pos from) ∷ Int (pos end) ∷ []) (of_piece topic from end)
+piece_test topic from end r = both _ _ _ _ _ (text_test (column r 1) topic) (from_below (column r 2) from end)
+  where
+    both : (a b c d e : Bool) → a ≡ d → (b && c) ≡ e → (a && (b && (c && true))) ≡ (d && e)
+    both a b true d e is too = rw is (ap (λ x. d && x) too)
+    both a b false d e is too = rw is (ap (λ x. d && x) too)
+
+first_of : (a b : Bool) → (a && b) ≡ true → a ≡ true
+first_of true b h = refl
+first_of false b h = h
+
+piece_first : (topic : List ℕ) (from end : ℕ) (r : Row) → of_piece topic from end (cells (width ENTRY) r) ≡ true → column r 1 ≡ Text topic
+piece_first topic from end r h = text_is (column r 1) topic (first_of (is_of topic (cells (width ENTRY) r)) (is_within from end (cells (width ENTRY) r)) h)
+
+pub reads_piece : (topic : List ℕ) (from end : ℕ) (old new : State) (rows : List Row) → Shown select_piece (Text topic ∷ Int (pos from) ∷ Int (pos end) ∷ []) old new rows → IsReady old.now → ShowsWithin topic from end rows old.now.trees × AreSortedBy 1 rows
+reads_piece topic from end old new rows h ready =
+    let read = reads_those ENTRY (equals 0 ∷ place_from ∷ place_below ∷ []) (col 1 2 ∷ col 1 3 ∷ col 1 4 ∷ col 1 5 ∷ col 1 6 ∷ col 1 7 ∷ col 1 8 ∷ col 1 9 ∷ col 1 10 ∷ col 1 11 ∷ []) ((col 1 2, ascending Binary) ∷ []) 1 (Text topic ∷ Int (pos from) ∷ Int (pos end) ∷ [])
+    (of_piece topic from end) topic (piece_test topic from end) (piece_first topic from end) (λ r e. rw e refl) (λ _. refl) (λ _ _. refl) select_piece
+    (codes "idx" ∷ codes "ledger" ∷ codes "entry" ∷ codes "producer" ∷ codes "sequence" ∷ codes "time" ∷ codes "has_key" ∷ codes "key" ∷ codes "properties" ∷ codes "payload" ∷ []) select_piece_is.0 select_piece_is.2 select_piece_is.1 old new rows h ready in
+    (subst (IsPermutation (map (λ (r : Row). Text topic ∷ r) rows)) (sym (filter_twice (is_within from end) (is_of topic) (bodies ENTRY (old.now.trees ENTRY)))) read.0, read.1)
+
+-- ---- messages elsewhere
+
+elsewhere_by : (low below : Bool) (o : Ordering) → below ≡ is_lt o → is_true (binary Or (binary Or (from_truth (Some false)) (from_truth (Some low))) (from_truth (Some (is_ge o)))) ≡ not (not low && below)
+unfolding binary
+elsewhere_by true below Less is = refl
+elsewhere_by true below Equal is = refl
+elsewhere_by true below Greater is = refl
+elsewhere_by false below Less is = rw is refl
+elsewhere_by false below Equal is = rw is refl
+elsewhere_by false below Greater is = rw is refl
+
+elsewhere : (v : Value) (n : ℕ) → is_true (binary Or (binary Or (binary (Is Binary) v Null) (binary (Compare Lt Binary) v (Int (pos 0)))) (binary (Compare Ge Binary) v (Int (pos n)))) ≡ not (not (is_lt (value_cmp v (Int (pos 0)))) && is_lt (value_cmp v (Int (pos n))))
+unfolding binary
+elsewhere Null n = rw (value_cmp-Null (Int (pos 0)), value_cmp-Null Null) refl
+elsewhere (Int k) n = rw (value_cmp-apart (Int k) Null (λ e. omega (arith, e))) (elsewhere_by (is_lt (value_cmp (Int k) (Int (pos 0)))) (is_lt (value_cmp (Int k) (Int (pos n)))) (value_cmp (Int k) (Int (pos n))) refl)
+elsewhere (Real x) n = rw (value_cmp-apart (Real x) Null (λ e. omega (arith, e))) (elsewhere_by (is_lt (value_cmp (Real x) (Int (pos 0)))) (is_lt (value_cmp (Real x) (Int (pos n)))) (value_cmp (Real x) (Int (pos n))) refl)
+elsewhere (Text t) n = rw (value_cmp-apart (Text t) Null (λ e. omega (arith, e))) (elsewhere_by (is_lt (value_cmp (Text t) (Int (pos 0)))) (is_lt (value_cmp (Text t) (Int (pos n)))) (value_cmp (Text t) (Int (pos n))) refl)
+elsewhere (Blob b) n = rw (value_cmp-apart (Blob b) Null (λ e. omega (arith, e))) (elsewhere_by (is_lt (value_cmp (Blob b) (Int (pos 0)))) (is_lt (value_cmp (Blob b) (Int (pos n)))) (value_cmp (Blob b) (Int (pos n))) refl)
+
+-- the message is the topic's, and it has no place below this one
+abbrev of_others : List ℕ → ℕ → Row → Bool
+of_others topic end body = is_of topic body && not (is_within 0 end body)
+
+others_test : (topic : List ℕ) (end : ℕ) → IsTestBy ENTRY (equals 0 ∷ place_elsewhere ∷ []) (Text topic ∷ Int (pos end) ∷ []) (of_others topic end)
+others_test topic end r = both _ _ _ _ (text_test (column r 1) topic) (elsewhere (column r 2) end)
+  where
+    both : (a b d e : Bool) → a ≡ d → b ≡ e → (a && (b && true)) ≡ (d && e)
+    both a true d e is too = rw is (ap (λ x. d && x) too)
+    both a false d e is too = rw is (ap (λ x. d && x) too)
+
+module _ {A : Type 0} where
+  abbrev is_some : List A → Bool
+  is_some = list_any (λ _. true)
+
+  counted : (xs : List A) (n : ℕ) → length xs ≡ n → not (n == 0) ≡ is_some xs
+  counted [] n many = rw (← many) refl
+  counted (x ∷ xs) n many = ap not none
+    where
+      none : (n == 0) ≡ false
+      none = let more : 0 < n = omega (arith, many) in grind (arith, nat_tests)
+
+  some_first : (xs : List A) → is_some (take 1 xs) ≡ is_some xs
+  some_first [] = refl
+  some_first (x ∷ xs) = refl
+
+  some_passed : (p : A → Bool) (xs : List A) → is_some (filter p xs) ≡ list_any p xs
+  some_passed p [] = refl
+  some_passed p (x ∷ xs) = elim (cases_Bool (p x)) [
+    | inl e ↦ rw e refl
+    | inr e ↦ rw e (some_passed p xs)
+  ]
+
+  any_passed : (p q : A → Bool) (xs : List A) → list_any q (filter p xs) ≡ list_any (λ x. p x && q x) xs
+  any_passed p q [] = refl
+  any_passed p q (x ∷ xs) = elim (cases_Bool (p x)) [
+    | inl e ↦ rw e (ap (λ b. q x || b) (any_passed p q xs))
+    | inr e ↦ rw e (any_passed p q xs)
+  ]
+
+any_mapped : {A B : Type 0} (p : B → Bool) (f : A → B) (xs : List A) → list_any p (map f xs) ≡ list_any (λ x. p (f x)) xs
+any_mapped p f [] = refl
+any_mapped p f (x ∷ xs) = ap (λ b. p (f x) || b) (any_mapped p f xs)
+
+pub reads_others : (topic : List ℕ) (end : ℕ) (old new : State) (rows : List Row) → Shown select_others (Text topic ∷ Int (pos end) ∷ []) old new rows → IsReady old.now → (count : ℕ) → length rows ≡ count → not (count == 0) ≡ has_others topic end old.now.trees
+reads_others topic end old new rows h ready count many =
+    let values : Row = Text topic ∷ Int (pos end) ∷ [] in
+    let q = matching_most ENTRY (equals 0 ∷ place_elsewhere ∷ []) (col 1 2 ∷ []) [] (lit (Int (pos 1))) in
+    let read = reads_as select_others values old new schema_6 ready.schema (Select (alone q) (codes "idx" ∷ [])) select_others_is.0 select_others_is.2 select_others_is.1 rows h in
+    let found = finds_most ENTRY (equals 0 ∷ place_elsewhere ∷ []) (col 1 2 ∷ []) [] values (of_others topic end) (overlay old.now.trees []) rows (others_test topic end) (lit (Int (pos 1))) (read.answer Null) in
+    let stored = old.now.trees ENTRY in
+    let outs : List Output = found.0 in
+    counted rows count many ∙ ap is_some found.2 ∙ some_first (map (λ (o : Output). o.1) outs) ∙ any_mapped (λ _. true) (λ (o : Output). o.1) outs
+    ∙ sym (list_any-IsPermutation (λ _. true) _ outs found.1)
+    ∙ any_mapped (λ _. true) _ _
+    ∙ some_passed (λ r. of_others topic end (cells (width ENTRY) r)) stored
+    ∙ sym (any_mapped (of_others topic end) (cells (width ENTRY)) stored)
+    ∙ sym (any_passed (is_of topic) (λ body. not (is_within 0 end body)) (bodies ENTRY stored))
+
+-- ---- pieces join
+
+less_is : (o : Ordering) → is_lt o ≡ true → o ≡ Less
+less_is Less h = refl
+less_is Equal h = absurd cc
+less_is Greater h = absurd cc
+
+number_below : (n m : ℕ) → n < m → value_cmp (Int (pos n)) (Int (pos m)) ≡ Less
+number_below n m below = value_cmp-Int (pos n) (pos m) ∙ ints
+  where
+    ints : int_cmp (pos n) (pos m) ≡ Less
+    ints = grind (arith, nat_tests)
+
+pub below_more : (from end : ℕ) → from ≤ end → (r : Row) → is_below from r ≡ true → is_below end r ≡ true
+below_more from end within r h = elim (cases_lt from end) [
+  | inl less ↦ ap is_lt (value_cmp_total.trans (column r 1) (Int (pos from)) (Int (pos end)) (less_is _ h) (number_below from end less))
+  | inr more ↦ let same : from ≡ end = omega (arith, within, more) in subst (λ n. is_below n r ≡ true) same h
+]
+
+module _ (from end : ℕ) (within : from ≤ end) where
+  before : (r : Row) → (is_within 0 end r && is_below from r) ≡ is_within 0 from r
+  before r = by (is_below 0 r) (is_below from r) (is_below end r) (below_more from end within r)
+    where
+      by : (a b c : Bool) → (b ≡ true → c ≡ true) → ((not a && c) && b) ≡ (not a && b)
+      by true b c h = refl
+      by false true c h = rw (h refl) refl
+      by false false true h = refl
+      by false false false h = refl
+
+  after : (r : Row) → (is_within 0 end r && not (is_below from r)) ≡ is_within from end r
+  after r = by (is_below 0 r) (is_below from r) (is_below end r) (below_more 0 from (omega arith) r)
+    where
+      by : (a b c : Bool) → (a ≡ true → b ≡ true) → ((not a && c) && not b) ≡ (not b && c)
+      by true b c h = rw (h refl) refl
+      by false true true h = refl
+      by false true false h = refl
+      by false false true h = refl
+      by false false false h = refl
+
+  -- those before a place and those from it on are those before the later one
+  pub pieces_join : (rows : List Row) → IsPermutation (filter (is_within 0 from) rows ++ filter (is_within from end) rows) (filter (is_within 0 end) rows)
+  pieces_join rows =
+      let those = filter (is_within 0 end) rows in
+      let first : filter (is_below from) those ≡ filter (is_within 0 from) rows = filter_twice (is_below from) (is_within 0 end) rows ∙ filter_same _ (is_within 0 from) rows (all_of _ before rows) in
+      let second : filter (λ r. not (is_below from r)) those ≡ filter (is_within from end) rows = filter_twice (λ r. not (is_below from r)) (is_within 0 end) rows ∙ filter_same _ (is_within from end) rows (all_of _ after rows) in
+      IsPermutation-sym _ _ (subst (λ l. IsPermutation those (filter (is_within 0 from) rows ++ l)) second (subst (λ l. IsPermutation those (l ++ filter (λ r. not (is_below from r)) those)) first (IsPermutation-filter_both (is_below from) (λ r. not (is_below from r)) (λ _. refl) those)))
+
+-- where no other is there, all are below the place
+pub all_within : (end : ℕ) (rows : List Row) → list_any (λ row. not (is_within 0 end row)) rows ≡ false → filter (is_within 0 end) rows ≡ rows
+all_within end [] none = refl
+all_within end (r ∷ rows) none = by (is_within 0 end r) refl none (all_within end rows)
+  where
+    by : (b : Bool) → is_within 0 end r ≡ b → (not b || list_any (λ row. not (is_within 0 end row)) rows) ≡ false → (list_any (λ row. not (is_within 0 end row)) rows ≡ false → filter (is_within 0 end) rows ≡ rows) → filter (is_within 0 end) (r ∷ rows) ≡ r ∷ rows
+    by true is none others = rw is (ap (λ l. r ∷ l) (others none))
+    by false is none others = absurd cc
