@@ -7,11 +7,10 @@ use Rattle.sqlite.specs.Order.{Row}
 use Rattle.sqlite.specs.Tree.{Trees}
 use Rattle.delivery_machine.specs.Places.{KeptTopic}
 use Rattle.row_forms.specs.declared.change.Change.{Change}
-use Rattle.row_forms.specs.declared.raw_rows.RawRows.{RawRows}
 use Rattle.row_forms.specs.Cells.{TOPIC}
 use Rattle.row_forms.specs.Forms.{TopicRows, AreRowsOf, no_rows}
 use Rattle.row_forms.specs.Standing.{Has, Stands, KeepsOthers}
-use Rattle.row_forms.specs.Changes.{Leads, with_topic}
+use Rattle.row_forms.specs.Changes.{Leads}
 use Rattle.row_tables.specs.Goes.{Clears, Adds}
 use Rattle.row_rounds.specs.declared.saving.Write.{Write}
 
@@ -72,7 +71,3 @@ pub record StandAll (writes : List Write) (old new : Trees) : Type 0 where
 -- a round of these topics, where each change fits what stood there
 abbrev pub Rounds : List Write → Trees → Trees → Type 0
 Rounds writes old new = All (Fits old) writes → StandAll writes old new
-
--- these are the rows of the topic
-abbrev pub IsReadFrom : List ℕ → Trees → RawRows → Type 0
-IsReadFrom topic db raw = Has topic (with_topic topic raw) db

@@ -1,4 +1,5 @@
-//! Rounds: the rows of topics are written in one transaction, and those of one topic are read, or deleted.
+//! Rounds: the rows of topics are written in one transaction, those of one topic are deleted, and those beside its messages are
+//! read.
 #![tactic(auto)]
 
 mod clearing;
@@ -10,6 +11,6 @@ mod room;
 mod saving;
 
 pub use deleting::delete;
-pub use reading::read;
+pub use reading::read_sides;
 pub use room::room_for;
 pub use saving::{Write, save};
