@@ -1,6 +1,7 @@
 -- Messages and their rows.
-use Rattle.std.proofs.Common.{◌≡◌, ℕ, ◌+◌, ◌≤◌, ◌<◌, ◌^◌, List, [], ◌∷◌, ◌++◌, take, length, pos, Option, Some, None, IfSome, refl, ap, sym, ◌∙◌, arith, get_or}
+use Rattle.std.proofs.Common.{◌≡◌, ℕ, ◌+◌, ◌≤◌, ◌<◌, ◌^◌, List, [], ◌∷◌, ◌++◌, take, length, pos, length-append, Option, Some, None, IfSome, inl, inr, ◌⊎◌, slice_get, subst, append_assoc, refl, ap, sym, ◌∙◌, arith, get_or}
 use Rattle.std.specs.List.{AllByRecursion}
+use Rattle.std.specs.Prelude.{option_map, map}
 use Rattle.std.specs.List.Sorted.{IsStrictlySortedBy}
 use Rattle.std.proofs.lemmas.List.{map-append, take_more}
 use Rattle.std.proofs.lemmas.List.Elements.{All-nil, All-push}
@@ -16,7 +17,7 @@ use Rattle.delivery_machine.proofs.Rising.{sorted_push}
 use Rattle.row_forms.specs.Forms.{entry_row, entry_rows, key_cells}
 use Rattle.row_forms.specs.Properties.{properties_text}
 use Rattle.row_forms.proofs.Leading.{rows_from}
-use Rattle.row_reading.specs.Reading.{IsEntryAt, IsNext, put}
+use Rattle.row_reading.specs.Reading.{GoOn, IsEntryAt, IsNext, last_position, put}
 use Rattle.row_reading.proofs.Columns.{ten}
 
 pub entry_shown : (row : Row) (place : ℕ) (e : Entry) → length row ≡ 10 → column row 0 ≡ Int (pos place) → column row 1 ≡ Int (pos e.position.ledger) → column row 2 ≡ Int (pos e.position.entry)
@@ -31,15 +32,20 @@ entry_shown row place e long at ledger entry producer sequence time key properti
 
 -- ---- one more message
 
-pub rows_more : (topic : List ℕ) (rows : List Row) (i place : ℕ) (row : Row) (log : List Entry) (e : Entry) → i < length rows → row ≡ get_or rows i row → place ≡ i → length log ≡ i
-    → put topic (take i rows) ≡ entry_rows topic 0 log → IsEntryAt place row e → put topic (take (i + 1) rows) ≡ entry_rows topic 0 (log ++ e ∷ [])
-rows_more topic rows i place row log e low is at count so_far shown =
+-- the row after the messages that came is that of the next one
+pub row_goes_on : (log : List Entry) (row : Row) (e : Entry) → IsEntryAt (length log) row e → GoOn log (row ∷ []) (log ++ e ∷ [])
+row_goes_on log row e shown topic =
     let one : Words topic ∷ row ≡ entry_row topic (0 + length log) e = shown topic ∙ ap (λ n. entry_row topic n e) (omega arith) in
-    ap (put topic) (take_more rows i row low ∙ ap (λ r. take i rows ++ r ∷ []) (sym is))
-    ∙ map-append (λ (r : Row). Words topic ∷ r) (take i rows) (row ∷ [])
-    ∙ ap (λ l. l ++ (Words topic ∷ row) ∷ []) so_far
-    ∙ ap (λ r. entry_rows topic 0 log ++ r ∷ []) one
-    ∙ sym (rows_from topic 0 log (e ∷ []))
+    ap (λ r. entry_rows topic 0 log ++ r ∷ []) one ∙ sym (rows_from topic 0 log (e ∷ []))
+
+-- one row more goes on where the others did
+pub rows_go_on : (came log more : List Entry) (rows : List Row) (i : ℕ) (row : Row) → i < length rows → row ≡ get_or rows i row → GoOn came (take i rows) log → GoOn log (row ∷ []) more → GoOn came (take (i + 1) rows) more
+rows_go_on came log more rows i row low at so_far next topic =
+    ap (λ l. entry_rows topic 0 came ++ put topic l) (take_more rows i row low ∙ ap (λ r. take i rows ++ r ∷ []) (sym at))
+    ∙ ap (λ l. entry_rows topic 0 came ++ l) (map-append (λ (r : Row). Words topic ∷ r) (take i rows) (row ∷ []))
+    ∙ sym (append_assoc (entry_rows topic 0 came) (put topic (take i rows)) (put topic (row ∷ [])))
+    ∙ ap (λ l. l ++ put topic (row ∷ [])) (so_far topic)
+    ∙ next topic
 
 -- each position that may come next is above all of the log
 abbrev pub IsAbove : Option Position → List Entry → Type 0
@@ -76,6 +82,45 @@ IsLast last log = (p : Position) → AllByRecursion (λ (e : Entry). position_cm
 pub last_more : (log : List Entry) (e : Entry) → IsLast (Some e.position) (log ++ e ∷ [])
 last_more [] e p all = all.0
 last_more (x ∷ xs) e p all = last_more xs e p all.1
+
+-- a log is empty, or it has a last message
+ends : (log : List Entry) → (log ≡ []) ⊎ ((xs : List Entry) × (e : Entry) × (log ≡ xs ++ e ∷ []))
+ends [] = inl refl
+ends (x ∷ xs) = elim (ends xs) [
+  | inl none ↦ inr ([], x, ap (λ l. x ∷ l) none)
+  | inr some ↦ inr (x ∷ some.0, some.1, ap (λ l. x ∷ l) some.2)
+]
+
+last_is : (xs : List Entry) (e : Entry) → last_position (xs ++ e ∷ []) ≡ Some e.position
+last_is xs e = ap (option_map (λ (x : Entry). x.position)) (ap (slice_get (xs ++ e ∷ [])) (omega (arith, length-append xs (e ∷ []))) ∙ at xs)
+  where
+    at : (ys : List Entry) → slice_get (ys ++ e ∷ []) (length ys) ≡ Some e
+    at [] = refl
+    at (y ∷ ys) = at ys
+
+all_before : (xs : List Entry) (e : Entry) → IsStrictlySortedBy position_cmp (map (λ (x : Entry). x.position) (xs ++ e ∷ [])) → AllByRecursion (λ (x : Entry). position_cmp x.position e.position ≡ Less) xs
+unfolding IsStrictlySortedBy
+all_before [] e rise = tt
+all_before (x ∷ xs) e rise = (below xs rise.0, all_before xs e rise.1)
+  where
+    below : (ys : List Entry) → AllByRecursion (λ p. position_cmp x.position p ≡ Less) (map (λ (y : Entry). y.position) (ys ++ e ∷ [])) → position_cmp x.position e.position ≡ Less
+    below [] all = all.0
+    below (y ∷ ys) all = below ys all.1
+
+-- where positions rise, what comes after the last message is above all of the log
+pub above_last : (log : List Entry) → IsStrictlySortedBy position_cmp (map (λ (x : Entry). x.position) log) → IsAbove (last_position log) log
+above_last log rise = elim (ends log) [
+  | inl none ↦ subst (λ l. IsAbove (last_position l) l) (sym none) (λ p after. tt)
+  | inr some ↦ subst (λ l. IsAbove (last_position l) l) (sym some.2)
+      (subst (λ last. IsAbove last (some.0 ++ some.1 ∷ [])) (sym (last_is some.0 some.1)) (λ p less. all_below some.0 some.1 p (all_before some.0 some.1 (subst (λ l. IsStrictlySortedBy position_cmp (map (λ (x : Entry). x.position) l)) some.2 rise)) less))
+]
+
+-- what is above all of the log is above the last message
+pub after_last : (log : List Entry) → IsLast (last_position log) log
+after_last log = elim (ends log) [
+  | inl none ↦ subst (λ l. IsLast (last_position l) l) (sym none) (λ p all. tt)
+  | inr some ↦ subst (λ l. IsLast (last_position l) l) (sym some.2) (subst (λ last. IsLast last (some.0 ++ some.1 ∷ [])) (sym (last_is some.0 some.1)) (last_more some.0 some.1))
+]
 
 -- ---- a row that shows a message
 

@@ -19,11 +19,10 @@ use Rattle.delivery_machine.specs.Places.{AreBelow, KeptPlaces, KeptTopic, MayRe
 use Rattle.delivery_machine.specs.WellFormed.{AreMessagesOf, HaveOrdinals, IsSoundSubscription, IsWellFormedLog, NamesRise, has_message}
 use Rattle.delivery_machine.proofs.Messages.{either_way}
 use Rattle.delivery_machine.proofs.Ordinals.{letters_mapped}
-use Rattle.row_forms.specs.declared.raw_rows.RawRows.{RawRows}
-use Rattle.row_forms.specs.Changes.{with_topic}
-use Rattle.row_forms.specs.Forms.{AreAckRows, AreRowsOf, dead_rows, entry_rows, sub_rows}
+use Rattle.row_tables.specs.declared.side_rows.SideRows.{SideRows}
+use Rattle.row_forms.specs.Forms.{AreAckRows, AreRowsOf, dead_rows, sub_rows}
 use Rattle.row_reading.specs.declared.topic_row.Head.{Head}
-use Rattle.row_reading.specs.Reading.{AreSubsOf, IsHead, IsLetterOf, IsNamed, IsSubOf, put}
+use Rattle.row_reading.specs.Reading.{AreSubsOf, IsHeadIn, IsLetterOf, IsNamed, IsSubOf, put, rows_with}
 
 -- ---- what is acknowledged
 
@@ -68,13 +67,12 @@ may_restart own kept log short subs = record {
 abbrev pub of_parts : TopicName → Head → List Entry → List KeptPlaces → KeptTopic
 of_parts name head log subs = record { name = name; ledger_size = head.ledger_size; ledger = head.ledger; next_ordinal = head.next_ordinal; log = log; subscriptions = subs }
 
-pub rows_shown : (name : TopicName) (head : Head) (log : List Entry) (subs : List KeptPlaces) (raw : RawRows) (row : Row) → raw.topics.items ≡ row ∷ [] → IsHead row head
-    → ((topic : List ℕ) → put topic raw.entries.items ≡ entry_rows topic 0 log) → ((topic : List ℕ) → put topic raw.subs.items ≡ sub_rows topic subs)
-    → ((topic : List ℕ) → AreAckRows topic subs (put topic raw.acks.items)) → ((topic : List ℕ) → put topic raw.deads.items ≡ dead_rows topic log subs)
-    → AreRowsOf (of_parts name head log subs) (with_topic (topic_text name) raw)
-rows_shown name head log subs raw row one is entries own acks deads = record {
+pub rows_shown : (name : TopicName) (head : Head) (log : List Entry) (subs : List KeptPlaces) (sides : SideRows) → IsHeadIn sides.topics.items head → ((topic : List ℕ) → put topic sides.subs.items ≡ sub_rows topic subs)
+    → ((topic : List ℕ) → AreAckRows topic subs (put topic sides.acks.items)) → ((topic : List ℕ) → put topic sides.deads.items ≡ dead_rows topic log subs)
+    → AreRowsOf (of_parts name head log subs) (rows_with (topic_text name) log sides)
+rows_shown name head log subs sides (row, one, is) own acks deads = record {
   topics = ap (put (topic_text name)) one ∙ ap (λ (r : Row). (Words (topic_text name) ∷ r) ∷ []) is.shown;
-  entries = entries (topic_text name);
+  entries = refl;
   subs = own (topic_text name);
   acks = acks (topic_text name);
   deads = deads (topic_text name);

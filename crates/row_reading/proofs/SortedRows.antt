@@ -1,12 +1,15 @@
 -- Where a snapshot stands, the topic's rows as they are read are the snapshot's.
-use Rattle.std.proofs.Common.{◌≡◌, ℕ, ◌+◌, ◌<◌, inl, inr, List, [], ◌∷◌, map, take, drop, pos, Ordering, Less, Equal, refl, ap, sym, subst, ◌∙◌, arith}
+use Rattle.std.proofs.Common.{◌≡◌, ℕ, suc, ◌+◌, ◌-◌, ◌<◌, ◌≤◌, true, false, not, inl, inr, List, [], ◌∷◌, map, filter, take, drop, length, pos, Ordering, Less, Equal, refl, ap, sym, subst, ◌∙◌, arith}
 use Rattle.std.specs.Prelude.{IsPermutation}
-use Rattle.std.specs.List.{AllByRecursion}
-use Rattle.std.specs.Ordering.{int_cmp, on, ordering_then}
+use Rattle.std.specs.List.{AllByRecursion, list_any}
+use Rattle.std.specs.Ordering.{int_cmp, is_lt, on, ordering_then}
 use Rattle.std.specs.Cmp.{tied_itself}
+use Rattle.std.proofs.Math.Seq.{drop-nil, take-nil}
+use Rattle.std.proofs.lemmas.Bool.{cases_lt}
 use Rattle.std.proofs.lemmas.Bool.Decides.{nat_tests}
 use Rattle.std.proofs.lemmas.Cmp.{nat_list_cmp_total, on_total}
-use Rattle.std.proofs.lemmas.List.Sorted.{IsPermutation-sym, IsPermutation-trans}
+use Rattle.std.proofs.lemmas.List.Sorted.{IsPermutation-sym, IsPermutation-trans, list_any-IsPermutation}
+use Rattle.sqlite_trees.proofs.ListLemmas.{IsPermutation-filter}
 use Rattle.sqlite.specs.declared.types.Value.TheVariants.{Int, Text as Words}
 use Rattle.sqlite.specs.Order.{Row, row_cmp, value_cmp}
 use Rattle.sqlite_value.proofs.OrderLemmas.{row_cmp_total, value_cmp-Int, value_cmp-Text}
@@ -15,10 +18,14 @@ use Rattle.position_core.specs.Name.{name_order}
 use Rattle.position_core.specs.TopicName.{topic_text}
 use Rattle.delivery_machine.specs.State.{DeadLetter}
 use Rattle.delivery_machine.specs.Places.{KeptPlaces}
-use Rattle.row_forms.specs.Changes.{with_topic}
-use Rattle.row_forms.specs.Forms.{AreAckRows, ack_row, dead_row, dead_rows, entry_rows, sub_rows}
+use Rattle.row_forms.specs.Cells.{ENTRY}
+use Rattle.row_forms.specs.Standing.{HasIn}
+use Rattle.sqlite.specs.Tree.{Trees}
+use Rattle.row_forms.specs.Forms.{AreAckRows, ack_row, dead_row, dead_rows, entry_row, entry_rows, sub_rows}
 use Rattle.row_tables.specs.Ordered.{AreSortedBy}
-use Rattle.row_reading.specs.Reading.{put}
+use Rattle.row_tables.specs.Pieces.{ShowsWithin, has_others, is_below, is_within, messages_of}
+use Rattle.row_tables.proofs.TableLemmas.{filter_twice}
+use Rattle.row_reading.specs.Reading.{put, rows_with}
 use Rattle.row_reading.specs.KeyOrder.{BelowByName, BelowByNumber, BelowByPlace, InOrder}
 use Rattle.row_reading.specs.ReadRows.{WhatStandsIsRead}
 use Rattle.row_reading.proofs.Orders.{all_append, all_weaker}
@@ -110,21 +117,91 @@ deads_numbered topic log [] = tt
 deads_numbered topic log (sub ∷ subs) =
     all_append HasNumber (map (dead_row topic sub.name log) sub.dead) (dead_rows topic log subs) (letters_numbered topic sub.name log sub.dead) (deads_numbered topic log subs)
 
+-- ---- messages in pieces
+
+place_below : (topic : List ℕ) (place end : ℕ) (e : Entry) → place < end → is_below end (entry_row topic place e) ≡ true
+place_below topic place end e less = ap is_lt (numbers_below place end less)
+
+place_beyond : (topic : List ℕ) (place end : ℕ) (e : Entry) → end ≤ place → is_below end (entry_row topic place e) ≡ false
+place_beyond topic place end e more = ap is_lt (value_cmp-Int (pos place) (pos end)) ∙ ints
+  where
+    ints : is_lt (int_cmp (pos place) (pos end)) ≡ false
+    ints = grind (arith, nat_tests)
+
+below_are : (topic : List ℕ) (place end : ℕ) (log : List Entry) → filter (is_below end) (entry_rows topic place log) ≡ entry_rows topic place (take (end - place) log)
+below_are topic place end [] = ap (entry_rows topic place) (sym (take-nil (end - place)))
+below_are topic place end (e ∷ log) = elim (cases_lt place end) [
+  | inl less ↦
+      let next : end - place ≡ suc (end - (place + 1)) = omega (arith, less) in
+      rw (place_below topic place end e less, next) (ap (λ rows. entry_row topic place e ∷ rows) (below_are topic (place + 1) end log))
+  | inr more ↦
+      let none : end - place ≡ 0 = omega (arith, more) in
+      let none_later : end - (place + 1) ≡ 0 = omega (arith, more) in
+      rw (place_beyond topic place end e more, none) (below_are topic (place + 1) end log ∙ ap (λ n. entry_rows topic (place + 1) (take n log)) none_later)
+]
+
+beyond_are : (topic : List ℕ) (place from : ℕ) (log : List Entry) → filter (λ r. not (is_below from r)) (entry_rows topic place log) ≡ entry_rows topic (place + (from - place)) (drop (from - place) log)
+beyond_are topic place from [] = ap (entry_rows topic (place + (from - place))) (sym (drop-nil (from - place)))
+beyond_are topic place from (e ∷ log) = elim (cases_lt place from) [
+  | inl less ↦
+      let next : from - place ≡ suc (from - (place + 1)) = omega (arith, less) in
+      let same : place + 1 + (from - (place + 1)) ≡ place + suc (from - (place + 1)) = omega arith in
+      rw (place_below topic place from e less, next) (beyond_are topic (place + 1) from log ∙ ap (λ n. entry_rows topic n (drop (from - (place + 1)) log)) same)
+  | inr more ↦
+      let none : from - place ≡ 0 = omega (arith, more) in
+      let none_later : from - (place + 1) ≡ 0 = omega (arith, more) in
+      let same : place + 1 + 0 ≡ place + 1 = omega arith in
+      let here : place + 0 ≡ place = omega arith in
+      rw (place_beyond topic place from e more, none, here) (ap (λ rows. entry_row topic place e ∷ rows) (beyond_are topic (place + 1) from log ∙ ap (λ n. entry_rows topic (place + 1 + n) (drop n log)) none_later ∙ ap (λ n. entry_rows topic n log) same))
+]
+
+-- the rows of messages in a range of places are those of that piece of the log
+pub piece_is : (topic : List ℕ) (from end : ℕ) (log : List Entry) → filter (is_within from end) (entry_rows topic 0 log) ≡ entry_rows topic from (take (end - from) (drop from log))
+piece_is topic from end log =
+    let none : from - 0 ≡ from = omega arith in
+    let here : 0 + from ≡ from = omega arith in
+    sym (filter_twice (is_below end) (λ r. not (is_below from r)) (entry_rows topic 0 log))
+    ∙ ap (filter (is_below end)) (beyond_are topic 0 from log ∙ ap (λ n. entry_rows topic (0 + n) (drop n log)) none ∙ ap (λ n. entry_rows topic n (drop from log)) here)
+    ∙ below_are topic from end (drop from log)
+
+pub none_beyond : (topic : List ℕ) (place end : ℕ) (log : List Entry) → place + length log ≤ end → list_any (λ r. not (is_within 0 end r)) (entry_rows topic place log) ≡ false
+none_beyond topic place end [] within = refl
+none_beyond topic place end (e ∷ log) within = rw (place_beyond topic place 0 e (omega arith), place_below topic place end e (omega (arith, within))) (none_beyond topic (place + 1) end log (omega (arith, within)))
+
+-- a piece of the topic's messages, in the order of their places, is that piece of the log
+pub piece_read : (topic : List ℕ) (log : List Entry) (db : Trees) (from end : ℕ) (rows : List Row) → HasIn ENTRY topic (entry_rows topic 0 log) db → ShowsWithin topic from end rows db → AreSortedBy 1 rows
+    → put topic rows ≡ entry_rows topic from (take (end - from) (drop from log))
+piece_read topic log db from end rows has shows sorted =
+    let piece : List Entry = take (end - from) (drop from log) in
+    let those : IsPermutation (entry_rows topic from piece) (filter (is_within from end) (messages_of topic db)) =
+    subst (λ l. IsPermutation l (filter (is_within from end) (messages_of topic db))) (piece_is topic from end log) (IsPermutation-filter (is_within from end) (entry_rows topic 0 log) (messages_of topic db) has) in
+    sym (read_are topic 1 (entry_rows topic from piece) rows (order_weaker BelowByPlace (BelowBy 1) HasPlace by_place _ (entries_placed topic from piece) (entries_in_order topic from piece)) sorted
+    (IsPermutation-trans _ _ _ those (IsPermutation-sym _ _ shows)))
+
+-- no message stands beyond the log
+pub none_others : (topic : List ℕ) (log : List Entry) (db : Trees) (end : ℕ) → HasIn ENTRY topic (entry_rows topic 0 log) db → length log ≤ end → has_others topic end db ≡ false
+none_others topic log db end has short =
+    sym (list_any-IsPermutation (λ r. not (is_within 0 end r)) (entry_rows topic 0 log) (messages_of topic db) has) ∙ none_beyond topic 0 end log (omega (arith, short))
+
 -- ---- what is read
 
 pub what_stands_is_read : WhatStandsIsRead
-what_stands_is_read kept raw db told (mine, are, has) there sorted =
+what_stands_is_read kept db told (mine, are, has) =
     let topic : List ℕ = topic_text kept.name in
     let tell = are_tellable kept told in
-    let entries = entries_in_order topic 0 kept.log in
+    let messages : HasIn ENTRY topic (entry_rows topic 0 kept.log) db = subst (λ l. HasIn ENTRY topic l db) are.entries has.entries in
     let subs = subs_in_order topic kept.subscriptions tell.names in
     let acks = acks_in_order topic kept.subscriptions mine.acks tell.names are.acks in
     let deads = deads_in_order topic kept.log kept.subscriptions tell.names (all_weaker (IsTellable kept.log) _ (λ sub t. t.dead) kept.subscriptions tell.each) in
-    in_order_are_its kept (with_topic topic raw) db told (mine, are, has) there record {
-      entries = subst (InOrder BelowByPlace) (read_are topic 1 _ raw.entries.items (order_weaker BelowByPlace (BelowBy 1) HasPlace by_place _ (entries_placed topic 0 kept.log) entries) sorted.entries (same _ _ _ _ are.entries has.entries there.entries)) entries;
-      subs = subst (InOrder BelowByName) (read_are topic 1 _ raw.subs.items (order_weaker BelowByName (BelowBy 1) HasName by_name _ (subs_named topic kept.subscriptions) subs) sorted.subs (same _ _ _ _ are.subs has.subs there.subs)) subs;
-      acks = subst (InOrder BelowByNumber) (read_are topic 2 _ raw.acks.items (order_weaker BelowByNumber (BelowBy 2) HasNumber by_number _ (acks_numbered topic kept.subscriptions mine.acks are.acks) acks) sorted.acks (same _ _ _ _ refl has.acks there.acks)) acks;
-      deads = subst (InOrder BelowByNumber) (read_are topic 2 _ raw.deads.items (order_weaker BelowByNumber (BelowBy 2) HasNumber by_number _ (deads_numbered topic kept.log kept.subscriptions) deads) sorted.deads (same _ _ _ _ are.deads has.deads there.deads)) deads;
+    record {
+      pieces = λ from end rows within shows sorted. piece_read topic kept.log db from end rows messages shows sorted;
+      others = λ end short. none_others topic kept.log db end messages short;
+      sides = λ sides these sorted. in_order_are_its kept (rows_with topic kept.log sides) db told (mine, are, has) (record { topics = these.topics; entries = messages; subs = these.subs; acks = these.acks; deads = these.deads }) record {
+        entries = entries_in_order topic 0 kept.log;
+        subs = subst (InOrder BelowByName) (read_are topic 1 _ sides.subs.items (order_weaker BelowByName (BelowBy 1) HasName by_name _ (subs_named topic kept.subscriptions) subs) sorted.subs (same _ _ _ _ are.subs has.subs these.subs)) subs;
+        acks = subst (InOrder BelowByNumber) (read_are topic 2 _ sides.acks.items (order_weaker BelowByNumber (BelowBy 2) HasNumber by_number _ (acks_numbered topic kept.subscriptions mine.acks are.acks) acks) sorted.acks (same _ _ _ _ refl has.acks these.acks)) acks;
+        deads = subst (InOrder BelowByNumber) (read_are topic 2 _ sides.deads.items (order_weaker BelowByNumber (BelowBy 2) HasNumber by_number _ (deads_numbered topic kept.log kept.subscriptions) deads) sorted.deads (same _ _ _ _ are.deads has.deads these.deads)) deads;
+      };
     }
   where
     same : (mine xs ys all : List Row) → mine ≡ xs → IsPermutation mine all → IsPermutation ys all → IsPermutation xs ys

@@ -16,12 +16,12 @@ use Rattle.delivery_machine.specs.Snapshot.{KeptSubscription}
 use Rattle.delivery_machine.specs.Places.{AreBelow, KeptPlaces, KeptTopic, kept_in}
 use Rattle.delivery_machine.specs.WellFormed.{AreDeadLettersOf, HaveOrdinals, IsSoundSubscription, NamesRise, has_message}
 use Rattle.delivery_machine.proofs.Ordinals.{letters_mapped}
-use Rattle.row_forms.specs.declared.raw_rows.RawRows.{RawRows}
-use Rattle.row_forms.specs.Changes.{with_topic}
+use Rattle.row_tables.specs.declared.side_rows.SideRows.{SideRows}
 use Rattle.row_forms.specs.Forms.{AreAckRows, AreRowsOf, dead_rows, entry_rows, sub_rows, topic_row}
 use Rattle.row_reading.specs.declared.topic_row.Head.{Head}
-use Rattle.row_reading.specs.Reading.{IsHead, IsNamed, IsReadBack, IsReadable, IsReadableSub, ShowLog, ShowSubs, put}
+use Rattle.row_reading.specs.Reading.{IsHead, IsNamed, IsReadBack, IsReadable, IsReadableLog, IsReadableSub, ShowSubs, put, rows_with}
 use Rattle.row_reading.proofs.Restarts.{same_names}
+use Rattle.row_reading.proofs.Told.{same_log}
 
 -- ---- the topic's own row
 
@@ -111,17 +111,16 @@ subs_readable own log next (sub ∷ subs) a b c d e f =
       subs_readable own log next subs a.1 b.1 c.1 d.1 e.1 parts.1,
     )
 
-pub show_log : (kept : KeptTopic) (own : TopicName) (raw : RawRows) → IsReadBack kept → kept.name ≡ own → AreRowsOf kept (with_topic (topic_text own) raw) → ShowLog kept.ledger_size kept.ledger (topic_text own) kept.log raw.entries.items
-show_log kept own raw back name rows = record {
-  size = back.size;
-  each = back.messages;
-  sound = back.may.sound.log;
-  shown = rows.entries ∙ ap (λ t. entry_rows (topic_text t) 0 kept.log) name;
-}
+pub readable_log : (kept : KeptTopic) → IsReadBack kept → IsReadableLog kept.ledger_size kept.ledger kept.log
+readable_log kept back = record { size = back.size; each = back.messages; sound = back.may.sound.log; short = back.may.short }
 
-pub show_subs : (kept : KeptTopic) (own : TopicName) (raw : RawRows) → IsReadBack kept → kept.name ≡ own → AreRowsOf kept (with_topic (topic_text own) raw)
-    → ShowSubs own kept.log kept.next_ordinal (topic_text own) kept.subscriptions raw.subs.items raw.acks.items raw.deads.items
-show_subs kept own raw back name rows =
+-- the messages that were read are the snapshot's
+pub its_log : (kept : KeptTopic) (own : TopicName) (log : List Entry) (sides : SideRows) → kept.name ≡ own → AreRowsOf kept (rows_with (topic_text own) log sides) → log ≡ kept.log
+its_log kept own log sides name rows = same_log (topic_text own) 0 log kept.log (rows.entries ∙ ap (λ t. entry_rows (topic_text t) 0 kept.log) name)
+
+pub show_subs : (kept : KeptTopic) (own : TopicName) (log : List Entry) (sides : SideRows) → IsReadBack kept → kept.name ≡ own → AreRowsOf kept (rows_with (topic_text own) log sides)
+    → ShowSubs own kept.log kept.next_ordinal (topic_text own) kept.subscriptions sides.subs.items sides.acks.items sides.deads.items
+show_subs kept own log sides back name rows =
     let subs : List KeptPlaces = kept.subscriptions in
     let targets : All (λ (sub : KeptPlaces). All (λ (d : DeadLetter). IsNamed d.target × (same_topic d.target own ≡ false)) sub.dead) subs =
     subst (λ t. All (λ (sub : KeptPlaces). All (λ (d : DeadLetter). IsNamed d.target × (same_topic d.target t ≡ false)) sub.dead) subs) name back.told.targets in
@@ -134,6 +133,6 @@ show_subs kept own raw back name rows =
           (recursion_from_All _ subs targets) (recursion_from_All _ subs back.texts) (recursion_from_All _ (flat_map (λ (sub : KeptPlaces). sub.dead) subs) ordinals.below));
       ordinals = ordinals;
       shown = rows.subs ∙ ap (λ t. sub_rows (topic_text t) subs) name;
-      runs = subst (λ t. AreAckRows (topic_text t) subs (put (topic_text own) raw.acks.items)) name rows.acks;
+      runs = subst (λ t. AreAckRows (topic_text t) subs (put (topic_text own) sides.acks.items)) name rows.acks;
       letters = rows.deads ∙ ap (λ t. dead_rows (topic_text t) kept.log subs) name;
     }

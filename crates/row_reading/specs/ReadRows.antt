@@ -1,15 +1,25 @@
 -- What stands of a topic is what is read of it.
+use Rattle.std.specs.Prelude.{◌≡◌, ◌≤◌, ◌-◌, ℕ, List, length, take, drop, false}
+use Rattle.sqlite.specs.Order.{Row}
 use Rattle.sqlite.specs.Tree.{Trees}
 use Rattle.position_core.specs.TopicName.{topic_text}
 use Rattle.delivery_machine.specs.Places.{KeptTopic}
-use Rattle.row_forms.specs.declared.raw_rows.RawRows.{RawRows}
-use Rattle.row_forms.specs.Changes.{with_topic}
-use Rattle.row_forms.specs.Forms.{AreRowsOf}
-use Rattle.row_forms.specs.Standing.{Has, Stands}
-use Rattle.row_tables.specs.Ordered.{AreSorted}
+use Rattle.row_forms.specs.Forms.{AreRowsOf, entry_rows}
+use Rattle.row_forms.specs.Standing.{Stands}
+use Rattle.row_tables.specs.declared.side_rows.SideRows.{SideRows}
+use Rattle.row_tables.specs.Ordered.{AreSortedBy}
+use Rattle.row_tables.specs.Pieces.{ShowsWithin, has_others}
+use Rattle.row_tables.specs.Sides.{AreSidesOf, AreSorted}
+use Rattle.row_reading.specs.Reading.{put, rows_with}
 use Rattle.row_reading.specs.Telling.{IsTold}
 
--- where a snapshot stands, the topic's rows in the database, read in the order of their keys, are the snapshot's
+-- what is read in the order of keys is the snapshot's: each piece of the messages is that piece of its log, none stands beyond the
+-- log, and the rows beside them are its own
+pub record IsWhatIsRead (kept : KeptTopic) (topic : List ℕ) (db : Trees) : Type 0 where
+  pub pieces : (from end : ℕ) (rows : List Row) → from ≤ end → ShowsWithin topic from end rows db → AreSortedBy 1 rows → put topic rows ≡ entry_rows topic from (take (end - from) (drop from kept.log))
+  pub others : (end : ℕ) → length kept.log ≤ end → has_others topic end db ≡ false
+  pub sides : (sides : SideRows) → AreSidesOf topic db sides → AreSorted sides → AreRowsOf kept (rows_with topic kept.log sides)
+
+-- where a snapshot stands, it is what is read of its topic
 abbrev pub WhatStandsIsRead : Type 0
-WhatStandsIsRead =
-    (kept : KeptTopic) (raw : RawRows) (db : Trees) → IsTold kept → Stands kept db → Has (topic_text kept.name) (with_topic (topic_text kept.name) raw) db → AreSorted raw → AreRowsOf kept (with_topic (topic_text kept.name) raw)
+WhatStandsIsRead = (kept : KeptTopic) (db : Trees) → IsTold kept → Stands kept db → IsWhatIsRead kept (topic_text kept.name) db

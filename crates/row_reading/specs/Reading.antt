@@ -1,5 +1,5 @@
 -- Rows as they are read: each without the topic's text, which is put before it.
-use Rattle.std.specs.Prelude.{◌≡◌, ◌==◌, ℕ, ◌+◌, ◌^◌, ◌<◌, ◌≤◌, ◌≤ℤ◌, false, cond, Option, IfSome, IsTrue, IsUtf8, List, [], ◌∷◌, ◌++◌, map, length, pos}
+use Rattle.std.specs.Prelude.{◌≡◌, ◌==◌, ℕ, ◌+◌, ◌^◌, ◌<◌, ◌≤◌, ◌≤ℤ◌, false, cond, ◌-◌, Option, option_map, slice_get, IfSome, IsTrue, IsUtf8, List, [], ◌∷◌, ◌++◌, map, length, pos}
 use Rattle.std.specs.List.{All, count_by, flat_map}
 use Rattle.std.specs.FinSet as set
 use Rattle.std.specs.Ordering.{nat_cmp}
@@ -18,7 +18,8 @@ use Rattle.delivery_machine.specs.Places.{AreBelow, KeptPlaces, KeptTopic, MayRe
 use Rattle.delivery_machine.specs.WellFormed.{AreDeadLettersOf, HaveOrdinals, IsWellFormedLog, NamesRise, has_message}
 use Rattle.ack_ranges.specs.Ranges.{AreRangesOf}
 use Rattle.json_values.specs.Written.{AreProperties}
-use Rattle.row_forms.specs.Forms.{AreAckRows, ack_row, dead_row, dead_rows, entry_row, entry_rows, sub_rows}
+use Rattle.row_tables.specs.declared.side_rows.SideRows.{SideRows}
+use Rattle.row_forms.specs.Forms.{TopicRows, AreAckRows, ack_row, dead_row, dead_rows, entry_row, entry_rows, sub_rows}
 use Rattle.row_reading.specs.declared.topic_row.Head.{Head}
 
 -- the rows of the topic
@@ -30,6 +31,10 @@ pub record IsHead (row : Row) (head : Head) : Type 0 where
   pub shown : row ≡ Int (pos head.ledger_size) ∷ Int (pos head.ledger) ∷ Int (pos head.next_ordinal) ∷ []
   pub last_ledger : head.ledger ≤ 2 ^ 62 + 1
   pub last_ordinal : head.next_ordinal ≤ 2 ^ 62
+
+-- the topic has one row of its own, and this is what it says
+abbrev pub IsHeadIn : List Row → Head → Type 0
+IsHeadIn rows head = (row : Row) × (rows ≡ row ∷ []) × IsHead row head
 
 -- a size of ledgers that a topic may have
 abbrev pub IsLedgerSize : ℕ → Type 0
@@ -61,12 +66,20 @@ pub record IsReadableMessage (e : Entry) : Type 0 where
   pub time : e.time ≤ 253402300799999
   pub content : IsContent e.body
 
--- rows of messages that are read
-pub record ShowLog (ledger_size ledger : ℕ) (topic : List ℕ) (log : List Entry) (rows : List Row) : Type 0 where
+-- a log that is read: its messages are, the topic may have it, and ledgers have such a size
+pub record IsReadableLog (ledger_size ledger : ℕ) (log : List Entry) : Type 0 where
   pub size : IsLedgerSize ledger_size
   pub each : All IsReadableMessage log
   pub sound : IsWellFormedLog ledger_size ledger log
-  pub shown : put topic rows ≡ entry_rows topic 0 log
+  pub short : length log ≤ 1048576
+
+-- the first messages are those, and the rows are those of the others
+abbrev pub GoOn : List Entry → List Row → List Entry → Type 0
+GoOn came rows log = (topic : List ℕ) → entry_rows topic 0 came ++ put topic rows ≡ entry_rows topic 0 log
+
+-- the position of the last message, if there is one
+abbrev pub last_position : List Entry → Option Position
+last_position log = option_map (λ (e : Entry). e.position) (slice_get log (length log - 1))
 
 -- the row of a run, given by its first place and its last
 abbrev pub IsRunAt : List ℕ → Row → ℕ → ℕ → Type 0
@@ -174,6 +187,28 @@ pub record ShowSubs (own : TopicName) (log : List Entry) (next : ℕ) (topic : L
 -- each message's sequence number is 0 or more
 abbrev pub CountFromZero : List Entry → Type 0
 CountFromZero log = All (λ e. pos 0 ≤ℤ e.sequence) log
+
+-- what was read of a topic so far: what its own row says, and its first messages
+pub record ReadSoFar : Type 0 where
+  pub head : Head
+  pub log : List Entry
+
+-- a topic may have what was read so far
+pub record IsSoFar (head : Head) (log : List Entry) : Type 0 where
+  pub ordinal : head.next_ordinal ≤ 2 ^ 62
+  pub sound : IsWellFormedLog head.ledger_size head.ledger log
+  pub sequences : CountFromZero log
+  pub short : length log ≤ 1048576
+
+-- the rows of a topic with these messages, and with these rows beside them
+abbrev pub rows_with : List ℕ → List Entry → SideRows → TopicRows
+rows_with topic log sides = record {
+  topics = put topic sides.topics.items;
+  entries = entry_rows topic 0 log;
+  subs = put topic sides.subs.items;
+  acks = put topic sides.acks.items;
+  deads = put topic sides.deads.items;
+}
 
 -- sequence numbers are 0 or more, subscriptions are at most 64, and dead letters go to other topics, which have names
 pub record MayBeTold (kept : KeptTopic) : Type 0 where

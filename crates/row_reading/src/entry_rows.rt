@@ -1,21 +1,19 @@
 // The rows of messages.
 ghost use Rattle.std.specs.Prelude.{◌≡◌, ◌≤◌, ◌<◌, ◌^◌, ◌+◌, [], ◌++◌, ◌∷◌, pos, ℕ, ℤ, List, Option, length, IfNone, IfOk, IfSome, option_map, string_bytes, IsTrue, map, FitsSigned, ◌≤ℤ◌};
 ghost use Rattle.std.specs.Int.{w64};
+ghost use Rattle.std.specs.Option.{option_copied};
 ghost use Rattle.position_core.specs.declared.message.Entry.{Entry};
 ghost use Rattle.position_core.specs.Position.{position_cmp};
 ghost use Rattle.sqlite.specs.declared.types.Value.TheVariants.{Int, Text as Words, Blob as Octets};
 ghost use Rattle.sqlite.specs.Order.{column};
-ghost use Rattle.log_pieces.specs.Pieces.{joined};
-ghost use Rattle.delivery_machine.specs.WellFormed.{IsWellFormedLog};
 ghost use Rattle.json_values.specs.Written.{AreProperties};
-ghost use Rattle.row_forms.specs.Forms.{entry_rows, key_cells};
+ghost use Rattle.row_forms.specs.Forms.{key_cells};
 ghost use Rattle.row_forms.specs.Properties.{properties_text};
-ghost use Rattle.row_reading.specs.Reading.{AreTexts, CountFromZero, IsEntryAt, IsNext, IsReadableMessage, IsText, ShowLog, put};
+ghost use Rattle.row_reading.specs.Reading.{AreTexts, IsEntryAt, IsNext, IsReadableMessage, IsText};
 
 use crate::cells::{bytes_at, number_at, text_at, whole_at};
 use crate::topic_row::Head;
 use json_values::properties_in;
-use log_pieces::Pieces;
 use position_core::{
     Body, Content, Entry, Key, Message, Moment, Payload, Position, ProducerName, Properties,
 };
@@ -23,20 +21,38 @@ use sqlite::Row;
 use std::alloc::{AllocError, Global};
 use std::sync::ArcStr;
 
-/// How many messages a log has at most.
-const MOST: usize = 1_048_576;
-
 /// The last ledger of a message.
 const LAST_LEDGER: u64 = 4_611_686_018_427_387_904;
 
-fn producer_at(alloc: Global, row: &Row, at: usize) -> Result<Option<ProducerName>, AllocError>
+/// The name, where it is this text.
+fn same_name<'a>(before: Option<&'a ProducerName>, text: &str) -> Option<&'a ProducerName>
+    ensures { IfSome result (λ name. name.now ≡ text.now) }
+{
+    let name = before?;
+    if name.as_str() == text {
+        Some(name)
+    } else {
+        None
+    }
+}
+
+/// The producer's name. Where it is that of the message before, it is shared with that message.
+fn producer_at(
+    alloc: Global,
+    row: &Row,
+    at: usize,
+    before: Option<&ProducerName>,
+) -> Result<Option<ProducerName>, AllocError>
     ensures shown { IfOk result (λ found. IfSome found (λ name. column row.now at ≡ Words name)) }
     ensures all_read { IfOk result (λ found. IfNone found ((name : List ℕ) → IsText 1 1280 name → column row.now at ≡ Words name → ⊥)) }
 {
     let Some(text) = text_at(row, at) else {
         return Ok(None);
     };
-    Ok(ProducerName::new(ArcStr::from_str(alloc, text)?))
+    match same_name(before, text) {
+        Some(name) => Ok(Some(name.clone()?)),
+        None => Ok(ProducerName::new(ArcStr::from_str(alloc, text)?)),
+    }
 }
 
 fn key_of(alloc: Global, text: &str) -> Result<Option<Key>, AllocError>
@@ -163,8 +179,13 @@ fn entry_of(
     }
 }
 
-/// The message that the row shows at this place.
-fn entry_in(alloc: Global, row: &Row, place: u64) -> Result<Option<Entry>, AllocError>
+/// The message that the row shows at this place, and the producer of the one before.
+fn entry_in(
+    alloc: Global,
+    row: &Row,
+    place: u64,
+    before: Option<&ProducerName>,
+) -> Result<Option<Entry>, AllocError>
     ensures shown { IfOk result (λ found. IfSome found (IsEntryAt place row.now)) }
     ensures from_zero { IfOk result (λ found. IfSome found (λ e. pos 0 ≤ℤ e.sequence)) }
     ensures all_read { IfOk result (λ found. IfNone found ((e : Entry) → IsReadableMessage e → IsEntryAt place row.now e → ⊥)) }
@@ -175,7 +196,7 @@ fn entry_in(alloc: Global, row: &Row, place: u64) -> Result<Option<Entry>, Alloc
     let Some(position) = position_at(row) else {
         return Ok(None);
     };
-    let Some(producer) = producer_at(alloc, row, 3)? else {
+    let Some(producer) = producer_at(alloc, row, 3, before)? else {
         return Ok(None);
     };
     let Some(sequence) = sequence_at(row) else {
@@ -206,77 +227,36 @@ fn may_follow(last: Option<Position>, position: Position, head: &Head) -> bool
         && position.entry < u64::from(head.ledger_size.get())
 }
 
-/// The message that the row shows at this place, if it may come after the last one.
-fn next_in(
+/// The position and the producer of a message, if there is one.
+fn parts_of(message: Option<&Message>) -> (Option<Position>, Option<&ProducerName>)
+    ensures { result.0 ≡ option_map (λ e. e.position) (option_copied message.entry) }
+{
+    match message {
+        Some(message) => (Some(message.position()), Some(&message.entry().producer)),
+        None => (None, None),
+    }
+}
+
+/// The message that the row shows at this place, if it may come after the one before.
+pub(crate) fn next_in(
     alloc: Global,
     row: &Row,
     place: u64,
-    last: Option<Position>,
+    before: Option<&Message>,
     head: &Head,
 ) -> Result<Option<Message>, AllocError>
     ensures shown { IfOk result (λ found. IfSome found (IsEntryAt place row.now)) }
     ensures from_zero { IfOk result (λ found. IfSome found (λ e. pos 0 ≤ℤ e.sequence)) }
-    ensures next { IfOk result (λ found. IfSome found (λ e. IsNext head.now.ledger_size head.now.ledger last e.position)) }
-    ensures all_read { IfOk result (λ found. IfNone found ((e : Entry) → IsReadableMessage e → IsEntryAt place row.now e → IsNext head.now.ledger_size head.now.ledger last e.position → ⊥)) }
+    ensures next { IfOk result (λ found. IfSome found (λ e. IsNext head.now.ledger_size head.now.ledger (option_map (λ e. e.position) (option_copied before.entry)) e.position)) }
+    ensures all_read { IfOk result (λ found. IfNone found ((e : Entry) → IsReadableMessage e → IsEntryAt place row.now e → IsNext head.now.ledger_size head.now.ledger (option_map (λ e. e.position) (option_copied before.entry)) e.position → ⊥)) }
 {
-    match entry_in(alloc, row, place)? {
+    let (last, producer) = parts_of(before);
+    match entry_in(alloc, row, place, producer)? {
         Some(entry) => if may_follow(last, entry.position, head) {
             Ok(Some(Message::new(alloc, entry)?))
         } else {
             Ok(None)
         },
         None => Ok(None),
-    }
-}
-
-/// Puts the messages that the rows show into the empty log, and says whether each row is the next message's.
-fn put_rows(alloc: Global, rows: &[Row], head: &Head, log: &mut Pieces) -> Result<bool, AllocError>
-    requires empty { joined log.old ≡ [] }
-    requires few { length rows.now ≤ 1048576 }
-    requires ledger { head.now.ledger ≤ 2 ^ 62 + 1 }
-    ensures rows { IfOk result (λ whole. IsTrue whole → (topic : List ℕ) → put topic rows.now ≡ entry_rows topic 0 (joined log.new)) }
-    ensures from_zero { IfOk result (λ whole. IsTrue whole → CountFromZero (joined log.new)) }
-    ensures log { IfOk result (λ whole. IsTrue whole → IsWellFormedLog head.now.ledger_size head.now.ledger (joined log.new)) }
-    ensures short { IfOk result (λ whole. IsTrue whole → length (joined log.new) ≤ 1048576) }
-    ensures all_read { IfOk result (λ whole. (topic : List ℕ) (all : List Entry) → ShowLog head.now.ledger_size head.now.ledger topic all rows.now → IsTrue whole) }
-{
-    let mut last = None;
-    let mut place = 0u64;
-    'rows: for row in rows {
-        match next_in(alloc, row, place, last, head)? {
-            Some(message) => {
-                last = Some(message.position());
-                log.push(alloc, message)?;
-                place += 1;
-            }
-            None => return Ok(false),
-        }
-    }
-    Ok(true)
-}
-
-/// The log that the rows show, if each is the next message's.
-pub(crate) fn log_in(alloc: Global, rows: &[Row], head: Head) -> Result<Option<Pieces>, AllocError>
-    requires { head.ledger ≤ 2 ^ 62 + 1 }
-    ensures rows { IfOk result (λ found. IfSome found (λ log. (topic : List ℕ) → put topic rows.now ≡ entry_rows topic 0 (joined log))) }
-    ensures from_zero { IfOk result (λ found. IfSome found (λ log. CountFromZero (joined log))) }
-    ensures log { IfOk result (λ found. IfSome found (λ log. IsWellFormedLog head.ledger_size head.ledger (joined log))) }
-    ensures short { IfOk result (λ found. IfSome found (λ log. length (joined log) ≤ 1048576)) }
-    ensures all_read { IfOk result (λ found. IfNone found ((topic : List ℕ) (all : List Entry) → length all ≤ 1048576 → ShowLog head.ledger_size head.ledger topic all rows.now → ⊥)) }
-{
-    if rows.len() > MOST {
-        return Ok(None);
-    }
-    let mut log = Pieces::new(alloc);
-    match put_rows(alloc, rows, &head, &mut log) {
-        Ok(true) => Ok(Some(log)),
-        Ok(false) => {
-            drop(log);
-            Ok(None)
-        }
-        Err(e) => {
-            drop(log);
-            Err(e)
-        }
     }
 }

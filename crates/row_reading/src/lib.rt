@@ -7,8 +7,9 @@ mod dead_rows;
 mod entry_rows;
 mod kept_subs;
 pub mod laws;
+mod log_reader;
 mod snapshot;
 mod sub_rows;
 mod topic_row;
 
-pub use snapshot::snapshot_in;
+pub use log_reader::LogReader;

@@ -13,5 +13,5 @@ returns-else-may_follow-clause-all_read c =
     let found : Entry = c.in-Some.entry in
     let there : IsEntryAt c.args.place c.args.row.now found = rw c.in-Some.is at c.in_ok-entry.ensures.shown in
     let same : e.position ≡ found.position = one_position c.args.row.now c.args.place e found shown there in
-    let yes : c.may_follow.result ≡ true = c.may_follow.ensures.all_follow (subst (λ p. IsNext c.args.head.now.ledger_size c.args.head.now.ledger c.args.last p) same next) in
+    let yes : c.may_follow.result ≡ true = c.may_follow.ensures.all_follow (subst (λ p. IsNext c.args.head.now.ledger_size c.args.head.now.ledger c.parts_of-last.result.0 p) same (subst (λ l. IsNext c.args.head.now.ledger_size c.args.head.now.ledger l e.position) (sym c.parts_of-last.ensures) next)) in
     true≢false (sym yes ∙ c.if-may_follow.false)
