@@ -5,3 +5,4 @@ pub mod Storing
 pub mod Deletions
 pub mod Living
 pub mod Unfound
+pub mod Messages

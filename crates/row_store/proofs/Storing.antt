@@ -13,11 +13,16 @@ use Rattle.sqlite.specs.State.{State, HasCleanDisk, Survives}
 use Rattle.sqlite.specs.Held.{Held, state}
 use Rattle.sqlite.proofs.StateLemmas.{survives_weaker}
 use Rattle.delivery_machine.specs.Places.{KeptTopic}
-use Rattle.row_forms.specs.Cells.{TOPIC, ENTRY, SUB, ACK, DEAD}
-use Rattle.row_forms.specs.Changes.{with_topic}
+use Rattle.position_core.specs.declared.message.Entry.{Entry}
+use Rattle.row_forms.specs.Cells.{TOPIC, SUB, ACK, DEAD}
 use Rattle.row_forms.specs.Forms.{TopicRows, AreRowsOf, no_rows}
 use Rattle.row_forms.specs.Standing.{Has, HasIn, HasNone, Stands}
-use Rattle.row_forms.specs.declared.raw_rows.RawRows.{RawRows}
+use Rattle.row_tables.specs.declared.side_rows.SideRows.{SideRows}
+use Rattle.row_tables.specs.Pieces.{has_others}
+use Rattle.row_tables.specs.Sides.{AreSidesOf}
+use Rattle.row_reading.specs.Reading.{rows_with}
+use Rattle.row_store.specs.Found.{HasLog}
+use Rattle.row_store.proofs.Messages.{all_below, none_below}
 use Rattle.row_tables.specs.Goes.{Saves}
 use Rattle.row_tables.specs.Ready.{IsReady}
 use Rattle.row_rounds.specs.declared.saving.Write.{Write}
@@ -125,23 +130,24 @@ left_from old new kepts settled survives shown clean db may = by (survives.crash
     by (inr all) = inr all.1
 
 -- the rows that were read of the topic are those of the snapshot that they show
-pub read_stands : (kept : KeptTopic) (name : TopicName) (text : List ℕ) (raw : RawRows) (db : Trees) → text ≡ topic_text name → kept.name ≡ name → AreRowsOf kept (with_topic (topic_text name) raw) → Has text (with_topic text raw) db → Stands kept db
-read_stands kept name text raw db is same are read = (
-  with_topic (topic_text name) raw,
+pub read_stands : (kept : KeptTopic) (name : TopicName) (text : List ℕ) (log : List Entry) (sides : SideRows) (db : Trees) → text ≡ topic_text name → kept.name ≡ name → AreRowsOf kept (rows_with (topic_text name) log sides) → AreSidesOf text db sides → HasLog text log db → Stands kept db
+read_stands kept name text log sides db is same are these messages = (
+  rows_with (topic_text name) log sides,
   are,
-  subst (λ (n : TopicName). Has (topic_text n) (with_topic (topic_text name) raw) db) (sym same) (subst (λ t. Has t (with_topic t raw) db) is read),
+  subst (λ (n : TopicName). Has (topic_text n) (rows_with (topic_text name) log sides) db) (sym same)
+      (subst (λ t. Has t (rows_with t log sides) db) is (record { topics = these.topics; entries = messages; subs = these.subs; acks = these.acks; deads = these.deads })),
 )
 
 -- where none was read there is none
-pub none_read : (name : TopicName) (text : List ℕ) (raw : RawRows) (db : Trees) → text ≡ topic_text name
-    → (raw.topics.items ≡ []) × (raw.entries.items ≡ []) × (raw.subs.items ≡ []) × (raw.acks.items ≡ []) × (raw.deads.items ≡ []) → Has text (with_topic text raw) db → HasNone (topic_text name) db
-none_read name text raw db is none read =
+pub none_read : (name : TopicName) (text : List ℕ) (sides : SideRows) (db : Trees) → text ≡ topic_text name → (sides.topics.items ≡ []) × (sides.subs.items ≡ []) × (sides.acks.items ≡ []) × (sides.deads.items ≡ [])
+    → AreSidesOf text db sides → has_others text 0 db ≡ false → HasNone (topic_text name) db
+none_read name text sides db is none these no_others =
     let put : List Row → List Row = map (λ (r : Row). Words text ∷ r) in
     let here : Has text no_rows db = record {
-      topics = subst (λ l. HasIn TOPIC text (put l) db) none.0 read.topics;
-      entries = subst (λ l. HasIn ENTRY text (put l) db) none.1 read.entries;
-      subs = subst (λ l. HasIn SUB text (put l) db) none.2 read.subs;
-      acks = subst (λ l. HasIn ACK text (put l) db) none.3 read.acks;
-      deads = subst (λ l. HasIn DEAD text (put l) db) none.4 read.deads;
+      topics = subst (λ l. HasIn TOPIC text (put l) db) none.0 these.topics;
+      entries = all_below text 0 [] db (none_below text db) no_others;
+      subs = subst (λ l. HasIn SUB text (put l) db) none.1 these.subs;
+      acks = subst (λ l. HasIn ACK text (put l) db) none.2 these.acks;
+      deads = subst (λ l. HasIn DEAD text (put l) db) none.3 these.deads;
     } in
     subst (λ t. Has t no_rows db) is here

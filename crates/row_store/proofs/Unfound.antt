@@ -1,25 +1,29 @@
 -- Where the reader finds no snapshot, none that is read back stands; and one that stands is what it finds.
-use Rattle.std.proofs.Common.{◌≡◌, Option, None, Some, MatchOption, Result, Ok, Err, IfOk, IfSome, [], length, refl, sym, subst, ap, ◌∙◌, arith, inl, inr}
-use Rattle.std.specs.Prelude.{IfNone, false, ℕ}
+use Rattle.std.proofs.Common.{◌≡◌, true≢false, MatchOption, [], length, sym, subst, ap, ◌∙◌, arith, inl, inr}
+use Rattle.std.specs.Prelude.{IsTrue, Bool, false, ℕ, List, ◌∷◌}
 use Rattle.std.specs.List.{All}
 use Rattle.std.proofs.lemmas.List.Elements.{All-weaker}
-use Rattle.std.proofs.lemmas.List.Sorted.{length_permutation}
+use Rattle.std.proofs.lemmas.List.Sorted.{IsPermutation-sym, IsPermutation-trans, length_permutation}
 use Rattle.sqlite.specs.Tree.{Trees}
 use Rattle.position_core.specs.TopicName.{same_topic, topic_text}
 use Rattle.position_core.specs.declared.topic_name.TopicName.{TopicName}
 use Rattle.delivery_machine.specs.State.{DeadLetter, State}
 use Rattle.delivery_machine.specs.Snapshot.{restarted, snapshot_of}
 use Rattle.delivery_machine.specs.Places.{KeptPlaces, KeptTopic, MayRestart, snapshot_in}
-use Rattle.row_forms.specs.Changes.{with_topic}
+use Rattle.position_core.specs.declared.message.Entry.{Entry}
+use Rattle.sqlite.specs.Order.{Row}
 use Rattle.row_forms.specs.Forms.{AreRowsOf}
-use Rattle.row_forms.specs.Cells.{TOPIC, bodies, of_topic}
-use Rattle.row_forms.specs.Standing.{Has, HasNone, Stands}
-use Rattle.row_forms.specs.declared.raw_rows.RawRows.{RawRows}
-use Rattle.row_tables.specs.Ordered.{AreSorted}
-use Rattle.row_reading.specs.Reading.{IsNamed, IsReadBack, MayBeTold}
+use Rattle.row_forms.specs.Cells.{ENTRY, TOPIC, bodies, of_topic}
+use Rattle.row_forms.specs.Standing.{HasIn, HasNone, Stands}
+use Rattle.row_tables.specs.declared.side_rows.SideRows.{SideRows}
+use Rattle.row_tables.specs.Sides.{AreSidesOf, AreSorted}
+use Rattle.row_reading.specs.declared.topic_row.Head.{Head}
+use Rattle.row_reading.specs.Reading.{IsHead, IsHeadIn, IsLedgerSize, IsNamed, IsReadBack, IsReadableLog, MayBeTold, rows_with}
+use Rattle.row_reading.proofs.Whole.{has_head, one_head, readable_log}
+use Rattle.row_store.specs.Found.{HasLog}
 use Rattle.row_reading.specs.Telling.{IsTold}
 use Rattle.row_reading.proofs.SortedRows.{what_stands_is_read}
-use Rattle.row_reading.proofs.Told.{one_stands}
+use Rattle.row_reading.proofs.Told.{one_log, one_stands}
 use Rattle.stored_cell.specs.Held.{HasNothing}
 use Rattle.stored_cell.specs.Noted.{IsOfNow, Noted}
 use Rattle.row_store.specs.Opened.{GoesOnFrom, WhatRestsIsFound}
@@ -33,14 +37,45 @@ told kept may may_be = record {
       (λ sub both. All-weaker (λ (d : DeadLetter). IsNamed d.target × (same_topic d.target kept.name ≡ false)) (λ (d : DeadLetter). IsNamed d.target) (λ d b. b.0) sub.dead both) kept.subscriptions may_be.targets;
 }
 
-pub none_stands : {E K : Type 0} (name : TopicName) (raw : RawRows) (r : Result (Option K) E)
-    → IfOk r (λ found. IfNone found ((kept : KeptTopic) → IsReadBack kept → kept.name ≡ name → AreRowsOf kept (with_topic (topic_text name) raw) → ⊥))
-    → IfOk r (λ found. IfNone found ((db : Trees) → Has (topic_text name) (with_topic (topic_text name) raw) db → AreSorted raw → NoneStands name db))
-none_stands name raw (Ok None) whole = λ db read sorted kept back named stands.
-    let here = subst (λ (n : TopicName). Has (topic_text n) (with_topic (topic_text n) raw) db) (sym named) read in
-    whole kept back named (subst (λ (n : TopicName). AreRowsOf kept (with_topic (topic_text n) raw)) named (what_stands_is_read kept raw db (told kept back.may back.told) stands here sorted))
-none_stands name raw (Ok (Some k)) whole = tt
-none_stands name raw (Err e) whole = tt
+-- the rows of a snapshot that stands, as they are read beside its messages, and those messages
+its_rows : (kept : KeptTopic) (name : TopicName) (topic : List ℕ) (sides : SideRows) (db : Trees) → topic ≡ topic_text name → IsReadBack kept → kept.name ≡ name → Stands kept db → AreSidesOf topic db sides → AreSorted sides
+    → AreRowsOf kept (rows_with topic kept.log sides) × HasLog topic kept.log db
+its_rows kept name topic sides db is back named stands these sorted =
+    let same : topic_text kept.name ≡ topic = ap topic_text named ∙ sym is in
+    let read = what_stands_is_read kept db (told kept back.may back.told) stands in
+    let messages : HasLog (topic_text kept.name) kept.log db = subst (λ l. HasIn ENTRY (topic_text kept.name) l db) stands.1.entries stands.2.entries in
+    (subst (λ t. AreSidesOf t db sides → AreRowsOf kept (rows_with t kept.log sides)) same (λ those. read.sides sides those sorted) these, subst (λ t. HasLog t kept.log db) same messages)
+
+module _ (name : TopicName) (topic : List ℕ) (sides : SideRows) (db : Trees) (is : topic ≡ topic_text name) (these : AreSidesOf topic db sides) where
+  -- none stands where the topic has no row of its own that is such a row
+  pub none_headed : ((row : Row) (head : Head) → sides.topics.items ≡ row ∷ [] → IsHead row head → IsLedgerSize head.ledger_size → ⊥) → AreSorted sides → NoneStands name db
+  none_headed none sorted kept back named stands =
+      let h = has_head kept topic sides.topics.items back (its_rows kept name topic sides db is back named stands these sorted).0.topics in
+      none h.1.row h.0 h.1.one h.1.says (subst IsLedgerSize (sym h.1.size) back.size)
+
+  -- nor where it has none at all
+  pub none_of_its_own : sides.topics.items ≡ [] → AreSorted sides → NoneStands name db
+  none_of_its_own none = none_headed (λ row head one says size. never row (sym none ∙ one))
+    where
+      never : (row : Row) → [] ≡ row ∷ [] → ⊥
+      never row e = cc
+
+  -- the messages of one that stands are such as a log is read of
+  pub none_logged : (head : Head) (whole : Bool) → IsHeadIn sides.topics.items head → whole ≡ false → ((all : List Entry) → IsReadableLog head.ledger_size head.ledger all → HasLog topic all db → IsTrue whole) → AreSorted sides → NoneStands name db
+  none_logged head whole (row, one, says) unread reads sorted kept back named stands =
+      let its = its_rows kept name topic sides db is back named stands these sorted in
+      let h = has_head kept topic sides.topics.items back its.0.topics in
+      let said = one_head sides.topics.items row h.0 head kept h.1 one says in
+      let read : IsReadableLog head.ledger_size head.ledger kept.log =
+      subst (λ n. IsReadableLog n head.ledger kept.log) (sym said.0) (subst (λ n. IsReadableLog kept.ledger_size n kept.log) (sym said.1) (readable_log kept back)) in
+      true≢false (sym (reads kept.log read its.1) ∙ unread)
+
+  -- and its rows are those that were read
+  pub none_whole : (log : List Entry) → HasLog topic log db → ((kept : KeptTopic) → IsReadBack kept → kept.name ≡ name → AreRowsOf kept (rows_with (topic_text name) log sides) → ⊥) → AreSorted sides → NoneStands name db
+  none_whole log has none sorted kept back named stands =
+      let its = its_rows kept name topic sides db is back named stands these sorted in
+      let same : kept.log ≡ log = one_log topic kept.log log (IsPermutation-trans _ _ _ its.1 (IsPermutation-sym _ _ has)) in
+      none kept back named (subst (λ t. AreRowsOf kept (rows_with t log sides)) is (subst (λ l. AreRowsOf kept (rows_with topic l sides)) same its.0))
 
 -- a topic without rows has no snapshot that stands
 nothing_stands : (kept : KeptTopic) (db : Trees) → HasNone (topic_text kept.name) db → Stands kept db → ⊥

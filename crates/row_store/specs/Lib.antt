@@ -1,5 +1,6 @@
 -- What the contracts of a keeper cite.
 pub mod Keeping
+pub mod Found
 pub mod Counting
 pub mod Lives
 pub mod Opened

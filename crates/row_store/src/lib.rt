@@ -11,6 +11,7 @@ pub mod laws;
 mod loading;
 mod opening;
 mod planning;
+mod reading;
 mod rounds;
 mod topics;
 mod written;

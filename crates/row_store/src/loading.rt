@@ -7,26 +7,19 @@ ghost use Rattle.sqlite.specs.State.{HasCleanDisk, Survives};
 ghost use Rattle.sqlite.specs.Held.{state};
 ghost use Rattle.row_forms.specs.Standing.{Stands, HasNone};
 ghost use Rattle.delivery_machine.specs.Places.{MayRestart};
-ghost use Rattle.row_forms.specs.Changes.{with_topic};
-ghost use Rattle.row_forms.specs.Forms.{AreRowsOf};
-ghost use Rattle.row_tables.specs.Ordered.{AreSorted};
-ghost use Rattle.row_rounds.specs.Rounds.{IsReadFrom};
 ghost use Rattle.row_reading.specs.Reading.{IsReadBack, MayBeTold};
-ghost use Rattle.sqlite.specs.Tree.{Trees};
 ghost use Rattle.row_store.specs.Keeping.{NoneStands, stored_in};
 ghost use Rattle.row_store.specs.declared.loading.Unread.{Unread};
 
 use crate::cause::Cause;
 use crate::keeper::Keeper;
 use crate::known::Known;
+use crate::reading::{Found, Stop, find};
 use delivery_machine::{Fault, Snapshot};
 use marks::Naming;
 use position_core::TopicName;
-use row_forms::{RawRows, topic_text};
-use row_reading::snapshot_in;
-use row_rounds::read;
+use row_forms::topic_text;
 use sqlite::Alter;
-use std::alloc::{AllocError, Global};
 use stored_cell::{Kept, Loaded};
 
 /// Why a topic was not loaded.
@@ -51,18 +44,6 @@ impl Unread {
             Unread::StoreFailed | Unread::BadRows => Fault::StoreFailed,
         }
     }
-}
-
-/// The snapshot that was read of the topic. None only where no snapshot that the reader takes stands in a database whose rows
-/// these are, in the order of their keys.
-fn shown_by(alloc: Global, name: &TopicName, raw: &RawRows) -> Result<Option<Snapshot>, AllocError>
-    ensures name { IfOk result (λ found. IfSome found (λ kept. kept.name ≡ name.now)) }
-    ensures rows { IfOk result (λ found. IfSome found (λ kept. AreRowsOf kept (with_topic (topic_text name.now) raw.now))) }
-    ensures may { IfOk result (λ found. IfSome found MayRestart) }
-    ensures told { IfOk result (λ found. IfSome found MayBeTold) }
-    ensures none { IfOk result (λ found. IfNone found ((db : Trees) → IsReadFrom (topic_text name.now) db raw.now → AreSorted raw.now → NoneStands name.now db)) }
-{
-    snapshot_in(alloc, name, raw)
 }
 
 impl<S: Alter, J: Naming> Keeper<S, J> {
@@ -90,34 +71,28 @@ impl<S: Alter, J: Naming> Keeper<S, J> {
         let Ok(topic) = topic_text(self.alloc, name) else {
             return Err(Unread::NoMemory);
         };
-        let raw = match read(&mut self.conn, topic.as_str()) {
-            Ok(raw) => raw,
-            Err(error) => {
-                drop(topic);
-                self.refusal = Some(Cause::of(error, self.refusal));
-                return Err(Unread::StoreFailed);
-            }
-        };
-        if raw.is_empty() {
-            drop(topic);
-            drop(raw);
-            return Ok(None);
-        }
-        let found = shown_by(self.alloc, name, &raw);
-        drop(raw);
-        match found {
-            Ok(Some(snapshot)) => match self.know_loaded(topic, snapshot) {
+        match find(self.alloc, &mut self.conn, name, topic.as_str()) {
+            Ok(Found::Whole(snapshot)) => match self.know_loaded(topic, snapshot) {
                 Ok(loaded) => Ok(Some(loaded)),
                 Err(fault) => Err(fault),
             },
-            Ok(None) => {
+            Ok(Found::Nothing) => {
+                drop(topic);
+                Ok(None)
+            }
+            Ok(Found::BadRows) => {
                 self.refusal = Some(Cause::BadRows);
                 self.spoilt = Some(topic);
                 Err(Unread::BadRows)
             }
-            Err(_) => {
+            Err(Stop::NoMemory) => {
                 drop(topic);
                 Err(Unread::NoMemory)
+            }
+            Err(Stop::Store(error)) => {
+                drop(topic);
+                self.refusal = Some(Cause::of(error, self.refusal));
+                Err(Unread::StoreFailed)
             }
         }
     }
