@@ -1,12 +1,14 @@
 // That a snapshot is read back from its rows, up to the greatest numbers, with which a topic goes on, and that other
 // rows are refused.
+ghost use Rattle.std.specs.Prelude.{◌≡◌};
+
 use super::answers::{Answer, event_in, topic_name};
 use ack_ranges::AckSet;
 use delivery_machine::{DeadLetter, KeptSubscription, Opened, Snapshot, Topic};
 use plain_topic::PlainTopic;
 use position_core::{Fault, Kind, Position};
-use row_forms::RawRows;
-use row_reading::snapshot_in;
+use row_reading::LogReader;
+use row_tables::SideRows;
 use sqlite::{Connection, MemStore, Row};
 use std::process::Abort;
 
@@ -48,22 +50,50 @@ fn rows<R: Abort>(rt: &R, conn: &mut Connection<MemStore>, text: &str) -> Vec<Ro
     conn.query_all(text, &[]).expect(rt, "no rows")
 }
 
-fn raw_rows<R: Abort>(rt: &R, conn: &mut Connection<MemStore>, texts: [&str; 5]) -> RawRows {
-    let [topics, entries, subs, acks, deads] = texts;
-    RawRows {
+/// The rows of the topic's messages, and those beside them.
+fn rows_of<R: Abort>(
+    rt: &R,
+    conn: &mut Connection<MemStore>,
+    texts: [&str; 5],
+) -> (Vec<Row>, SideRows) {
+    let [topics, messages, subs, acks, deads] = texts;
+    let sides = SideRows {
         topics: rows(rt, conn, topics),
-        entries: rows(rt, conn, entries),
         subs: rows(rt, conn, subs),
         acks: rows(rt, conn, acks),
         deads: rows(rt, conn, deads),
+    };
+    (rows(rt, conn, messages), sides)
+}
+
+fn takes<R: Abort + AllocGlobal>(rt: &R, reader: &mut LogReader, messages: &[Row]) -> bool
+    ensures { reader.new.head ≡ reader.old.head }
+{
+    reader.take(rt.alloc(), messages).expect(rt, "no memory")
+}
+
+/// The snapshot that the rows show, where the messages are taken in two pieces.
+fn snapshot_in<R: Abort + AllocGlobal>(
+    rt: &R,
+    messages: &[Row],
+    sides: &SideRows,
+) -> Option<Snapshot> {
+    let mut reader = LogReader::of(rt.alloc(), sides)?;
+    let (first, others) = messages.split_at(messages.len() / 2);
+    if !takes(rt, &mut reader, first) || !takes(rt, &mut reader, others) {
+        drop(reader);
+        return None;
     }
+    reader
+        .snapshot(rt.alloc(), &topic_name(rt, NAME), sides)
+        .expect(rt, "no memory")
 }
 
 /// The snapshot that the rows of these queries show.
 fn loaded<R: Abort + AllocGlobal>(rt: &R, texts: [&str; 5]) -> Option<Snapshot> {
     let mut conn = Connection::open_in_memory(rt.alloc()).expect(rt, "no memory");
-    let raw = raw_rows(rt, &mut conn, texts);
-    snapshot_in(rt.alloc(), &topic_name(rt, NAME), &raw).expect(rt, "no memory")
+    let (messages, sides) = rows_of(rt, &mut conn, texts);
+    snapshot_in(rt, &messages, &sides)
 }
 
 fn kept<R: Abort + AllocGlobal>(rt: &R, texts: [&str; 5]) -> Snapshot {
