@@ -4,8 +4,10 @@
 # Run from the repository, after the crate's tests are built (`cd crates/NAME && rt test`):
 #   sh bench/memory/refuse.sh [step [crate test]]
 # The tests that are meant for it are topic_tests's tests::both_topics::memory::a_refusal_changes_nothing, which is run
-# if none is named, and server_tests's tests::keeper::memory::a_round_for_want_of_memory and
-# tests::directory::memory::nobody_sleeps_for_want_of_memory, which the gate runs.
+# if none is named; session_tests's tests::sessions::memory::a_producers_session_for_want_of_memory,
+# a_consumers_session_for_want_of_memory and an_administrators_session_for_want_of_memory; and server_tests's
+# tests::keeper::memory::a_round_for_want_of_memory and tests::directory::memory::nobody_sleeps_for_want_of_memory, which
+# the gate runs.
 set -eu
 here=$(dirname "$0")
 step=${1:-1}

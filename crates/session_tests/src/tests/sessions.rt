@@ -2,7 +2,10 @@
 mod admins;
 mod closing;
 mod consumers;
+mod failing;
+mod memory;
 mod producers;
 mod side;
 mod stage;
 mod waits;
+mod watched;

@@ -5,7 +5,7 @@ use crate::tests::joined;
 use delivery_machine::{Deliveries, Event, Fault, Moment, Position, Reply};
 use endpoint_core::route;
 use session_core::{Session, TextCount, open, serve};
-use session_links::{Caller, Incoming, ListConn};
+use session_links::{Caller, Incoming, ListConn, Request};
 use std::alloc::Global;
 use std::process::Abort;
 use std::time::Duration;
@@ -71,6 +71,13 @@ impl Counter {
             _ => Reply::Done,
         }
     }
+
+    fn reply_to(&mut self, request: &Request) -> Reply {
+        match request {
+            Request::Event(event) => self.answer(event),
+            Request::DeleteTopic => Reply::Done,
+        }
+    }
 }
 
 impl Caller for Counter {
@@ -78,10 +85,10 @@ impl Caller for Counter {
 
     ghost calls = { λ c. None };
 
-    fn call(&mut self, event: Event) -> Result<Reply, Fault> {
+    fn call(&mut self, request: Request) -> Result<Reply, Fault> {
         self.calls = self.calls.saturating_add(1);
-        let reply = self.answer(&event);
-        drop(event);
+        let reply = self.reply_to(&request);
+        drop(request);
         Ok(reply)
     }
 }

@@ -28,3 +28,28 @@ closed 4003 F17
 ",
     );
 }
+
+#[test]
+fn a_deletion_is_answered_in_its_turn(rt: HostRuntime) {
+    check(
+        &rt,
+        "open /ws/v2/admin/persistent/public/default/t
+text {\"type\":\"deleteTopic\"}
+text {\"type\":\"stats\",\"subscription\":\"s\"}
+text {\"type\":\"deleteTopic\",\"subscription\":\"a/b\"}
+serve 1000
+refuse F12
+text {\"type\":\"deleteTopic\"}
+turn 1001
+refuse none
+text {\"type\":\"deleteTopics\"}
+text {\"type\":\"deleteTopic\"}
+serve 1002",
+        "{\"result\":\"ok\"}
+{\"fault\":11,\"result\":\"refused\"}
+{\"result\":\"ok\"}
+{\"fault\":12,\"result\":\"refused\"}
+closed 4003 F18
+",
+    );
+}

@@ -22,6 +22,8 @@ open /ws/v2/producer/persistent/public/default/t?producerName=p",
 /// Commands, each with how it closes the session.
 const COMMANDS: &[(&str, &str)] = &[
     ("{\"messageId\":\"CAAQAw\"}", "closed 4003 F17\n"),
+    ("{\"messageId\":\"CAAQAB==\"}", "closed 4003 F17\n"),
+    ("{\"messageId\":\"CIAAEAM=\"}", "closed 4003 F17\n"),
     ("{\"messageId\":5}", "closed 4003 F18\n"),
     ("{\"type\":\"other\"}", "closed 4003 F18\n"),
     (
@@ -72,6 +74,9 @@ const ACK: &str =
 const ADMIN: &str =
     "open /ws/v2/admin/persistent/public/default/t\ntext {\"type\":\"stats\",\"subscription\":\"s\"}";
 
+const DELETION: &str =
+    "open /ws/v2/admin/persistent/public/default/t\ntext {\"type\":\"deleteTopic\"}";
+
 const UNKNOWN: &str = "{\"errorMsg\":\"Unknown error\",\"result\":\"send-error:8\"}\nopen\n";
 
 /// Sessions, each with the refusal of its next call, and how it ends.
@@ -88,6 +93,12 @@ const REFUSALS: &[(&str, &str, &str)] = &[
     (ACK, "F13", "closed 4008 F13\n"),
     (ADMIN, "F15", "closed 4008 F15\n"),
     (ADMIN, "F1", "{\"fault\":1,\"result\":\"refused\"}\nopen\n"),
+    (DELETION, "F15", "closed 4008 F15\n"),
+    (
+        DELETION,
+        "F1",
+        "{\"fault\":1,\"result\":\"refused\"}\nopen\n",
+    ),
 ];
 
 fn each_refused<R: Abort + AllocGlobal>(rt: &R, cases: &[(&str, &str, &str)]) {

@@ -1,6 +1,6 @@
 // Producers' sessions.
 use super::stage::{check, count};
-use crate::tests::{expect_count, push};
+use crate::tests::{expect_count, joined, push};
 use std::process::Abort;
 
 #[test]
@@ -99,10 +99,10 @@ open
     );
 }
 
-/// The line so many times.
-fn repeat<R: Abort>(rt: &R, script: &mut String, line: &str, times: u32) {
+/// The part so many times.
+fn repeat<R: Abort>(rt: &R, script: &mut String, part: &str, times: u32) {
     for _ in 0..times {
-        push(rt, script, line);
+        push(rt, script, part);
     }
 }
 
@@ -124,4 +124,28 @@ fn a_thousand_without_answers_stop_the_reading(rt: HostRuntime) {
     let mut script = String::new(rt.alloc());
     push_thousand(&rt, &mut script);
     check_count(&rt, script.as_str(), 1_002);
+}
+
+/// A publish of a payload of a mebibyte but one or two bytes, and its end.
+fn push_mebibyte<R: Abort>(rt: &R, script: &mut String, end: &str) {
+    push(rt, script, "text {\"payload\":\"");
+    repeat(rt, script, "AAAA", 349_525);
+    push(rt, script, end);
+    push(rt, script, "\"}\n");
+}
+
+#[test]
+fn a_payload_of_a_mebibyte_is_stored(rt: HostRuntime) {
+    let mut script = joined(&rt, &["open /ws/v2/producer/persistent/public/default/t\n"]);
+    push_mebibyte(&rt, &mut script, "AA==");
+    push_mebibyte(&rt, &mut script, "AAA=");
+    push(&rt, &mut script, "serve 1000\nstored\nserve 1001");
+    check(
+        &rt,
+        script.as_str(),
+        "{\"messageId\":\"CAAQAA==\",\"result\":\"ok\"}
+{\"errorMsg\":\"Invalid payload encoding\",\"result\":\"send-error:7\"}
+open
+",
+    );
 }

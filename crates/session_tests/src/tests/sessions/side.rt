@@ -18,6 +18,21 @@ pub(crate) fn desk<R: Abort + AllocGlobal>(rt: &R) -> Desk {
     TopicCaller::new(rt.alloc(), PlainTopic::new(rt.alloc(), name, size))
 }
 
+/// A caller over a topic with two messages, which are stored.
+pub(super) fn filled_desk<R: Abort + AllocGlobal>(rt: &R) -> Desk {
+    let mut desk = desk(rt);
+    let mut side = Side::new(rt);
+    side.open(rt, &mut desk, "/ws/v2/producer/persistent/public/default/t");
+    side.comes(rt, "{\"payload\":\"MA==\"}");
+    side.comes(rt, "{\"payload\":\"MQ==\"}");
+    side.serve(rt, &mut desk, 64, 1_000);
+    drop(side);
+    let stored = asked(&mut desk, Event::Stored);
+    assert!(rt; matches!(stored, Reply::Durable(2)), "no memory");
+    drop(stored);
+    desk
+}
+
 /// What the topic answers.
 pub(crate) fn asked(desk: &mut Desk, event: Event) -> Reply {
     let reply = desk.topic.apply(&event);
@@ -70,11 +85,11 @@ impl Side {
     pub(crate) fn comes<R: Abort + AllocGlobal>(&mut self, rt: &R, text: &str) {
         let bytes = Vec::from_slice(rt.alloc(), text.as_bytes()).expect(rt, "no memory");
         let pushed: Result<(), _> = self.conn.incoming.push_back(Incoming::Text(bytes));
-        assert!(rt; pushed.is_ok());
+        assert!(rt; pushed.is_ok(), "no memory");
     }
 
     pub(crate) fn goes<R: Abort>(&mut self, rt: &R) {
         let pushed: Result<(), _> = self.conn.incoming.push_back(Incoming::Gone);
-        assert!(rt; pushed.is_ok());
+        assert!(rt; pushed.is_ok(), "no memory");
     }
 }

@@ -7,9 +7,9 @@ use session_links::Told;
 use std::process::Abort;
 
 #[derive(Drop)]
-struct Stage {
-    desk: Desk,
-    side: Side,
+pub(super) struct Stage {
+    pub(super) desk: Desk,
+    pub(super) side: Side,
     /// How many texts were looked at.
     seen: usize,
 }
@@ -33,6 +33,7 @@ fn refusal<R: Abort>(rt: &R, word: &str) -> Option<Fault> {
         "F3" => Some(Fault::NoSession),
         "F4" => Some(Fault::TopicFull),
         "F8" => Some(Fault::NoSuchMessage),
+        "F12" => Some(Fault::SubscriptionBusy),
         "F13" => Some(Fault::TooManyPermits),
         "F15" => Some(Fault::JournalFull),
         "none" => None,
@@ -63,7 +64,7 @@ fn last_number<R: Abort + AllocGlobal>(rt: &R, stage: &mut Stage) {
 }
 
 /// Does what a line says.
-fn does<R: Abort + AllocGlobal>(rt: &R, stage: &mut Stage, word: &str, rest: &str) {
+pub(super) fn does<R: Abort + AllocGlobal>(rt: &R, stage: &mut Stage, word: &str, rest: &str) {
     match word {
         "open" => {
             stage.seen = 0;
@@ -88,7 +89,7 @@ fn told<'a, R: Abort>(rt: &R, stage: &'a Stage) -> &'a Told {
 }
 
 /// Writes the texts that were sent since the last look, one a line.
-fn show<R: Abort>(rt: &R, stage: &mut Stage, out: &mut String) {
+pub(super) fn show<R: Abort>(rt: &R, stage: &mut Stage, out: &mut String) {
     for (i, text) in told(rt, stage).sent.iter().enumerate() {
         if i >= stage.seen {
             push(rt, out, text.as_str());
@@ -105,7 +106,7 @@ fn show_close<R: Abort + AllocGlobal>(rt: &R, code: u16, reason: &str, out: &mut
 }
 
 /// Writes how the connection was closed.
-fn show_closes<R: Abort + AllocGlobal>(rt: &R, stage: &Stage, out: &mut String) {
+pub(super) fn show_closes<R: Abort + AllocGlobal>(rt: &R, stage: &Stage, out: &mut String) {
     for closed in told(rt, stage).closes.iter() {
         show_close(rt, closed.code, closed.reason.as_str(), out);
     }
@@ -124,12 +125,19 @@ fn play<R: Abort + AllocGlobal>(rt: &R, stage: &mut Stage, out: &mut String, scr
     }
 }
 
+impl Stage {
+    /// Of a session that has not begun.
+    pub(super) fn new<R: AllocGlobal>(rt: &R, desk: Desk) -> Stage {
+        Stage {
+            desk,
+            side: Side::new(rt),
+            seen: 0,
+        }
+    }
+}
+
 fn played<R: Abort + AllocGlobal>(rt: &R, script: &str) -> String {
-    let mut stage = Stage {
-        desk: desk(rt),
-        side: Side::new(rt),
-        seen: 0,
-    };
+    let mut stage = Stage::new(rt, desk(rt));
     let mut out = String::new(rt.alloc());
     play(rt, &mut stage, &mut out, script);
     drop(stage);

@@ -50,6 +50,7 @@ fn named<R: Abort + AllocGlobal>(rt: &R, command: &AdminCommand) -> String {
             joined(rt, &["drop ", subscription.as_str()])
         }
         AdminCommand::Stats { subscription } => joined(rt, &["stats ", subscription.as_str()]),
+        AdminCommand::DeleteTopic => joined(rt, &["delete"]),
     }
 }
 
@@ -100,6 +101,31 @@ fn each_command(rt: HostRuntime) {
             "{\"type\":\"seek\",\"type\":\"stats\",\"subscription\":\"s\"}",
             "stats s",
         ),
+    ];
+    check(&rt, table);
+}
+
+/// It is of no subscription, and looks at none.
+#[test]
+fn the_whole_topic(rt: HostRuntime) {
+    let table: &[(&str, &str)] = &[
+        ("{\"type\":\"deleteTopic\"}", "delete"),
+        (
+            "{\"subscription\":\"s\",\"type\":\"deleteTopic\"}",
+            "delete",
+        ),
+        (
+            "{\"type\":\"deleteTopic\",\"subscription\":\"a/b\",\"position\":5}",
+            "delete",
+        ),
+        ("{\"type\":\"deleteTopic\",\"subscription\":null}", "delete"),
+        ("{\"type\":\"stats\",\"type\":\"deleteTopic\"}", "delete"),
+        ("{\"type\":\"deleteTopic\",\"type\":\"stats\"}", "F18"),
+        ("{\"type\":\"deletetopic\",\"subscription\":\"s\"}", "F18"),
+        ("{\"type\":\"deleteTopic \"}", "F18"),
+        ("{\"type\":[\"deleteTopic\"]}", "F18"),
+        ("\"deleteTopic\"", "F18"),
+        ("{\"type\":\"deleteTopic\"", "F18"),
     ];
     check(&rt, table);
 }

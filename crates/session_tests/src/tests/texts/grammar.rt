@@ -115,4 +115,5 @@ fn check_depth<R: Abort + AllocGlobal>(rt: &R, arrays: usize, want: bool) {
 fn values_nest_127_deep(rt: HostRuntime) {
     check_depth(&rt, 126, true);
     check_depth(&rt, 127, false);
+    check_depth(&rt, 200, false);
 }

@@ -1,5 +1,8 @@
 // Worked texts: what they say, and how they are refused.
-use super::{UNREAD, check_answers, check_refusals, check_values};
+use super::{
+    UNREAD, answer_to, check_answer, check_answers, check_refusals, check_values, expect, read,
+};
+use std::process::Abort;
 
 const BAD_JSON: &str =
     "{\"context\":\"c\",\"errorMsg\":\"Failed to deserialize from JSON\",\"result\":\"send-error:3\"}";
@@ -31,6 +34,23 @@ fn worked_texts(rt: HostRuntime) {
         ),
     ];
     check_answers(&rt, table);
+}
+
+fn check_unread<R: Abort + AllocGlobal>(rt: &R, text: &[u8]) {
+    let reading = read(rt, text);
+    expect(rt, answer_to(rt, &reading).as_str(), UNREAD, "a front");
+    drop(reading);
+}
+
+/// A text is read whole or not at all, with its context.
+#[test]
+fn fronts_of_a_text(rt: HostRuntime) {
+    let text =
+        "{\"payload\":\"aGk=\",\"properties\":{\"n\":3,\"b\":true},\"context\":\"7\",\"key\":\"k\"}";
+    check_answer(&rt, text, "7 k 'hi' b=true n=3");
+    for end in 0..text.len() {
+        check_unread(&rt, &text.as_bytes()[..end]);
+    }
 }
 
 #[test]
