@@ -183,32 +183,75 @@ fn byte_by_byte(rt: HostRuntime) {
     }
 }
 
+fn count_ends(text: &[u8]) -> usize {
+    let mut count: usize = 0;
+    for byte in text.iter() {
+        if *byte == b'\n' {
+            count = count.saturating_add(1);
+        }
+    }
+    count
+}
+
+/// The first so many lines.
+fn first_lines(text: &[u8], count: usize) -> &[u8] {
+    let mut left = count;
+    for end in 0..text.len() {
+        if left == 0 {
+            return &text[..end];
+        }
+        if text[end] == b'\n' {
+            left -= 1;
+        }
+    }
+    text
+}
+
+/// What comes before the read that fails: its whole lines are answered.
+fn check_cut<R: Abort + AllocGlobal>(rt: &R, rest: &[u8]) {
+    let output = first_lines(FIRST_REPLIES, count_ends(rest));
+    check_read(
+        rt,
+        &mut ByByte { rest, fails: true },
+        output,
+        Err(Stop::Read),
+    );
+}
+
 #[test]
-fn narrow_writers(rt: HostRuntime) {
-    for (width, most, full) in [
-        (7, 1000, false),
-        (1, 0, false),
-        (1, 0, true),
-        (1, 20, false),
-        (1, 20, true),
-    ] {
-        let mut reader = FIRST_ROW;
-        let mut writer = Narrow {
-            taken: Vec::new(rt.alloc()),
-            width,
-            most,
-            full,
-        };
-        let outcome = replay(rt.alloc(), &mut reader, &mut writer, size_of(1));
-        let count = FIRST_REPLIES.len().min(most);
-        assert!(rt; writer.taken.as_slice() == &FIRST_REPLIES[..count]);
-        let ended = if count < FIRST_REPLIES.len() {
-            Err(Stop::Write)
-        } else {
-            Ok(())
-        };
-        assert!(rt; outcome == ended);
-        assert!(rt; status(&outcome) == u8::from(outcome.is_err()));
+fn each_read_fails(rt: HostRuntime) {
+    for count in 0..=FIRST_ROW.len() {
+        check_cut(&rt, FIRST_ROW.split_at(count).0);
+    }
+}
+
+/// A writer that takes so many bytes has the front of the replies.
+fn check_narrow<R: Abort + AllocGlobal>(rt: &R, width: usize, most: usize, full: bool) {
+    let mut reader = FIRST_ROW;
+    let mut writer = Narrow {
+        taken: Vec::new(rt.alloc()),
+        width,
+        most,
+        full,
+    };
+    let outcome = replay(rt.alloc(), &mut reader, &mut writer, size_of(1));
+    let count = FIRST_REPLIES.len().min(most);
+    assert!(rt; writer.taken.as_slice() == &FIRST_REPLIES[..count]);
+    let ended = if count < FIRST_REPLIES.len() {
+        Err(Stop::Write)
+    } else {
+        Ok(())
+    };
+    assert!(rt; outcome == ended);
+    assert!(rt; status(&outcome) == u8::from(outcome.is_err()));
+}
+
+#[test]
+fn each_write_fails(rt: HostRuntime) {
+    check_narrow(&rt, 7, 1000, false);
+    for most in 0..FIRST_REPLIES.len() {
+        check_narrow(&rt, 1, most, false);
+        check_narrow(&rt, 1, most, true);
     }
 }
 
