@@ -8,7 +8,7 @@ use Rattle.std.specs.Prelude.{String, All, IfSome, OnErr, option_copied}
 use Rattle.std.specs.String.{string_bytes, string_eq}
 use Rattle.std.specs.Str.{bytes_eq}
 use Rattle.std.specs.List.{remove}
-use Rattle.std.specs.Map.{lookup}
+use Rattle.std.specs.Map.{lookup, remove_entry}
 use Rattle.indexmap.specs.IndexMap.{insert_entry, set_value_at}
 use Rattle.position_core.specs.declared.topic_name.TopicName.{TopicName}
 use Rattle.position_core.specs.TopicName.{topic_text}
@@ -73,6 +73,21 @@ pub removed : {A X : Type 0} (name_of : X → TopicName) (es : List (String A ×
 removed name_of es place all =
     let named = λ (t : String _ × _). string_bytes t.0 ≡ topic_text (name_of t.1) in
     All-append named (take place es) (drop (suc place) es) (All-take named place es all) (All-drop named (suc place) es all)
+
+pub taken_out : {A X : Type 0} (name_of : X → TopicName) (test : String A → Bool) (es : List (String A × X)) → AreNamed name_of es → AreNamed name_of (remove_entry test es)
+taken_out name_of test [] all = all
+taken_out {A} {X} name_of test (e ∷ es) all = by (test e.0) rest (taken_out name_of test es rest)
+  where
+    rest : AreNamed name_of es
+    rest = λ n d less. all (suc n) d (omega (arith, less))
+
+    with_first : AreNamed name_of (remove_entry test es) → AreNamed name_of (e ∷ remove_entry test es)
+    with_first after zero d less = all zero d (omega arith)
+    with_first after (suc n) d less = after n d (omega (arith, less))
+
+    by : (b : Bool) → AreNamed name_of es → AreNamed name_of (remove_entry test es) → AreNamed name_of (cond b es (e ∷ remove_entry test es))
+    by true others after = others
+    by false others after = with_first after
 
 names_taken : {A X : Type 0} (es : List (String A × X)) (place : ℕ) → names_of (take place es) ≡ take place (names_of es)
 names_taken es zero = refl

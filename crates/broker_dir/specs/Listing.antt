@@ -22,14 +22,14 @@ most_open = 256
 -- there is room for one more beside so many: fewer are open than may be, or one of them may leave
 abbrev pub HasRoom : Room → ℕ → Type 0
 HasRoom Free count = count < most_open
-HasRoom (InPlaceOf place) count = (place < count) × (most_open ≤ count)
+HasRoom (InPlaceOf unused) count = (unused.place < count) × (most_open ≤ count)
 
 -- what is left once the place is made
 abbrev pub after_making : {A : Type 0} → Room → List A → List A
 after_making Free xs = xs
-after_making (InPlaceOf place) xs = remove xs place
+after_making (InPlaceOf unused) xs = remove xs unused.place
 
--- the name stands behind the others, one of which has left where as many were open as may be
+-- the name stands behind the others, where fewer were open than may be; where as many were, one of them has left
 abbrev pub IsListed : List (List ℕ) → List ℕ → List (List ℕ) → Type 0
 IsListed old name new =
-    (new ≡ old ++ name ∷ []) ⊎ ((place : ℕ) × (place < length old) × (most_open ≤ length old) × (new ≡ remove (old ++ name ∷ []) place))
+    ((length old < most_open) × (new ≡ old ++ name ∷ [])) ⊎ ((place : ℕ) × (place < length old) × (most_open ≤ length old) × (new ≡ remove (old ++ name ∷ []) place))

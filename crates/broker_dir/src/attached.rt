@@ -7,7 +7,7 @@ use crate::topic::Shared;
 use delivery_machine::{Event, Fault, Opened, Reply, TopicName};
 use marks::Naming;
 use session_bells::{Asked, Bell};
-use session_links::Caller;
+use session_links::{Caller, Request};
 use sqlite::Alter;
 use std::sync::{Arc, Wait};
 
@@ -26,6 +26,11 @@ impl<T: Opened + Drop, J: Naming, B: Bell + Drop> Drop for Attached<T, J, B> {
 impl<T: Opened + Drop, J: Naming, B: Bell + Drop> Attached<T, J, B> {
     pub fn topic(&self) -> &TopicName {
         &self.topic.name
+    }
+
+    /// Why the topic may not be used any more, where it may not: its journal is full (F15), or it was deleted (F11).
+    pub fn refusal<R: Wait>(&self, rt: &R) -> Option<Fault> {
+        self.topic.refusal(rt)
     }
 
     /// From 1 on.
@@ -73,6 +78,9 @@ impl<'a, T: Opened + Drop, S: Alter, J: Naming, B: Bell + Drop, R: Wait, G: Gate
         let answer = inside.answer(self.rt, self.attached.seat, asked, event);
         let tells = inside.wants_storing();
         drop(inside);
+        if let Err(Fault::JournalFull) = &answer {
+            topic.note_over();
+        }
         if tells {
             self.directory.tell(self.rt, topic);
         }
@@ -100,7 +108,10 @@ impl<'a, T: Opened + Drop, S: Alter, J: Naming, B: Bell + Drop, R: Wait, G: Gate
 
     ghost calls = { λ c. None };
 
-    fn call(&mut self, event: Event) -> Result<Reply, Fault> {
-        self.ask(event)
+    fn call(&mut self, request: Request) -> Result<Reply, Fault> {
+        match request {
+            Request::Event(event) => self.ask(event),
+            Request::DeleteTopic => self.directory.delete(self.rt, &self.attached.topic),
+        }
     }
 }

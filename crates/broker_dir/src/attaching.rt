@@ -6,7 +6,7 @@ ghost use Rattle.broker_dir.specs.Refusing.{IsRefusal};
 use crate::attached::{Attached, Seated};
 use crate::directory::Directory;
 use crate::gate::Gate;
-use crate::opening::clone_of;
+use crate::opening::found_in;
 use crate::topic::Shared;
 use delivery_machine::{Fault, Opened, TopicName};
 use marks::Naming;
@@ -17,10 +17,11 @@ use std::sync::{Arc, Wait};
 
 impl<T: Opened + Drop, S: Alter, J: Naming, B: Bell + Drop> Directory<T, S, J, B> {
     /// Takes a seat at the topic, which is opened where it is not open, and leaves the bell there. Refused in this order:
-    /// (F16) where the directory is closed; (F7) where it is not open, and 256 are of which each is in use; (F16) where the store fails, or has rows
-    /// of it that are none; (F11) where it has no rows and is not to be made; (F21) where no seat is free; and (F1) for want
-    /// of memory, at any point. A refusal leaves the open topics as they were. Where 256 are open, the one that nobody has
-    /// used for the longest leaves for it.
+    /// (F16) where the directory is closed; (F15) where the topic leaves, since its journal is full; (F7) where it is not
+    /// open, and 256 are of which each is in use; (F16) where the store fails, or has rows of it that are none; (F11) where
+    /// it has no rows and is not to be made; (F21) where no seat is free; and (F1) for want of memory, at any point. A
+    /// refusal leaves the open topics as they were. Where 256 are open, the one that nobody has used for the longest leaves
+    /// for it.
     pub fn attach<R: Wait>(
         &self,
         rt: &R,
@@ -31,7 +32,7 @@ impl<T: Opened + Drop, S: Alter, J: Naming, B: Bell + Drop> Directory<T, S, J, B
         ensures at { IfOk result (λ attached. topic_text attached.topic.value.name ≡ topic_text name.now) }
         ensures seat { IfOk result (λ attached. 0 < attached.seat) }
         ensures unknown { result ≡ Err Fault.NoSuchSubscription → create ≡ false }
-        ensures faults { IfErr result IsRefusal }
+        ensures faults { IfErr result (λ fault. (fault ≡ Fault.JournalFull) ⊎ IsRefusal fault) }
     {
         if self.is_closed() {
             drop(bell);
@@ -43,18 +44,15 @@ impl<T: Opened + Drop, S: Alter, J: Naming, B: Bell + Drop> Directory<T, S, J, B
         };
         let mut guard = self.table.lock(rt);
         let table = &mut *guard;
-        match table.find(text.as_str()) {
-            Some(topic) => {
-                let topic = clone_of(topic);
+        match found_in(table, text.as_str()) {
+            Some(Ok(topic)) => {
                 drop(text);
-                drop(guard);
-                match topic {
-                    Ok(topic) => sit(rt, topic, bell, self.uses.next()),
-                    Err(fault) => {
-                        drop(bell);
-                        Err(fault)
-                    }
-                }
+                sit(rt, topic, bell, self.uses.next())
+            }
+            Some(Err(fault)) => {
+                drop(text);
+                drop(bell);
+                Err(fault)
             }
             None => match self.open_in(rt, table, text, name, create, Some(bell)) {
                 Ok((topic, seat)) => Ok(Attached { topic, seat }),
@@ -89,7 +87,7 @@ impl<T: Opened + Drop, S: Alter, J: Naming, B: Bell + Drop> Directory<T, S, J, B
     }
 
     /// Frees the seat. A topic with nothing in it, of which nothing is stored, leaves with the last one who sat there: so a
-    /// name is made by what is done there, and by no attach.
+    /// name is made by what is done there, and by no attach. One whose journal is full is seen out once nobody sits there.
     pub fn detach<R: Wait>(&self, rt: &R, attached: Attached<T, J, B>) {
         let seat = attached.seat;
         let topic = attached.into_topic();
@@ -97,8 +95,11 @@ impl<T: Opened + Drop, S: Alter, J: Naming, B: Bell + Drop> Directory<T, S, J, B
         inside.exit(rt, seat);
         inside.used = self.uses.next();
         let is_blank = inside.is_blank();
+        let leaves = inside.wants_seeing_out();
         drop(inside);
-        if is_blank {
+        if leaves {
+            self.board.send(rt, topic);
+        } else if is_blank {
             self.leave_blank(rt, topic);
         } else {
             drop(topic);
@@ -106,7 +107,7 @@ impl<T: Opened + Drop, S: Alter, J: Naming, B: Bell + Drop> Directory<T, S, J, B
     }
 }
 
-/// Takes a seat at the open topic, which is used now.
+/// Takes a seat at the open topic, which is used now. The table's lock is held, so that the topic does not leave meanwhile.
 fn sit<T: Opened + Drop, J: Naming, B: Bell + Drop, R: Wait>(
     rt: &R,
     topic: Arc<Shared<T, J, B>>,
@@ -115,7 +116,7 @@ fn sit<T: Opened + Drop, J: Naming, B: Bell + Drop, R: Wait>(
 ) -> Result<Attached<T, J, B>, Fault>
     ensures at { IfOk result (λ attached. attached.topic ≡ topic) }
     ensures seat { IfOk result (λ attached. 0 < attached.seat) }
-    ensures faults { IfErr result (λ fault. (fault ≡ Fault.NoRoom) ⊎ (fault ≡ Fault.NoMemory)) }
+    ensures faults { IfErr result (λ fault. (fault ≡ Fault.JournalFull) ⊎ (fault ≡ Fault.NoRoom) ⊎ (fault ≡ Fault.NoMemory)) }
 {
     let mut inside = topic.inside.lock(rt);
     let entered = inside.enter(bell);

@@ -9,7 +9,7 @@ use dead_courier::{Hand, Route, Stepped, step};
 use delivery_machine::{Event, Fault, Moment, Opened, Reply};
 use marks::Naming;
 use session_bells::Bell;
-use session_links::Caller;
+use session_links::{Caller, Request};
 use sqlite::Alter;
 use std::mem;
 use std::sync::{Arc, Wait};
@@ -160,7 +160,12 @@ impl<T: Opened + Drop, S: Alter, J: Naming, B: Bell + Drop> Directory<T, S, J, B
         let awaits = is_short(&answer, awaited);
         inside.is_awaited = inside.is_awaited || awaits;
         let tells = inside.wants_storing();
+        let leaves = inside.wants_seeing_out();
         drop(inside);
+        if leaves {
+            topic.note_over();
+            self.send(rt, topic);
+        }
         if tells {
             self.tell(rt, topic);
         }
@@ -254,11 +259,15 @@ impl<'r, 'a, T: Opened + Drop, S: Alter, J: Naming, B: Bell + Drop, R: Wait> Cal
 
     ghost calls = { λ c. None };
 
-    fn call(&mut self, event: Event) -> Result<Reply, Fault> {
-        match self.topic {
-            Some(topic) => self.directory.visit(self.rt, topic, event, self.awaited),
-            None => {
-                drop(event);
+    /// A courier deletes no topic.
+    fn call(&mut self, request: Request) -> Result<Reply, Fault> {
+        match (self.topic, request) {
+            (Some(topic), Request::Event(event)) => {
+                self.directory.visit(self.rt, topic, event, self.awaited)
+            }
+            (Some(_), Request::DeleteTopic) => Err(Fault::NoSession),
+            (None, request) => {
+                drop(request);
                 Err(self.absent)
             }
         }

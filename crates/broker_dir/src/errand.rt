@@ -120,6 +120,11 @@ impl<T: Opened + Drop, S: Alter, J: Naming, B: Bell + Drop> Directory<T, S, J, B
         errands: &mut Errands<T, J, B>,
     ) {
         errands.read_clocks(rt);
+        if topic.is_over() {
+            errands.call(&topic);
+            self.see_out(rt, topic);
+            return;
+        }
         let is_sent = self.send_couriers(rt, &topic, &mut errands.couriers);
         errands.call(&topic);
         if is_sent {
@@ -231,14 +236,14 @@ impl<T: Opened + Drop, S: Alter, J: Naming, B: Bell + Drop> Directory<T, S, J, B
     }
 }
 
-/// The letter stays where it is. The courier tries again after a pause, if its subscription is there still, or if it has
-/// something in its hand that it is to put back first.
+/// The letter stays where it is. The courier tries again after a pause, if its topic and its subscription are there still, or
+/// if it has something in its hand that it is to put back first.
 fn pause_courier<T: Opened + Drop, J: Naming, B: Bell + Drop, R: Wait>(
     rt: &R,
     courier: &mut Courier<T, J, B>,
     time: Option<Instant>,
 ) {
-    if courier.is_free() && !has_grave(rt, courier) {
+    if courier.is_free() && (courier.source.is_over() || !has_grave(rt, courier)) {
         courier.stay = Stay::Over;
     } else {
         courier.begin_pause(time);

@@ -1,4 +1,6 @@
 // When the storing thread looks for topics that nobody uses.
+ghost use Rattle.std.specs.Prelude.{[], ◌++◌, ◌≡◌, ◌∷◌};
+
 use crate::pause::Due;
 use std::time::Instant;
 
@@ -36,7 +38,9 @@ impl Looks {
     }
 
     /// The look is made now, and the next one in a minute. How many uses had been counted five looks ago.
-    pub(crate) fn mark(&mut self, made: u64, time: Option<Instant>) -> u64 {
+    pub(crate) fn mark(&mut self, made: u64, time: Option<Instant>) -> u64
+        ensures { result ∷ self.new.marks ≡ self.old.marks ++ made ∷ [] }
+    {
         let [oldest, second, third, fourth, last] = self.marks;
         self.marks = [second, third, fourth, last, made];
         self.due = Some(Due::in_a_minute(time));

@@ -10,6 +10,7 @@ ghost use Rattle.broker_dir.specs.Refusing.{IsLoadRefusal, IsRefusal, IsSeatRefu
 
 use crate::directory::Directory;
 use crate::inside::Inside;
+use crate::stage::Stage;
 use crate::table::Table;
 use crate::topic::Shared;
 use crate::unloading::Room;
@@ -20,7 +21,7 @@ use row_store::open_cell;
 use session_bells::Bell;
 use sqlite::Alter;
 use std::alloc::Global;
-use std::sync::{Arc, Mutex, Wait};
+use std::sync::{Arc, Wait};
 
 /// A topic that was just made, the seat of the one who sits there, and whether the courier is to be sent there.
 #[derive(Drop)]
@@ -97,7 +98,8 @@ impl<T: Opened + Drop, S: Alter, J: Naming, B: Bell + Drop> Directory<T, S, J, B
         bell: Option<Arc<B>>,
         open: usize,
     ) -> Result<Made<Shared<T, J, B>>, Fault>
-        requires { inside.name ≡ name.now }
+        requires name { inside.topic.name ≡ name.now }
+        requires open { inside.stage ≡ Stage.Open }
         ensures at { IfOk result (λ made. made.topic.value.name ≡ name.now) }
         ensures seat { IsSome bell → IfOk result (λ made. 0 < made.seat) }
         ensures faults { IfErr result (λ fault. (fault ≡ Fault.NoRoom) ⊎ (fault ≡ Fault.NoMemory)) }
@@ -170,11 +172,9 @@ impl<T: Opened + Drop, S: Alter, J: Naming, B: Bell + Drop> Directory<T, S, J, B
         };
         let mut guard = self.table.lock(rt);
         let table = &mut *guard;
-        match table.find(text.as_str()) {
+        match found_in(table, text.as_str()) {
             Some(topic) => {
-                let topic = clone_of(topic);
                 drop(text);
-                drop(guard);
                 if let Ok(topic) = &topic {
                     self.touch(rt, topic);
                 }
@@ -201,9 +201,10 @@ impl<T: Opened + Drop, S: Alter, J: Naming, B: Bell + Drop> Directory<T, S, J, B
         name: &TopicName,
         create: bool,
     ) -> Result<Inside<T, J, B>, Fault>
-        ensures name { IfOk result (λ inside. inside.name ≡ name.now) }
-        ensures begins { IfOk result (λ inside. inside.cell.cell ≡ begins inside.cell.cell.state self.now.terms) }
-        ensures known { create ≡ false → IfOk result (λ inside. IsSome inside.cell.stored) }
+        ensures name { IfOk result (λ inside. inside.topic.name ≡ name.now) }
+        ensures open { IfOk result (λ inside. inside.stage ≡ Stage.Open) }
+        ensures begins { IfOk result (λ inside. inside.topic.cell.cell ≡ begins inside.topic.cell.cell.state self.now.terms) }
+        ensures known { create ≡ false → IfOk result (λ inside. IsSome inside.topic.cell.stored) }
         ensures unknown { result ≡ Err Fault.NoSuchSubscription → create ≡ false }
         ensures faults { IfErr result IsLoadRefusal }
     {
@@ -224,7 +225,7 @@ impl<T: Opened + Drop, S: Alter, J: Naming, B: Bell + Drop> Directory<T, S, J, B
         name: &TopicName,
         open: usize,
     ) -> Result<Arc<Shared<T, J, B>>, Fault>
-        requires { inside.name ≡ name.now }
+        requires { inside.topic.name ≡ name.now }
         ensures at { IfOk result (λ topic. topic.value.name ≡ name.now) }
         ensures fault { IfErr result (λ fault. fault ≡ Fault.NoMemory) }
     {
@@ -263,15 +264,11 @@ fn shared<T: Opened + Drop, J: Naming, B: Bell + Drop>(
     name: TopicName,
     inside: Inside<T, J, B>,
 ) -> Result<Arc<Shared<T, J, B>>, Fault>
-    requires { inside.name ≡ name }
+    requires { inside.topic.name ≡ name }
     ensures at { IfOk result (λ topic. topic.value.name ≡ name) }
     ensures fault { IfErr result (λ fault. fault ≡ Fault.NoMemory) }
 {
-    let shared = Shared {
-        name,
-        inside: Mutex::new(inside),
-    };
-    match Arc::new(alloc, shared) {
+    match Arc::new(alloc, Shared::new(name, inside)) {
         Ok(topic) => Ok(topic),
         Err(_) => Err(Fault::NoMemory),
     }
@@ -284,6 +281,21 @@ pub(crate) fn clone_of<X>(topic: &Arc<X>) -> Result<Arc<X>, Fault>
     match Arc::try_clone(topic) {
         Ok(topic) => Ok(topic),
         Err(_) => Err(Fault::NoMemory),
+    }
+}
+
+/// The topic that is open under the text; it may have too many owners for one more.
+pub(crate) fn found_in<T: Opened + Drop, J: Naming, B: Bell + Drop>(
+    table: &Table<T, J, B>,
+    text: &str,
+) -> Option<Result<Arc<Shared<T, J, B>>, Fault>>
+    ensures none { IfNone result (get_by_text table.now.list.topics text.now ≡ None) }
+    ensures at { IfSome result (λ found. IfOk found (λ topic. topic_text topic.value.name ≡ text.now)) }
+    ensures fault { IfSome result (λ found. IfErr found (λ fault. fault ≡ Fault.NoMemory)) }
+{
+    match table.find(text) {
+        Some(topic) => Some(clone_of(topic)),
+        None => None,
     }
 }
 
@@ -312,9 +324,10 @@ fn seat_for<T: Opened + Drop, J: Naming, B: Bell + Drop>(
     inside: &mut Inside<T, J, B>,
     bell: Option<Arc<B>>,
 ) -> Result<u64, Fault>
-    ensures seat { MatchOption bell ((result ≡ Ok 0) × (inside.new.cell ≡ inside.old.cell)) (λ _. IfOk result (λ seat. IsFree inside.old.cell.cell.taken seat × (inside.new.cell.cell.taken ≡ set inside.old.cell.cell.taken (seat - 1) true))) }
+    requires { inside.old.stage ≡ Stage.Open }
+    ensures seat { MatchOption bell ((result ≡ Ok 0) × (inside.new.topic.cell ≡ inside.old.topic.cell)) (λ _. IfOk result (λ seat. IsFree inside.old.topic.cell.cell.taken seat × (inside.new.topic.cell.cell.taken ≡ set inside.old.topic.cell.cell.taken (seat - 1) true))) }
     ensures faults { IfErr result (λ fault. (fault ≡ Fault.NoRoom) ⊎ (fault ≡ Fault.NoMemory)) }
-    ensures name { inside.new.name ≡ inside.old.name }
+    ensures name { inside.new.topic.name ≡ inside.old.topic.name }
 {
     match bell {
         Some(bell) => inside.enter(bell),

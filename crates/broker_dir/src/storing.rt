@@ -46,6 +46,11 @@ impl<J: Naming> Batch<J> {
         Ok(Batch { parts, seen })
     }
 
+    /// Whether no topic was viewed.
+    fn is_empty(&self) -> bool {
+        self.parts.is_empty()
+    }
+
     fn add(&mut self, place: usize, part: Part<J>) -> Result<(), Fault> {
         let length = part.snapshot().log().count() as u64;
         let (Ok(()), Ok(())) = (
@@ -179,7 +184,11 @@ impl<T: Opened + Drop, S: Alter, J: Naming, B: Bell + Drop> Directory<T, S, J, B
         mut batch: Batch<J>,
     ) -> Result<(), Unstored> {
         let mut keeper = self.keeper.lock(rt);
-        match view_all(rt, &mut *keeper, topics, &mut batch) {
+        match self.view_all(rt, &mut *keeper, topics, &mut batch) {
+            Ok(()) if batch.is_empty() => {
+                drop(batch);
+                Ok(())
+            }
             Ok(()) => self.store_viewed(rt, &mut *keeper, topics, batch),
             Err(fault) => {
                 drop(batch);
@@ -244,48 +253,68 @@ impl<T: Opened + Drop, S: Alter, J: Naming, B: Bell + Drop> Directory<T, S, J, B
             self.send(rt, topic);
         }
     }
-}
 
-/// The topics as they are.
-fn view_all<T: Opened + Drop, S: Alter, J: Naming, B: Bell + Drop, R: Wait>(
-    rt: &R,
-    keeper: &mut Keeper<S, J>,
-    topics: &[Arc<Shared<T, J, B>>],
-    batch: &mut Batch<J>,
-) -> Result<(), Fault> {
-    for place in 0..topics.len() {
-        match view_one(rt, keeper, &topics[place], place, batch) {
-            Ok(()) => {}
-            Err(fault) => return Err(fault),
+    /// The topics as they are, but for those that leave or are gone.
+    fn view_all<R: Wait>(
+        &self,
+        rt: &R,
+        keeper: &mut Keeper<S, J>,
+        topics: &[Arc<Shared<T, J, B>>],
+        batch: &mut Batch<J>,
+    ) -> Result<(), Fault> {
+        for place in 0..topics.len() {
+            match self.view_one(rt, keeper, &topics[place], place, batch) {
+                Ok(()) => {}
+                Err(fault) => return Err(fault),
+            }
+        }
+        Ok(())
+    }
+
+    fn view_one<R: Wait>(
+        &self,
+        rt: &R,
+        keeper: &mut Keeper<S, J>,
+        topic: &Arc<Shared<T, J, B>>,
+        place: usize,
+        batch: &mut Batch<J>,
+    ) -> Result<(), Fault> {
+        match viewed(rt, keeper, topic) {
+            Ok(Some(part)) => batch.add(place, part),
+            Ok(None) => {
+                self.pass_over(rt, topic);
+                Ok(())
+            }
+            Err(fault) => Err(fault),
         }
     }
-    Ok(())
-}
 
-fn view_one<T: Opened + Drop, S: Alter, J: Naming, B: Bell + Drop, R: Wait>(
-    rt: &R,
-    keeper: &mut Keeper<S, J>,
-    topic: &Arc<Shared<T, J, B>>,
-    place: usize,
-    batch: &mut Batch<J>,
-) -> Result<(), Fault> {
-    match viewed(rt, keeper, topic) {
-        Ok(part) => batch.add(place, part),
-        Err(fault) => Err(fault),
+    /// The topic is not stored with others, since it leaves or is gone: it is seen out once nobody is there.
+    fn pass_over<R: Wait>(&self, rt: &R, topic: &Arc<Shared<T, J, B>>) {
+        topic.note_over();
+        let mut inside = topic.inside.lock(rt);
+        let leaves = inside.wants_seeing_out();
+        drop(inside);
+        if leaves {
+            self.send(rt, topic);
+        }
     }
 }
 
-/// The topic as it is, with its lock held for no longer than that takes.
+/// The topic as it is, with its lock held for no longer than that takes. None where it leaves or is gone.
 fn viewed<T: Opened + Drop, S: Alter, J: Naming, B: Bell + Drop, R: Wait>(
     rt: &R,
     keeper: &mut Keeper<S, J>,
     topic: &Arc<Shared<T, J, B>>,
-) -> Result<Part<J>, Fault> {
+) -> Result<Option<Part<J>>, Fault> {
     let mut inside = topic.inside.lock(rt);
-    match keeper.view(&mut inside.cell) {
+    if !inside.may_be_viewed(rt) {
+        return Ok(None);
+    }
+    match inside.topic.view_by(keeper) {
         Ok(part) => {
             inside.viewed();
-            Ok(part)
+            Ok(Some(part))
         }
         Err(fault) => Err(fault),
     }

@@ -105,6 +105,13 @@ impl<T: Opened + Drop, J: Naming, B: Bell + Drop> Table<T, J, B> {
             None => None,
         }
     }
+
+    /// The topic of the name is open no more.
+    pub(crate) fn take_out(&mut self, name: &str)
+        ensures { get_by_text self.new.list.topics name.now ≡ None }
+    {
+        drop(self.list.topics.shift_remove(name));
+    }
 }
 
 impl<X: Drop> Listed<Arc<X>> {

@@ -5,6 +5,7 @@ ghost use Rattle.broker_dir.specs.Listing.{HasRoom, after_making, most_open, nam
 
 use crate::directory::Directory;
 use crate::errand::Errands;
+use crate::inside::Rested;
 use crate::table::{MOST_OPEN, Table};
 use crate::topic::Shared;
 use delivery_machine::Opened;
@@ -14,19 +15,27 @@ use sqlite::Alter;
 use std::sync::{Arc, Wait};
 
 /// Where a further topic has room.
-#[derive(Clone, Copy, Debug, PartialEq, Eq)]
+#[derive(Drop)]
 pub(crate) enum Room {
     /// Fewer are open than may be.
     Free,
-    /// Once the topic at the place has left.
-    InPlaceOf(usize),
+    /// Once this one has left.
+    InPlaceOf(Unused),
 }
 
-/// A topic that nobody uses: its place, and the number of its last use.
-#[derive(Clone, Copy, Debug, PartialEq, Eq)]
-struct Unused {
+/// A topic that nobody uses, by its place. Nothing leaves but what is one.
+#[derive(Drop)]
+pub(crate) struct Unused {
     place: usize,
-    used: u64,
+    /// By the topic's own word.
+    rested: Rested,
+}
+
+impl Unused {
+    /// The number of its last use.
+    fn used(&self) -> u64 {
+        self.rested.used()
+    }
 }
 
 /// The one whose last use is longer ago.
@@ -34,14 +43,25 @@ fn longer(one: Option<Unused>, other: Unused) -> Unused
     ensures { MatchOption one (result ≡ other) (λ one. (result ≡ one) ⊎ (result ≡ other)) }
 {
     match one {
-        Some(one) if one.used <= other.used => one,
-        _ => other,
+        Some(one) => if one.used() <= other.used() {
+            drop(other);
+            one
+        } else {
+            drop(one);
+            other
+        },
+        None => other,
     }
 }
 
 impl<T: Opened + Drop, S: Alter, J: Naming, B: Bell + Drop> Directory<T, S, J, B> {
     /// The topic at the place, where nobody but the table has it, and what is stored of it is the topic as it is.
-    fn unused_at<R: Wait>(&self, rt: &R, table: &mut Table<T, J, B>, place: usize) -> Option<Unused>
+    pub(crate) fn unused_at<R: Wait>(
+        &self,
+        rt: &R,
+        table: &mut Table<T, J, B>,
+        place: usize,
+    ) -> Option<Unused>
         ensures same { table.new.list.topics.entries ≡ table.old.list.topics.entries }
         ensures there { IfSome result (λ unused. (unused.place ≡ place) × (place < length table.old.list.topics.entries)) }
     {
@@ -50,7 +70,7 @@ impl<T: Opened + Drop, S: Alter, J: Naming, B: Bell + Drop> Directory<T, S, J, B
         }
         match table.at(place) {
             Some(topic) => match rests_since(rt, topic) {
-                Some(used) => Some(Unused { place, used }),
+                Some(rested) => Some(Unused { place, rested }),
                 None => None,
             },
             None => None,
@@ -81,7 +101,7 @@ impl<T: Opened + Drop, S: Alter, J: Naming, B: Bell + Drop> Directory<T, S, J, B
             return Some(Room::Free);
         }
         match self.least_used(rt, table) {
-            Some(unused) => Some(Room::InPlaceOf(unused.place)),
+            Some(unused) => Some(Room::InPlaceOf(unused)),
             None => None,
         }
     }
@@ -90,15 +110,17 @@ impl<T: Opened + Drop, S: Alter, J: Naming, B: Bell + Drop> Directory<T, S, J, B
     pub(crate) fn make_place<R: Wait>(&self, rt: &R, table: &mut Table<T, J, B>, room: Room)
         ensures { names_of table.new.list.topics.entries ≡ after_making room (names_of table.old.list.topics.entries) }
     {
-        if let Room::InPlaceOf(place) = room {
-            self.let_go(rt, table, place);
+        if let Room::InPlaceOf(unused) = room {
+            self.let_go(rt, table, unused);
         }
     }
 
-    /// The topic at the place leaves the directory, and the keeper lets go of what it knew of it.
-    fn let_go<R: Wait>(&self, rt: &R, table: &mut Table<T, J, B>, place: usize)
-        ensures { names_of table.new.list.topics.entries ≡ remove (names_of table.old.list.topics.entries) place }
+    /// The topic leaves the directory, and the keeper lets go of what it knew of it.
+    pub(crate) fn let_go<R: Wait>(&self, rt: &R, table: &mut Table<T, J, B>, unused: Unused)
+        ensures { names_of table.new.list.topics.entries ≡ remove (names_of table.old.list.topics.entries) unused.place }
     {
+        let place = unused.place;
+        drop(unused);
         let Some(topic) = table.remove(place) else {
             return;
         };
@@ -123,12 +145,14 @@ impl<T: Opened + Drop, S: Alter, J: Naming, B: Bell + Drop> Directory<T, S, J, B
         }
     }
 
-    /// Topics leave that nobody uses, and nobody has used for five minutes. It looks for them once a minute.
+    /// Topics leave that nobody uses, and nobody has used for five minutes, and those whose journals are full. It looks for
+    /// them once a minute.
     pub(crate) fn look<R: Wait>(&self, rt: &R, errands: &mut Errands<T, J, B>) {
         let time = errands.time;
         if errands.looks.is_due(time) {
             let last = errands.looks.mark(self.uses.made(), time);
             self.unload(rt, last);
+            self.see_all_out(rt);
         }
     }
 
@@ -138,21 +162,26 @@ impl<T: Opened + Drop, S: Alter, J: Naming, B: Bell + Drop> Directory<T, S, J, B
         let table = &mut *guard;
         let count = table.count();
         for passed in 0..count {
-            let place = count - 1 - passed;
-            if let Some(unused) = self.unused_at(rt, table, place)
-                && unused.used < last
-            {
-                self.let_go(rt, table, place);
+            self.unload_at(rt, table, count - 1 - passed, last);
+        }
+    }
+
+    fn unload_at<R: Wait>(&self, rt: &R, table: &mut Table<T, J, B>, place: usize, last: u64) {
+        if let Some(unused) = self.unused_at(rt, table, place) {
+            if unused.used() < last {
+                self.let_go(rt, table, unused);
+            } else {
+                drop(unused);
             }
         }
     }
 }
 
-/// The number of the topic's last use, where it may leave.
+/// The topic's last use, where it may leave.
 fn rests_since<T: Opened + Drop, J: Naming, B: Bell + Drop, R: Wait>(
     rt: &R,
     topic: &Shared<T, J, B>,
-) -> Option<u64> {
+) -> Option<Rested> {
     let inside = topic.inside.lock(rt);
     inside.rests_since()
 }

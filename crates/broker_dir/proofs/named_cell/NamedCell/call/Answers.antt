@@ -1,7 +1,7 @@
 use Rattle.std.proofs.Common.{◌≡◌, true, sym, subst, ◌∙◌}
 use Rattle.row_store.specs.Opened.{has_origin}
 use Rattle.broker_dir.proofs.Seats.{called_named, called_word}
-use Rattle.broker_dir.proofs.inside.Inside.answer_with_room.Goals as goal
+use Rattle.broker_dir.proofs.named_cell.NamedCell.call.Goals as goal
 
 pub invariant_of-self : goal.invariant_of-self
 invariant_of-self g c =

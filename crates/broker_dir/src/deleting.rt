@@ -1,0 +1,134 @@
+// A topic is deleted: its rows go, and the name is as if it had never been.
+ghost use Rattle.std.specs.Prelude.{◌≡◌, None, OnErr, OnOk, Err};
+ghost use Rattle.indexmap.specs.IndexMap.{get_by_text};
+ghost use Rattle.position_core.specs.TopicName.{topic_text};
+ghost use Rattle.position_core.specs.declared.fault.Fault.{Fault};
+ghost use Rattle.sqlite.specs.State.{HasCleanDisk};
+ghost use Rattle.sqlite.specs.Held.{state};
+ghost use Rattle.stored_cell.specs.Held.{IsDeletable};
+ghost use Rattle.row_store.specs.Keeping.{Deletes};
+
+use crate::closing::{Failed, Unstored};
+use crate::directory::Directory;
+use crate::inside::Inside;
+use crate::stage::Stage;
+use crate::table::Table;
+use crate::topic::Shared;
+use delivery_machine::{Fault, Opened, Reply};
+use marks::Naming;
+use row_forms::topic_text;
+use row_store::Keeper;
+use session_bells::Bell;
+use sqlite::Alter;
+use std::alloc::Global;
+use std::sync::{Arc, Wait};
+
+/// Why a topic was not deleted.
+enum Undeleted {
+    /// The topic is in use, or may not be used any more, or there was no memory.
+    Refused(Fault),
+    /// The store failed.
+    Failed(Failed),
+}
+
+impl Undeleted {
+    /// What the keeper's refusal comes to.
+    fn of(fault: Fault) -> Undeleted
+        ensures { (why : Fault) → result ≡ Undeleted.Refused why → (why ≡ Fault.NoMemory) × (fault ≡ Fault.NoMemory) }
+    {
+        match Unstored::of(fault) {
+            Unstored::NoMemory => Undeleted::Refused(Fault::NoMemory),
+            Unstored::Failed(failed) => Undeleted::Failed(failed),
+        }
+    }
+}
+
+impl<T: Opened + Drop, S: Alter, J: Naming, B: Bell + Drop> Directory<T, S, J, B> {
+    /// Deletes the topic, at which somebody sits still: they learn that it is gone. Refused (F12) while a producer or a
+    /// member is there, or a dead letter that was not moved; (F15) where it leaves and (F11) where it is gone already;
+    /// (F1) for want of memory; and (F16) where the store fails, which closes the directory.
+    pub(crate) fn delete<R: Wait>(
+        &self,
+        rt: &R,
+        topic: &Arc<Shared<T, J, B>>,
+    ) -> Result<Reply, Fault> {
+        if self.is_closed() {
+            return Err(Fault::StoreFailed);
+        }
+        let deleted = self.delete_locked(rt, topic);
+        match deleted {
+            Ok(()) => Ok(Reply::Done),
+            Err(Undeleted::Refused(fault)) => Ok(Reply::Refused(fault)),
+            Err(Undeleted::Failed(failed)) => {
+                drop(self.close_after(rt, failed));
+                Err(Fault::StoreFailed)
+            }
+        }
+    }
+
+    /// With all three locks held, so that nobody comes, stores or asks meanwhile.
+    fn delete_locked<R: Wait>(
+        &self,
+        rt: &R,
+        topic: &Arc<Shared<T, J, B>>,
+    ) -> Result<(), Undeleted> {
+        let mut table = self.table.lock(rt);
+        let mut keeper = self.keeper.lock(rt);
+        let mut inside = topic.inside.lock(rt);
+        match delete_from(self.alloc, &mut *table, &mut *keeper, &mut *inside) {
+            Ok(()) => {
+                topic.note_over();
+                inside.bells.ring_all(rt);
+                Ok(())
+            }
+            Err(undeleted) => Err(undeleted),
+        }
+    }
+}
+
+/// The topic's rows go, and it is open no more.
+fn delete_from<T: Opened + Drop, S: Alter, J: Naming, B: Bell + Drop>(
+    alloc: Global,
+    table: &mut Table<T, J, B>,
+    keeper: &mut Keeper<S, J>,
+    inside: &mut Inside<T, J, B>,
+) -> Result<(), Undeleted>
+    ensures rows { HasCleanDisk (state S.Store keeper.new.conn) → OnOk result (Deletes (topic_text inside.old.topic.name) (state S.Store keeper.old.conn).now.trees (state S.Store keeper.new.conn).now.trees) }
+    ensures free { OnOk result ((inside.old.stage ≡ Stage.Open) × IsDeletable inside.old.topic.cell.cell.state) }
+    ensures gone { OnOk result ((inside.new.stage ≡ Stage.Gone) × (get_by_text table.new.list.topics (topic_text inside.old.topic.name) ≡ None)) }
+    ensures stays { OnErr result ((inside.new ≡ inside.old) × (table.new.list.topics.entries ≡ table.old.list.topics.entries)) }
+    ensures busy { inside.old.stage ≡ Stage.Open → result ≡ Err (Undeleted.Refused Fault.SubscriptionBusy) → IsDeletable inside.old.topic.cell.cell.state → ⊥ }
+{
+    match may_delete(inside) {
+        Ok(()) => {}
+        Err(fault) => return Err(Undeleted::Refused(fault)),
+    }
+    let Ok(text) = topic_text(alloc, inside.topic.name()) else {
+        return Err(Undeleted::Refused(Fault::NoMemory));
+    };
+    match keeper.delete(inside.topic.name()) {
+        Ok(()) => {
+            table.take_out(text.as_str());
+            inside.stage = Stage::Gone;
+            Ok(())
+        }
+        Err(fault) => Err(Undeleted::of(fault)),
+    }
+}
+
+/// Whether the topic may be deleted; why not, where it may not.
+fn may_delete<T: Opened + Drop, J: Naming, B: Bell + Drop>(
+    inside: &Inside<T, J, B>,
+) -> Result<(), Fault>
+    ensures ok { OnOk result ((inside.now.stage ≡ Stage.Open) × IsDeletable inside.now.topic.cell.cell.state) }
+    ensures busy { inside.now.stage ≡ Stage.Open → result ≡ Err Fault.SubscriptionBusy → IsDeletable inside.now.topic.cell.cell.state → ⊥ }
+{
+    if let Some(fault) = inside.stage.refusal() {
+        return Err(fault);
+    }
+    match inside.topic.cell().may_be_deleted() {
+        Ok(true) => Ok(()),
+        Ok(false) => Err(Fault::SubscriptionBusy),
+        Err(fault) => Err(fault),
+    }
+}

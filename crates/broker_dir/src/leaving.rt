@@ -1,0 +1,132 @@
+// A topic whose journal is full leaves the directory once nobody is there: it is stored, and the next who comes loads it.
+ghost use Rattle.std.specs.Prelude.{◌≡◌, OnOk, false};
+ghost use Rattle.sqlite.specs.State.{HasCleanDisk};
+ghost use Rattle.sqlite.specs.Held.{state};
+ghost use Rattle.row_store.specs.Keeping.{StoresState};
+
+use crate::closing::Unstored;
+use crate::directory::Directory;
+use crate::inside::Inside;
+use crate::stage::Stage;
+use crate::table::Table;
+use crate::topic::Shared;
+use delivery_machine::Opened;
+use marks::Naming;
+use row_store::Keeper;
+use session_bells::Bell;
+use sqlite::Alter;
+use std::sync::{Arc, Wait};
+
+impl<T: Opened + Drop, S: Alter, J: Naming, B: Bell + Drop> Directory<T, S, J, B> {
+    /// The topic is seen out, unless somebody is there still. Where there is no memory for its last store it is tried again
+    /// once a minute.
+    pub(crate) fn see_out<R: Wait>(&self, rt: &R, topic: Arc<Shared<T, J, B>>) {
+        is_told(rt, &topic);
+        let mut guard = self.table.lock(rt);
+        let table = &mut *guard;
+        let place = table.place_of(&topic.name);
+        drop(topic);
+        let stored = match place {
+            Some(place) => self.see_out_at(rt, table, place),
+            None => Ok(()),
+        };
+        drop(guard);
+        self.close_where_failed(rt, stored);
+    }
+
+    /// All whose journals are full are seen out, as far as nobody is there.
+    pub(crate) fn see_all_out<R: Wait>(&self, rt: &R) {
+        let mut table = self.table.lock(rt);
+        let stored = self.see_each_out(rt, &mut *table);
+        drop(table);
+        self.close_where_failed(rt, stored);
+    }
+
+    fn see_each_out<R: Wait>(&self, rt: &R, table: &mut Table<T, J, B>) -> Result<(), Unstored> {
+        let count = table.count();
+        for passed in 0..count {
+            match self.see_out_at(rt, table, count - 1 - passed) {
+                Ok(()) => {}
+                Err(unstored) => return Err(unstored),
+            }
+        }
+        Ok(())
+    }
+
+    /// Closes the directory where the store failed.
+    fn close_where_failed<R: Wait>(&self, rt: &R, stored: Result<(), Unstored>) {
+        match stored {
+            Ok(()) => {}
+            Err(Unstored::NoMemory) => {}
+            Err(Unstored::Failed(failed)) => drop(self.close_after(rt, failed)),
+        }
+    }
+
+    /// The topic at the place is stored and leaves, where its journal is full and nobody but the table has it. The table's lock
+    /// is held, so that nobody comes to it meanwhile.
+    fn see_out_at<R: Wait>(
+        &self,
+        rt: &R,
+        table: &mut Table<T, J, B>,
+        place: usize,
+    ) -> Result<(), Unstored> {
+        if !table.is_sole(place) {
+            return Ok(());
+        }
+        match self.store_last(rt, table, place) {
+            Ok(true) => {
+                if let Some(unused) = self.unused_at(rt, table, place) {
+                    self.let_go(rt, table, unused);
+                }
+                Ok(())
+            }
+            Ok(false) => Ok(()),
+            Err(unstored) => Err(unstored),
+        }
+    }
+
+    /// The last store of the topic at the place, where its journal is full. Whether it is.
+    fn store_last<R: Wait>(
+        &self,
+        rt: &R,
+        table: &Table<T, J, B>,
+        place: usize,
+    ) -> Result<bool, Unstored> {
+        let Some(topic) = table.at(place) else {
+            return Ok(false);
+        };
+        if !topic.is_over() {
+            return Ok(false);
+        }
+        let mut keeper = self.keeper.lock(rt);
+        let mut inside = topic.inside.lock(rt);
+        if inside.stage != Stage::Leaving {
+            return Ok(false);
+        }
+        match store_now(&mut *keeper, &mut *inside) {
+            Ok(()) => Ok(true),
+            Err(unstored) => Err(unstored),
+        }
+    }
+}
+
+/// The thread has come to the topic that it was told to see out.
+fn is_told<T: Opened + Drop, J: Naming, B: Bell + Drop, R: Wait>(rt: &R, topic: &Shared<T, J, B>) {
+    let mut inside = topic.inside.lock(rt);
+    inside.is_sent = false;
+}
+
+/// The topic is stored as it is, in one hold. Its journal begins anew before, so that the store has its line.
+fn store_now<T: Opened + Drop, S: Alter, J: Naming, B: Bell + Drop>(
+    keeper: &mut Keeper<S, J>,
+    inside: &mut Inside<T, J, B>,
+) -> Result<(), Unstored>
+    ensures rows { HasCleanDisk (state S.Store keeper.new.conn) → OnOk result (StoresState inside.old.topic.cell.cell.state (state S.Store keeper.old.conn).now.trees (state S.Store keeper.new.conn).now.trees) }
+    ensures ok { OnOk result (keeper.new.failed ≡ false) }
+{
+    inside.topic.roll();
+    match inside.topic.round_by(keeper) {
+        Ok(()) => Ok(()),
+        Err(fault) => Err(Unstored::of(fault)),
+    }
+}
