@@ -14,6 +14,7 @@ use Rattle.marks.proofs.mark.Mark.TheSendSync.{the_send as mark_send}
 use Rattle.stored_cell.proofs.viewed.Stored.TheSendSync.{the_send as stored_send}
 use Rattle.stored_cell.proofs.viewed.Viewed.TheSendSync.{the_send as viewed_send}
 use Rattle.session_bells.proofs.bells.Bells.TheSendSync.{the_send as bells_send}
+use Rattle.broker_dir.proofs.stage.Stage.TheSendSync.{the_send as stage_send}
 use Rattle.broker_dir.proofs.table.Listed.TheSendSync.{the_send as listed_send}
 use Rattle.broker_dir.proofs.graves.Graves.TheSendSync.{the_send as graves_send}
 use Rattle.broker_dir.proofs.board.Board.TheSendSync.{the_send as board_send, the_sync as board_sync}
@@ -31,6 +32,7 @@ use Rattle.stored_cell.specs.contracts.viewed.Stored as Stored
 use Rattle.stored_cell.specs.contracts.viewed.Viewed as Viewed
 use Rattle.stored_cell.specs.contracts.cell.StoredCell as StoredCell
 use Rattle.stored_cell.specs.contracts.cell.StoredCell.TheInside as StoredFields
+use Rattle.broker_dir.specs.contracts.named_cell.NamedCell as NamedCell
 use Rattle.broker_dir.specs.contracts.inside.Inside as Inside
 use Rattle.broker_dir.specs.contracts.table.Table as Table
 use Rattle.broker_dir.specs.contracts.topic.Shared as Shared
@@ -48,24 +50,22 @@ StoredCell-send T I g n s = let c = Cell-send T g s in view_send _ _ _ _ _ (decl
   ),
 ))
 
+NamedCell-send : (T I : RattleType) (g : topic.Ghosts T.Denot) (v : saved.Ghosts T.Denot) (n : naming.Ghosts I.Denot) → IsSend T → IsSend (NamedCell.the_row T I g v n)
+NamedCell-send T I g v n s = let cell = StoredCell-send T I g n s in
+    declared_send (NamedCell.the_type T I g v n) (name_send, (cell, (search (sendable, crosses, mark_send) depth 20, tt)))
+
 Inside-send : (T I B : RattleType) (g : topic.Ghosts T.Denot) (v : saved.Ghosts T.Denot) (n : naming.Ghosts I.Denot) → IsSend T → IsSend B → IsSync B → IsSend (Inside.the_row T I B g v n)
-Inside-send T I B g v n s b c = let cell = StoredCell-send T I g n s in let bells = bells_send B b c in declared_send (Inside.the_type T I B g v n) (
-  search (sendable, crosses) depth 20,
+Inside-send T I B g v n s b c = let topic = NamedCell-send T I g v n s in let bells = bells_send B b c in declared_send (Inside.the_type T I B g v n) (
+  topic,
   (
-    name_send,
+    stage_send,
     (
-      cell,
+      bells,
       (
-        search (sendable, crosses, mark_send) depth 20,
+        search sendable,
         (
-          bells,
-          (
-            search sendable,
-            (
-              search sendable,
-              (graves_send, (search sendable, (search sendable, (search sendable, tt)))),
-            ),
-          ),
+          search sendable,
+          (graves_send, (search sendable, (search sendable, (search sendable, tt)))),
         ),
       ),
     ),
@@ -74,11 +74,11 @@ Inside-send T I B g v n s b c = let cell = StoredCell-send T I g n s in let bell
 
 Shared-send : (T I B : RattleType) (g : topic.Ghosts T.Denot) (v : saved.Ghosts T.Denot) (n : naming.Ghosts I.Denot) → IsSend T → IsSend B → IsSync B → IsSend (Shared.the_row T I B g v n)
 Shared-send T I B g v n s b c = let i = Inside-send T I B g v n s b c in declared_send (Shared.the_type T I B g v n)
-    (name_send, (as_row_send (Mutex.the_field (Inside.the_row T I B g v n)) (search (sendable, crosses, i) depth 20), tt))
+    (name_send, (as_row_send (Mutex.the_field (Inside.the_row T I B g v n)) (search (sendable, crosses, i) depth 20), (search (sendable, crosses) depth 20, tt)))
 
 Shared-sync : (T I B : RattleType) (g : topic.Ghosts T.Denot) (v : saved.Ghosts T.Denot) (n : naming.Ghosts I.Denot) → IsSend T → IsSend B → IsSync B → IsSync (Shared.the_row T I B g v n)
 Shared-sync T I B g v n s b c = let i = Inside-send T I B g v n s b c in declared_sync (Shared.the_type T I B g v n)
-    (name_sync, (as_row_sync (Mutex.the_field (Inside.the_row T I B g v n)) (search (sendable, crosses, i) depth 20), tt))
+    (name_sync, (as_row_sync (Mutex.the_field (Inside.the_row T I B g v n)) (search (sendable, crosses, i) depth 20), (search (sendable, crosses) depth 20, tt)))
 
 Arc-send : (T I B : RattleType) (g : topic.Ghosts T.Denot) (v : saved.Ghosts T.Denot) (n : naming.Ghosts I.Denot) → IsSend T → IsSend B → IsSync B → IsSend (Arc.the_row (Shared.the_row T I B g v n) Global.the_row ghosts)
 Arc-send T I B g v n s b c = let ss = Shared-send T I B g v n s b c in let sy = Shared-sync T I B g v n s b c in search (sendable, crosses, ss, sy) depth 20

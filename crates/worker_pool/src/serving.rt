@@ -125,19 +125,35 @@ fn see_off(mut conn: SocketConn<Held<TcpStream>>) {
     drop(conn);
 }
 
-/// The guest stays, unless the store has failed.
+/// Why nobody may stay there, where nobody may: the store failed, or the topic leaves or is gone.
+fn refusal<T: Opened + Drop, S: Alter, J: Naming, G: Gate + Drop, R: Wait>(
+    rt: &R,
+    place: &Place<T, S, J, G>,
+    guest: &Guest<T, J>,
+) -> Option<Fault> {
+    if place.directory.is_closed() {
+        Some(Fault::StoreFailed)
+    } else {
+        guest.attached.refusal(rt)
+    }
+}
+
+/// The guest stays, unless nobody may.
 fn stay<T: Opened + Drop, S: Alter, J: Naming, G: Gate + Drop, R: Wait>(
     rt: &R,
     place: &Place<T, S, J, G>,
     mut guest: Guest<T, J>,
     received: u32,
 ) -> (Turned, Option<Guest<T, J>>) {
-    if place.directory.is_closed() {
-        turn_away(&mut guest.conn, 4008, Fault::StoreFailed);
-        place.directory.detach(rt, guest.attached);
-        (Turned::gone(), None)
-    } else {
-        let turned = guest.turned(rt, place, received);
-        (turned, Some(guest))
+    match refusal(rt, place, &guest) {
+        Some(fault) => {
+            turn_away(&mut guest.conn, 4008, fault);
+            place.directory.detach(rt, guest.attached);
+            (Turned::gone(), None)
+        }
+        None => {
+            let turned = guest.turned(rt, place, received);
+            (turned, Some(guest))
+        }
     }
 }
