@@ -51,11 +51,21 @@ pub(super) fn keeper_over<J: Naming, R: Abort + AllocGlobal>(
     keeper.ok().expect(rt, "no memory for the tables")
 }
 
-/// So many may sit at a topic.
-pub(super) fn terms<R: Abort>(rt: &R, seats: u32) -> Terms {
+/// So many may sit at a topic, whose journal has so many lines.
+fn terms_of<R: Abort>(rt: &R, lines: u32, seats: u32) -> Terms {
     Terms {
         ledger_size: LedgerSize::new(50_000).expect(rt, "no size"),
-        lines: LineLimit::new(1_000).expect(rt, "no limit"),
+        lines: LineLimit::new(lines).expect(rt, "no limit"),
         seats: SeatCount::new(seats).expect(rt, "no seats"),
     }
+}
+
+/// So many may sit at a topic.
+pub(super) fn terms<R: Abort>(rt: &R, seats: u32) -> Terms {
+    terms_of(rt, 1_000, seats)
+}
+
+/// A topic's journal has eight lines.
+pub(super) fn short_terms<R: Abort>(rt: &R) -> Terms {
+    terms_of(rt, 8, 3)
 }

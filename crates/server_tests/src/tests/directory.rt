@@ -1,5 +1,7 @@
 // The server over a database in memory.
 mod attaching;
+mod deleting;
+mod full;
 mod letters;
 mod memory;
 mod retries;

@@ -9,7 +9,7 @@ use broker_dir::{Errands, Open};
 use delivery_machine::{Fault, Reply};
 use marks::Naming;
 use session_bells::Rest;
-use session_links::Caller;
+use session_links::{Caller, Request};
 use std::process::Abort;
 use std::rt::Clock;
 use std::sync::{Arc, Wait};
@@ -87,7 +87,10 @@ fn has_moved<J: Naming, R: AllocGlobal + Wait>(rt: &R, topics: &Topics<J>, seat:
         return false;
     };
     let mut caller = topics.caller(rt, seat, &Open);
-    matches!(caller.call(event), Ok(Reply::Stats { dead: 0, .. }))
+    matches!(
+        caller.call(Request::Event(event)),
+        Ok(Reply::Stats { dead: 0, .. })
+    )
 }
 
 /// Whether the letter is moved, or the store has failed, within a second, in which nobody asks for anything that changes a

@@ -2,14 +2,14 @@
 ghost use Rattle.std.specs.Prelude.{◌≡◌};
 
 use crate::tests::base::{keeper_over, terms};
-use broker_dir::{Attached, Directory, Errands, Open};
-use delivery_machine::{Event, Reply};
+use broker_dir::{Attached, Directory, Errands, Open, Terms};
+use delivery_machine::{Event, Fault, Reply};
 use marks::{Naming, Unnamed};
 use position_core::TopicName;
 use replay_lines::{Line, read_line};
 use row_store::Keeper;
 use session_bells::Bell;
-use session_links::Caller;
+use session_links::{Caller, Request};
 use sqlite::MemStore;
 use std::marker::Brand;
 use std::process::Abort;
@@ -65,13 +65,21 @@ pub(super) fn with_rows<X: Scene, R: Abort + AllocGlobal + Wait + Clock>(rt: &R,
     run::<Brand, X, R>(rt, Unnamed::new(), scene);
 }
 
+pub(super) fn open_with<J: Naming, R: AllocGlobal>(
+    rt: &R,
+    keeper: Rows<J>,
+    terms: Terms,
+) -> Topics<J> {
+    Directory::open(rt.alloc(), keeper, terms)
+}
+
 /// So many may sit at a topic.
 pub(super) fn open<J: Naming, R: Abort + AllocGlobal>(
     rt: &R,
     keeper: Rows<J>,
     seats: u32,
 ) -> Topics<J> {
-    Directory::open(rt.alloc(), keeper, terms(rt, seats))
+    open_with(rt, keeper, terms(rt, seats))
 }
 
 pub(super) fn topic_name<R: Abort + AllocGlobal>(rt: &R, text: &str) -> TopicName {
@@ -103,6 +111,35 @@ pub(super) fn event_in<R: AllocGlobal>(rt: &R, name: &TopicName, line: &str) -> 
     }
 }
 
+/// What the topic, or whoever stands before it, answers to the request.
+fn answer_of<J: Naming, R: Abort + AllocGlobal + Wait>(
+    rt: &R,
+    topics: &Topics<J>,
+    seat: &Seat<J>,
+    request: Request,
+) -> Result<Reply, Fault> {
+    let mut caller = topics.caller(rt, seat, &Open);
+    caller.call(request)
+}
+
+pub(super) fn delete<J: Naming, R: Abort + AllocGlobal + Wait>(
+    rt: &R,
+    topics: &Topics<J>,
+    seat: &Seat<J>,
+) -> Result<Reply, Fault> {
+    answer_of(rt, topics, seat, Request::DeleteTopic)
+}
+
+pub(super) fn answer_to<J: Naming, R: Abort + AllocGlobal + Wait>(
+    rt: &R,
+    topics: &Topics<J>,
+    seat: &Seat<J>,
+    line: &str,
+) -> Result<Reply, Fault> {
+    let event = event_in(rt, seat.topic(), line).expect(rt, "no event, or no memory");
+    answer_of(rt, topics, seat, Request::Event(event))
+}
+
 /// What the topic answers to the line.
 pub(super) fn asked<J: Naming, R: Abort + AllocGlobal + Wait>(
     rt: &R,
@@ -110,12 +147,8 @@ pub(super) fn asked<J: Naming, R: Abort + AllocGlobal + Wait>(
     seat: &Seat<J>,
     line: &str,
 ) -> Reply {
-    let event = event_in(rt, seat.topic(), line).expect(rt, "no event, or no memory");
-    let mut caller = topics.caller(rt, seat, &Open);
-    caller
-        .call(event)
-        .ok()
-        .expect(rt, "no answer, or no memory")
+    let answer = answer_to(rt, topics, seat, line);
+    answer.ok().expect(rt, "no answer, or no memory")
 }
 
 /// Whether nothing is left to do after a hundred tasks.
