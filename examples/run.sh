@@ -88,6 +88,8 @@ refused 'closed with 4001 F20' node "$here/once.js" "$address" a%2Fb
 refused 'closed with 4002 F20' "$python" "$here/key_shared.py" "$address" a%2Fb
 refused 'closed with 4002 F20' "$python" "$here/dead_letters.py" "$address" a%2Fb
 refused 'closed with 4008 F11' "$python" "$here/admin.py" "$address" not-there stats my-sub
+timeout 60 "$python" "$here/admin.py" "$address" my-topic delete
+refused 'closed with 4008 F11' "$python" "$here/admin.py" "$address" my-topic stats my-sub
 
 echo "== Without doubles: connections are cut all the time, and the broker is killed"
 "$python" "$here/cut.py" $((port + 1)) "$port" $((500 + 8 * messages)) &
