@@ -5,7 +5,6 @@
 import json
 import random
 import re
-import socket
 import sys
 from concurrent.futures import ProcessPoolExecutor
 
@@ -89,11 +88,14 @@ def asks(dice, wanted, texts, opened, last):
     """Each is answered, passed over, or closes the session with a number; `last` shows that it goes on."""
     client, done, closed = opened(), 0, 0
     while done < wanted:
-        client.sock.sendall(frame(1, mutated(dice, dice.choice(texts))) + frame(1, last))
+        client.sock.sendall(frame(1, mutated(dice, dice.choice(texts))))
         done += 1
-        got = client.receive()
-        while isinstance(got, dict) and not is_last(got):
+        got = close_of(client)
+        if got is None:
+            client.send(last)
             got = client.receive()
+            while isinstance(got, dict) and not is_last(got):
+                got = client.receive()
         if isinstance(got, tuple):
             assert is_number(got), got
             closed += 1
@@ -103,22 +105,32 @@ def asks(dice, wanted, texts, opened, last):
     return done, closed
 
 
+def close_of(client):
+    """The close that comes at once, if one does. What is sent behind it would reset the connection, and the close be lost."""
+    client.sock.settimeout(0.003)
+    try:
+        got = client.receive()
+        while isinstance(got, dict):
+            got = client.receive()
+        return got
+    except TimeoutError:
+        return None
+    finally:
+        client.sock.settimeout(30)
+
+
 def is_last(answer):
     return 'endOfTopic' in answer or answer.get('fault') == 11
 
 
-def drained(opened):
-    """An administrator at a topic that is there: it may just have been deleted."""
-    while True:
-        client = opened()
-        client.send('{"type":"stats","subscription":"s"}')
-        if isinstance(client.receive(), dict):
-            return client
-        client.close()
-        writer = producer(port, 'mutants-2')
-        writer.send(text_of(b'again'))
-        writer.receive()
-        writer.close()
+def administrator(topic):
+    """An administrator at the topic, which is made anew: it may just have been deleted."""
+    writer = producer(port, topic)
+    writer.send(text_of(b'again'))
+    assert writer.receive()['result'] == 'ok'
+    writer.leave()
+    writer.close()
+    return Client(port, f'/ws/v2/admin/persistent/public/default/{topic}')
 
 
 def routes(dice, wanted):
@@ -138,7 +150,7 @@ def routes(dice, wanted):
             close = client.receive()
             assert isinstance(close, dict) or is_number(close), (target, close)
             refused += 1
-        except (TimeoutError, socket.timeout):
+        except TimeoutError:
             pass
         client.close()
     return wanted, refused
@@ -150,7 +162,7 @@ def lane(number):
     published = publishes(dice, share * 6 // 10)
     commands = asks(dice, share * 2 // 10, COMMANDS,
                     lambda: consumer(port, 'mutants', f's-{number}', '?subscriptionType=Shared&pullMode=true'), '{"type":"isEndOfTopic"}')
-    orders = asks(dice, share // 10, ORDERS, lambda: drained(lambda: Client(port, '/ws/v2/admin/persistent/public/default/mutants-2')),
+    orders = asks(dice, share // 10, ORDERS, lambda: administrator(f'orders-{number}'),
                   '{"type":"stats","subscription":"none"}')
     return published, commands, orders, routes(dice, share // 10)
 
