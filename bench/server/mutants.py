@@ -169,12 +169,11 @@ def lane(number):
 
 broker = Broker(program, port)
 try:
-    writer = producer(port, 'mutants')
     with ProcessPoolExecutor(LANES) as lanes:
         lots = list(lanes.map(lane, range(first, first + LANES)))
     published = sum(lot[0] for lot in lots)
     (commands, shut), (orders, ended), (asked, refused) = [map(sum, zip(*(lot[at] for lot in lots))) for at in (1, 2, 3)]
-    reader = consumer(port, 'mutants', 'last')
+    reader, writer = consumer(port, 'mutants', 'last'), producer(port, 'mutants')
     writer.send(text_of(b'last'))
     told = writer.receive()
     assert told['result'] == 'ok' and reader.receive()['messageId'] == told['messageId'], told
