@@ -53,12 +53,16 @@ pub(crate) struct Inside<T: Opened + Drop, J: Naming, B: Bell + Drop> {
 /// A topic that may leave, by the number of its last use: nobody is connected, and what is stored of it is the topic as it is.
 /// Only the topic itself tells so.
 #[derive(Drop)]
-pub(crate) struct Rested(u64);
+pub(crate) struct Rested {
+    used: u64,
+}
 
 impl Rested {
     /// The number of its last use.
-    pub(crate) fn used(&self) -> u64 {
-        self.0
+    pub(crate) fn used(&self) -> u64
+        ensures { result ≡ self.now.used }
+    {
+        self.used
     }
 }
 
@@ -288,9 +292,10 @@ impl<T: Opened + Drop, J: Naming, B: Bell + Drop> Inside<T, J, B> {
     /// The topic's last use, where it may leave: nobody is connected, and what is stored of it is the topic as it is.
     pub(crate) fn rests_since(&self) -> Option<Rested>
         ensures rest { IsSome result → IsAtRest self.now.topic.cell }
+        ensures used { IfSome result (λ rested. rested.used ≡ self.now.used) }
     {
         if self.topic.is_at_rest() {
-            Some(Rested(self.used))
+            Some(Rested { used: self.used })
         } else {
             None
         }
