@@ -1,9 +1,10 @@
 // A seat at a topic, and the calls of whoever sits there.
-ghost use Rattle.std.specs.Prelude.{None};
+ghost use Rattle.std.specs.Prelude.{◌≡◌, None};
 
 use crate::directory::Directory;
 use crate::gate::Gate;
 use crate::topic::Shared;
+use crate::waiting::Waiter;
 use delivery_machine::{Event, Fault, Opened, Reply, TopicName};
 use marks::Naming;
 use session_bells::{Asked, Bell};
@@ -39,10 +40,21 @@ impl<T: Opened + Drop, J: Naming, B: Bell + Drop> Attached<T, J, B> {
     }
 
     /// The topic, at which the seat is free again.
-    pub(crate) fn into_topic(self) -> Arc<Shared<T, J, B>> {
+    pub(crate) fn into_topic(self) -> Arc<Shared<T, J, B>>
+        ensures { result ≡ self.topic }
+    {
         let Attached { topic, seat: _ } = self;
         topic
     }
+}
+
+/// What an attach comes to.
+#[derive(Drop)]
+pub enum Coming<T: Opened + Drop, J: Naming, B: Bell + Drop> {
+    /// A seat was taken.
+    Seated(Attached<T, J, B>),
+    /// The topic is opened first, piece by piece: whoever asked comes again once that has ended.
+    Waits(Waiter<B>),
 }
 
 /// The calls of the one at a seat: each is one hold of the topic's lock, and of no other.

@@ -1,9 +1,10 @@
 // Who comes to a topic, and who goes.
 ghost use Rattle.std.specs.Prelude.{◌≡◌, ◌<◌, ◌⊎◌, Err, IfErr, IfOk, false};
 ghost use Rattle.position_core.specs.TopicName.{topic_text};
+ghost use Rattle.broker_dir.specs.Coming.{HasSeat, IsComing};
 ghost use Rattle.broker_dir.specs.Refusing.{IsRefusal};
 
-use crate::attached::{Attached, Seated};
+use crate::attached::{Attached, Coming, Seated};
 use crate::directory::Directory;
 use crate::gate::Gate;
 use crate::opening::found_in;
@@ -18,19 +19,20 @@ use std::sync::{Arc, Wait};
 impl<T: Opened + Drop, S: Alter, J: Naming, B: Bell + Drop> Directory<T, S, J, B> {
     /// Takes a seat at the topic, which is opened where it is not open, and leaves the bell there. Refused in this order:
     /// (F16) where the directory is closed; (F15) where the topic leaves, since its journal is full; (F7) where it is not
-    /// open, and 256 are of which each is in use; (F16) where the store fails, or has rows of it that are none; (F11) where
-    /// it has no rows and is not to be made; (F21) where no seat is free; and (F1) for want of memory, at any point. A
-    /// refusal leaves the open topics as they were. Where 256 are open, the one that nobody has used for the longest leaves
-    /// for it.
+    /// open, and 256 are of which each is in use, or 256 are being opened; (F16) where the store fails, or has rows of it that
+    /// are none; (F11) where it has no rows and is not to be made; (F21) where no seat is free; and (F1) for want of memory, at
+    /// any point. A refusal leaves the open topics as they were. Where 256 are open, the one that nobody has used for the
+    /// longest leaves for it. One who comes to a topic of 256 messages or more that is not open waits: the bell rings
+    /// once that has ended, and the waiter tells what it came to.
     pub fn attach<R: Wait>(
         &self,
         rt: &R,
         name: &TopicName,
         create: bool,
         bell: Arc<B>,
-    ) -> Result<Attached<T, J, B>, Fault>
-        ensures at { IfOk result (λ attached. topic_text attached.topic.value.name ≡ topic_text name.now) }
-        ensures seat { IfOk result (λ attached. 0 < attached.seat) }
+    ) -> Result<Coming<T, J, B>, Fault>
+        ensures at { IfOk result (IsComing (topic_text name.now)) }
+        ensures seat { IfOk result HasSeat }
         ensures unknown { result ≡ Err Fault.NoSuchSubscription → create ≡ false }
         ensures faults { IfErr result (λ fault. (fault ≡ Fault.JournalFull) ⊎ IsRefusal fault) }
     {
@@ -47,17 +49,17 @@ impl<T: Opened + Drop, S: Alter, J: Naming, B: Bell + Drop> Directory<T, S, J, B
         match found_in(table, text.as_str()) {
             Some(Ok(topic)) => {
                 drop(text);
-                sit(rt, topic, bell, self.uses.next())
+                match sit(rt, topic, bell, self.uses.next()) {
+                    Ok(attached) => Ok(Coming::Seated(attached)),
+                    Err(fault) => Err(fault),
+                }
             }
             Some(Err(fault)) => {
                 drop(text);
                 drop(bell);
                 Err(fault)
             }
-            None => match self.open_in(rt, table, text, name, create, Some(bell)) {
-                Ok((topic, seat)) => Ok(Attached { topic, seat }),
-                Err(fault) => Err(fault),
-            },
+            None => self.open_in(rt, table, text, name, create, Some(bell)),
         }
     }
 

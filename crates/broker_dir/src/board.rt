@@ -47,6 +47,32 @@ impl<X: Drop> Board<X> {
         }
     }
 
+    /// A topic waits to be opened piece by piece, which the thread is to do.
+    pub(crate) fn open<R: Wait>(&self, rt: &R) {
+        let mut guard = self.queue.lock(rt);
+        let queue = &mut *guard;
+        queue.opens = true;
+        let wakes = queue.wakes();
+        drop(guard);
+        if wakes {
+            self.news.notify_one();
+        }
+    }
+
+    /// No topic waits to be opened any more.
+    pub(crate) fn opened<R: Wait>(&self, rt: &R) {
+        let mut queue = self.queue.lock(rt);
+        queue.opens = false;
+    }
+
+    /// The thread, which has the right to store, is to do something that takes a while. What it is to store before that,
+    /// unless it goes at once. Where there is nothing, workers store all that waits until it asks for a task again.
+    pub(crate) fn step_aside<R: Wait>(&self, rt: &R, at_once: bool) -> Option<Vec<X>> {
+        let mut guard = self.queue.lock(rt);
+        let queue = &mut *guard;
+        queue.step_aside(self.alloc, at_once)
+    }
+
     /// There was no memory to store the topic: the thread is to, after a pause. Whoever says so has the right to store.
     pub(crate) fn put_off<R: Wait>(&self, rt: &R, topic: X) {
         let mut queue = self.queue.lock(rt);
@@ -85,16 +111,19 @@ impl<X: Drop> Board<X> {
         None
     }
 
-    /// A worker has stored. What came meanwhile is the thread's, since the worker has answers to give first.
-    pub(crate) fn end<R: Wait>(&self, rt: &R) {
+    /// A worker has stored. What came meanwhile is the thread's, since the worker has answers to give first; where the
+    /// thread is not there, the worker is to store that too, and so it is told.
+    pub(crate) fn end<R: Wait>(&self, rt: &R) -> bool {
         let mut guard = self.queue.lock(rt);
         let queue = &mut *guard;
         queue.end();
+        let goes_on = queue.is_left_to_workers();
         let wakes = queue.has_news() && queue.wakes();
         drop(guard);
         if wakes {
             self.news.notify_one();
         }
+        goes_on
     }
 
     /// What the thread is to do next; it waits until there is something.

@@ -4,7 +4,7 @@ use crate::closing::Closed;
 use crate::table::Table;
 use crate::topic::Shared;
 use crate::uses::Uses;
-use delivery_machine::{Opened, TopicName};
+use delivery_machine::{Fault, Opened, TopicName};
 use marks::Naming;
 use row_forms::topic_text;
 use row_store::{Cause, Keeper};
@@ -114,9 +114,10 @@ impl<T: Opened + Drop, S: Alter, J: Naming, B: Bell + Drop> Directory<T, S, J, B
         }
     }
 
-    /// All sessions of all open topics are rung.
+    /// All sessions of all open topics are rung, and whoever waits for a topic is refused (F16).
     pub(crate) fn ring_all<R: Wait>(&self, rt: &R) {
         let table = self.table.lock(rt);
+        table.refuse_waiters(rt, Fault::StoreFailed);
         for place in 0..table.count() {
             if let Some(topic) = table.at(place) {
                 let inside = topic.inside.lock(rt);

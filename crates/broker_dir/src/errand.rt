@@ -5,7 +5,7 @@ use crate::directory::Directory;
 use crate::inside::Inside;
 use crate::looks::Looks;
 use crate::pause::Due;
-use crate::queue::Turn;
+use crate::queue::{Did, Turn};
 use crate::topic::Shared;
 use dead_courier::Stepped;
 use delivery_machine::{Fault, Moment, Opened};
@@ -26,8 +26,8 @@ pub struct Errands<T: Opened + Drop, J: Naming, B: Bell + Drop> {
     pub(crate) looks: Looks,
     /// When the first pause of a courier is over, where one pauses.
     due: Option<Due>,
-    /// Its last task was a store, so that it has the right to store still.
-    pub(crate) has_stored: bool,
+    /// What its last task was: after a store, or a piece of a topic, it has the right to store still.
+    pub(crate) did: Did,
 }
 
 impl<T: Opened + Drop, J: Naming, B: Bell + Drop> Drop for Errands<T, J, B> {
@@ -38,7 +38,7 @@ impl<T: Opened + Drop, J: Naming, B: Bell + Drop> Drop for Errands<T, J, B> {
             time: _,
             looks: _,
             due: _,
-            has_stored: _,
+            did: _,
         } = self;
     }
 }
@@ -61,14 +61,14 @@ impl<T: Opened + Drop, J: Naming, B: Bell + Drop> Errands<T, J, B> {
             time: None,
             looks: Looks::new(),
             due: None,
-            has_stored: false,
+            did: Did::Other,
         })
     }
 
     /// What the board is to know.
     pub(crate) fn turn(&self) -> Turn {
         Turn {
-            has_stored: self.has_stored,
+            did: self.did,
             due: earlier(self.due, self.looks.due()),
         }
     }

@@ -5,15 +5,18 @@ ghost use Rattle.stored_cell.specs.Opening.{begins};
 ghost use Rattle.std.specs.String.{string_bytes};
 ghost use Rattle.indexmap.specs.IndexMap.{get_by_text};
 ghost use Rattle.position_core.specs.TopicName.{topic_text};
+ghost use Rattle.broker_dir.specs.Coming.{HasSeat, IsComing, Lists};
 ghost use Rattle.broker_dir.specs.Listing.{HasRoom, IsListed, most_open, names_of};
 ghost use Rattle.broker_dir.specs.Refusing.{IsLoadRefusal, IsRefusal, IsSeatRefusal};
 
+use crate::attached::{Attached, Coming};
 use crate::directory::Directory;
 use crate::inside::Inside;
 use crate::stage::Stage;
 use crate::table::Table;
 use crate::topic::Shared;
 use crate::unloading::Room;
+use crate::waiting::{Opening, Waiter};
 use delivery_machine::{Fault, Opened, TopicName};
 use marks::Naming;
 use row_forms::topic_text;
@@ -33,7 +36,8 @@ struct Made<X> {
 
 impl<T: Opened + Drop, S: Alter, J: Naming, B: Bell + Drop> Directory<T, S, J, B> {
     /// Opens the topic, with one who sits there where a bell is given, and lists it. All that may be refused comes before
-    /// it is listed; where as many are open as may be, one that nobody uses leaves after that. The topic, and the seat.
+    /// it is listed; where as many are open as may be, one that nobody uses leaves after that. A topic of many messages is to
+    /// be opened by the thread that stores, and whoever has the bell waits for it.
     pub(crate) fn open_in<R: Wait>(
         &self,
         rt: &R,
@@ -42,14 +46,51 @@ impl<T: Opened + Drop, S: Alter, J: Naming, B: Bell + Drop> Directory<T, S, J, B
         name: &TopicName,
         create: bool,
         bell: Option<Arc<B>>,
-    ) -> Result<(Arc<Shared<T, J, B>>, u64), Fault>
+    ) -> Result<Coming<T, J, B>, Fault>
         requires text { string_bytes text ≡ topic_text name.now }
         requires new { get_by_text table.old.list.topics (string_bytes text) ≡ None }
-        ensures opened { OnOk result (IsListed (names_of table.old.list.topics.entries) (string_bytes text) (names_of table.new.list.topics.entries)) }
-        ensures at { IfOk result (λ opened. opened.0.value.name ≡ name.now) }
-        ensures seat { IsSome bell → IfOk result (λ opened. 0 < opened.1) }
+        ensures opened { IfOk result (Lists (names_of table.old.list.topics.entries) (string_bytes text) (names_of table.new.list.topics.entries)) }
+        ensures at { IfOk result (IsComing (string_bytes text)) }
+        ensures seat { IsSome bell → IfOk result HasSeat }
         ensures refused { OnErr result (table.new.list.topics.entries ≡ table.old.list.topics.entries) }
-        ensures full { result ≡ Err Fault.TooMany → most_open ≤ length table.old.list.topics.entries }
+        ensures full { result ≡ Err Fault.TooMany → (most_open ≤ length table.old.list.topics.entries) ⊎ (most_open ≤ length table.new.openings.items) }
+        ensures unknown { result ≡ Err Fault.NoSuchSubscription → create ≡ false }
+        ensures faults { IfErr result IsRefusal }
+    {
+        match waiting_for(table, name) {
+            Some(Ok(opening)) => {
+                drop(text);
+                match Waiter::at(rt, opening, bell) {
+                    Ok(waiter) => Ok(Coming::Waits(waiter)),
+                    Err(fault) => Err(fault),
+                }
+            }
+            Some(Err(fault)) => {
+                drop(text);
+                drop(bell);
+                Err(fault)
+            }
+            None => self.open_now(rt, table, text, name, create, bell),
+        }
+    }
+
+    /// The same, where the topic is not being opened.
+    fn open_now<R: Wait>(
+        &self,
+        rt: &R,
+        table: &mut Table<T, J, B>,
+        text: String,
+        name: &TopicName,
+        create: bool,
+        bell: Option<Arc<B>>,
+    ) -> Result<Coming<T, J, B>, Fault>
+        requires text { string_bytes text ≡ topic_text name.now }
+        requires new { get_by_text table.old.list.topics (string_bytes text) ≡ None }
+        ensures opened { IfOk result (Lists (names_of table.old.list.topics.entries) (string_bytes text) (names_of table.new.list.topics.entries)) }
+        ensures at { IfOk result (IsComing (string_bytes text)) }
+        ensures seat { IsSome bell → IfOk result HasSeat }
+        ensures refused { OnErr result (table.new.list.topics.entries ≡ table.old.list.topics.entries) }
+        ensures full { result ≡ Err Fault.TooMany → (most_open ≤ length table.old.list.topics.entries) ⊎ (most_open ≤ length table.new.openings.items) }
         ensures unknown { result ≡ Err Fault.NoSuchSubscription → create ≡ false }
         ensures faults { IfErr result IsRefusal }
     {
@@ -58,36 +99,69 @@ impl<T: Opened + Drop, S: Alter, J: Naming, B: Bell + Drop> Directory<T, S, J, B
             drop(bell);
             return Err(Fault::TooMany);
         };
-        match self.made(rt, name, create, bell, table.count()) {
-            Ok(made) => self.list(rt, table, text, made, room),
+        match self.load(rt, name, create) {
+            Ok(Some(inside)) => match self.open_with(rt, table, text, name, inside, bell, room) {
+                Ok(attached) => Ok(Coming::Seated(attached)),
+                Err(fault) => Err(fault),
+            },
+            Ok(None) => {
+                drop(text);
+                drop(room);
+                match self.begin_opening(rt, table, name, bell) {
+                    Ok(waiter) => Ok(Coming::Waits(waiter)),
+                    Err(fault) => Err(fault),
+                }
+            }
             Err(fault) => {
                 drop(text);
+                drop(bell);
+                drop(room);
                 Err(fault)
             }
         }
     }
 
-    /// The topic, which is not listed yet, with one who sits there where a bell is given.
-    fn made<R: Wait>(
+    /// Lists the topic that was loaded, for which there is room. Where that is refused (F21, F1) the keeper lets go of what
+    /// it knows of it.
+    pub(crate) fn open_with<R: Wait>(
         &self,
         rt: &R,
+        table: &mut Table<T, J, B>,
+        text: String,
         name: &TopicName,
-        create: bool,
+        inside: Inside<T, J, B>,
         bell: Option<Arc<B>>,
-        open: usize,
-    ) -> Result<Made<Shared<T, J, B>>, Fault>
-        ensures at { IfOk result (λ made. made.topic.value.name ≡ name.now) }
-        ensures seat { IsSome bell → IfOk result (λ made. 0 < made.seat) }
-        ensures unknown { result ≡ Err Fault.NoSuchSubscription → create ≡ false }
-        ensures faults { IfErr result IsSeatRefusal }
+        room: Room,
+    ) -> Result<Attached<T, J, B>, Fault>
+        requires text { string_bytes text ≡ topic_text name.now }
+        requires new { get_by_text table.old.list.topics (string_bytes text) ≡ None }
+        requires name { inside.topic.name ≡ name.now }
+        requires open { inside.stage ≡ Stage.Open }
+        requires room { HasRoom room (length table.old.list.topics.entries) }
+        ensures opened { OnOk result (IsListed (names_of table.old.list.topics.entries) (string_bytes text) (names_of table.new.list.topics.entries)) }
+        ensures at { IfOk result (λ attached. attached.topic.value.name ≡ name.now) }
+        ensures seat { IsSome bell → IfOk result (λ attached. 0 < attached.seat) }
+        ensures refused { OnErr result (table.new.list.topics.entries ≡ table.old.list.topics.entries) }
+        ensures faults { IfErr result (λ fault. (fault ≡ Fault.NoRoom) ⊎ (fault ≡ Fault.NoMemory)) }
     {
-        match self.load(rt, name, create) {
-            Ok(inside) => self.seated(rt, inside, name, bell, open),
+        let opened = match self.seated(rt, inside, name, bell, table.count()) {
+            Ok(made) => self.list(rt, table, text, made, room),
             Err(fault) => {
-                drop(bell);
+                drop(text);
+                drop(room);
                 Err(fault)
             }
+        };
+        if opened.is_err() {
+            self.forget(rt, name);
         }
+        opened
+    }
+
+    /// The keeper lets go of what it knows of a topic that was loaded and is not open.
+    pub(crate) fn forget<R: Wait>(&self, rt: &R, name: &TopicName) {
+        let mut keeper = self.keeper.lock(rt);
+        keeper.forget(name);
     }
 
     fn seated<R: Wait>(
@@ -126,12 +200,12 @@ impl<T: Opened + Drop, S: Alter, J: Naming, B: Bell + Drop> Directory<T, S, J, B
         text: String,
         made: Made<Shared<T, J, B>>,
         room: Room,
-    ) -> Result<(Arc<Shared<T, J, B>>, u64), Fault>
+    ) -> Result<Attached<T, J, B>, Fault>
         requires text { string_bytes text ≡ topic_text made.topic.value.name }
         requires new { get_by_text table.old.list.topics (string_bytes text) ≡ None }
         requires room { HasRoom room (length table.old.list.topics.entries) }
         ensures opened { OnOk result (IsListed (names_of table.old.list.topics.entries) (string_bytes text) (names_of table.new.list.topics.entries)) }
-        ensures at { IfOk result (λ opened. (opened.0 ≡ made.topic) × (opened.1 ≡ made.seat)) }
+        ensures at { IfOk result (λ attached. (attached.topic ≡ made.topic) × (attached.seat ≡ made.seat)) }
         ensures refused { OnErr result (table.new.list.topics.entries ≡ table.old.list.topics.entries) }
         ensures fault { IfErr result (λ fault. fault ≡ Fault.NoMemory) }
     {
@@ -155,10 +229,11 @@ impl<T: Opened + Drop, S: Alter, J: Naming, B: Bell + Drop> Directory<T, S, J, B
         } else {
             drop(errand);
         }
-        Ok((topic, seat))
+        Ok(Attached { topic, seat })
     }
 
-    /// The open topic of the name, which is made where it is not known.
+    /// The open topic of the name, which is made where it is not known. Refused (F1) as long as it is being opened: whoever
+    /// asked comes again.
     pub(crate) fn open_topic<R: Wait>(
         &self,
         rt: &R,
@@ -181,7 +256,11 @@ impl<T: Opened + Drop, S: Alter, J: Naming, B: Bell + Drop> Directory<T, S, J, B
                 topic
             }
             None => match self.open_in(rt, table, text, name, true, None) {
-                Ok((topic, _)) => Ok(topic),
+                Ok(Coming::Seated(attached)) => Ok(attached.into_topic()),
+                Ok(Coming::Waits(waiter)) => {
+                    drop(waiter);
+                    Err(Fault::NoMemory)
+                }
                 Err(fault) => Err(fault),
             },
         }
@@ -194,27 +273,31 @@ impl<T: Opened + Drop, S: Alter, J: Naming, B: Bell + Drop> Directory<T, S, J, B
     }
 
     /// What the rows have of the topic, with the keeper's lock held: `open_cell` says what that is. Of a topic that is not to
-    /// be made something is stored.
+    /// be made something is stored. None where it has more messages than are read at a time.
     fn load<R: Wait>(
         &self,
         rt: &R,
         name: &TopicName,
         create: bool,
-    ) -> Result<Inside<T, J, B>, Fault>
-        ensures name { IfOk result (λ inside. inside.topic.name ≡ name.now) }
-        ensures open { IfOk result (λ inside. inside.stage ≡ Stage.Open) }
-        ensures begins { IfOk result (λ inside. inside.topic.cell.cell ≡ begins inside.topic.cell.cell.state self.now.terms) }
-        ensures known { create ≡ false → IfOk result (λ inside. IsSome inside.topic.cell.stored) }
+    ) -> Result<Option<Inside<T, J, B>>, Fault>
+        ensures name { IfOk result (λ found. IfSome found (λ inside. inside.topic.name ≡ name.now)) }
+        ensures open { IfOk result (λ found. IfSome found (λ inside. inside.stage ≡ Stage.Open)) }
+        ensures begins { IfOk result (λ found. IfSome found (λ inside. inside.topic.cell.cell ≡ begins inside.topic.cell.cell.state self.now.terms)) }
+        ensures known { create ≡ false → IfOk result (λ found. IfSome found (λ inside. IsSome inside.topic.cell.stored)) }
         ensures unknown { result ≡ Err Fault.NoSuchSubscription → create ≡ false }
         ensures faults { IfErr result IsLoadRefusal }
     {
         let mut keeper = self.keeper.lock(rt);
         let topic = match open_cell(self.alloc, &mut *keeper, name, create, self.terms) {
-            Ok(topic) => topic,
+            Ok(Some(topic)) => topic,
+            Ok(None) => return Ok(None),
             Err(fault) => return Err(fault),
         };
         drop(keeper);
-        Inside::opened(self.alloc, topic)
+        match Inside::opened(self.alloc, topic) {
+            Ok(inside) => Ok(Some(inside)),
+            Err(fault) => Err(fault),
+        }
     }
 
     /// The topic under a lock of its own, with room for it on the board.
@@ -295,6 +378,20 @@ pub(crate) fn found_in<T: Opened + Drop, J: Naming, B: Bell + Drop>(
 {
     match table.find(text) {
         Some(topic) => Some(clone_of(topic)),
+        None => None,
+    }
+}
+
+/// The opening of the topic that is under way; it may have too many owners for one more.
+fn waiting_for<T: Opened + Drop, J: Naming, B: Bell + Drop>(
+    table: &Table<T, J, B>,
+    name: &TopicName,
+) -> Option<Result<Arc<Opening<B>>, Fault>>
+    ensures at { IfSome result (λ found. IfOk found (λ opening. topic_text opening.value.name ≡ topic_text name.now)) }
+    ensures fault { IfSome result (λ found. IfErr found (λ fault. fault ≡ Fault.NoMemory)) }
+{
+    match table.opening_of(name) {
+        Some(opening) => Some(clone_of(opening)),
         None => None,
     }
 }

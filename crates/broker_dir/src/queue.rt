@@ -21,6 +21,8 @@ pub(crate) struct Queue<X: Drop> {
     /// Topics in which letters lie dead that are stored.
     pub(crate) errands: VecDeque<X>,
     pub(crate) late: Late<X>,
+    /// Topics wait to be opened piece by piece.
+    pub(crate) opens: bool,
     /// What was made since the last store began.
     pub(crate) made: u64,
     /// Somebody stores.
@@ -28,6 +30,8 @@ pub(crate) struct Queue<X: Drop> {
     /// Several topics were stored together, or some waited until others were stored: so more come soon.
     pub(crate) is_busy: bool,
     pub(crate) thread_waits: bool,
+    /// The thread does something that takes a while: workers store all that waits.
+    is_aside: bool,
     /// The thread ends once nothing waits.
     pub(crate) is_ending: bool,
     pub(crate) is_closed: bool,
@@ -38,16 +42,33 @@ pub(crate) struct Queue<X: Drop> {
 pub(crate) enum Task<X: Drop> {
     Store(Vec<X>),
     Errand(X),
+    /// A piece is read of a topic that is to be opened, with the right to store: so whoever publishes meanwhile waits for no
+    /// lock of the store's.
+    Open,
     /// Couriers whose pause is over go on, or topics leave that nobody uses.
     Look,
     End,
 }
 
+/// What the thread did last.
+#[derive(Clone, Copy, Debug, PartialEq, Eq)]
+pub(crate) enum Did {
+    Store,
+    Open,
+    Other,
+}
+
+impl Did {
+    /// Whether it had the right to store.
+    fn led(self) -> bool {
+        self != Did::Other
+    }
+}
+
 /// What the thread knows as it asks for a task.
 #[derive(Clone, Copy)]
 pub(crate) struct Turn {
-    /// It has stored, so that it had the right to.
-    pub(crate) has_stored: bool,
+    pub(crate) did: Did,
     /// When it is to look for something that was due: the first of its couriers that were refused, or topics that nobody uses.
     pub(crate) due: Option<Due>,
 }
@@ -75,10 +96,12 @@ impl<X: Drop> Queue<X> {
             topics: VecDeque::new(alloc),
             errands: VecDeque::new(alloc),
             late: Late::new(alloc),
+            opens: false,
             made: 0,
             is_led: false,
             is_busy: false,
             thread_waits: false,
+            is_aside: false,
             is_ending: false,
             is_closed: false,
         }
@@ -91,9 +114,27 @@ impl<X: Drop> Queue<X> {
             && self.late.make_room(topics)
     }
 
-    /// Whether a worker stores it itself: it is little, and nobody else has something to be stored meanwhile.
+    /// Whether a worker stores it itself: it is little, and nobody else has something to be stored meanwhile; or the thread is
+    /// not there.
     pub(crate) fn is_for_worker(&self) -> bool {
-        self.made <= SMALL && !self.is_busy
+        self.is_aside || (self.made <= SMALL && !self.is_busy)
+    }
+
+    /// Whether something waits that the thread does not store, since it is not there.
+    pub(crate) fn is_left_to_workers(&self) -> bool {
+        self.is_aside && !self.topics.is_empty()
+    }
+
+    /// The thread is to do something that takes a while. What waits, for whose store nobody would come, is to be stored
+    /// before, unless it goes at once. Else it lets go of the right to store.
+    pub(crate) fn step_aside(&mut self, alloc: Global, at_once: bool) -> Option<Vec<X>> {
+        let goes = at_once || self.is_closed || self.topics.is_empty();
+        if !goes && let Some(topics) = self.take(alloc) {
+            return Some(topics);
+        }
+        self.end();
+        self.is_aside = true;
+        None
     }
 
     /// Who stored has ended.
@@ -102,9 +143,10 @@ impl<X: Drop> Queue<X> {
         self.is_busy |= !self.topics.is_empty();
     }
 
-    /// The thread asks for a task. Where it has stored, that has ended.
+    /// The thread asks for a task. Where it had the right to store, that has ended.
     pub(crate) fn begin(&mut self, turn: Turn) {
-        if turn.has_stored {
+        self.is_aside = false;
+        if turn.did.led() {
             self.end();
         }
     }
@@ -112,7 +154,7 @@ impl<X: Drop> Queue<X> {
     /// Whether something waits that the thread does not know of.
     pub(crate) fn has_news(&self) -> bool {
         let has_some = !(self.topics.is_empty() && self.errands.is_empty());
-        has_some || self.late.is_new() || self.is_ending
+        has_some || self.opens || self.late.is_new() || self.is_ending
     }
 
     /// The right to store, with the topics that have waited longest. None where there is no memory.
@@ -159,18 +201,35 @@ impl<X: Drop> Queue<X> {
         }
     }
 
-    /// What the thread does of the two. An errand has its turn after each store, however many topics wait: else letters
-    /// would lie for as long as others publish.
-    fn work(&mut self, alloc: Global, has_stored: bool, is_due: bool) -> Option<Task<X>> {
-        if has_stored {
-            return match self.errand(is_due) {
+    /// A piece of a topic that is to be opened, where there is one and nobody stores.
+    fn piece(&mut self) -> Option<Task<X>> {
+        if !self.opens || self.is_led || self.is_ending {
+            return None;
+        }
+        self.is_led = true;
+        Some(Task::Open)
+    }
+
+    /// What the thread does besides storing.
+    fn other(&mut self, is_due: bool) -> Option<Task<X>> {
+        match self.errand(is_due) {
+            Some(task) => Some(task),
+            None => self.piece(),
+        }
+    }
+
+    /// What the thread does of these. An errand or a piece has its turn after each store, however many topics wait: else
+    /// letters would lie, and a topic stay closed, for as long as others publish.
+    fn work(&mut self, alloc: Global, did: Did, is_due: bool) -> Option<Task<X>> {
+        if did == Did::Store {
+            return match self.other(is_due) {
                 Some(task) => Some(task),
                 None => self.store(alloc),
             };
         }
         match self.store(alloc) {
             Some(task) => Some(task),
-            None => self.errand(is_due),
+            None => self.other(is_due),
         }
     }
 
@@ -195,7 +254,7 @@ impl<X: Drop> Queue<X> {
             return Some(Task::End);
         }
         self.resume(time);
-        let work = self.work(alloc, turn.has_stored, turn.is_due(time));
+        let work = self.work(alloc, turn.did, turn.is_due(time));
         let waits = self.is_led || self.late.has_topics() || !self.topics.is_empty();
         if work.is_none() && self.is_ending && !waits {
             Some(Task::End)

@@ -7,7 +7,7 @@ ghost use Rattle.row_store.specs.Keeping.{StoresAll, kepts};
 use crate::closing::Unstored;
 use crate::directory::Directory;
 use crate::errand::Errands;
-use crate::queue::Task;
+use crate::queue::{Did, Task};
 use crate::topic::Shared;
 use delivery_machine::{Fault, Opened};
 use marks::Naming;
@@ -18,6 +18,9 @@ use std::alloc::Global;
 use std::rt::Clock;
 use std::sync::{Arc, Wait};
 use stored_cell::{Kept, Part};
+
+/// How many stores a worker makes in one turn where the thread that stores is not there.
+const MOST_IN_TURN: u32 = 8;
 
 /// A topic that was viewed: its place among those that are stored, and how many messages it had.
 #[derive(Clone, Copy, Debug, PartialEq, Eq)]
@@ -63,15 +66,30 @@ impl<J: Naming> Batch<J> {
     }
 }
 
+/// What the thread will have done with the task.
+fn did_by<X: Drop>(task: &Task<X>) -> Did {
+    match task {
+        Task::Store(_) => Did::Store,
+        Task::Open => Did::Open,
+        Task::Errand(_) | Task::Look | Task::End => Did::Other,
+    }
+}
+
 impl<T: Opened + Drop, S: Alter, J: Naming, B: Bell + Drop> Directory<T, S, J, B> {
     /// A worker, which has made so many changes, stores what waits where that is little and nobody else stores, or has
     /// lately. Else the thread does.
     pub fn help<R: Wait>(&self, rt: &R, made: u64) {
-        let Some(topics) = self.board.lead(rt, made) else {
-            return;
-        };
-        self.store(rt, topics.as_slice());
-        self.board.end(rt);
+        let mut made = made;
+        for _ in 0..MOST_IN_TURN {
+            let Some(topics) = self.board.lead(rt, made) else {
+                return;
+            };
+            self.store(rt, topics.as_slice());
+            if !self.board.end(rt) {
+                return;
+            }
+            made = 0;
+        }
     }
 
     /// Stores what waits, and sends the courier of dead letters, until the store fails or all is finished. It is a
@@ -96,7 +114,7 @@ impl<T: Opened + Drop, S: Alter, J: Naming, B: Bell + Drop> Directory<T, S, J, B
             return true;
         }
         let task = self.board.try_next(rt, errands.turn());
-        errands.has_stored = false;
+        errands.did = Did::Other;
         match task {
             Some(task) => self.begin_task(rt, task, errands),
             None => false,
@@ -111,7 +129,7 @@ impl<T: Opened + Drop, S: Alter, J: Naming, B: Bell + Drop> Directory<T, S, J, B
         errands: &mut Errands<T, J, B>,
     ) -> bool {
         let goes_on = self.begin_task(rt, task, errands);
-        if !errands.has_stored {
+        if errands.did == Did::Other {
             self.walk(rt, errands);
         }
         goes_on
@@ -124,9 +142,14 @@ impl<T: Opened + Drop, S: Alter, J: Naming, B: Bell + Drop> Directory<T, S, J, B
         task: Task<Arc<Shared<T, J, B>>>,
         errands: &mut Errands<T, J, B>,
     ) -> bool {
-        errands.has_stored = matches!(&task, Task::Store(_));
+        errands.did = did_by(&task);
         match task {
             Task::Store(topics) => self.store(rt, topics.as_slice()),
+            Task::Open => {
+                if !self.open_on(rt) {
+                    errands.did = Did::Other;
+                }
+            }
             Task::Errand(topic) => self.begin_errand(rt, topic, errands),
             Task::Look => {
                 errands.call_due(rt);
@@ -143,7 +166,7 @@ impl<T: Opened + Drop, S: Alter, J: Naming, B: Bell + Drop> Directory<T, S, J, B
     }
 
     /// Where the store fails the directory is closed.
-    fn store<R: Wait>(&self, rt: &R, topics: &[Arc<Shared<T, J, B>>]) {
+    pub(crate) fn store<R: Wait>(&self, rt: &R, topics: &[Arc<Shared<T, J, B>>]) {
         match self.store_together(rt, topics) {
             Ok(()) => {}
             Err(Unstored::NoMemory) => self.store_each(rt, topics),

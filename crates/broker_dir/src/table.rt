@@ -1,18 +1,19 @@
 // The open topics by their names, in the order of opening.
 ghost use Rattle.std.specs.List.{remove};
-ghost use Rattle.std.specs.Prelude.{◌≡◌, ◌<◌, ◌∷◌, ◌++◌, false, true, [], length, IfSome, None, option_copied};
+ghost use Rattle.std.specs.Prelude.{◌≡◌, ◌<◌, ◌∷◌, ◌++◌, false, true, not, [], filter, length, IfSome, None, option_copied, slice_get};
 ghost use Rattle.std.specs.String.{string_bytes};
 ghost use Rattle.indexmap.specs.IndexMap.{get_by_text};
-ghost use Rattle.position_core.specs.TopicName.{topic_text};
+ghost use Rattle.position_core.specs.TopicName.{same_topic, topic_text};
 ghost use Rattle.broker_dir.specs.Listing.{AreNamed};
 
 use crate::topic::Shared;
-use delivery_machine::{Opened, TopicName};
+use crate::waiting::{Opening, Outcome};
+use delivery_machine::{Fault, Opened, TopicName};
 use indexmap::IndexMap;
 use marks::Naming;
 use session_bells::Bell;
 use std::alloc::Global;
-use std::sync::Arc;
+use std::sync::{Arc, Wait};
 
 /// How many topics may be open.
 pub(crate) const MOST_OPEN: usize = 256;
@@ -27,6 +28,8 @@ struct Listed<X: Drop> {
 #[derive(Drop)]
 pub(crate) struct Table<T: Opened + Drop, J: Naming, B: Bell + Drop> {
     list: Listed<Arc<Shared<T, J, B>>>,
+    /// Those that are being opened, in the order in which they were asked for.
+    openings: Vec<Arc<Opening<B>>>,
     /// Each is open under its own name.
     ghost named: { AreNamed (λ topic. topic.value.name) list.topics.entries },
 }
@@ -39,6 +42,7 @@ impl<T: Opened + Drop, J: Naming, B: Bell + Drop> Table<T, J, B> {
             list: Listed {
                 topics: IndexMap::new(alloc),
             },
+            openings: Vec::new(alloc),
         }
     }
 
@@ -103,6 +107,59 @@ impl<T: Opened + Drop, J: Naming, B: Bell + Drop> Table<T, J, B> {
                 Some(topic)
             }
             None => None,
+        }
+    }
+
+    /// The opening of the topic of that name, where it is under way.
+    pub(crate) fn opening_of(&self, name: &TopicName) -> Option<&Arc<Opening<B>>>
+        ensures { IfSome result (λ opening. topic_text opening.now.value.name ≡ topic_text name.now) }
+    {
+        for opening in self.openings.iter() {
+            if opening.name.is(name) {
+                return Some(opening);
+            }
+        }
+        None
+    }
+
+    /// How many are being opened.
+    pub(crate) fn openings(&self) -> usize
+        ensures { result ≡ length self.now.openings.items }
+    {
+        self.openings.len()
+    }
+
+    /// The one that was asked for first.
+    pub(crate) fn first_opening(&self) -> Option<&Arc<Opening<B>>>
+        ensures { option_copied result ≡ slice_get self.now.openings.items 0 }
+    {
+        self.openings.first()
+    }
+
+    /// The topic is being opened. False for want of memory.
+    pub(crate) fn add_opening(&mut self, opening: Arc<Opening<B>>) -> bool
+        ensures same { self.new.list ≡ self.old.list }
+        ensures added { result ≡ true → self.new.openings.items ≡ self.old.openings.items ++ opening ∷ [] }
+        ensures refused { result ≡ false → self.new.openings.items ≡ self.old.openings.items }
+    {
+        match self.openings.push(opening) {
+            Ok(()) => true,
+            Err(_) => false,
+        }
+    }
+
+    /// The topic of the name is not being opened any more.
+    pub(crate) fn end_opening(&mut self, name: &TopicName)
+        ensures same { self.new.list ≡ self.old.list }
+        ensures left { self.new.openings.items ≡ filter (λ opening. not (same_topic opening.value.name name.now)) self.old.openings.items }
+    {
+        self.openings.retain(|opening| !opening.name.is(name));
+    }
+
+    /// Whoever waits for a topic is refused.
+    pub(crate) fn refuse_waiters<R: Wait>(&self, rt: &R, fault: Fault) {
+        for opening in self.openings.iter() {
+            opening.end(rt, Outcome::Refused(fault));
         }
     }
 

@@ -18,12 +18,11 @@ use Rattle.row_forms.specs.Standing.{KeepsOthers, Stands}
 use Rattle.row_tables.specs.Goes.{Saves}
 use Rattle.row_tables.specs.Ready.{IsReady}
 use Rattle.row_rounds.specs.Rounds.{Empties}
-use Rattle.row_store.specs.declared.written.Written.{Written}
 use Rattle.row_store.specs.Keeping.{Deletes, IsKept}
 use Rattle.row_store.proofs.Standing.{same_stands}
 
-module _ {S : Type 0} (g : Ghosts S) (old new : Held S) (failed : Bool) (known : List KeptTopic) (written : Written) (topic : List ℕ)
-    (kept : IsKept g (record { conn = old; failed = failed; known = known; written = written })) (working : failed ≡ false)
+module _ {S : Type 0} (g : Ghosts S) (old new : Held S) (failed : Bool) (known : List KeptTopic) (topic : List ℕ)
+    (kept : IsKept g old failed known) (working : failed ≡ false)
     (less : doubt (state g old).is_clean ≤ doubt (state g new).is_clean) where
   -- a committed deletion
   pub deleted : Saves (Empties topic) (state g old) (state g new) → HasCleanDisk (state g new) → IsReady (state g new).now × Deletes topic (state g old).now.trees (state g new).now.trees

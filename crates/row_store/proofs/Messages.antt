@@ -16,7 +16,8 @@ use Rattle.row_tables.proofs.PieceLemmas.{all_within, pieces_join}
 use Rattle.row_reading.specs.Reading.{GoOn, put}
 use Rattle.row_reading.proofs.SortedRows.{none_others, piece_is, piece_read}
 use Rattle.row_reading.proofs.Told.{one_log}
-use Rattle.row_store.specs.Found.{HasLog, HasLogBelow}
+use Rattle.row_store.specs.Begun.{HasLogBelow}
+use Rattle.row_store.specs.Found.{HasLog}
 
 -- before the first piece
 pub none_below : (topic : List ℕ) (db : Trees) → HasLogBelow topic 0 [] db

@@ -17,7 +17,7 @@ use Rattle.stored_cell.specs.declared.opening.Loaded.{Loaded}
 use Rattle.stored_cell.specs.declared.opening.Terms.{Terms}
 use Rattle.stored_cell.specs.Opening.{GoesOn, Opens, opened}
 use Rattle.row_store.specs.Keeping.{MayLeave, stored_in}
-use Rattle.row_store.specs.Opened.{IsOpenedFrom, OpenedFrom, count_of, has_origin}
+use Rattle.row_store.specs.Opened.{IsOpenedFrom, Loading, OpenedFrom, StandsIn, count_of, has_origin}
 
 going_on : (name : TopicName) (terms : Terms) (db : Trees) (cell : Held) (kept : KeptTopic) (stored : Noted) → stored.kept ≡ kept → kept.name ≡ name → Stands kept db → cell ≡ opened (restarted (snapshot_in kept)) terms (Some stored) → GoesOn name terms db cell
 going_on name terms db cell kept stored is its stands e = record {
@@ -50,10 +50,16 @@ opened_name name terms db cell (inr anew) = ap (λ (h : Held). h.cell.state.name
 pub opens_itself : (name : TopicName) (terms : Terms) (db : Trees) (cell : Held) → Opens name terms db cell → Opens cell.cell.state.name terms db cell
 opens_itself name terms db cell opens = subst (λ n. Opens n terms db cell) (sym (opened_name name terms db cell opens)) opens
 
--- what is noted of a cell is the cell
-pub as_cell : {E : Type 0} (P : Held → Type 0) (r : Result Held E) (cell : Held) → IfOk r (λ noted. noted ≡ cell) → P cell → IfOk r P
-as_cell P (Ok noted) cell same holds = subst P (sym same) holds
-as_cell P (Err fault) cell same holds = tt
+-- what goes on from what was loaded is opened from the rows that were noted as it was
+pub goes_on_from : (l : Loading) (terms : Terms) (cell : Held) → (l.rows.clean ≡ true → StandsIn l) → cell ≡ opened (restarted (snapshot_in l.stored.kept)) terms (Some l.stored) → OpenedFrom l.rows cell
+goes_on_from l terms cell stands e = λ clean.
+    let there : StandsIn l = stands clean in
+    record {
+      terms = terms;
+      db = there.0;
+      rows = there.1;
+      opens = inl (going_on cell.cell.state.name terms there.0 cell l.stored.kept l.stored refl (sym (ap (λ (h : Held). h.cell.state.name) e)) there.2 e);
+    }
 
 -- no row is the topic's among those of a database that has none of it
 count_none : (topic : List ℕ) (db : Trees) → HasNone topic db → count_of topic (all_rows db) ≡ 0

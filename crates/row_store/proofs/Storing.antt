@@ -1,6 +1,7 @@
 -- What a store leads to, for any connection.
-use Rattle.std.proofs.Common.{◌≡◌, ◌≤◌, ℕ, Bool, true, false, List, [], ◌∷◌, map, slice_index_or, inl, inr, ◌⊎◌, refl, ap, sym, subst, ◌∙◌, arith}
-use Rattle.std.specs.Prelude.{All, IsTrue, ◌&&◌}
+use Rattle.std.proofs.Common.{◌≡◌, ◌≤◌, ℕ, Bool, true, false, List, [], ◌∷◌, length, map, slice_index_or, inl, inr, ◌⊎◌, refl, ap, sym, subst, ◌∙◌, arith}
+use Rattle.std.proofs.lemmas.List.{length-map}
+use Rattle.std.specs.Prelude.{All, IsTrue, ◌&&◌, Option, IfSome, Result, Ok, Err, IfOk}
 use Rattle.position_core.specs.TopicName.{topic_text}
 use Rattle.position_core.specs.declared.topic_name.TopicName.{TopicName}
 use Rattle.sqlite.specs.declared.types.Value.TheVariants.{Text as Words}
@@ -19,7 +20,7 @@ use Rattle.row_forms.specs.Forms.{TopicRows, AreRowsOf, no_rows}
 use Rattle.row_forms.specs.Standing.{Has, HasIn, HasNone, Stands}
 use Rattle.row_tables.specs.declared.side_rows.SideRows.{SideRows}
 use Rattle.row_tables.specs.Pieces.{has_others}
-use Rattle.row_tables.specs.Sides.{AreSidesOf}
+use Rattle.row_tables.specs.Sides.{AreSidesOf, AreSorted}
 use Rattle.row_reading.specs.Reading.{rows_with}
 use Rattle.row_store.specs.Found.{HasLog}
 use Rattle.row_store.proofs.Messages.{all_below, none_below}
@@ -27,14 +28,14 @@ use Rattle.row_tables.specs.Goes.{Saves}
 use Rattle.row_tables.specs.Ready.{IsReady}
 use Rattle.row_rounds.specs.declared.saving.Write.{Write}
 use Rattle.row_rounds.specs.Rounds.{Fits, Rounds, StandAll}
-use Rattle.stored_cell.specs.Noted.{Noted, StandsAmong, all_rows, is_shown}
+use Rattle.stored_cell.specs.Noted.{Noted, StandsAmong, ToStore, all_rows, is_shown}
 use Rattle.stored_cell.proofs.Letters.{all_of_map}
-use Rattle.row_store.specs.declared.written.Written.{Written}
-use Rattle.row_store.specs.Keeping.{IsKept, IsSettled, StoresAll, stored_in}
+use Rattle.row_store.specs.Begun.{HasLogBelow, ReadTo, StandsSoFar}
+use Rattle.row_store.specs.Keeping.{IsKept, IsReadOn, IsSettled, StoresAll, kepts, stored_in}
 use Rattle.row_store.proofs.Standing.{stores_all}
 
-module _ {S : Type 0} (g : Ghosts S) (old new : Held S) (failed : Bool) (known : List KeptTopic) (written : Written) (writes : List Write)
-    (kept : IsKept g (record { conn = old; failed = failed; known = known; written = written })) (working : failed ≡ false)
+module _ {S : Type 0} (g : Ghosts S) (old new : Held S) (failed : Bool) (known : List KeptTopic) (writes : List Write)
+    (kept : IsKept g old failed known) (working : failed ≡ false)
     (fits : (db : Trees) → All (λ (k : KeptTopic). Stands k db) known → All (Fits db) writes)
     (less : doubt (state g old).is_clean ≤ doubt (state g new).is_clean) where
   -- a committed store
@@ -90,13 +91,13 @@ unfolding doubt
 shown_is s h = let b = both_true s.is_clean s.is_open h in (ap doubt b.0, subst IsTrue (sym b.1) refl)
 
 -- a keeper whose database was only read
-pub kept_through : {S : Type 0} (g : Ghosts S) (old new : Held S) (failed : Bool) (known : List KeptTopic) (written : Written) → IsKept g (record { conn = old; failed = failed; known = known; written = written }) → new.in_transaction ≡ false
+pub kept_through : {S : Type 0} (g : Ghosts S) (old new : Held S) (failed : Bool) (known : List KeptTopic) → IsKept g old failed known → new.in_transaction ≡ false
     → doubt (state g old).is_clean ≤ doubt (state g new).is_clean
     → (HasCleanDisk (state g new) → IsTrue (state g new).is_open → (state g new).now ≡ (state g old).now)
     → (HasCleanDisk (state g new) → IsTrue (state g new).is_open → IsTrue (state g old).is_open)
     → (HasCleanDisk (state g new) → (db : Trees) → (state g new).may_leave db → (state g old).may_leave db ⊎ ⊥)
-    → IsKept g (record { conn = new; failed = failed; known = known; written = written })
-kept_through g old new failed known written kept autocommit less same was leaves_less = record {
+    → IsKept g new failed known
+kept_through g old new failed known kept autocommit less same was leaves_less = record {
   autocommit = autocommit;
   ready = λ working clean shown.
       let early : HasCleanDisk (state g old) = omega (arith, less, clean) in
@@ -115,6 +116,16 @@ kept_through g old new failed known written kept autocommit less same was leaves
     before : {A : Type 0} → A ⊎ ⊥ → A
     before (inl a) = a
     before (inr none) = absurd none
+
+-- and what was read so far of a topic, where its database was only read since
+pub read_through : {S : Type 0} (g : Ghosts S) (old new : Held S) (failed : Bool) (reading : Option ReadTo) → IsReadOn g old failed reading
+    → doubt (state g old).is_clean ≤ doubt (state g new).is_clean
+    → (HasCleanDisk (state g new) → IsTrue (state g new).is_open → (state g new).now ≡ (state g old).now)
+    → (HasCleanDisk (state g new) → IsTrue (state g new).is_open → IsTrue (state g old).is_open)
+    → IsReadOn g new failed reading
+read_through g old new failed reading stands less same was working clean shown =
+    let early : HasCleanDisk (state g old) = omega (arith, less, clean) in
+    subst (λ (db : Database). IfSome reading (StandsSoFar db.trees)) (sym (same clean shown)) (stands working early (was clean shown))
 
 -- over a clean disk a crash leaves what stood before, or that
 pub left_from : (old new : State) (kepts : List KeptTopic) → (HasCleanDisk old → IsSettled old)
@@ -151,3 +162,29 @@ none_read name text sides db is none these no_others =
       deads = subst (λ l. HasIn DEAD text (put l) db) none.3 these.deads;
     } in
     subst (λ t. Has t no_rows db) is here
+
+-- what was read of a topic at first stands
+pub begun_stands : (r : ReadTo) (name : TopicName) (topic : List ℕ) (sides : SideRows) (db : Trees) → topic ≡ topic_text name → (r.name ≡ name) × (r.sides ≡ sides) × (r.log ≡ []) → AreSidesOf topic db sides → AreSorted sides → StandsSoFar db r
+begun_stands r name topic sides db is begun these sorted = record {
+  sides = subst (λ (s : SideRows). AreSidesOf (topic_text r.name) db s) (sym begun.1) (subst (λ t. AreSidesOf t db sides) (is ∙ ap topic_text (sym begun.0)) these);
+  sorted = subst AreSorted (sym begun.1) sorted;
+  below = subst (λ (l : List Entry). HasLogBelow (topic_text r.name) (length l) l db) (sym begun.2) (none_below (topic_text r.name) db);
+}
+
+-- and what was read of it with one piece more
+pub goes_on : (old new : ReadTo) (topic : List ℕ) (db : Trees) → topic ≡ topic_text old.name → new.name ≡ old.name → new.sides ≡ old.sides → StandsSoFar db old
+    → (HasLogBelow topic (length old.log) old.log db → HasLogBelow topic (length new.log) new.log db) → StandsSoFar db new
+goes_on old new topic db is named same stands more = record {
+  sides = subst (λ (s : SideRows). AreSidesOf (topic_text new.name) db s) (sym same) (subst (λ (n : TopicName). AreSidesOf (topic_text n) db old.sides) (sym named) stands.sides);
+  sorted = subst AreSorted (sym same) stands.sorted;
+  below = subst (λ t. HasLogBelow t (length new.log) new.log db) (is ∙ ap topic_text (sym named)) (more (subst (λ t. HasLogBelow t (length old.log) old.log db) (sym is) stands.below));
+}
+
+-- what holds of each result where two things do, holds of it under both
+pub ok_under : {T E A B : Type 0} (r : Result T E) (P : T → Type 0) → (A → B → IfOk r P) → IfOk r (λ x. A → B → P x)
+ok_under (Ok x) P h = h
+ok_under (Err e) P h = tt
+
+-- there are as many marks as parts
+pub as_many : (marks : List Noted) (parts : List ToStore) → map (λ (n : Noted). n.kept) marks ≡ kepts parts → length marks ≡ length parts
+as_many marks parts same = sym (length-map marks (λ (n : Noted). n.kept)) ∙ (ap length same ∙ length-map parts (λ (part : ToStore). part.kept))

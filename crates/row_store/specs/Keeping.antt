@@ -1,5 +1,5 @@
 -- What a keeper holds true, and what a store of several snapshots and a deletion do.
-use Rattle.std.specs.Prelude.{ℕ, ◌≡◌, ◌⊎◌, ◌++◌, Bool, false, not, List, [], ◌∷◌, All, Contains, filter, map, reverse, IsTrue}
+use Rattle.std.specs.Prelude.{ℕ, ◌≡◌, ◌⊎◌, ◌++◌, Bool, false, not, List, [], ◌∷◌, All, Contains, filter, map, reverse, IsTrue, Option, IfSome}
 use Rattle.std.specs.List.{list_any}
 use Rattle.std.specs.Str.{bytes_eq}
 use Rattle.position_core.specs.declared.topic_name.TopicName.{TopicName}
@@ -17,14 +17,16 @@ use Rattle.row_tables.specs.Ready.{IsReady, IsBlank}
 use Rattle.row_reading.specs.Reading.{IsReadBack}
 use Rattle.stored_cell.specs.Noted.{Noted, ToStore, GoesOn, all_rows, is_shown}
 use Rattle.row_store.specs.declared.written.Written.{Written}
+use Rattle.row_store.specs.Begun.{Begun, ReadTo, StandsSoFar}
 
 -- a keeper, as contracts see it: its connection, whether it failed, the snapshots that it knows to stand in the rows,
--- and how much its last store wrote
+-- how much its last store wrote, and the topic that it is loading by pieces
 pub record Keeping (S : Type 0) : Type 0 where
   pub conn : Held S
   pub failed : Bool
   pub known : List KeptTopic
   pub written : Written
+  pub reading : Option Begun
 
 -- what a crash leaves now is exactly what stands
 abbrev pub IsSettled : State → Type 0
@@ -36,12 +38,16 @@ LeavesOne s = (one other : Trees) → s.may_leave one → s.may_leave other → 
 
 -- no transaction is under way; and unless it failed, the tables are there, what it knows stands in them, and a crash leaves
 -- exactly what stands
-pub record IsKept {S : Type 0} (g : Ghosts S) (k : Keeping S) : Type 0 where
-  pub autocommit : k.conn.in_transaction ≡ false
-  pub ready : k.failed ≡ false → HasCleanDisk (state g k.conn) → IsTrue (state g k.conn).is_open → IsReady (state g k.conn).now
-  pub known : k.failed ≡ false → HasCleanDisk (state g k.conn) → IsTrue (state g k.conn).is_open → All (λ (kept : KeptTopic). Stands kept (state g k.conn).now.trees) k.known
-  pub settled : k.failed ≡ false → HasCleanDisk (state g k.conn) → IsTrue (state g k.conn).is_open → IsSettled (state g k.conn)
-  pub one : k.failed ≡ false → HasCleanDisk (state g k.conn) → LeavesOne (state g k.conn)
+pub record IsKept {S : Type 0} (g : Ghosts S) (conn : Held S) (failed : Bool) (those : List KeptTopic) : Type 0 where
+  pub autocommit : conn.in_transaction ≡ false
+  pub ready : failed ≡ false → HasCleanDisk (state g conn) → IsTrue (state g conn).is_open → IsReady (state g conn).now
+  pub known : failed ≡ false → HasCleanDisk (state g conn) → IsTrue (state g conn).is_open → All (λ (kept : KeptTopic). Stands kept (state g conn).now.trees) those
+  pub settled : failed ≡ false → HasCleanDisk (state g conn) → IsTrue (state g conn).is_open → IsSettled (state g conn)
+  pub one : failed ≡ false → HasCleanDisk (state g conn) → LeavesOne (state g conn)
+
+-- and what was read so far of the topic that it is loading stands
+abbrev pub IsReadOn : {S : Type 0} → Ghosts S → Held S → Bool → Option ReadTo → Type 0
+IsReadOn g conn failed reading = failed ≡ false → HasCleanDisk (state g conn) → IsTrue (state g conn).is_open → IfSome reading (StandsSoFar (state g conn).now.trees)
 
 -- the rows of these topics are what is kept of them, and those of all others are as they were
 pub record StoresAll (kepts : List KeptTopic) (old new : Trees) : Type 0 where

@@ -1,4 +1,5 @@
 -- What the contracts of a keeper cite.
+pub mod Begun
 pub mod Keeping
 pub mod Found
 pub mod Counting

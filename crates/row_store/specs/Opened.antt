@@ -26,6 +26,15 @@ pub record IsOpenedFrom (noted : Noted) (cell : Held) : Type 0 where
 abbrev pub OpenedFrom : Noted → Held → Type 0
 OpenedFrom noted cell = noted.clean ≡ true → IsOpenedFrom noted cell
 
+-- what is stored of a topic that was loaded, and the rows that were noted as it was
+pub record Loading : Type 0 where
+  pub stored : Noted
+  pub rows : Noted
+
+-- what is stored of it stands in the database whose rows were noted
+abbrev pub StandsIn : Loading → Type 0
+StandsIn l = (db : Trees) × (l.rows.rows ≡ all_rows db) × Stands l.stored.kept db
+
 -- how many rows the topic has among those of all topics
 abbrev pub count_of : List ℕ → TopicRows → ℕ
 count_of topic all =

@@ -23,6 +23,8 @@ pub enum Cause {
     Twice,
     /// A topic was to be stored that does not go on from what stands there of it.
     Behind,
+    /// A topic was to be stored that is being loaded.
+    BeingLoaded,
     /// The history has no mark left.
     NoMark,
 }
@@ -60,6 +62,7 @@ impl fmt::Display for Cause {
             Cause::Behind => f.write_str(
                 "a topic was to be stored that does not go on from what stands",
             ),
+            Cause::BeingLoaded => f.write_str("a topic was to be stored that is being loaded"),
             Cause::NoMark => f.write_str("the history has no mark left"),
         }
     }

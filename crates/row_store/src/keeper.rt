@@ -5,10 +5,12 @@ ghost use Rattle.sqlite.specs.State.{HasCleanDisk, Survives};
 ghost use Rattle.sqlite.specs.Held.{state};
 ghost use Rattle.row_tables.specs.Ready.{IsReady};
 ghost use Rattle.row_store.specs.Counting.{Counts};
+ghost use Rattle.row_store.specs.Begun.{IsUnread};
 ghost use Rattle.row_store.specs.Keeping.{GoesForward, IsSettled, LeavesOne, StoresAll, kepts, known_after, known_without, stored_in};
 
 use crate::cause::Cause;
-use crate::knowing::{forget, forget_topic, keep_all, marks_of, remember};
+use crate::finding::Reading;
+use crate::knowing::{forget, forget_topic, keep_all, marks_of, reads_one_of, remember};
 use crate::known::Known;
 use crate::planning::plan_all;
 use crate::written::Written;
@@ -28,6 +30,8 @@ pub struct Keeper<S: Alter, J: Naming> {
     pub(crate) conn: Connection<S>,
     pub(crate) failed: bool,
     pub(crate) known: Vec<Known<J>>,
+    /// The topic that is loaded by pieces.
+    pub(crate) reading: Option<Reading>,
     pub(crate) notes: Notes<J>,
     pub(crate) scratch: String,
     pub(crate) written: Written,
@@ -46,6 +50,7 @@ impl<S: Alter + Drop, J: Naming> Drop for Keeper<S, J> {
             conn: _,
             failed: _,
             known: _,
+            reading: _,
             notes: _,
             scratch: _,
             written: _,
@@ -57,19 +62,20 @@ impl<S: Alter + Drop, J: Naming> Drop for Keeper<S, J> {
 }
 
 impl<S: Alter, J: Naming> Model for Keeper<S, J> {
-    ghost use Rattle.std.specs.Prelude.{◌≡◌, is_some};
+    ghost use Rattle.std.specs.Prelude.{◌≡◌, is_some, option_map};
     ghost use Rattle.sqlite.specs.Held.{held_code};
     ghost use Rattle.std.specs.Coded.{codes};
     ghost use Rattle.delivery_machine.specs.Codes.{coded_places};
-    ghost use Rattle.row_store.specs.Keeping.{Keeping, IsKept};
+    ghost use Rattle.row_store.specs.Begun.{begun_of};
+    ghost use Rattle.row_store.specs.Keeping.{Keeping, IsKept, IsReadOn};
 
     ghost Value = { Keeping S };
 
     ghost coded = { Prim.hlevel (codes, coded_places, held_code S.code) };
 
-    ghost view = { λ k. record { conn = k.conn; failed = k.failed; known = k.known.items; written = k.written } };
+    ghost view = { λ k. record { conn = k.conn; failed = k.failed; known = k.known.items; written = k.written; reading = option_map begun_of k.reading } };
 
-    ghost invariant = { λ k. IsKept S.Store (record { conn = k.conn; failed = k.failed; known = k.known.items; written = k.written }) × (is_some k.cause ≡ k.failed) };
+    ghost invariant = { λ k. IsKept S.Store k.conn k.failed k.known.items × (is_some k.cause ≡ k.failed) × IsReadOn S.Store k.conn k.failed k.reading };
 }
 
 impl<S: Alter, J: Naming> Keeper<S, J> {
@@ -85,8 +91,8 @@ impl<S: Alter, J: Naming> Keeper<S, J> {
 
     /// Makes the rows of each of these topics those of its snapshot, in one transaction, and leaves all others.
     /// Refused (F1) for want of memory, with nothing changed; (F16) where the store failed, now or before; and
-    /// (F16), with nothing changed, where a topic comes twice, or where a part goes on from nothing that is known to
-    /// stand of its topic: so rows never go back.
+    /// (F16), with nothing changed, where a topic comes twice, or is being loaded, or where a part goes on from nothing that
+    /// is known to stand of its topic: so rows never go back.
     pub fn store(&mut self, parts: Vec<Part<J>>) -> Result<Vec<Kept<J>>, Fault>
         ensures rows { HasCleanDisk (state S.Store self.new.conn) → OnOk result (StoresAll (kepts parts.items) (state S.Store self.old.conn).now.trees (state S.Store self.new.conn).now.trees) }
         ensures durable { HasCleanDisk (state S.Store self.new.conn) → OnOk result ((db : _) → (state S.Store self.new.conn).may_leave db → db ≡ (state S.Store self.new.conn).now.trees) }
@@ -100,6 +106,8 @@ impl<S: Alter, J: Naming> Keeper<S, J> {
         ensures faults { IfErr result (λ fault. (fault ≡ NoMemory) ⊎ (fault ≡ StoreFailed)) }
         ensures forward { OnOk result (All (GoesForward self.old.known) parts.items) }
         ensures known { OnOk result (self.new.known ≡ known_after (kepts parts.items) self.old.known) }
+        ensures unread { OnOk result (All (IsUnread self.old.reading) (kepts parts.items)) }
+        ensures reading { self.new.reading ≡ self.old.reading }
         ensures shown { HasCleanDisk (state S.Store self.new.conn) → OnOk result (IsTrue (state S.Store self.old.conn).is_open × IsTrue (state S.Store self.new.conn).is_open) }
         ensures left { self.old.failed ≡ false → IsTrue (state S.Store self.old.conn).is_open → HasCleanDisk (state S.Store self.new.conn) → (db : _) → (state S.Store self.new.conn).may_leave db → (db ≡ (state S.Store self.old.conn).now.trees) ⊎ StoresAll (kepts parts.items) (state S.Store self.old.conn).now.trees db }
     {
@@ -121,6 +129,8 @@ impl<S: Alter, J: Naming> Keeper<S, J> {
         ensures faults { IfErr result (λ fault. (fault ≡ NoMemory) ⊎ (fault ≡ StoreFailed)) }
         ensures forward { OnOk result (All (GoesForward self.old.known) parts.items) }
         ensures known { OnOk result (self.new.known ≡ known_after (kepts parts.items) self.old.known) }
+        ensures unread { OnOk result (All (IsUnread self.old.reading) (kepts parts.items)) }
+        ensures reading { self.new.reading ≡ self.old.reading }
         ensures shown { HasCleanDisk (state S.Store self.new.conn) → OnOk result (IsTrue (state S.Store self.old.conn).is_open × IsTrue (state S.Store self.new.conn).is_open) }
     {
         if self.failed {
@@ -141,6 +151,11 @@ impl<S: Alter, J: Naming> Keeper<S, J> {
                 return Err(Fault::StoreFailed);
             }
         };
+        if reads_one_of(&self.reading, &writes) {
+            drop(writes);
+            self.refusal = Some(Cause::BeingLoaded);
+            return Err(Fault::StoreFailed);
+        }
         let Ok(()) = room_for(&writes, &mut self.scratch) else {
             return Err(Fault::NoMemory);
         };
@@ -225,6 +240,7 @@ impl<S: Alter, J: Naming> Keeper<S, J> {
             conn,
             failed: _,
             known: _,
+            reading: _,
             notes,
             scratch: _,
             written: _,

@@ -1,18 +1,23 @@
 // What a keeper knows to stand in the rows.
-ghost use Rattle.std.specs.Prelude.{◌≡◌, ◌≢◌, ◌≤◌, ◌+◌, ◌++◌, [], not, true, All, map, filter, reverse, length, vec_capacity, string_bytes};
+ghost use Rattle.std.specs.Prelude.{◌≡◌, ◌≢◌, ◌≤◌, ◌+◌, ◌++◌, [], not, false, true, All, map, filter, reverse, length, vec_capacity, option_map, string_bytes, IfSome};
 ghost use Rattle.std.specs.List.{list_any};
 ghost use Rattle.std.specs.Str.{bytes_eq};
 ghost use Rattle.position_core.specs.TopicName.{topic_text};
+ghost use Rattle.sqlite.specs.Tree.{Trees};
 ghost use Rattle.stored_cell.specs.Noted.{Noted, StandsAmong};
 ghost use Rattle.row_rounds.specs.declared.saving.Write.{Write};
 ghost use Rattle.row_rounds.specs.Rounds.{IsNamed};
+ghost use Rattle.row_store.specs.Begun.{StandsSoFar, begun_of, count_for, kept_by, left_by, read_of, read_without};
 ghost use Rattle.row_store.specs.Keeping.{kepts, known_without};
 
+use crate::finding::Reading;
 use crate::known::Known;
+use crate::pace::Pace;
 use crate::planning::is_among;
 use marks::{Mark, Naming};
 use position_core::TopicName;
 use row_rounds::Write;
+use std::mem;
 use stored_cell::{Kept, Note, Part};
 
 /// What is written is known no more.
@@ -78,4 +83,60 @@ pub fn forget_topic<J: Naming>(known: &mut Vec<Known<J>>, name: &TopicName)
     ensures others { All (λ kept. topic_text kept.name ≢ topic_text name.now) known.new.items }
 {
     known.retain(|one| !one.is_of(name));
+}
+
+/// What was read of the topic with this text is let go of.
+pub fn forget_reading(reading: &mut Option<Reading>, topic: &str)
+    ensures left { reading.new ≡ read_without topic.now reading.old }
+    ensures others { IfSome reading.new (λ r. topic_text r.name ≢ topic.now) }
+{
+    let is_of = match reading {
+        Some(read) => read.topic() == topic,
+        None => false,
+    };
+    if is_of {
+        drop(reading.take());
+    }
+}
+
+/// What was read of the topic so far, where its load goes on. By pieces what was read of another is let go of.
+pub fn reading_for(reading: &mut Option<Reading>, name: &TopicName, pace: Pace) -> Option<Reading>
+    ensures left { option_map begun_of reading.new ≡ left_by pace (option_map begun_of reading.old) }
+    ensures name { IfSome result (λ r. r.name ≡ name.now) }
+    ensures count { pace ≡ Pace.Pieces → read_of result ≡ count_for name.now (option_map begun_of reading.old) }
+    ensures stands { (db : Trees) → IfSome reading.old (StandsSoFar db) → IfSome result (StandsSoFar db) × IfSome reading.new (StandsSoFar db) }
+{
+    let taken = match pace {
+        Pace::AtOnce => return None,
+        Pace::Pieces => reading.take(),
+    };
+    match taken {
+        Some(read) => if read.is_of(name) {
+            Some(read)
+        } else {
+            drop(read);
+            None
+        },
+        None => None,
+    }
+}
+
+/// Whether one of the writes is of the topic that is being read.
+pub fn reads_one_of(reading: &Option<Reading>, writes: &[Write]) -> bool
+    ensures { result ≡ false → IfSome reading.now (λ r. list_any (λ w. bytes_eq (string_bytes w.topic) (topic_text r.name)) writes.now ≡ false) }
+{
+    match reading {
+        Some(reading) => is_among(writes, reading.topic()),
+        None => false,
+    }
+}
+
+/// What was read of a topic of which more is to be read: by pieces it is kept.
+pub fn keep_reading(kept: &mut Option<Reading>, reading: Reading, pace: Pace)
+    ensures { kept.new ≡ kept_by pace reading kept.old }
+{
+    match pace {
+        Pace::AtOnce => drop(reading),
+        Pace::Pieces => drop(mem::replace(kept, Some(reading))),
+    }
 }

@@ -4,12 +4,14 @@
 
 mod cause;
 mod deleting;
+mod finding;
 mod keeper;
 mod knowing;
 mod known;
 pub mod laws;
 mod loading;
 mod opening;
+mod pace;
 mod planning;
 mod reading;
 mod rounds;
@@ -20,5 +22,6 @@ pub use cause::Cause;
 pub use keeper::Keeper;
 pub use loading::Unread;
 pub use opening::Refused;
-pub use topics::{OpenCell, open_cell};
+pub use pace::Pace;
+pub use topics::{LoadedTopic, OpenCell, load_topic, open_cell};
 pub use written::Written;

@@ -1,5 +1,5 @@
 // A topic's snapshot, as its rows have it.
-ghost use Rattle.std.specs.Prelude.{◌≡◌, ◌⊎◌, ◌++◌, ◌≢◌, ◌↔◌, [], ◌∷◌, true, false, IfOk, IfErr, IfNone, IfSome, OnErr, MatchOption, Err, IsTrue, string_bytes};
+ghost use Rattle.std.specs.Prelude.{◌≡◌, ◌⊎◌, ◌++◌, ◌≢◌, ◌↔◌, [], ◌∷◌, true, false, Some, None, IfOk, IfErr, IfNone, IfSome, OnErr, MatchOption, Err, IsTrue, string_bytes};
 ghost use Rattle.position_core.specs.TopicName.{topic_text};
 ghost use Rattle.position_core.specs.declared.fault.Fault.TheVariants.{NoMemory, StoreFailed};
 ghost use Rattle.delivery_machine.specs.Places.{KeptTopic};
@@ -8,13 +8,18 @@ ghost use Rattle.sqlite.specs.Held.{state};
 ghost use Rattle.row_forms.specs.Standing.{Stands, HasNone};
 ghost use Rattle.delivery_machine.specs.Places.{MayRestart};
 ghost use Rattle.row_reading.specs.Reading.{IsReadBack, MayBeTold};
+ghost use Rattle.row_store.specs.Begun.{begun_by, left_by};
+ghost use Rattle.row_store.specs.Found.{HasMany};
 ghost use Rattle.row_store.specs.Keeping.{NoneStands, stored_in};
 ghost use Rattle.row_store.specs.declared.loading.Unread.{Unread};
 
 use crate::cause::Cause;
+use crate::finding::{Found, find};
 use crate::keeper::Keeper;
+use crate::knowing::{keep_reading, reading_for};
 use crate::known::Known;
-use crate::reading::{Found, Stop, find};
+use crate::pace::Pace;
+use crate::reading::Stop;
 use delivery_machine::{Fault, Snapshot};
 use marks::Naming;
 use position_core::TopicName;
@@ -31,17 +36,21 @@ pub enum Unread {
     StoreFailed,
     /// The topic has rows that are no snapshot's (F16).
     BadRows,
+    /// More of its messages may follow those that were read: another call goes on with them.
+    Unfinished,
 }
 
 impl Unread {
-    /// The refusal that it comes to.
-    pub fn fault(self) -> Fault
-        ensures memory { (result ≡ NoMemory) ↔ (self ≡ Unread.NoMemory) }
-        ensures faults { (result ≡ NoMemory) ⊎ (result ≡ StoreFailed) }
+    /// The refusal that it comes to; none where it is only unfinished.
+    pub fn fault(self) -> Option<Fault>
+        ensures none { (result ≡ None) ↔ (self ≡ Unread.Unfinished) }
+        ensures memory { (result ≡ Some NoMemory) ↔ (self ≡ Unread.NoMemory) }
+        ensures faults { IfSome result (λ fault. (fault ≡ NoMemory) ⊎ (fault ≡ StoreFailed)) }
     {
         match self {
-            Unread::NoMemory => Fault::NoMemory,
-            Unread::StoreFailed | Unread::BadRows => Fault::StoreFailed,
+            Unread::NoMemory => Some(Fault::NoMemory),
+            Unread::StoreFailed | Unread::BadRows => Some(Fault::StoreFailed),
+            Unread::Unfinished => None,
         }
     }
 }
@@ -50,7 +59,11 @@ impl<S: Alter, J: Naming> Keeper<S, J> {
     /// The snapshot whose rows stand there; none where the topic has no rows. The next store of the topic
     /// writes what changed from then on, if it goes on from there. Refused where the rows are no snapshot's, where the
     /// store answers an error, and for want of memory. No row changes in any case.
-    pub fn load(&mut self, name: &TopicName) -> Result<Option<Loaded<J>>, Unread>
+    ///
+    /// 256 messages are read at a time: unfinished where more may follow. By pieces the next call for the topic goes on
+    /// from there, also where others were stored meanwhile, and what was read of another topic is let go of. At once
+    /// nothing is kept of what was read, and what is read by pieces stays.
+    pub fn load(&mut self, name: &TopicName, pace: Pace) -> Result<Option<Loaded<J>>, Unread>
         ensures rows { HasCleanDisk (state S.Store self.new.conn) → IfOk result (λ found. MatchOption found (HasNone (topic_text name.now) (state S.Store self.old.conn).now.trees) (λ loaded. (loaded.snapshot.name ≡ name.now) × Stands loaded.snapshot (state S.Store self.old.conn).now.trees)) }
         ensures found { HasCleanDisk (state S.Store self.new.conn) → (kept : KeptTopic) → IsReadBack kept → kept.name ≡ name.now → Stands kept (state S.Store self.old.conn).now.trees → IfOk result (λ found. MatchOption found ⊥ (λ loaded. loaded.snapshot ≡ kept)) }
         ensures bad { HasCleanDisk (state S.Store self.new.conn) → result ≡ Err Unread.BadRows → NoneStands name.now (state S.Store self.old.conn).now.trees }
@@ -64,6 +77,10 @@ impl<S: Alter, J: Naming> Keeper<S, J> {
         ensures left { self.old.failed ≡ false → IsTrue (state S.Store self.old.conn).is_open → HasCleanDisk (state S.Store self.new.conn) → (db : _) → (state S.Store self.new.conn).may_leave db → db ≡ (state S.Store self.old.conn).now.trees }
         ensures failed { self.new.failed ≡ self.old.failed }
         ensures refused { self.old.failed ≡ true → (result ≡ Err Unread.StoreFailed) × (self.new ≡ self.old) }
+        ensures goes_on { result ≡ Err Unread.Unfinished → self.new.reading ≡ begun_by pace name.now self.old.reading }
+        ensures many { HasCleanDisk (state S.Store self.new.conn) → result ≡ Err Unread.Unfinished → HasMany name.now (state S.Store self.old.conn).now.trees }
+        ensures ended { IfOk result (λ _. self.new.reading ≡ left_by pace self.old.reading) }
+        ensures others { pace ≡ Pace.AtOnce → self.new.reading ≡ self.old.reading }
     {
         if self.failed {
             return Err(Unread::StoreFailed);
@@ -71,7 +88,8 @@ impl<S: Alter, J: Naming> Keeper<S, J> {
         let Ok(topic) = topic_text(self.alloc, name) else {
             return Err(Unread::NoMemory);
         };
-        match find(self.alloc, &mut self.conn, name, topic.as_str()) {
+        let reading = reading_for(&mut self.reading, name, pace);
+        match find(self.alloc, &mut self.conn, name, topic.as_str(), reading) {
             Ok(Found::Whole(snapshot)) => match self.know_loaded(topic, snapshot) {
                 Ok(loaded) => Ok(Some(loaded)),
                 Err(fault) => Err(fault),
@@ -84,6 +102,11 @@ impl<S: Alter, J: Naming> Keeper<S, J> {
                 self.refusal = Some(Cause::BadRows);
                 self.spoilt = Some(topic);
                 Err(Unread::BadRows)
+            }
+            Ok(Found::More(reading)) => {
+                drop(topic);
+                keep_reading(&mut self.reading, reading, pace);
+                Err(Unread::Unfinished)
             }
             Err(Stop::NoMemory) => {
                 drop(topic);
@@ -101,12 +124,12 @@ impl<S: Alter, J: Naming> Keeper<S, J> {
     fn know_loaded(&mut self, topic: String, snapshot: Snapshot) -> Result<Loaded<J>, Unread>
         requires topic { string_bytes topic ≡ topic_text snapshot.name }
         requires stands { HasCleanDisk (state S.Store self.old.conn) → IsTrue (state S.Store self.old.conn).is_open → Stands snapshot (state S.Store self.old.conn).now.trees }
-        ensures same { (self.new.conn ≡ self.old.conn) × (self.new.failed ≡ self.old.failed) }
+        ensures same { (self.new.conn ≡ self.old.conn) × (self.new.failed ≡ self.old.failed) × (self.new.reading ≡ self.old.reading) }
         ensures snapshot { IfOk result (λ loaded. loaded.snapshot ≡ snapshot) }
         ensures kept { IfOk result (λ loaded. loaded.kept ≡ stored_in (state S.Store self.old.conn) snapshot) }
         ensures known { IfOk result (λ loaded. self.new.known ≡ self.old.known ++ loaded.snapshot ∷ []) }
         ensures unknown { OnErr result (self.new.known ≡ self.old.known) }
-        ensures faults { result ≢ Err Unread.BadRows }
+        ensures faults { IfErr result (λ why. (why ≡ Unread.NoMemory) ⊎ (why ≡ Unread.StoreFailed)) }
     {
         match self.proof_of(&snapshot) {
             Ok(kept) => self.know_kept(topic, snapshot, kept),
@@ -152,7 +175,7 @@ impl<S: Alter, J: Naming> Keeper<S, J> {
         requires topic { string_bytes topic ≡ topic_text snapshot.name }
         requires stands { HasCleanDisk (state S.Store self.old.conn) → IsTrue (state S.Store self.old.conn).is_open → Stands snapshot (state S.Store self.old.conn).now.trees }
         requires kept { kept ≡ stored_in (state S.Store self.old.conn) snapshot }
-        ensures same { (self.new.conn ≡ self.old.conn) × (self.new.failed ≡ self.old.failed) }
+        ensures same { (self.new.conn ≡ self.old.conn) × (self.new.failed ≡ self.old.failed) × (self.new.reading ≡ self.old.reading) }
         ensures snapshot { IfOk result (λ loaded. loaded.snapshot ≡ snapshot) }
         ensures kept { IfOk result (λ loaded. loaded.kept ≡ kept) }
         ensures known { IfOk result (λ loaded. self.new.known ≡ self.old.known ++ loaded.snapshot ∷ []) }

@@ -1,5 +1,5 @@
 // How a keeper comes by its database: it makes the tables, or takes those that are there.
-ghost use Rattle.std.specs.Prelude.{[], ◌≡◌, ◌≢◌, ◌⊎◌, ◌↔◌, true, false, IfOk, IfErr, IsTrue};
+ghost use Rattle.std.specs.Prelude.{[], ◌≡◌, ◌≢◌, ◌⊎◌, ◌↔◌, true, false, None, IfOk, IfErr, IsTrue};
 ghost use Rattle.position_core.specs.declared.fault.Fault.TheVariants.{StoreFailed};
 ghost use Rattle.sqlite.specs.Tree.{Trees};
 ghost use Rattle.sqlite.specs.State.{HasCleanDisk};
@@ -66,13 +66,14 @@ fn keeper_over<S: Alter, J: Naming>(
     requires ready { HasCleanDisk (state S.Store conn) → IsTrue (state S.Store conn).is_open → IsReady (state S.Store conn).now }
     requires settled { HasCleanDisk (state S.Store conn) → IsTrue (state S.Store conn).is_open → IsSettled (state S.Store conn) }
     requires one { HasCleanDisk (state S.Store conn) → LeavesOne (state S.Store conn) }
-    ensures { result ≡ record { conn = conn; failed = false; known = []; written = record { inserted = 0; updated = 0; deleted = 0; cleared = 0 } } }
+    ensures { result ≡ record { conn = conn; failed = false; known = []; written = record { inserted = 0; updated = 0; deleted = 0; cleared = 0 }; reading = None } }
 {
     Keeper {
         alloc,
         conn,
         failed: false,
         known: Vec::new(alloc),
+        reading: None,
         notes,
         scratch: String::new(alloc),
         written: Written::none(),

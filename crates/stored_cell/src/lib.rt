@@ -17,5 +17,5 @@ pub use bases::Bases;
 pub use cell::StoredCell;
 pub use kept::Kept;
 pub use notes::{Note, Notes};
-pub use opening::{Loaded, Terms, opened_cell};
+pub use opening::{Loaded, Terms, opened_cell, restarted_cell};
 pub use part::Part;

@@ -66,8 +66,8 @@ fn cell_from<T: Opened + Drop>(
     }
 }
 
-/// A topic that goes on from what its rows keep.
-fn restarted_cell<T: Opened + Drop, J: Naming>(
+/// A topic that goes on from what its rows keep. Refused (F1) for want of memory.
+pub fn restarted_cell<T: Opened + Drop, J: Naming>(
     alloc: Global,
     loaded: Loaded<J>,
     terms: Terms,

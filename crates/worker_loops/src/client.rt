@@ -136,7 +136,7 @@ impl<G: Drop> Client<G> {
         }
     }
 
-    fn turn<H: House<Guest = G>, R: Wait>(
+    fn turn<H: House<Guest = G>, R: Wait + Eprint>(
         &mut self,
         rt: &R,
         house: &H,

@@ -88,7 +88,7 @@ pub trait House {
     fn hang_up(&self, guest: &mut Self::Guest);
 
     /// One turn of a guest, who is given back where it has not ended.
-    fn turn<R: Wait>(
+    fn turn<R: Wait + Eprint>(
         &self,
         rt: &R,
         guest: Self::Guest,

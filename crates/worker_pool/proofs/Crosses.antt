@@ -16,6 +16,7 @@ use Rattle.stored_cell.proofs.viewed.Viewed.TheSendSync.{the_send as viewed_send
 use Rattle.session_bells.proofs.bells.Bells.TheSendSync.{the_send as bells_send}
 use Rattle.broker_dir.proofs.stage.Stage.TheSendSync.{the_send as stage_send}
 use Rattle.broker_dir.proofs.table.Listed.TheSendSync.{the_send as listed_send}
+use Rattle.broker_dir.proofs.waiting.Opening.TheSendSync.{the_send as opening_send, the_sync as opening_sync}
 use Rattle.broker_dir.proofs.graves.Graves.TheSendSync.{the_send as graves_send}
 use Rattle.broker_dir.proofs.board.Board.TheSendSync.{the_send as board_send, the_sync as board_sync}
 use Rattle.broker_dir.proofs.closing.Closed.TheSendSync.{the_send as closed_send, the_sync as closed_sync}
@@ -36,6 +37,8 @@ use Rattle.broker_dir.specs.contracts.named_cell.NamedCell as NamedCell
 use Rattle.broker_dir.specs.contracts.inside.Inside as Inside
 use Rattle.broker_dir.specs.contracts.table.Table as Table
 use Rattle.broker_dir.specs.contracts.topic.Shared as Shared
+use Rattle.broker_dir.specs.contracts.waiting.Opening as Opening
+use Rattle.std.specs.contracts.vec.Vec as Vec
 use Rattle.broker_dir.specs.contracts.directory.Directory as Directory
 use Rattle.row_store.specs.contracts.keeper.Keeper as Keeper
 use Rattle.worker_loops.specs.contracts.post.Doorbell as Doorbell
@@ -83,9 +86,18 @@ Shared-sync T I B g v n s b c = let i = Inside-send T I B g v n s b c in declare
 Arc-send : (T I B : RattleType) (g : topic.Ghosts T.Denot) (v : saved.Ghosts T.Denot) (n : naming.Ghosts I.Denot) → IsSend T → IsSend B → IsSync B → IsSend (Arc.the_row (Shared.the_row T I B g v n) Global.the_row ghosts)
 Arc-send T I B g v n s b c = let ss = Shared-send T I B g v n s b c in let sy = Shared-sync T I B g v n s b c in search (sendable, crosses, ss, sy) depth 20
 
+Opening-send : (B : RattleType) → IsSend B → IsSync B → IsSend (Arc.the_row (Opening.the_row B) Global.the_row ghosts)
+Opening-send B b c = let os = opening_send B b c in let oy = opening_sync B b c in search (sendable, crosses, os, oy) depth 20
+
 Table-send : (T I B : RattleType) (g : topic.Ghosts T.Denot) (v : saved.Ghosts T.Denot) (n : naming.Ghosts I.Denot) → IsSend T → IsSend B → IsSync B → IsSend (Table.the_row T I B g v n)
-Table-send T I B g v n s b c = let a = Arc-send T I B g v n s b c in
-    declared_send (Table.the_type T I B g v n) (listed_send (Arc.the_row (Shared.the_row T I B g v n) Global.the_row ghosts) a, tt)
+Table-send T I B g v n s b c = let a = Arc-send T I B g v n s b c in let o = Opening-send B b c in declared_send (Table.the_type T I B g v n) (
+  listed_send (Arc.the_row (Shared.the_row T I B g v n) Global.the_row ghosts) a,
+  (
+    as_row_send (Vec.the_field (Arc.the_row (Opening.the_row B) Global.the_row ghosts) Global.the_row ghosts)
+        (search (sendable, crosses, o) depth 20),
+    tt,
+  ),
+)
 
 Directory-send : (T K I B : RattleType) (g : topic.Ghosts T.Denot) (v : saved.Ghosts T.Denot) (o : store.Ghosts K.Denot) (n : naming.Ghosts I.Denot) → IsSend T → IsSend K → IsSend B → IsSync B → IsSend (Directory.the_row T K I B g v n o)
 Directory-send T K I B g v o n s k b c = let X = Arc.the_row (Shared.the_row T I B g v n) Global.the_row ghosts in let a = Arc-send T I B g v n s b c in

@@ -1,8 +1,11 @@
 // From a request to a session: the target is read, a seat is taken, the session begins, and only then the request is
-// accepted. So whoever sees its connection open is subscribed, or is a producer of its topic.
+// accepted. So whoever sees its connection open is subscribed, or is a producer of its topic. One whose topic is being opened
+// waits before that.
+use crate::guest::Guest;
 use crate::place::Place;
-use crate::serving::Guest;
-use broker_dir::{Attached, Gate};
+use crate::serving::Served;
+use crate::waiting::Waiting;
+use broker_dir::{Attached, Coming, Gate, Waiter};
 use delivery_machine::{Fault, Opened, TopicName};
 use endpoint_core::{Endpoint, route};
 use marks::Naming;
@@ -19,10 +22,10 @@ use worker_loops::Doorbell;
 
 /// Which topic an endpoint is at, whether it makes one, and the code that a refused seat closes with.
 #[derive(Drop)]
-struct Wish {
-    topic: TopicName,
+pub(crate) struct Wish {
+    pub(crate) topic: TopicName,
     creates: bool,
-    code: u16,
+    pub(crate) code: u16,
 }
 
 fn wish_of(endpoint: &Endpoint) -> Option<Wish> {
@@ -52,15 +55,8 @@ fn accept(conn: &mut SocketConn<Held<TcpStream>>) {
     let _ = conn.flush();
 }
 
-/// Why a seat was refused, and the code to close with.
-#[derive(Clone, Copy, Debug, PartialEq, Eq)]
-struct Refusal {
-    code: u16,
-    fault: Fault,
-}
-
 /// Says on standard error why a topic is not opened: its client learns no more than that the store failed.
-fn say_unopened<T: Opened + Drop, S: Alter, J: Naming, G: Gate + Drop, R: Wait + Eprint>(
+pub(crate) fn say_unopened<T: Opened + Drop, S: Alter, J: Naming, G: Gate + Drop, R: Wait + Eprint>(
     rt: &R,
     place: &Place<T, S, J, G>,
     topic: &TopicName,
@@ -76,30 +72,22 @@ fn say_unopened<T: Opened + Drop, S: Alter, J: Naming, G: Gate + Drop, R: Wait +
     }
 }
 
-/// Takes the seat that the endpoint asks for.
-fn seat_for<T: Opened + Drop, S: Alter, J: Naming, G: Gate + Drop, R: Wait + Eprint>(
+/// Comes to the topic that is wished for.
+fn come_to<T: Opened + Drop, S: Alter, J: Naming, G: Gate + Drop, R: Wait + Eprint>(
     rt: &R,
     place: &Place<T, S, J, G>,
-    endpoint: &Endpoint,
+    wish: &Wish,
     bell: &Arc<Doorbell>,
-) -> Result<Attached<T, J, Doorbell>, Refusal> {
-    match (wish_of(endpoint), Arc::try_clone(bell)) {
-        (Some(wish), Ok(bell)) => {
-            match place.directory.attach(rt, &wish.topic, wish.creates, bell) {
-                Ok(attached) => Ok(attached),
-                Err(fault) => {
-                    say_unopened(rt, place, &wish.topic, fault);
-                    Err(Refusal {
-                        code: wish.code,
-                        fault,
-                    })
-                }
-            }
+) -> Result<Coming<T, J, Doorbell>, Fault> {
+    let Ok(bell) = Arc::try_clone(bell) else {
+        return Err(Fault::NoMemory);
+    };
+    match place.directory.attach(rt, &wish.topic, wish.creates, bell) {
+        Ok(coming) => Ok(coming),
+        Err(fault) => {
+            say_unopened(rt, place, &wish.topic, fault);
+            Err(fault)
         }
-        _ => Err(Refusal {
-            code: 4008,
-            fault: Fault::NoMemory,
-        }),
     }
 }
 
@@ -133,11 +121,11 @@ fn begin<T: Opened + Drop, S: Alter, J: Naming, G: Gate + Drop, R: Wait>(
     match session_at(rt, alloc, place, endpoint, &mut conn, &attached) {
         Some(session) => {
             accept(&mut conn);
-            Some(Guest {
+            Some(Guest::Serves(Served {
                 conn,
                 session,
                 attached,
-            })
+            }))
         }
         None => {
             place.directory.detach(rt, attached);
@@ -175,12 +163,69 @@ fn enter_at<T: Opened + Drop, S: Alter, J: Naming, G: Gate + Drop, R: Wait + Epr
     endpoint: Endpoint,
     bell: &Arc<Doorbell>,
 ) -> Option<Guest<T, J>> {
-    match seat_for(rt, place, &endpoint, bell) {
-        Ok(attached) => begin(rt, alloc, place, endpoint, conn, attached),
-        Err(refusal) => {
-            turn_away(&mut conn, refusal.code, refusal.fault);
+    match wish_of(&endpoint) {
+        Some(wish) => enter_with(rt, alloc, place, conn, endpoint, wish, bell),
+        None => {
+            turn_away(&mut conn, 4008, Fault::NoMemory);
             drop(conn);
             drop(endpoint);
+            None
+        }
+    }
+}
+
+/// The connection comes to its topic: a session begins there, or it waits for the topic to be opened.
+pub(crate) fn enter_with<T: Opened + Drop, S: Alter, J: Naming, G: Gate + Drop, R: Wait + Eprint>(
+    rt: &R,
+    alloc: Global,
+    place: &Place<T, S, J, G>,
+    mut conn: SocketConn<Held<TcpStream>>,
+    endpoint: Endpoint,
+    wish: Wish,
+    bell: &Arc<Doorbell>,
+) -> Option<Guest<T, J>> {
+    match come_to(rt, place, &wish, bell) {
+        Ok(Coming::Seated(attached)) => {
+            drop(wish);
+            begin(rt, alloc, place, endpoint, conn, attached)
+        }
+        Ok(Coming::Waits(waiter)) => wait(rt, alloc, conn, endpoint, wish, bell, waiter),
+        Err(fault) => {
+            turn_away(&mut conn, wish.code, fault);
+            drop(conn);
+            drop(endpoint);
+            drop(wish);
+            None
+        }
+    }
+}
+
+/// The connection waits, with its request not accepted.
+fn wait<T: Opened + Drop, J: Naming, R: Wait>(
+    rt: &R,
+    alloc: Global,
+    mut conn: SocketConn<Held<TcpStream>>,
+    endpoint: Endpoint,
+    wish: Wish,
+    bell: &Arc<Doorbell>,
+    waiter: Waiter<Doorbell>,
+) -> Option<Guest<T, J>> {
+    match Arc::try_clone(bell) {
+        Ok(bell) => Some(Guest::Waits(Waiting {
+            alloc,
+            conn,
+            endpoint,
+            wish,
+            bell,
+            waiter,
+            is_given_up: false,
+        })),
+        Err(_) => {
+            waiter.leave(rt);
+            turn_away(&mut conn, wish.code, Fault::NoMemory);
+            drop(conn);
+            drop(endpoint);
+            drop(wish);
             None
         }
     }

@@ -2,8 +2,10 @@
 #![tactic(auto)]
 
 mod entering;
+mod guest;
 mod place;
 mod serving;
+mod waiting;
 
 pub use place::Place;
 pub use worker_loops::{Ended, Limits, serve};

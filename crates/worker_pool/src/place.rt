@@ -1,6 +1,6 @@
 // What all workers share: the directory of topics, to whose sessions connections come.
 use crate::entering::enter;
-use crate::serving::{Guest, turn};
+use crate::guest::{Guest, turn};
 use broker_dir::{Cause, Directory, Gate, moment};
 use delivery_machine::{Moment, Opened};
 use marks::Naming;
@@ -58,7 +58,7 @@ impl<T: Opened + Drop, S: Alter, J: Naming, G: Gate + Drop> House for Place<T, S
     }
 
     fn note_readable(&self, guest: &mut Guest<T, J>) {
-        guest.conn.note_readable();
+        guest.note_readable();
     }
 
     fn ping(&self, guest: &mut Guest<T, J>) -> bool {
@@ -66,10 +66,10 @@ impl<T: Opened + Drop, S: Alter, J: Naming, G: Gate + Drop> House for Place<T, S
     }
 
     fn hang_up(&self, guest: &mut Guest<T, J>) {
-        guest.conn.hang_up();
+        guest.hang_up();
     }
 
-    fn turn<R: Wait>(
+    fn turn<R: Wait + Eprint>(
         &self,
         rt: &R,
         guest: Guest<T, J>,

@@ -1,5 +1,6 @@
 // A session with its connection, and its turns.
 use crate::entering::turn_away;
+use crate::guest::Guest;
 use crate::place::Place;
 use broker_dir::{Attached, Gate};
 use delivery_machine::{Fault, Moment, Opened};
@@ -14,7 +15,7 @@ use worker_loops::{After, Doorbell, Turned};
 
 /// A session with its connection and its seat.
 #[derive(Drop)]
-pub struct Guest<T: Opened + Drop, J: Naming> {
+pub struct Served<T: Opened + Drop, J: Naming> {
     pub(crate) conn: SocketConn<Held<TcpStream>>,
     pub(crate) session: Session,
     pub(crate) attached: Attached<T, J, Doorbell>,
@@ -28,7 +29,7 @@ fn most_texts() -> TextCount {
     }
 }
 
-impl<T: Opened + Drop, J: Naming> Guest<T, J> {
+impl<T: Opened + Drop, J: Naming> Served<T, J> {
     /// Asks the client for a sign of life. False where the connection is lost.
     pub(crate) fn ping(&mut self) -> bool {
         if self.conn.ping().is_err() {
@@ -77,18 +78,18 @@ impl<T: Opened + Drop, J: Naming> Guest<T, J> {
     }
 }
 
-/// One turn of an open connection. Gives it back where it has not ended.
-pub(crate) fn turn<T: Opened + Drop, S: Alter, J: Naming, G: Gate + Drop, R: Wait>(
+/// One turn of a session. Gives it back where it has not ended.
+pub(crate) fn serve_turn<T: Opened + Drop, S: Alter, J: Naming, G: Gate + Drop, R: Wait>(
     rt: &R,
     place: &Place<T, S, J, G>,
-    guest: Guest<T, J>,
+    served: Served<T, J>,
     now: Moment,
 ) -> (Turned, Option<Guest<T, J>>) {
-    let Guest {
+    let Served {
         mut conn,
         session,
         attached,
-    } = guest;
+    } = served;
     let _ = conn.flush();
     let left = {
         let mut caller = place.directory.caller(rt, &attached, &place.gate);
@@ -103,12 +104,12 @@ pub(crate) fn turn<T: Opened + Drop, S: Alter, J: Naming, G: Gate + Drop, R: Wai
         Some(session) => {
             let _ = conn.flush();
             let received = conn.take_received();
-            let guest = Guest {
+            let served = Served {
                 conn,
                 session,
                 attached,
             };
-            stay(rt, place, guest, received)
+            stay(rt, place, served, received)
         }
         None => {
             place.directory.detach(rt, attached);
@@ -129,31 +130,31 @@ fn see_off(mut conn: SocketConn<Held<TcpStream>>) {
 fn refusal<T: Opened + Drop, S: Alter, J: Naming, G: Gate + Drop, R: Wait>(
     rt: &R,
     place: &Place<T, S, J, G>,
-    guest: &Guest<T, J>,
+    served: &Served<T, J>,
 ) -> Option<Fault> {
     if place.directory.is_closed() {
         Some(Fault::StoreFailed)
     } else {
-        guest.attached.refusal(rt)
+        served.attached.refusal(rt)
     }
 }
 
-/// The guest stays, unless nobody may.
+/// The session stays, unless nobody may.
 fn stay<T: Opened + Drop, S: Alter, J: Naming, G: Gate + Drop, R: Wait>(
     rt: &R,
     place: &Place<T, S, J, G>,
-    mut guest: Guest<T, J>,
+    mut served: Served<T, J>,
     received: u32,
 ) -> (Turned, Option<Guest<T, J>>) {
-    match refusal(rt, place, &guest) {
+    match refusal(rt, place, &served) {
         Some(fault) => {
-            turn_away(&mut guest.conn, 4008, fault);
-            place.directory.detach(rt, guest.attached);
+            turn_away(&mut served.conn, 4008, fault);
+            place.directory.detach(rt, served.attached);
             (Turned::gone(), None)
         }
         None => {
-            let turned = guest.turned(rt, place, received);
-            (turned, Some(guest))
+            let turned = served.turned(rt, place, received);
+            (turned, Some(Guest::Serves(served)))
         }
     }
 }

@@ -62,7 +62,7 @@ fn terms_of<R: Abort>(rt: &R, lines: u32, seats: u32) -> Terms {
 
 /// So many may sit at a topic.
 pub(super) fn terms<R: Abort>(rt: &R, seats: u32) -> Terms {
-    terms_of(rt, 1_000, seats)
+    terms_of(rt, 2_000, seats)
 }
 
 /// A topic's journal has eight lines.

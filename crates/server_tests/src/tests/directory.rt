@@ -4,6 +4,7 @@ mod deleting;
 mod full;
 mod letters;
 mod memory;
+mod pieces;
 mod retries;
 mod stops;
 mod unloading;

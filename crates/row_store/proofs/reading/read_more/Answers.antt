@@ -29,9 +29,9 @@ returns-in_ok-others-in-Last-clause-whole g c =
     let early : HasCleanDisk mid = omega (arith, c.has_others.ensures.survives.clean) in
     let after = (c.in_ok-read_piece.ensures.done early).does ready in
     let ended = rw c.in-Last.is at (c.in_ok-read_piece.ensures.rows early) in
-    let found : c.in_ok-others-in-Last.others ≡ has_others topic (length old.log + 1000) first.now.trees =
-    c.in_ok-others-in-Last.ensures.found clean after.0 ∙ ap (λ n. has_others topic (n + 1000) mid.now.trees) c.count.ensures.value ∙ ap (has_others topic (length old.log + 1000)) after.1 in
-    all_below topic (length old.log + 1000) new.log first.now.trees (ended other ready below) (sym found ∙ not_so c.in_ok-others-in-Last.others none)
+    let found : c.in_ok-others-in-Last.others ≡ has_others topic (length old.log + 256) first.now.trees =
+    c.in_ok-others-in-Last.ensures.found clean after.0 ∙ ap (λ n. has_others topic (n + 256) mid.now.trees) c.count.ensures.value ∙ ap (has_others topic (length old.log + 256)) after.1 in
+    all_below topic (length old.log + 256) new.log first.now.trees (ended other ready below) (sym found ∙ not_so c.in_ok-others-in-Last.others none)
 
 pub returns-in_ok-others-in-Last-clause-all_read : goal.returns-in_ok-others-in-Last-clause-all_read
 returns-in_ok-others-in-Last-clause-all_read g c =
@@ -44,7 +44,7 @@ returns-in_ok-others-in-Last-clause-all_read g c =
     let early : HasCleanDisk mid = omega (arith, c.has_others.ensures.survives.clean) in
     let after = (c.in_ok-read_piece.ensures.done early).does ready in
     let ended = rw c.in-Last.is at (c.in_ok-read_piece.ensures.rows early) in
-    let found : c.in_ok-others-in-Last.others ≡ has_others topic (length old.log + 1000) first.now.trees =
-    c.in_ok-others-in-Last.ensures.found clean after.0 ∙ ap (λ n. has_others topic (n + 1000) mid.now.trees) c.count.ensures.value ∙ ap (has_others topic (length old.log + 1000)) after.1 in
+    let found : c.in_ok-others-in-Last.others ≡ has_others topic (length old.log + 256) first.now.trees =
+    c.in_ok-others-in-Last.ensures.found clean after.0 ∙ ap (λ n. has_others topic (n + 256) mid.now.trees) c.count.ensures.value ∙ ap (has_others topic (length old.log + 256)) after.1 in
     let short = rw c.in-Last.is at c.in_ok-read_piece.ensures.last in
-    so c.in_ok-others-in-Last.others (found ∙ none_after topic (length old.log + 1000) new.log all first.now.trees (ended other ready below) has (short refl))
+    so c.in_ok-others-in-Last.others (found ∙ none_after topic (length old.log + 256) new.log all first.now.trees (ended other ready below) has (short refl))

@@ -16,8 +16,8 @@ returns-then-not-branch-clause-bad g c =
     let topic : List ℕ = c.args.topic.now in
     let db : Trees = (state g.S.Store c.args.tx.now.conn.now).now.trees in
     let rows : List Row = c.in_ok-rows.rows.items in
-    let shows = subst (λ n. ShowsWithin topic n (n + 1000) rows db) c.count-from.ensures.value (c.in_ok-rows.ensures.rows clean ready) in
-    let next = next_part topic (length old.log + 1000) old.log all rows db below has shows (c.in_ok-rows.ensures.ordered clean ready) in
+    let shows = subst (λ n. ShowsWithin topic n (n + 256) rows db) c.count-from.ensures.value (c.in_ok-rows.ensures.rows clean ready) in
+    let next = next_part topic (length old.log + 256) old.log all rows db below has shows (c.in_ok-rows.ensures.ordered clean ready) in
     let read : entry_rows topic 0 old.log ++ (put topic c.deref.result.now ++ next.0) ≡ entry_rows topic 0 all = ap (λ l. entry_rows topic 0 old.log ++ (put topic l ++ next.0)) c.deref.ensures.value ∙ next.1 in
     let yes = c.in_ok-take.ensures.all_read topic all next.0 readable read in
     true≢false (sym yes ∙ c.if-not-branch.true)
@@ -36,9 +36,9 @@ returns-then-len-eq-PIECE-clause-rows g c =
     let topic : List ℕ = c.args.topic.now in
     let db : Trees = (state g.S.Store c.args.tx.now.conn.now).now.trees in
     let rows : List Row = c.in_ok-rows.rows.items in
-    let shows = subst (λ n. ShowsWithin topic n (n + 1000) rows db) c.count-from.ensures.value (c.in_ok-rows.ensures.rows clean ready) in
+    let shows = subst (λ n. ShowsWithin topic n (n + 256) rows db) c.count-from.ensures.value (c.in_ok-rows.ensures.rows clean ready) in
     let goes = subst (λ (l : List Row). GoOn old.log l c.take.new.self.log) c.deref.ensures.value (c.in_ok-take.ensures.rows c.if-not-branch.false) in
-    more_below topic (length old.log) (length old.log + 1000) old.log c.take.new.self.log rows db (omega arith) below shows goes
+    more_below topic (length old.log) (length old.log + 256) old.log c.take.new.self.log rows db (omega arith) below shows goes
 
 pub returns-clause-last : goal.returns-clause-last
 returns-clause-last g c =
@@ -54,6 +54,6 @@ returns-clause-rows g c =
     let topic : List ℕ = c.args.topic.now in
     let db : Trees = (state g.S.Store c.args.tx.now.conn.now).now.trees in
     let rows : List Row = c.in_ok-rows.rows.items in
-    let shows = subst (λ n. ShowsWithin topic n (n + 1000) rows db) c.count-from.ensures.value (c.in_ok-rows.ensures.rows clean ready) in
+    let shows = subst (λ n. ShowsWithin topic n (n + 256) rows db) c.count-from.ensures.value (c.in_ok-rows.ensures.rows clean ready) in
     let goes = subst (λ (l : List Row). GoOn old.log l c.take.new.self.log) c.deref.ensures.value (c.in_ok-take.ensures.rows c.if-not-branch.false) in
-    more_below topic (length old.log) (length old.log + 1000) old.log c.take.new.self.log rows db (omega arith) below shows goes
+    more_below topic (length old.log) (length old.log + 256) old.log c.take.new.self.log rows db (omega arith) below shows goes

@@ -4,7 +4,7 @@ use Rattle.sqlite.specs.Held.{state}
 use Rattle.sqlite.specs.State.{HasCleanDisk}
 use Rattle.stored_cell.specs.Opening.{Opens}
 use Rattle.row_store.specs.Keeping.{Keeping}
-use Rattle.row_store.proofs.Restarting.{as_cell, opens_found, opens_itself}
+use Rattle.row_store.proofs.Restarting.{opens_found, opens_itself}
 use Rattle.row_store.proofs.topics.open_cell.Goals as goal
 
 pub noted-requires-clause-opens : goal.noted-requires-clause-opens
@@ -18,10 +18,10 @@ noted-requires-clause-opens g c = λ clean shown.
           (opens_itself c.args.name.now c.args.terms old.now.trees cell opens),
     )
 
-pub returns-in-Ok-opened_cell-clause-opens : goal.returns-in-Ok-opened_cell-clause-opens
-returns-in-Ok-opened_cell-clause-opens g c = λ clean.
+pub returns-in-Ok-noted-clause-opens : goal.returns-in-Ok-noted-clause-opens
+returns-in-Ok-noted-clause-opens g c = λ clean.
     let old = state g.S.Store c.args.keeper.now.conn in
     let new = state g.S.Store c.load.new.self.conn in
     let early = subst (λ (k : Keeping _). HasCleanDisk (state g.S.Store k.conn)) c.noted.ensures.same clean in
     let opens = opens_found c.args.name.now c.args.terms old.now.trees new c.in-Ok.loaded (Ok c.in-Ok-opened_cell.cell) (c.in-Ok.ensures.rows early) c.in-Ok.ensures.kept c.in-Ok-opened_cell.ensures.opens in
-    as_cell (Opens c.args.name.now c.args.terms old.now.trees) c.noted.result c.in-Ok-opened_cell.cell c.noted.ensures.cell opens
+    subst (Opens c.args.name.now c.args.terms old.now.trees) (sym c.in-Ok-noted.ensures.cell) opens

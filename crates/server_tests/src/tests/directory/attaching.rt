@@ -1,6 +1,6 @@
 // Who may not attach.
 use super::letters::{BEFORE, play};
-use super::world::{Rows, Scene, Topics, bell, open, sit, topic_name, with_rows};
+use super::world::{Rows, Scene, Topics, bell, come, open, sit, topic_name, with_rows};
 use delivery_machine::Fault;
 use marks::Naming;
 use std::process::Abort;
@@ -14,9 +14,7 @@ fn refusal<J: Naming, R: Abort + AllocGlobal + Wait>(
     name: &str,
     create: bool,
 ) -> Option<Fault> {
-    topics
-        .attach(rt, &topic_name(rt, name), create, bell(rt))
-        .err()
+    come(rt, topics, &topic_name(rt, name), create, bell(rt)).err()
 }
 
 fn expect_fault<R: Abort>(rt: &R, got: Option<Fault>, want: Option<Fault>) {
@@ -66,7 +64,7 @@ fn count_refused<J: Naming, R: Abort + AllocGlobal + Wait>(rt: &R, topics: &Topi
     let mut seats = Vec::new(rt.alloc());
     for number in 0..258 {
         let name = topic_name(rt, numbered(rt, number).as_str());
-        match topics.attach(rt, &name, true, bell(rt)) {
+        match come(rt, topics, &name, true, bell(rt)) {
             Ok(seat) => seats.push(seat).expect(rt, "no memory"),
             Err(fault) => {
                 expect_fault(rt, Some(fault), Some(Fault::TooMany));

@@ -1,7 +1,7 @@
 // A topic is deleted by whoever sits there.
 use super::letters::{BEFORE, DEATH, T, play};
 use super::world::{
-    Rows, Scene, Seat, Topics, answer_to, asked, bell, delete, open, settle, sit, topic_name,
+    Rows, Scene, Seat, Topics, answer_to, asked, bell, come, delete, open, settle, sit, topic_name,
     with_rows,
 };
 use delivery_machine::{Fault, Reply};
@@ -49,7 +49,7 @@ fn check_known<J: Naming, R: Abort + AllocGlobal + Wait>(
     name: &str,
     want: Option<Fault>,
 ) {
-    match topics.attach(rt, &topic_name(rt, name), false, bell(rt)) {
+    match come(rt, topics, &topic_name(rt, name), false, bell(rt)) {
         Ok(seat) => {
             topics.detach(rt, seat);
             expect_fault(rt, None, want);

@@ -1,8 +1,8 @@
 // A topic whose journal is full leaves, and is loaded again.
 use super::letters::play;
 use super::world::{
-    Chime, Rows, Scene, Seat, Topics, answer_to, asked, bell, open_with, settle, sit, topic_name,
-    with_rows,
+    Chime, Rows, Scene, Seat, Topics, answer_to, asked, bell, come, open_with, settle, sit,
+    topic_name, with_rows,
 };
 use crate::tests::base::short_terms;
 use delivery_machine::{Fault, Reply};
@@ -46,7 +46,7 @@ fn expect_fault<R: Abort>(rt: &R, got: Option<Fault>, want: Option<Fault>) {
 }
 
 fn check_entry<J: Naming, R: Abort + AllocGlobal + Wait>(rt: &R, topics: &Topics<J>, create: bool) {
-    let refused = topics.attach(rt, &topic_name(rt, T), create, bell(rt));
+    let refused = come(rt, topics, &topic_name(rt, T), create, bell(rt));
     expect_fault(rt, refused.err(), Some(Fault::JournalFull));
 }
 
@@ -109,7 +109,7 @@ impl Scene for Full {
         let seat = sit(rt, &topics, T);
         let onlooker = bell(rt);
         let chime = Arc::try_clone(&onlooker).ok().expect(rt, "too many owners");
-        let other = topics.attach(rt, &topic_name(rt, T), true, onlooker);
+        let other = come(rt, &topics, &topic_name(rt, T), true, onlooker);
         let other = other.ok().expect(rt, "no seat");
         fill(rt, &topics, &seat);
         check_rung(rt, &chime);

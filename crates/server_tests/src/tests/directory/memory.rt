@@ -2,7 +2,7 @@
 // stored and a letter is moved although nobody asks for anything meanwhile; only what comes before and after ends the run.
 use super::letters::{BEFORE, DEATH, GRAVE, T};
 use super::world::{
-    Chime, Rows, Scene, Seat, Tasks, Topics, asked, bell, event_in, open, sit, topic_name,
+    Chime, Rows, Scene, Seat, Tasks, Topics, asked, bell, come, event_in, open, sit, topic_name,
     with_rows,
 };
 use broker_dir::{Errands, Open};
@@ -51,7 +51,7 @@ fn sit_with<J: Naming, R: Abort + AllocGlobal + Wait>(
     chime: &Arc<Chime>,
 ) -> Seat<J> {
     let chime = Arc::try_clone(chime).expect(rt, "no memory");
-    let attached = topics.attach(rt, &topic_name(rt, T), true, chime);
+    let attached = come(rt, topics, &topic_name(rt, T), true, chime);
     attached.ok().expect(rt, "no memory for a seat")
 }
 

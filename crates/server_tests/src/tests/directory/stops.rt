@@ -241,7 +241,7 @@ fn do_steps<J: Naming, R: Abort + AllocGlobal + Wait + Clock>(
 }
 
 /// The broker that is started again from what is stored.
-fn again<J: Naming, R: Abort + AllocGlobal>(rt: &R, topics: Topics<J>) -> Topics<J> {
+pub(super) fn again<J: Naming, R: Abort + AllocGlobal>(rt: &R, topics: Topics<J>) -> Topics<J> {
     let (conn, notes) = topics.into_keeper().into_parts();
     let keeper = Keeper::adopt(rt.alloc(), read_again(rt, conn), notes);
     open(rt, keeper.ok().expect(rt, "no rows"), 8)

@@ -1,7 +1,7 @@
 // Topics leave that nobody uses, and are found again.
 use super::letters::play;
 use super::world::{
-    Rows, Scene, Seat, Topics, asked, bell, open, settle, sit, topic_name, with_rows,
+    Rows, Scene, Seat, Topics, asked, bell, come, open, settle, sit, topic_name, with_rows,
 };
 use delivery_machine::{Fault, Reply};
 use marks::Naming;
@@ -86,7 +86,7 @@ fn refused<J: Naming, R: Abort + AllocGlobal + Wait>(
     number: u32,
 ) -> Option<Fault> {
     let name = topic_name(rt, numbered(rt, number).as_str());
-    match topics.attach(rt, &name, true, bell(rt)) {
+    match come(rt, topics, &name, true, bell(rt)) {
         Ok(seat) => {
             topics.detach(rt, seat);
             None
@@ -150,7 +150,7 @@ const INTO_ITSELF: &str =
 
 fn is_known<J: Naming, R: Abort + AllocGlobal + Wait>(rt: &R, topics: &Topics<J>) -> bool {
     let name = topic_name(rt, numbered(rt, 0).as_str());
-    match topics.attach(rt, &name, false, bell(rt)) {
+    match come(rt, topics, &name, false, bell(rt)) {
         Ok(seat) => {
             topics.detach(rt, seat);
             true

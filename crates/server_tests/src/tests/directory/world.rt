@@ -2,7 +2,7 @@
 ghost use Rattle.std.specs.Prelude.{◌≡◌};
 
 use crate::tests::base::{keeper_over, terms};
-use broker_dir::{Attached, Directory, Errands, Open, Terms};
+use broker_dir::{Attached, Coming, Directory, Errands, Open, Terms};
 use delivery_machine::{Event, Fault, Reply};
 use marks::{Naming, Unnamed};
 use position_core::TopicName;
@@ -94,13 +94,31 @@ pub(super) fn bell<R: Abort + AllocGlobal>(rt: &R) -> Arc<Chime> {
     Arc::new(rt.alloc(), chime).expect(rt, "no memory")
 }
 
+/// What an attach comes to, which leaves this bell. A topic that is to be opened first counts as one that is not there.
+pub(super) fn come<J: Naming, R: Abort + AllocGlobal + Wait>(
+    rt: &R,
+    topics: &Topics<J>,
+    name: &TopicName,
+    create: bool,
+    chime: Arc<Chime>,
+) -> Result<Seat<J>, Fault> {
+    match topics.attach(rt, name, create, chime) {
+        Ok(Coming::Seated(seat)) => Ok(seat),
+        Ok(Coming::Waits(waiter)) => {
+            waiter.leave(rt);
+            Err(Fault::NoSession)
+        }
+        Err(fault) => Err(fault),
+    }
+}
+
 /// A seat at the topic, which is made where it is not known.
 pub(super) fn sit<J: Naming, R: Abort + AllocGlobal + Wait>(
     rt: &R,
     topics: &Topics<J>,
     name: &str,
 ) -> Seat<J> {
-    let attached = topics.attach(rt, &topic_name(rt, name), true, bell(rt));
+    let attached = come(rt, topics, &topic_name(rt, name), true, bell(rt));
     attached.ok().expect(rt, "no seat, or no memory")
 }
 

@@ -13,7 +13,7 @@ use crate::tests::base;
 use delivery_machine::{Event, Fault, Saved, Snapshot};
 use marks::{Naming, Unnamed};
 use row_schema::reopen;
-use row_store::{Keeper, Refused, Written};
+use row_store::{Keeper, Pace, Refused, Unread, Written};
 use sqlite::{Alter, Connection};
 use std::marker::Brand;
 use std::process::Abort;
@@ -34,6 +34,11 @@ fn taken<S: Alter + Drop, J: Naming>(
         Ok(keeper) => Ok(keeper),
         Err(refused) => Err(refused.fault),
     }
+}
+
+/// No topic of these tests is long.
+fn fault_of(why: Unread) -> Fault {
+    why.fault().unwrap_or(Fault::NoSession)
 }
 
 impl<S: Alter + Drop, J: Naming> Keeps for Keeper<S, J> {
@@ -109,17 +114,17 @@ impl<S: Alter + Drop, J: Naming> Keeps for Keeper<S, J> {
         name: &str,
     ) -> Result<Option<Snapshot>, Fault> {
         let name = topic_name(rt, name);
-        let loaded = self.load(&name);
+        let loaded = self.load(&name, Pace::AtOnce);
         drop(name);
         match loaded {
             Ok(Some(loaded)) => Ok(Some(loaded.snapshot)),
             Ok(None) => Ok(None),
-            Err(why) => Err(why.fault()),
+            Err(why) => Err(fault_of(why)),
         }
     }
 
     fn stands(&mut self, snapshot: &Snapshot) -> bool {
-        match self.load(snapshot.name()) {
+        match self.load(snapshot.name(), Pace::AtOnce) {
             Ok(Some(loaded)) => {
                 let is_same = same(&loaded.snapshot, snapshot);
                 drop(loaded);
@@ -135,12 +140,12 @@ impl<S: Alter + Drop, J: Naming> Keeps for Keeper<S, J> {
         name: &str,
     ) -> Result<Option<(Snapshot, Lone<J>)>, Fault> {
         let name = topic_name(rt, name);
-        let loaded = self.load(&name);
+        let loaded = self.load(&name, Pace::AtOnce);
         drop(name);
         match loaded {
             Ok(Some(loaded)) => Ok(Some(Lone::resumed(rt, loaded))),
             Ok(None) => Ok(None),
-            Err(why) => Err(why.fault()),
+            Err(why) => Err(fault_of(why)),
         }
     }
 

@@ -14,7 +14,7 @@ use log_pieces::Pieces;
 use marks::{Naming, Unnamed};
 use position_core::{Message, TopicName};
 use row_found::open_files;
-use row_store::Keeper;
+use row_store::{Keeper, Pace};
 use sqlite::{Alter, Connection, FileStore, Files, Options};
 use sqlite_disk::{Disk, Fuse, Memory};
 use std::alloc::Global;
@@ -251,7 +251,7 @@ fn check_stored<S: Alter + Drop, J: Naming, R: Abort + AllocGlobal>(
     let mut keeper = keeper.ok().expect(rt, "not taken");
     let name = TopicName::from_text(rt.alloc(), TOPIC);
     let name = name.expect(rt, "no memory").expect(rt, "no name");
-    let loaded = keeper.load(&name).expect(rt, "not loaded");
+    let loaded = keeper.load(&name, Pace::AtOnce).expect(rt, "not loaded");
     let loaded = loaded.expect(rt, "no rows");
     check_log(rt, loaded.snapshot.log(), stored);
 }

@@ -22,4 +22,5 @@ invariant_of-self g c =
             subst (All (λ (kept : KeptTopic). Stands kept db)) (sym {A = List KeptTopic} c.forget_topic.ensures.left) others;
       },
       c.self.invariant.1,
+      c.self.invariant.2,
     )

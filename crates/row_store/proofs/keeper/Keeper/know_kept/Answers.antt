@@ -21,4 +21,5 @@ invariant_of-self-in-Ok-clone g c =
             subst (All (λ (kept : KeptTopic). Stands kept db)) (sym pushed) (All-push (λ (kept : KeptTopic). Stands kept db) k.known.items c.args.snapshot (holds.known working clean shown) stands);
       },
       c.self.invariant.1,
+      c.self.invariant.2,
     )
