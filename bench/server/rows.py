@@ -6,29 +6,16 @@
 # The files go into the folder ROOM; over /dev/shm a sync costs nothing, which tells the rows' time from the disk's.
 import json
 import os
-import sqlite3
 import subprocess
 import sys
 import time
 
 from client import Broker, consumer, middle, producer, text_of, timed
+from filled import NAME, fill
 
 program = sys.argv[1]
 port = int(sys.argv[2]) if len(sys.argv) > 2 else 18085
-SIZES, LEDGER, CHANGES = (1_000, 100_000, 1_000_000), 50_000, 20
-NAME = 'persistent://public/default/big'
-ADD = ("INSERT INTO entry (topic, idx, ledger, entry, producer, sequence, time, has_key, key, properties, payload) "
-       "VALUES (?1, ?2, ?3, ?4, 'p', ?2, 1000, 0, '', '{}', ?5)")
-
-
-def fill(database, size):
-    """A topic of so many messages with one subscription, as docs/FORMATS.md says its rows."""
-    with sqlite3.connect(database) as rows:
-        rows.execute('INSERT INTO topic (name, ledger_size, ledger, ordinal) VALUES (?1, ?2, ?3, 0)',
-                     (NAME, LEDGER, (size - 1) // LEDGER))
-        rows.execute("INSERT INTO sub (topic, name, kind) VALUES (?1, 's', 0)", (NAME,))
-        rows.executemany(ADD, ((NAME, at, at // LEDGER, at % LEDGER, b'\7' * 100) for at in range(size)))
-    rows.close()
+SIZES, CHANGES = (1_000, 100_000, 1_000_000), 20
 
 
 def took(step):
