@@ -5,9 +5,9 @@
 #   sh bench/memory/refuse.sh [step [crate test]]
 # The tests that are meant for it are topic_tests's tests::both_topics::memory::a_refusal_changes_nothing, which is run
 # if none is named; session_tests's tests::sessions::memory::a_producers_session_for_want_of_memory,
-# a_consumers_session_for_want_of_memory and an_administrators_session_for_want_of_memory; and server_tests's
-# tests::keeper::memory::a_round_for_want_of_memory and tests::directory::memory::nobody_sleeps_for_want_of_memory, which
-# the gate runs.
+# a_consumers_session_for_want_of_memory and an_administrators_session_for_want_of_memory; store_tests's
+# tests::memory::a_round_for_want_of_memory; and server_tests's tests::directory::memory::nobody_sleeps_for_want_of_memory,
+# which the gate runs.
 set -eu
 here=$(dirname "$0")
 step=${1:-1}

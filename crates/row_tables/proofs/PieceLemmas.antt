@@ -1,36 +1,40 @@
 -- What the queries of a piece of a topic's messages show, and how pieces join.
-use Rattle.std.proofs.Common.{◌≡◌, Some, ℕ, ◌<◌, ◌≤◌, codes, List, [], ◌∷◌, ◌++◌, map, filter, take, length, pos, Bool, true, false, not, inl, inr, Ordering, Less, Equal, Greater, refl, sym, ap, subst, ◌∙◌, arith}
+use Rattle.std.proofs.Common.{◌≡◌, Some, ℕ, ◌<◌, ◌≤◌, codes, ◌+◌, List, [], ◌∷◌, ◌++◌, map, filter, take, length, pos, Bool, true, false, not, inl, inr, Ordering, Less, Equal, Greater, refl, sym, ap, subst, ◌∙◌, arith}
 use Rattle.std.specs.Prelude.{◌&&◌, ◌||◌, ◌==◌}
 use Rattle.std.specs.List.{list_any}
-use Rattle.std.specs.List.Sorted.{IsPermutation}
+use Rattle.std.specs.List.{All}
+use Rattle.std.specs.List.Sorted.{IsPermutation, IsSorted}
+use Rattle.std.specs.Cmp.{IsTotalOrder}
 use Rattle.std.specs.Ordering.{is_lt, is_ge, int_cmp}
 use Rattle.std.proofs.lemmas.Bool.{cases_Bool, cases_lt}
 use Rattle.std.proofs.lemmas.Bool.Decides.{nat_tests}
-use Rattle.std.proofs.lemmas.List.Sorted.{IsPermutation-sym, IsPermutation-filter_both, list_any-IsPermutation}
+use Rattle.std.proofs.lemmas.List.Elements.{All-map}
+use Rattle.std.proofs.lemmas.List.Sorted.{All-permutation, IsPermutation-sym, IsPermutation-filter_both, list_any-IsPermutation}
 use Rattle.sqlite.specs.declared.types.Value.{Value}
 use Rattle.sqlite.specs.declared.types.Value.TheVariants.{Null, Int, Real, Text, Blob}
 use Rattle.sqlite.specs.Collation.TheVariants.{Binary}
 use Rattle.sqlite.specs.Order.{Row, column, value_cmp}
+use Rattle.sqlite.specs.Tree.{Trees}
 use Rattle.sqlite.specs.Term.{lit, col}
 use Rattle.sqlite.specs.Ops.{binary, is_true, from_truth}
-use Rattle.sqlite_sql.specs.declared.ops.BinaryOp.TheVariants.{Compare, Is, Or}
+use Rattle.sqlite_sql.specs.declared.ops.BinaryOp.TheVariants.{Compare}
 use Rattle.sqlite_sql.specs.declared.ops.CompareOp.TheVariants.{Lt, Ge}
 use Rattle.sqlite_value.specs.Keys.{ascending}
-use Rattle.sqlite_value.proofs.OrderLemmas.{value_cmp_total, value_cmp-Int, value_cmp-Null, value_cmp-apart}
-use Rattle.sqlite_trees.proofs.ListLemmas.{filter_same, all_of}
+use Rattle.sqlite_value.proofs.OrderLemmas.{value_cmp_total, value_cmp-Int, value_cmp-Null, then-Equal}
+use Rattle.sqlite_trees.proofs.ListLemmas.{filter-map, filter_same, all_of}
 use Rattle.sqlite.specs.State.{State, Shown}
 use Rattle.row_forms.specs.Cells.{ENTRY, width, cells, bodies, is_of}
 use Rattle.row_tables.specs.Ready.{IsReady}
 use Rattle.row_tables.specs.Ordered.{AreSortedBy}
-use Rattle.row_tables.specs.Pieces.{is_below, is_within, ShowsWithin, has_others}
-use Rattle.row_tables.proofs.Texts.{alone, matching_most, equals, place_from, place_below, place_elsewhere, select_piece, select_piece_is, select_others, select_others_is}
+use Rattle.row_tables.specs.Pieces.{is_below, is_within, messages_of, ShowsWithin, has_below, has_from, has_others}
+use Rattle.row_tables.proofs.Texts.{alone, matching_most, equals, place_from, place_below, select_piece, select_piece_is, select_first, select_first_is, select_from, select_from_is}
 use Rattle.row_tables.proofs.TableLemmas.{text_is, text_test, filter_twice}
-use Rattle.row_tables.proofs.StatementLemmas.{IsTestBy, finds_most}
-use Rattle.row_tables.proofs.ReadLemmas.{reads_those}
+use Rattle.row_tables.proofs.StatementLemmas.{IsTestBy, finds_most, shows}
+use Rattle.row_tables.proofs.ReadLemmas.{reads_those, sorted_shown}
 use Rattle.row_forms.specs.Schema.{schema_6}
 use Rattle.sqlite.specs.Program.{overlay}
 use Rattle.sqlite.specs.Command.TheVariants.{Select}
-use Rattle.sqlite.specs.Query.{Output}
+use Rattle.sqlite.specs.Query.{Query, Output, output_cmp}
 use Rattle.sqlite.proofs.Callers.{reads_as}
 
 -- ---- the tests of a place
@@ -79,33 +83,31 @@ reads_piece topic from end old new rows h ready =
 
 -- ---- messages elsewhere
 
-elsewhere_by : (low below : Bool) (o : Ordering) → below ≡ is_lt o → is_true (binary Or (binary Or (from_truth (Some false)) (from_truth (Some low))) (from_truth (Some (is_ge o)))) ≡ not (not low && below)
+from_here : (v : Value) (n : ℕ) → is_true (binary (Compare Ge Binary) v (Int (pos n))) ≡ not (is_lt (value_cmp v (Int (pos n))))
 unfolding binary
-elsewhere_by true below Less is = refl
-elsewhere_by true below Equal is = refl
-elsewhere_by true below Greater is = refl
-elsewhere_by false below Less is = rw is refl
-elsewhere_by false below Equal is = rw is refl
-elsewhere_by false below Greater is = rw is refl
+from_here Null n = rw (value_cmp-Null (Int (pos n))) refl
+from_here (Int k) n = truth_is (is_ge (value_cmp (Int k) (Int (pos n)))) ∙ from_is (value_cmp (Int k) (Int (pos n)))
+from_here (Real x) n = truth_is (is_ge (value_cmp (Real x) (Int (pos n)))) ∙ from_is (value_cmp (Real x) (Int (pos n)))
+from_here (Text t) n = truth_is (is_ge (value_cmp (Text t) (Int (pos n)))) ∙ from_is (value_cmp (Text t) (Int (pos n)))
+from_here (Blob b) n = truth_is (is_ge (value_cmp (Blob b) (Int (pos n)))) ∙ from_is (value_cmp (Blob b) (Int (pos n)))
 
-elsewhere : (v : Value) (n : ℕ) → is_true (binary Or (binary Or (binary (Is Binary) v Null) (binary (Compare Lt Binary) v (Int (pos 0)))) (binary (Compare Ge Binary) v (Int (pos n)))) ≡ not (not (is_lt (value_cmp v (Int (pos 0)))) && is_lt (value_cmp v (Int (pos n))))
-unfolding binary
-elsewhere Null n = rw (value_cmp-Null (Int (pos 0)), value_cmp-Null Null) refl
-elsewhere (Int k) n = rw (value_cmp-apart (Int k) Null (λ e. omega (arith, e))) (elsewhere_by (is_lt (value_cmp (Int k) (Int (pos 0)))) (is_lt (value_cmp (Int k) (Int (pos n)))) (value_cmp (Int k) (Int (pos n))) refl)
-elsewhere (Real x) n = rw (value_cmp-apart (Real x) Null (λ e. omega (arith, e))) (elsewhere_by (is_lt (value_cmp (Real x) (Int (pos 0)))) (is_lt (value_cmp (Real x) (Int (pos n)))) (value_cmp (Real x) (Int (pos n))) refl)
-elsewhere (Text t) n = rw (value_cmp-apart (Text t) Null (λ e. omega (arith, e))) (elsewhere_by (is_lt (value_cmp (Text t) (Int (pos 0)))) (is_lt (value_cmp (Text t) (Int (pos n)))) (value_cmp (Text t) (Int (pos n))) refl)
-elsewhere (Blob b) n = rw (value_cmp-apart (Blob b) Null (λ e. omega (arith, e))) (elsewhere_by (is_lt (value_cmp (Blob b) (Int (pos 0)))) (is_lt (value_cmp (Blob b) (Int (pos n)))) (value_cmp (Blob b) (Int (pos n))) refl)
+-- the message is the topic's, and it has this place, or one after it
+abbrev of_from : List ℕ → ℕ → Row → Bool
+of_from topic end body = is_of topic body && not (is_below end body)
 
--- the message is the topic's, and it has no place below this one
-abbrev of_others : List ℕ → ℕ → Row → Bool
-of_others topic end body = is_of topic body && not (is_within 0 end body)
-
-others_test : (topic : List ℕ) (end : ℕ) → IsTestBy ENTRY (equals 0 ∷ place_elsewhere ∷ []) (Text topic ∷ Int (pos end) ∷ []) (of_others topic end)
-others_test topic end r = both _ _ _ _ (text_test (column r 1) topic) (elsewhere (column r 2) end)
+from_test : (topic : List ℕ) (end : ℕ) → IsTestBy ENTRY (equals 0 ∷ place_from ∷ []) (Text topic ∷ Int (pos end) ∷ []) (of_from topic end)
+from_test topic end r = both _ _ _ _ (text_test (column r 1) topic) (from_here (column r 2) end)
   where
     both : (a b d e : Bool) → a ≡ d → b ≡ e → (a && (b && true)) ≡ (d && e)
     both a true d e is too = rw is (ap (λ x. d && x) too)
     both a false d e is too = rw is (ap (λ x. d && x) too)
+
+topic_test : (topic : List ℕ) → IsTestBy ENTRY (equals 0 ∷ []) (Text topic ∷ []) (is_of topic)
+topic_test topic r = alone_is _ ∙ text_test (column r 1) topic
+  where
+    alone_is : (b : Bool) → (b && true) ≡ b
+    alone_is true = refl
+    alone_is false = refl
 
 module _ {A : Type 0} where
   abbrev is_some : List A → Bool
@@ -140,20 +142,119 @@ any_mapped : {A B : Type 0} (p : B → Bool) (f : A → B) (xs : List A) → lis
 any_mapped p f [] = refl
 any_mapped p f (x ∷ xs) = ap (λ b. p (f x) || b) (any_mapped p f xs)
 
-pub reads_others : (topic : List ℕ) (end : ℕ) (old new : State) (rows : List Row) → Shown select_others (Text topic ∷ Int (pos end) ∷ []) old new rows → IsReady old.now → (count : ℕ) → length rows ≡ count → not (count == 0) ≡ has_others topic end old.now.trees
-reads_others topic end old new rows h ready count many =
+pub reads_from : (topic : List ℕ) (end : ℕ) (old new : State) (rows : List Row) → Shown select_from (Text topic ∷ Int (pos end) ∷ []) old new rows → IsReady old.now → (count : ℕ) → length rows ≡ count → not (count == 0) ≡ has_from topic end old.now.trees
+reads_from topic end old new rows h ready count many =
     let values : Row = Text topic ∷ Int (pos end) ∷ [] in
-    let q = matching_most ENTRY (equals 0 ∷ place_elsewhere ∷ []) (col 1 2 ∷ []) [] (lit (Int (pos 1))) in
-    let read = reads_as select_others values old new schema_6 ready.schema (Select (alone q) (codes "idx" ∷ [])) select_others_is.0 select_others_is.2 select_others_is.1 rows h in
-    let found = finds_most ENTRY (equals 0 ∷ place_elsewhere ∷ []) (col 1 2 ∷ []) [] values (of_others topic end) (overlay old.now.trees []) rows (others_test topic end) (lit (Int (pos 1))) (read.answer Null) in
+    let q = matching_most ENTRY (equals 0 ∷ place_from ∷ []) (col 1 2 ∷ []) [] (lit (Int (pos 1))) in
+    let read = reads_as select_from values old new schema_6 ready.schema (Select (alone q) (codes "idx" ∷ [])) select_from_is.0 select_from_is.2 select_from_is.1 rows h in
+    let found = finds_most ENTRY (equals 0 ∷ place_from ∷ []) (col 1 2 ∷ []) [] values (of_from topic end) (overlay old.now.trees []) rows (from_test topic end) (lit (Int (pos 1))) (read.answer Null) in
     let stored = old.now.trees ENTRY in
     let outs : List Output = found.0 in
     counted rows count many ∙ ap is_some found.2 ∙ some_first (map (λ (o : Output). o.1) outs) ∙ any_mapped (λ _. true) (λ (o : Output). o.1) outs
     ∙ sym (list_any-IsPermutation (λ _. true) _ outs found.1)
     ∙ any_mapped (λ _. true) _ _
-    ∙ some_passed (λ r. of_others topic end (cells (width ENTRY) r)) stored
-    ∙ sym (any_mapped (of_others topic end) (cells (width ENTRY)) stored)
-    ∙ sym (any_passed (is_of topic) (λ body. not (is_within 0 end body)) (bodies ENTRY stored))
+    ∙ some_passed (λ r. of_from topic end (cells (width ENTRY) r)) stored
+    ∙ sym (any_mapped (of_from topic end) (cells (width ENTRY)) stored)
+    ∙ sym (any_passed (is_of topic) (λ body. not (is_below end body)) (bodies ENTRY stored))
+
+-- ---- the first message
+
+-- the first of what is sorted comes before a bound where any does
+module _ {A : Type 0} {cmp : A → A → Ordering} (order : IsTotalOrder cmp) (bound : A) where
+  abbrev comes_before : A → Bool
+  comes_before x = is_lt (cmp x bound)
+
+  neither : (x y : A) → is_lt (cmp y x) ≡ false → comes_before x ≡ false → comes_before y ≡ false
+  neither x y later no = by (cmp y x) (cmp y bound) refl refl
+    where
+      by : (b c : Ordering) → cmp y x ≡ b → cmp y bound ≡ c → comes_before y ≡ false
+      by b Equal q r = rw r refl
+      by b Greater q r = rw r refl
+      by Less Less q r = absurd (let yes = rw q at later in cc)
+      by Equal Less q r = absurd (let yes : comes_before x ≡ true = ap is_lt (sym (order.congr y x bound q) ∙ r) in let both = sym yes ∙ no in cc)
+      by Greater Less q r =
+          let back : cmp x y ≡ Less = order.antisymm x y ∙ rw q refl in
+          absurd (let yes : comes_before x ≡ true = ap is_lt (order.trans x y bound back r) in let both = sym yes ∙ no in cc)
+
+  first_is_least : (x : A) (xs : List A) → IsSorted cmp (x ∷ xs) → list_any comes_before (x ∷ xs) ≡ comes_before x
+  first_is_least x [] sorted = or_false (comes_before x)
+    where
+      or_false : (b : Bool) → (b || false) ≡ b
+      or_false true = refl
+      or_false false = refl
+  first_is_least x (y ∷ ys) sorted = elim (cases_Bool (comes_before x)) [
+    | inl e ↦ rw e refl
+    | inr e ↦
+        let second : is_lt (cmp y x) ≡ false = sorted 0 x (omega arith) (omega arith) in
+        let rest : list_any comes_before (y ∷ ys) ≡ comes_before y = first_is_least y ys (λ k d low below. sorted (k + 1) d (omega arith) (omega (arith, below))) in
+        rw (e, rest) (neither x y second e)
+  ]
+
+-- the value that is shown is below 0
+abbrev is_negative : Row → Bool
+is_negative row = is_lt (value_cmp (column row 0) (Int (pos 0)))
+
+-- the first row of the answer is
+abbrev pub first_is_negative : List Row → Bool
+first_is_negative [] = false
+first_is_negative (row ∷ rows) = is_negative row
+
+module _ (topic : List ℕ) where
+  abbrev firsts : Query
+  firsts = matching_most ENTRY (equals 0 ∷ []) (col 1 2 ∷ []) ((col 1 2, ascending Binary) ∷ []) (lit (Int (pos 1)))
+
+  abbrev show : Row → Output
+  show = shows (col 1 2 ∷ []) ((col 1 2, ascending Binary) ∷ []) (Text topic ∷ [])
+
+  abbrev place : Output → Value
+  place o = column o.1 0
+
+  abbrev IsShown : Output → Type 0
+  IsShown o = (r : Row) × (o ≡ show r)
+
+  by_place : (r s : Row) → value_cmp (place (show r)) (place (show s)) ≡ output_cmp firsts (show r) (show s)
+  by_place r s = sym (then-Equal _)
+
+  places_sorted : (outs : List Output) (those : List Row) → IsPermutation (map show those) outs → IsSorted (output_cmp firsts) outs → IsSorted value_cmp (map place outs)
+  places_sorted outs those same sorted =
+      let all : All IsShown outs = All-permutation IsShown _ outs same (All-map IsShown show those (λ k d low. (_, refl))) in
+      sorted_shown IsShown (output_cmp firsts) value_cmp place (λ x y (r, is) (s, too). rw (is, too) (by_place r s)) outs all sorted
+
+  first_answers : (outs : List Output) → IsSorted value_cmp (map place outs) → first_is_negative (take 1 (map (λ (o : Output). o.1) outs)) ≡ list_any (λ o. is_negative o.1) outs
+  first_answers [] sorted = refl
+  first_answers (o ∷ outs) sorted =
+      sym (first_is_least value_cmp_total (Int (pos 0)) (place o) (map place outs) sorted) ∙ any_mapped (λ v. is_lt (value_cmp v (Int (pos 0)))) place (o ∷ outs)
+
+  pub reads_first : (old new : State) (rows : List Row) → Shown select_first (Text topic ∷ []) old new rows → IsReady old.now → first_is_negative rows ≡ has_below topic 0 old.now.trees
+  reads_first old new rows h ready =
+      let values : Row = Text topic ∷ [] in
+      let read = reads_as select_first values old new schema_6 ready.schema (Select (alone firsts) (codes "idx" ∷ [])) select_first_is.0 select_first_is.2 select_first_is.1 rows h in
+      let found = finds_most ENTRY (equals 0 ∷ []) (col 1 2 ∷ []) ((col 1 2, ascending Binary) ∷ []) values (is_of topic) (overlay old.now.trees []) rows (topic_test topic) (lit (Int (pos 1))) (read.answer Null) in
+      let stored = old.now.trees ENTRY in
+      let those = filter (λ r. is_of topic (cells (width ENTRY) r)) stored in
+      let outs : List Output = found.0 in
+      ap first_is_negative found.2
+      ∙ first_answers outs (places_sorted outs those found.1 found.3)
+      ∙ sym (list_any-IsPermutation (λ (o : Output). is_negative o.1) _ outs found.1)
+      ∙ any_mapped (λ (o : Output). is_negative o.1) show those
+      ∙ sym (any_mapped (is_below 0) (cells (width ENTRY)) those)
+      ∙ ap (list_any (is_below 0)) (sym (filter-map (is_of topic) (cells (width ENTRY)) stored))
+
+-- a place that is none from 0 on, or one from the end on, is elsewhere
+pub others_are : (topic : List ℕ) (end : ℕ) (db : Trees) → has_others topic end db ≡ (has_below topic 0 db || has_from topic end db)
+others_are topic end db = by (messages_of topic db)
+  where
+    one : (a b c d : Bool) → (not (not a && b) || (c || d)) ≡ ((a || c) || (not b || d))
+    one true true c d = refl
+    one true false c d = refl
+    one false true true d = refl
+    one false true false d = refl
+    one false false true d = refl
+    one false false false d = refl
+
+    by : (rows : List Row) → list_any (λ row. not (is_within 0 end row)) rows ≡ (list_any (is_below 0) rows || list_any (λ row. not (is_below end row)) rows)
+    by [] = refl
+    by (row ∷ rows) = ap (λ more. not (is_within 0 end row) || more) (by rows) ∙ one (is_below 0 row) (is_below end row) _ _
 
 -- ---- pieces join
 

@@ -41,7 +41,7 @@ same_passed p f g same (x ∷ xs) = elim (cases_Bool (p x)) [
 ]
 
 -- things in an order are shown in that order, where what is shown of them has it
-sorted_shown : {A B : Type 0} (P : A → Type 0) (by : A → A → Ordering) (cmp : B → B → Ordering) (show : A → B) → ((x y : A) → P x → P y → cmp (show x) (show y) ≡ by x y) → (xs : List A) → All P xs → IsSorted by xs → IsSorted cmp (map show xs)
+pub sorted_shown : {A B : Type 0} (P : A → Type 0) (by : A → A → Ordering) (cmp : B → B → Ordering) (show : A → B) → ((x y : A) → P x → P y → cmp (show x) (show y) ≡ by x y) → (xs : List A) → All P xs → IsSorted by xs → IsSorted cmp (map show xs)
 sorted_shown P by cmp show same [] all sorted k d low below = absurd (omega (arith, below))
 sorted_shown P by cmp show same (x ∷ xs) all sorted k d low below =
     let all_xs = x ∷ xs in

@@ -2,7 +2,7 @@
 use Rattle.std.proofs.Common.{◌≡◌, ℕ, ◌+◌, pos, negsuc, List, [], ◌∷◌, codes, false, None, Ok, refl}
 use Rattle.sqlite.specs.declared.types.Value.TheVariants.{Null, Int}
 use Rattle.sqlite.specs.Term.{Term, lit, col, op2}
-use Rattle.sqlite_sql.specs.declared.ops.BinaryOp.TheVariants.{Compare, Is, Or}
+use Rattle.sqlite_sql.specs.declared.ops.BinaryOp.TheVariants.{Compare}
 use Rattle.sqlite_sql.specs.declared.ops.CompareOp.TheVariants.{Eq, Lt, Ge}
 use Rattle.sqlite.specs.Collation.TheVariants.{Binary}
 use Rattle.sqlite_value.specs.declared.keys.Key.{Key}
@@ -127,16 +127,19 @@ pub select_piece_is : (command_of (understood schema_6 select_piece) ≡ Select 
 unfolding understood everything
 select_piece_is = (refl, refl, (refl, refl))
 
--- the place is no number from 0 on that is below this
-abbrev pub place_elsewhere : Term
-place_elsewhere = op2 Or (op2 Or (op2 (Is Binary) (col 1 2) (lit Null)) (op2 (Compare Lt Binary) (col 1 2) (lit (Int (pos 0))))) (op2 (Compare Ge Binary) (col 1 2) (col 0 1))
+abbrev pub select_first : List ℕ
+select_first = codes "SELECT idx FROM entry WHERE topic = ?1 ORDER BY idx LIMIT 1"
 
-abbrev pub select_others : List ℕ
-select_others = codes "SELECT idx FROM entry WHERE topic = ?1 AND (idx IS NULL OR idx < 0 OR idx >= ?2) LIMIT 1"
-
-pub select_others_is : (command_of (understood schema_6 select_others) ≡ Select (alone (matching_most 3 (equals 0 ∷ place_elsewhere ∷ []) (col 1 2 ∷ []) [] (lit (Int (pos 1))))) (codes "idx" ∷ [])) × (reads_listing schema_6 select_others ≡ false) × IsPlain (understood schema_6 select_others)
+pub select_first_is : (command_of (understood schema_6 select_first) ≡ Select (alone (matching_most 3 (equals 0 ∷ []) (col 1 2 ∷ []) ((col 1 2, ascending Binary) ∷ []) (lit (Int (pos 1))))) (codes "idx" ∷ [])) × (reads_listing schema_6 select_first ≡ false) × IsPlain (understood schema_6 select_first)
 unfolding understood everything
-select_others_is = (refl, refl, (refl, refl))
+select_first_is = (refl, refl, (refl, refl))
+
+abbrev pub select_from : List ℕ
+select_from = codes "SELECT idx FROM entry WHERE topic = ?1 AND idx >= ?2 LIMIT 1"
+
+pub select_from_is : (command_of (understood schema_6 select_from) ≡ Select (alone (matching_most 3 (equals 0 ∷ place_from ∷ []) (col 1 2 ∷ []) [] (lit (Int (pos 1))))) (codes "idx" ∷ [])) × (reads_listing schema_6 select_from ≡ false) × IsPlain (understood schema_6 select_from)
+unfolding understood everything
+select_from_is = (refl, refl, (refl, refl))
 
 abbrev pub insert_sub : List ℕ
 insert_sub = codes "INSERT INTO sub (topic, name, kind) VALUES (?1, ?2, ?3)"

@@ -23,6 +23,14 @@ messages_of topic db = of_topic topic (bodies ENTRY (db ENTRY))
 abbrev pub ShowsWithin : List ℕ → ℕ → ℕ → List Row → Trees → Type 0
 ShowsWithin topic from end rows db = IsPermutation (map (λ (r : Row). Words topic ∷ r) rows) (filter (is_within from end) (messages_of topic db))
 
+-- a message of the topic has a place below this one
+abbrev pub has_below : List ℕ → ℕ → Trees → Bool
+has_below topic end db = list_any (is_below end) (messages_of topic db)
+
+-- a message of the topic has this place, or one after it
+abbrev pub has_from : List ℕ → ℕ → Trees → Bool
+has_from topic end db = list_any (λ row. not (is_below end row)) (messages_of topic db)
+
 -- a message of the topic has no place below this one
 abbrev pub has_others : List ℕ → ℕ → Trees → Bool
 has_others topic end db = list_any (λ row. not (is_within 0 end row)) (messages_of topic db)

@@ -1,8 +1,10 @@
 // The table `entry`: one row a message.
 ghost use Rattle.std.specs.Prelude.{◌≡◌, [], ◌∷◌, FitsSigned, OnOk, IfOk, IsTrue, pos};
 ghost use Rattle.std.specs.Int.{w64};
+ghost use Rattle.std.specs.Ordering.{is_lt};
 ghost use Rattle.sqlite.specs.State.{HasCleanDisk, KeepsCommit, Survives};
 ghost use Rattle.sqlite.specs.Held.{state};
+ghost use Rattle.sqlite.specs.Order.{column, value_cmp};
 ghost use Rattle.sqlite.specs.declared.types.Value.TheVariants.{Int, Text as Words};
 ghost use Rattle.row_forms.specs.Cells.{ENTRY};
 ghost use Rattle.row_forms.specs.Forms.{entry_row, key_cells};
@@ -10,11 +12,13 @@ ghost use Rattle.row_forms.specs.Properties.{properties_text};
 ghost use Rattle.row_tables.specs.Ready.{IsReady};
 ghost use Rattle.row_tables.specs.Goes.{Goes, Stays, Clears, Adds};
 ghost use Rattle.row_tables.specs.Ordered.{AreSortedBy};
-ghost use Rattle.row_tables.specs.Pieces.{ShowsWithin, has_others};
+ghost use Rattle.row_tables.specs.Pieces.{ShowsWithin, has_below, has_from, has_others};
 
 use crate::numbers::signed;
 use position_core::{Entry, Key};
 use sqlite::{Alter, Error, Row, Transaction, params};
+use sqlite_value::order::compare;
+use sqlite_value::value::ValueRef;
 
 /// 1 and the key, or 0 and an empty one.
 fn key_parts(key: &Option<Key>) -> (u32, &str)
@@ -104,7 +108,49 @@ pub fn read_within<S: Alter>(
     )
 }
 
-/// Whether a message of the topic has no place below this one.
+/// Whether the place that is shown is below 0, as NULL is.
+fn is_negative(row: &Row) -> Result<bool, Error>
+    ensures { IfOk result (λ negative. negative ≡ is_lt (value_cmp (column row.now 0) (Int (pos 0)))) }
+{
+    let place = row.get_ref(0)?;
+    Ok(compare(place, ValueRef::Int(0)).is_lt())
+}
+
+/// Whether a message of the topic has a place below 0. Only the first place is read.
+fn has_negative<S: Alter>(tx: &mut Transaction<'_, S>, topic: &str) -> Result<bool, Error>
+    ensures same_reference { tx.new.conn.ghost_name ≡ tx.old.conn.ghost_name }
+    ensures survives { Survives (state S.Store tx.old.conn.now) (state S.Store tx.new.conn.now) (λ _. ⊥) }
+    ensures done { HasCleanDisk (state S.Store tx.new.conn.now) → OnOk result (Goes Stays (state S.Store tx.old.conn.now) (state S.Store tx.new.conn.now)) }
+    ensures kept { HasCleanDisk (state S.Store tx.new.conn.now) → IsTrue (state S.Store tx.old.conn.now).in_transaction → KeepsCommit (state S.Store tx.old.conn.now) (state S.Store tx.new.conn.now) }
+    ensures found { HasCleanDisk (state S.Store tx.new.conn.now) → IfOk result (λ found. IsReady (state S.Store tx.old.conn.now).now → found ≡ has_below topic.now 0 (state S.Store tx.old.conn.now).now.trees) }
+{
+    let first = tx.query_all(
+        "SELECT idx FROM entry WHERE topic = ?1 ORDER BY idx LIMIT 1",
+        params![topic],
+    )?;
+    match first.first() {
+        Some(row) => is_negative(row),
+        None => Ok(false),
+    }
+}
+
+/// Whether a message of the topic has this place, or one after it. Only one place is read.
+fn has_from<S: Alter>(tx: &mut Transaction<'_, S>, topic: &str, end: u64) -> Result<bool, Error>
+    ensures same_reference { tx.new.conn.ghost_name ≡ tx.old.conn.ghost_name }
+    ensures survives { Survives (state S.Store tx.old.conn.now) (state S.Store tx.new.conn.now) (λ _. ⊥) }
+    ensures done { HasCleanDisk (state S.Store tx.new.conn.now) → OnOk result (Goes Stays (state S.Store tx.old.conn.now) (state S.Store tx.new.conn.now)) }
+    ensures kept { HasCleanDisk (state S.Store tx.new.conn.now) → IsTrue (state S.Store tx.old.conn.now).in_transaction → KeepsCommit (state S.Store tx.old.conn.now) (state S.Store tx.new.conn.now) }
+    ensures found { HasCleanDisk (state S.Store tx.new.conn.now) → IfOk result (λ found. IsReady (state S.Store tx.old.conn.now).now → found ≡ has_from topic.now end (state S.Store tx.old.conn.now).now.trees) }
+{
+    let end = signed(end)?;
+    let others = tx.query_all(
+        "SELECT idx FROM entry WHERE topic = ?1 AND idx >= ?2 LIMIT 1",
+        params![topic, end],
+    )?;
+    Ok(!others.is_empty())
+}
+
+/// Whether a message of the topic has no place below this one. Each half of the answer is one step into the index.
 pub fn has_others<S: Alter>(
     tx: &mut Transaction<'_, S>,
     topic: &str,
@@ -116,10 +162,8 @@ pub fn has_others<S: Alter>(
     ensures kept { HasCleanDisk (state S.Store tx.new.conn.now) → IsTrue (state S.Store tx.old.conn.now).in_transaction → KeepsCommit (state S.Store tx.old.conn.now) (state S.Store tx.new.conn.now) }
     ensures found { HasCleanDisk (state S.Store tx.new.conn.now) → IfOk result (λ found. IsReady (state S.Store tx.old.conn.now).now → found ≡ has_others topic.now end (state S.Store tx.old.conn.now).now.trees) }
 {
-    let end = signed(end)?;
-    let others = tx.query_all(
-        "SELECT idx FROM entry WHERE topic = ?1 AND (idx IS NULL OR idx < 0 OR idx >= ?2) LIMIT 1",
-        params![topic, end],
-    )?;
-    Ok(!others.is_empty())
+    if has_negative(tx, topic)? {
+        return Ok(true);
+    }
+    has_from(tx, topic, end)
 }

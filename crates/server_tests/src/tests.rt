@@ -1,5 +1,4 @@
-// The keeper of topics' rows, the directory over a database in memory, and the server over sockets.
+// The directory over a database in memory, and the server over sockets.
 mod base;
 mod directory;
-mod keeper;
 mod sockets;

@@ -18,7 +18,7 @@ use stored_cell::{Note, Notes};
 use topic_shared::{LineLimit, SeatCount};
 
 /// A database in memory, with no table.
-pub(super) fn in_memory<R: Abort + AllocGlobal>(rt: &R) -> Connection<MemStore>
+fn in_memory<R: Abort + AllocGlobal>(rt: &R) -> Connection<MemStore>
     ensures keyed { (state over_memory result).now.schema ≡ schema_6 → AreKeyed (state over_memory result).now.trees }
 {
     match open_in_memory(rt.alloc()) {

@@ -23,7 +23,31 @@ fn target_of<R: Abort + AllocGlobal>(rt: &R, number: u32) -> String {
     target.expect(rt, "no memory")
 }
 
-/// A new subscription, which begins with what comes next, and a message that comes at once.
+fn is_closed(heard: &Heard) -> bool {
+    matches!(heard, Heard::Closed { .. })
+}
+
+/// Whether what comes next is the answer to a close.
+fn hears_close<R: Abort + AllocGlobal>(rt: &R, socket: &mut Socket) -> bool {
+    let heard = hear(rt, socket);
+    let is_closed = is_closed(&heard);
+    drop(heard);
+    is_closed
+}
+
+/// Closes the connection, and waits for the answer alone, not for the end of the stream. Messages may come before it.
+fn leave<R: Abort + AllocGlobal>(rt: &R, socket: &mut Socket) {
+    assert!(rt; socket.close(None).is_ok(), "not sent");
+    for _ in 0..=TIMES {
+        if hears_close(rt, socket) {
+            return;
+        }
+    }
+    panic!(rt; "not answered")
+}
+
+/// A new subscription, which begins with what comes next, and a message that comes at once. The consumer leaves, since
+/// only two sit at the topic.
 fn check_subscribed<R: Net<Listener = TcpListener, Stream = TcpStream> + Abort + AllocGlobal>(
     rt: &R,
     address: SocketAddr,
@@ -33,6 +57,7 @@ fn check_subscribed<R: Net<Listener = TcpListener, Stream = TcpStream> + Abort +
     let mut consumer = connect(rt, address, target_of(rt, number).as_str());
     publish(rt, producer, "{\"payload\":\"aGk=\"}");
     expect(rt, &mut consumer, "\"payload\":\"aGk=\"");
+    leave(rt, &mut consumer);
     drop(consumer);
 }
 
@@ -59,29 +84,6 @@ impl Visit for Subscribed {
 #[test]
 fn whoever_is_let_in_is_subscribed(rt: HostRuntime) {
     serve_all(&rt, Open, Subscribed);
-}
-
-fn is_closed(heard: &Heard) -> bool {
-    matches!(heard, Heard::Closed { .. })
-}
-
-/// Whether what comes next is the answer to a close.
-fn hears_close<R: Abort + AllocGlobal>(rt: &R, socket: &mut Socket) -> bool {
-    let heard = hear(rt, socket);
-    let is_closed = is_closed(&heard);
-    drop(heard);
-    is_closed
-}
-
-/// Closes the connection, and waits for the answer alone, not for the end of the stream. Messages may come before it.
-fn leave<R: Abort + AllocGlobal>(rt: &R, socket: &mut Socket) {
-    assert!(rt; socket.close(None).is_ok(), "not sent");
-    for _ in 0..=TIMES {
-        if hears_close(rt, socket) {
-            return;
-        }
-    }
-    panic!(rt; "not answered")
 }
 
 /// A producer under a name, and the only consumer of a subscription, which come and go.

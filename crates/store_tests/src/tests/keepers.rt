@@ -2,6 +2,7 @@
 ghost use Rattle.std.specs.Prelude.{◌≡◌, IsTrue};
 ghost use Rattle.sqlite.specs.State.{HasCleanDisk};
 ghost use Rattle.sqlite.specs.Held.{state};
+ghost use Rattle.sqlite.specs.Steps.{over_memory};
 ghost use Rattle.row_forms.specs.Schema.{schema_6};
 ghost use Rattle.row_tables.specs.Ready.{AreKeyed};
 
@@ -9,15 +10,15 @@ use super::answers::{Answer, topic_name};
 use super::keeps::{Keeps, Scene};
 use super::same::{changed, same};
 use super::topics::Lone;
-use crate::tests::base;
 use delivery_machine::{Event, Fault, Saved, Snapshot};
 use marks::{Naming, Unnamed};
+use row_found::open_in_memory;
 use row_schema::reopen;
-use row_store::{Keeper, Pace, Refused, Unread, Written};
-use sqlite::{Alter, Connection};
+use row_store::{Keeper, Pace, Refused, Written};
+use sqlite::{Alter, Connection, MemStore};
 use std::marker::Brand;
 use std::process::Abort;
-use stored_cell::{Kept, Note, Notes, Part};
+use stored_cell::{Kept, Loaded, Note, Notes, Part};
 
 /// A database with the history of what was viewed and committed.
 #[derive(Drop)]
@@ -36,9 +37,26 @@ fn taken<S: Alter + Drop, J: Naming>(
     }
 }
 
-/// No topic of these tests is long.
-fn fault_of(why: Unread) -> Fault {
-    why.fault().unwrap_or(Fault::NoSession)
+/// No topic of these tests has as many pieces.
+const PIECES: usize = 100;
+
+/// What stands of the topic, read piece by piece.
+fn loaded<S: Alter, J: Naming, R: Abort + AllocGlobal>(
+    rt: &R,
+    keeper: &mut Keeper<S, J>,
+    name: &str,
+) -> Result<Option<Loaded<J>>, Fault> {
+    let name = topic_name(rt, name);
+    for _ in 0..PIECES {
+        match keeper.load(&name, Pace::Pieces) {
+            Ok(loaded) => return Ok(loaded),
+            Err(why) => match why.fault() {
+                Some(fault) => return Err(fault),
+                None => (),
+            },
+        }
+    }
+    panic!(rt; "it has more pieces")
 }
 
 impl<S: Alter + Drop, J: Naming> Keeps for Keeper<S, J> {
@@ -113,13 +131,10 @@ impl<S: Alter + Drop, J: Naming> Keeps for Keeper<S, J> {
         rt: &R,
         name: &str,
     ) -> Result<Option<Snapshot>, Fault> {
-        let name = topic_name(rt, name);
-        let loaded = self.load(&name, Pace::AtOnce);
-        drop(name);
-        match loaded {
+        match loaded(rt, self, name) {
             Ok(Some(loaded)) => Ok(Some(loaded.snapshot)),
             Ok(None) => Ok(None),
-            Err(why) => Err(fault_of(why)),
+            Err(fault) => Err(fault),
         }
     }
 
@@ -139,13 +154,10 @@ impl<S: Alter + Drop, J: Naming> Keeps for Keeper<S, J> {
         rt: &R,
         name: &str,
     ) -> Result<Option<(Snapshot, Lone<J>)>, Fault> {
-        let name = topic_name(rt, name);
-        let loaded = self.load(&name, Pace::AtOnce);
-        drop(name);
-        match loaded {
+        match loaded(rt, self, name) {
             Ok(Some(loaded)) => Ok(Some(Lone::resumed(rt, loaded))),
             Ok(None) => Ok(None),
-            Err(why) => Err(fault_of(why)),
+            Err(fault) => Err(fault),
         }
     }
 
@@ -247,7 +259,17 @@ pub(super) fn over<S: Alter + Drop, X: Scene, R: Abort + AllocGlobal>(
     run::<S, Brand, X, R>(rt, conn, Unnamed::new(), scene);
 }
 
+/// A database in memory, with no table.
+fn database<R: Abort + AllocGlobal>(rt: &R) -> Connection<MemStore>
+    ensures keyed { (state over_memory result).now.schema ≡ schema_6 → AreKeyed (state over_memory result).now.trees }
+{
+    match open_in_memory(rt.alloc()) {
+        Ok(conn) => conn,
+        Err(_) => panic!(rt; "no memory"),
+    }
+}
+
 /// Plays the scene over an empty database in memory.
 pub(super) fn in_memory<X: Scene, R: Abort + AllocGlobal>(rt: &R, scene: &X) {
-    over(rt, base::in_memory(rt), scene);
+    over(rt, database(rt), scene);
 }

@@ -1,4 +1,4 @@
-use Rattle.server_tests.proofs.tests.keeper.keepers.over.Given as goal
+use Rattle.store_tests.proofs.tests.disks.send.Given as goal
 
 -- the history that was just opened
 abbrev pub ghosts-run : goal.ghosts-run
