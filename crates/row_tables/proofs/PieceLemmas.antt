@@ -1,11 +1,12 @@
 -- What the queries of a piece of a topic's messages show, and how pieces join.
-use Rattle.std.proofs.Common.{◌≡◌, Some, ℕ, ◌<◌, ◌≤◌, codes, ◌+◌, List, [], ◌∷◌, ◌++◌, map, filter, take, length, pos, Bool, true, false, not, inl, inr, Ordering, Less, Equal, Greater, refl, sym, ap, subst, ◌∙◌, arith}
+use Rattle.std.proofs.Common.{◌≡◌, Some, ℕ, ◌<◌, ◌≤◌, codes, ◌+◌, List, [], ◌∷◌, ◌++◌, map, filter, take, length, get_or, pos, Bool, true, false, not, inl, inr, Ordering, Less, Equal, Greater, refl, sym, ap, ap₂, subst, ◌∙◌, arith}
 use Rattle.std.specs.Prelude.{◌&&◌, ◌||◌, ◌==◌}
 use Rattle.std.specs.List.{list_any}
 use Rattle.std.specs.List.{All}
 use Rattle.std.specs.List.Sorted.{IsPermutation, IsSorted}
 use Rattle.std.specs.Cmp.{IsTotalOrder}
 use Rattle.std.specs.Ordering.{is_lt, is_ge, int_cmp}
+use native.Mathlib.Numerals.{unary_clauses}
 use Rattle.std.proofs.lemmas.Bool.{cases_Bool, cases_lt}
 use Rattle.std.proofs.lemmas.Bool.Decides.{nat_tests}
 use Rattle.std.proofs.lemmas.List.Elements.{All-map}
@@ -26,7 +27,7 @@ use Rattle.sqlite.specs.State.{State, Shown}
 use Rattle.row_forms.specs.Cells.{ENTRY, width, cells, bodies, is_of}
 use Rattle.row_tables.specs.Ready.{IsReady}
 use Rattle.row_tables.specs.Ordered.{AreSortedBy}
-use Rattle.row_tables.specs.Pieces.{is_below, is_within, messages_of, ShowsWithin, has_below, has_from, has_others}
+use Rattle.row_tables.specs.Pieces.{is_below, is_within, messages_of, ShowsWithin, first_is_negative, has_below, has_from, has_others}
 use Rattle.row_tables.proofs.Texts.{alone, matching_most, equals, place_from, place_below, select_piece, select_piece_is, select_first, select_first_is, select_from, select_from_is}
 use Rattle.row_tables.proofs.TableLemmas.{text_is, text_test, filter_twice}
 use Rattle.row_tables.proofs.StatementLemmas.{IsTestBy, finds_most, shows}
@@ -165,16 +166,23 @@ module _ {A : Type 0} {cmp : A → A → Ordering} (order : IsTotalOrder cmp) (b
   comes_before x = is_lt (cmp x bound)
 
   neither : (x y : A) → is_lt (cmp y x) ≡ false → comes_before x ≡ false → comes_before y ≡ false
-  neither x y later no = by (cmp y x) (cmp y bound) refl refl
+  neither x y later after = by (cmp y x) (cmp y bound) refl refl
     where
       by : (b c : Ordering) → cmp y x ≡ b → cmp y bound ≡ c → comes_before y ≡ false
       by b Equal q r = rw r refl
       by b Greater q r = rw r refl
       by Less Less q r = absurd (let yes = rw q at later in cc)
-      by Equal Less q r = absurd (let yes : comes_before x ≡ true = ap is_lt (sym (order.congr y x bound q) ∙ r) in let both = sym yes ∙ no in cc)
+      by Equal Less q r = absurd (let yes : comes_before x ≡ true = ap is_lt (sym (order.congr y x bound q) ∙ r) in let both = sym yes ∙ after in cc)
       by Greater Less q r =
           let back : cmp x y ≡ Less = order.antisymm x y ∙ rw q refl in
-          absurd (let yes : comes_before x ≡ true = ap is_lt (order.trans x y bound back r) in let both = sym yes ∙ no in cc)
+          absurd (let yes : comes_before x ≡ true = ap is_lt (order.trans x y bound back r) in let both = sym yes ∙ after in cc)
+
+  later : (x : A) (xs : List A) (k : ℕ) (d : A) → get_or (x ∷ xs) (k + 1) d ≡ get_or xs k d
+  later x xs k d = simp unary_clauses refl
+
+  others_sorted : (x : A) (xs : List A) → IsSorted cmp (x ∷ xs) → IsSorted cmp xs
+  others_sorted x xs sorted k d low below =
+      ap₂ (λ a b. is_lt (cmp a b)) (sym (later x xs (k + 1) d)) (sym (later x xs k d)) ∙ sorted (k + 1) d (omega arith) (omega (arith, below))
 
   first_is_least : (x : A) (xs : List A) → IsSorted cmp (x ∷ xs) → list_any comes_before (x ∷ xs) ≡ comes_before x
   first_is_least x [] sorted = or_false (comes_before x)
@@ -186,18 +194,12 @@ module _ {A : Type 0} {cmp : A → A → Ordering} (order : IsTotalOrder cmp) (b
     | inl e ↦ rw e refl
     | inr e ↦
         let second : is_lt (cmp y x) ≡ false = sorted 0 x (omega arith) (omega arith) in
-        let rest : list_any comes_before (y ∷ ys) ≡ comes_before y = first_is_least y ys (λ k d low below. sorted (k + 1) d (omega arith) (omega (arith, below))) in
+        let rest : list_any comes_before (y ∷ ys) ≡ comes_before y = first_is_least y ys (others_sorted x (y ∷ ys) sorted) in
         rw (e, rest) (neither x y second e)
   ]
 
--- the value that is shown is below 0
 abbrev is_negative : Row → Bool
 is_negative row = is_lt (value_cmp (column row 0) (Int (pos 0)))
-
--- the first row of the answer is
-abbrev pub first_is_negative : List Row → Bool
-first_is_negative [] = false
-first_is_negative (row ∷ rows) = is_negative row
 
 module _ (topic : List ℕ) where
   abbrev firsts : Query
@@ -217,7 +219,7 @@ module _ (topic : List ℕ) where
 
   places_sorted : (outs : List Output) (those : List Row) → IsPermutation (map show those) outs → IsSorted (output_cmp firsts) outs → IsSorted value_cmp (map place outs)
   places_sorted outs those same sorted =
-      let all : All IsShown outs = All-permutation IsShown _ outs same (All-map IsShown show those (λ k d low. (_, refl))) in
+      let all : All IsShown outs = All-permutation IsShown _ outs same (All-map IsShown show those (λ k d low. (get_or those k d, refl))) in
       sorted_shown IsShown (output_cmp firsts) value_cmp place (λ x y (r, is) (s, too). rw (is, too) (by_place r s)) outs all sorted
 
   first_answers : (outs : List Output) → IsSorted value_cmp (map place outs) → first_is_negative (take 1 (map (λ (o : Output). o.1) outs)) ≡ list_any (λ o. is_negative o.1) outs
@@ -241,7 +243,7 @@ module _ (topic : List ℕ) where
       ∙ ap (list_any (is_below 0)) (sym (filter-map (is_of topic) (cells (width ENTRY)) stored))
 
 -- a place that is none from 0 on, or one from the end on, is elsewhere
-pub others_are : (topic : List ℕ) (end : ℕ) (db : Trees) → has_others topic end db ≡ (has_below topic 0 db || has_from topic end db)
+others_are : (topic : List ℕ) (end : ℕ) (db : Trees) → has_others topic end db ≡ (has_below topic 0 db || has_from topic end db)
 others_are topic end db = by (messages_of topic db)
   where
     one : (a b c d : Bool) → (not (not a && b) || (c || d)) ≡ ((a || c) || (not b || d))
@@ -255,6 +257,12 @@ others_are topic end db = by (messages_of topic db)
     by : (rows : List Row) → list_any (λ row. not (is_within 0 end row)) rows ≡ (list_any (is_below 0) rows || list_any (λ row. not (is_below end row)) rows)
     by [] = refl
     by (row ∷ rows) = ap (λ more. not (is_within 0 end row) || more) (by rows) ∙ one (is_below 0 row) (is_below end row) _ _
+
+pub below_others : (topic : List ℕ) (end : ℕ) (db : Trees) → has_below topic 0 db ≡ true → true ≡ has_others topic end db
+below_others topic end db below = sym (others_are topic end db ∙ rw below refl)
+
+pub from_others : (topic : List ℕ) (end : ℕ) (db : Trees) → has_below topic 0 db ≡ false → has_from topic end db ≡ has_others topic end db
+from_others topic end db none = sym (others_are topic end db ∙ rw none refl)
 
 -- ---- pieces join
 

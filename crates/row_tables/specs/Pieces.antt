@@ -1,5 +1,5 @@
 -- The messages of a topic in pieces, by their places.
-use Rattle.std.specs.Prelude.{ℕ, Bool, List, ◌∷◌, ◌&&◌, not, pos, map, filter, IsPermutation}
+use Rattle.std.specs.Prelude.{ℕ, Bool, false, List, [], ◌∷◌, ◌&&◌, not, pos, map, filter, IsPermutation}
 use Rattle.std.specs.List.{list_any}
 use Rattle.std.specs.Ordering.{is_lt}
 use Rattle.sqlite.specs.declared.types.Value.TheVariants.{Int, Text as Words}
@@ -22,6 +22,11 @@ messages_of topic db = of_topic topic (bodies ENTRY (db ENTRY))
 -- the rows are those of the messages from one place on and below another, each shown without its first column
 abbrev pub ShowsWithin : List ℕ → ℕ → ℕ → List Row → Trees → Type 0
 ShowsWithin topic from end rows db = IsPermutation (map (λ (r : Row). Words topic ∷ r) rows) (filter (is_within from end) (messages_of topic db))
+
+-- the first row that is shown begins with a value below 0, as NULL is
+abbrev pub first_is_negative : List Row → Bool
+first_is_negative [] = false
+first_is_negative (row ∷ rows) = is_lt (value_cmp (column row 0) (Int (pos 0)))
 
 -- a message of the topic has a place below this one
 abbrev pub has_below : List ℕ → ℕ → Trees → Bool

@@ -1,10 +1,8 @@
 // The table `entry`: one row a message.
 ghost use Rattle.std.specs.Prelude.{◌≡◌, [], ◌∷◌, FitsSigned, OnOk, IfOk, IsTrue, pos};
 ghost use Rattle.std.specs.Int.{w64};
-ghost use Rattle.std.specs.Ordering.{is_lt};
 ghost use Rattle.sqlite.specs.State.{HasCleanDisk, KeepsCommit, Survives};
 ghost use Rattle.sqlite.specs.Held.{state};
-ghost use Rattle.sqlite.specs.Order.{column, value_cmp};
 ghost use Rattle.sqlite.specs.declared.types.Value.TheVariants.{Int, Text as Words};
 ghost use Rattle.row_forms.specs.Cells.{ENTRY};
 ghost use Rattle.row_forms.specs.Forms.{entry_row, key_cells};
@@ -12,7 +10,7 @@ ghost use Rattle.row_forms.specs.Properties.{properties_text};
 ghost use Rattle.row_tables.specs.Ready.{IsReady};
 ghost use Rattle.row_tables.specs.Goes.{Goes, Stays, Clears, Adds};
 ghost use Rattle.row_tables.specs.Ordered.{AreSortedBy};
-ghost use Rattle.row_tables.specs.Pieces.{ShowsWithin, has_below, has_from, has_others};
+ghost use Rattle.row_tables.specs.Pieces.{ShowsWithin, first_is_negative, has_below, has_from, has_others};
 
 use crate::numbers::signed;
 use position_core::{Entry, Key};
@@ -108,12 +106,17 @@ pub fn read_within<S: Alter>(
     )
 }
 
-/// Whether the place that is shown is below 0, as NULL is.
-fn is_negative(row: &Row) -> Result<bool, Error>
-    ensures { IfOk result (λ negative. negative ≡ is_lt (value_cmp (column row.now 0) (Int (pos 0)))) }
+/// Whether the first place that is shown is below 0, as NULL is.
+fn first_is_negative(rows: &[Row]) -> Result<bool, Error>
+    ensures { IfOk result (λ negative. negative ≡ first_is_negative rows.now) }
 {
-    let place = row.get_ref(0)?;
-    Ok(compare(place, ValueRef::Int(0)).is_lt())
+    match rows {
+        [row, ..] => {
+            let place = row.get_ref(0)?;
+            Ok(compare(place, ValueRef::Int(0)).is_lt())
+        }
+        [] => Ok(false),
+    }
 }
 
 /// Whether a message of the topic has a place below 0. Only the first place is read.
@@ -128,10 +131,7 @@ fn has_negative<S: Alter>(tx: &mut Transaction<'_, S>, topic: &str) -> Result<bo
         "SELECT idx FROM entry WHERE topic = ?1 ORDER BY idx LIMIT 1",
         params![topic],
     )?;
-    match first.first() {
-        Some(row) => is_negative(row),
-        None => Ok(false),
-    }
+    first_is_negative(first.as_slice())
 }
 
 /// Whether a message of the topic has this place, or one after it. Only one place is read.
