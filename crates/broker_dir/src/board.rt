@@ -1,6 +1,6 @@
 // The board: which topics wait to be stored, and who may store them.
 use crate::clock::instant;
-use crate::queue::{Queue, Task, Turn};
+use crate::queue::{Leader, Queue, Task, Turn};
 use std::alloc::Global;
 use std::rt::Clock;
 use std::sync::{Condvar, CondvarTimeouts, Mutex, MutexGuard, Wait};
@@ -91,7 +91,7 @@ impl<X: Drop> Board<X> {
         let mut guard = self.queue.lock(rt);
         let queue = &mut *guard;
         queue.made = queue.made.saturating_add(made);
-        if queue.is_led || queue.is_closed {
+        if queue.is_led() || queue.is_closed {
             return None;
         }
         if queue.topics.is_empty() {
@@ -99,7 +99,7 @@ impl<X: Drop> Board<X> {
             return None;
         }
         if queue.is_for_worker()
-            && let Some(topics) = queue.take(self.alloc)
+            && let Some(topics) = queue.take(self.alloc, Leader::Worker)
         {
             return Some(topics);
         }
@@ -129,7 +129,7 @@ impl<X: Drop> Board<X> {
     /// What the thread is to do next; it waits until there is something.
     pub(crate) fn next<R: Wait + Clock>(&self, rt: &R, turn: Turn) -> Task<X> {
         let mut queue = self.queue.lock(rt);
-        queue.begin(turn);
+        queue.begin();
         for _ in rt.forever() {
             let time = instant(rt);
             if let Some(task) = queue.task(self.alloc, turn, time) {
@@ -160,7 +160,7 @@ impl<X: Drop> Board<X> {
         let time = instant(rt);
         let mut guard = self.queue.lock(rt);
         let queue = &mut *guard;
-        queue.begin(turn);
+        queue.begin();
         queue.task(self.alloc, turn, time)
     }
 

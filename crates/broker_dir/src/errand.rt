@@ -26,7 +26,7 @@ pub struct Errands<T: Opened + Drop, J: Naming, B: Bell + Drop> {
     pub(crate) looks: Looks,
     /// When the first pause of a courier is over, where one pauses.
     due: Option<Due>,
-    /// What its last task was: after a store, or a piece of a topic, it has the right to store still.
+    /// What its last task was: after a store, or a piece of a topic, it has the right to store until it asks for another.
     pub(crate) did: Did,
 }
 

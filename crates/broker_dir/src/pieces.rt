@@ -57,17 +57,16 @@ impl<T: Opened + Drop, S: Alter, J: Naming, B: Bell + Drop> Directory<T, S, J, B
     }
 
     /// Reads a piece of the topic that was asked for first, with the right to store. Where that was the last one, the right is
-    /// let go of, and the topic is made and opened, which takes a while where it has many messages. Whether the right is kept.
-    pub(crate) fn open_on<R: Wait>(&self, rt: &R) -> bool {
+    /// let go of, and the topic is made and opened, which takes a while where it has many messages.
+    pub(crate) fn open_on<R: Wait>(&self, rt: &R) {
         let Some(opening) = self.first_opening(rt) else {
-            return true;
+            return;
         };
         match self.read_on(rt, &opening.name) {
             Ok(Some(loaded)) => {
                 self.step_aside(rt);
                 let outcome = self.open_read(rt, &opening.name, loaded);
                 self.end_opening(rt, opening, outcome);
-                return false;
             }
             // (who waits for one that has no rows any more comes again, and makes it or is refused)
             Ok(None) => self.end_opening(rt, opening, Outcome::Open),
@@ -76,7 +75,6 @@ impl<T: Opened + Drop, S: Alter, J: Naming, B: Bell + Drop> Directory<T, S, J, B
                 None => drop(opening),
             },
         }
-        true
     }
 
     /// What came while the piece was read is stored, and the right to store is let go of: however much comes meanwhile, after

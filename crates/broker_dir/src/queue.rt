@@ -14,6 +14,14 @@ const SMALL: u64 = 16;
 /// How many topics one store takes.
 const MOST_STORED: usize = 64;
 
+/// Who has the right to store.
+#[derive(Clone, Copy, Debug, PartialEq, Eq)]
+pub(crate) enum Leader {
+    Nobody,
+    Worker,
+    Thread,
+}
+
 /// What waits, and who stores.
 #[derive(Drop)]
 pub(crate) struct Queue<X: Drop> {
@@ -25,8 +33,7 @@ pub(crate) struct Queue<X: Drop> {
     pub(crate) opens: bool,
     /// What was made since the last store began.
     pub(crate) made: u64,
-    /// Somebody stores.
-    pub(crate) is_led: bool,
+    leader: Leader,
     /// Several topics were stored together, or some waited until others were stored: so more come soon.
     pub(crate) is_busy: bool,
     pub(crate) thread_waits: bool,
@@ -56,13 +63,6 @@ pub(crate) enum Did {
     Store,
     Open,
     Other,
-}
-
-impl Did {
-    /// Whether it had the right to store.
-    fn led(self) -> bool {
-        self != Did::Other
-    }
 }
 
 /// What the thread knows as it asks for a task.
@@ -98,7 +98,7 @@ impl<X: Drop> Queue<X> {
             late: Late::new(alloc),
             opens: false,
             made: 0,
-            is_led: false,
+            leader: Leader::Nobody,
             is_busy: false,
             thread_waits: false,
             is_aside: false,
@@ -112,6 +112,11 @@ impl<X: Drop> Queue<X> {
         has_room(&mut self.topics, topics)
             && has_room(&mut self.errands, topics)
             && self.late.make_room(topics)
+    }
+
+    /// Whether somebody stores.
+    pub(crate) fn is_led(&self) -> bool {
+        self.leader != Leader::Nobody
     }
 
     /// Whether a worker stores it itself: it is little, and nobody else has something to be stored meanwhile; or the thread is
@@ -129,7 +134,7 @@ impl<X: Drop> Queue<X> {
     /// before, unless it goes at once. Else it lets go of the right to store.
     pub(crate) fn step_aside(&mut self, alloc: Global, at_once: bool) -> Option<Vec<X>> {
         let goes = at_once || self.is_closed || self.topics.is_empty();
-        if !goes && let Some(topics) = self.take(alloc) {
+        if !goes && let Some(topics) = self.take(alloc, Leader::Thread) {
             return Some(topics);
         }
         self.end();
@@ -139,14 +144,14 @@ impl<X: Drop> Queue<X> {
 
     /// Who stored has ended.
     pub(crate) fn end(&mut self) {
-        self.is_led = false;
+        self.leader = Leader::Nobody;
         self.is_busy |= !self.topics.is_empty();
     }
 
-    /// The thread asks for a task. Where it had the right to store, that has ended.
-    pub(crate) fn begin(&mut self, turn: Turn) {
+    /// The thread asks for a task. Where it had the right to store, that has ended; one that a worker has stays.
+    pub(crate) fn begin(&mut self) {
         self.is_aside = false;
-        if turn.did.led() {
+        if self.leader == Leader::Thread {
             self.end();
         }
     }
@@ -158,7 +163,7 @@ impl<X: Drop> Queue<X> {
     }
 
     /// The right to store, with the topics that have waited longest. None where there is no memory.
-    pub(crate) fn take(&mut self, alloc: Global) -> Option<Vec<X>> {
+    pub(crate) fn take(&mut self, alloc: Global, leader: Leader) -> Option<Vec<X>> {
         let count = self.topics.len().min(MOST_STORED);
         let mut taken = Vec::with_capacity(alloc, count).ok()?;
         for _ in 0..count {
@@ -167,7 +172,7 @@ impl<X: Drop> Queue<X> {
             };
             let _ = taken.push(topic);
         }
-        self.is_led = true;
+        self.leader = leader;
         self.is_busy = count > 1;
         self.made = 0;
         Some(taken)
@@ -175,10 +180,10 @@ impl<X: Drop> Queue<X> {
 
     /// What the thread stores now, where it may and there is memory.
     fn store(&mut self, alloc: Global) -> Option<Task<X>> {
-        if self.is_led || self.topics.is_empty() || self.late.is_short() {
+        if self.is_led() || self.topics.is_empty() || self.late.is_short() {
             return None;
         }
-        match self.take(alloc) {
+        match self.take(alloc, Leader::Thread) {
             Some(topics) => Some(Task::Store(topics)),
             None => {
                 self.late.fall_short();
@@ -203,10 +208,10 @@ impl<X: Drop> Queue<X> {
 
     /// A piece of a topic that is to be opened, where there is one and nobody stores.
     fn piece(&mut self) -> Option<Task<X>> {
-        if !self.opens || self.is_led || self.is_ending {
+        if !self.opens || self.is_led() || self.is_ending {
             return None;
         }
-        self.is_led = true;
+        self.leader = Leader::Thread;
         Some(Task::Open)
     }
 
@@ -238,7 +243,7 @@ impl<X: Drop> Queue<X> {
         ensures { self.new.is_closed ≡ true }
     {
         self.is_closed = true;
-        self.is_led = false;
+        self.leader = Leader::Nobody;
     }
 
     /// What the thread does now. It ends once nothing waits to be stored, and at once where nothing is stored any more.
@@ -255,7 +260,7 @@ impl<X: Drop> Queue<X> {
         }
         self.resume(time);
         let work = self.work(alloc, turn.did, turn.is_due(time));
-        let waits = self.is_led || self.late.has_topics() || !self.topics.is_empty();
+        let waits = self.is_led() || self.late.has_topics() || !self.topics.is_empty();
         if work.is_none() && self.is_ending && !waits {
             Some(Task::End)
         } else {

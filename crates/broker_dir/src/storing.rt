@@ -145,11 +145,7 @@ impl<T: Opened + Drop, S: Alter, J: Naming, B: Bell + Drop> Directory<T, S, J, B
         errands.did = did_by(&task);
         match task {
             Task::Store(topics) => self.store(rt, topics.as_slice()),
-            Task::Open => {
-                if !self.open_on(rt) {
-                    errands.did = Did::Other;
-                }
-            }
+            Task::Open => self.open_on(rt),
             Task::Errand(topic) => self.begin_errand(rt, topic, errands),
             Task::Look => {
                 errands.call_due(rt);
