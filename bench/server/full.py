@@ -1,13 +1,13 @@
 #!/usr/bin/env python3
 # The disk takes no more while sessions are open: each session is closed with 4008 and F16, the program says why and ends
 # with status 3, and after a start with room each publish that was answered ok is there, in its order. The disk is made to
-# fail by a limit on the size of files, which is another one each time, so that it fails in another call.
-# Debian's package: sqlite3.
+# fail by a limit on the size of files, which is another one each time, so that it fails in another call. The gate runs it.
 # full.py PROGRAM [times] [port]
 import base64
 import os
 import resource
 import signal
+import sqlite3
 import subprocess
 import sys
 import tempfile
@@ -85,8 +85,10 @@ def look(folder, found):
         client.close()
     process.kill()
     process.wait()
-    whole = subprocess.check_output(['sqlite3', f'{folder}/broker.db', 'PRAGMA integrity_check'])
-    assert whole == b'ok\n', whole
+    file = sqlite3.connect(f'{folder}/broker.db')
+    whole = file.execute('PRAGMA integrity_check').fetchall()
+    file.close()
+    assert whole == [('ok',)], whole
 
 
 count, whys = 0, set()

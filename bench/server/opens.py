@@ -1,7 +1,7 @@
 #!/usr/bin/env python3
 # Whoever sees its connection open is subscribed, and whoever sees its close answered may come again at once: a message
 # that is published right after a consumer with Latest was let in is delivered to it, on topics that are open and on new
-# ones, and an Exclusive consumer and a named producer that come again at once are not refused.
+# ones, and an Exclusive consumer and a named producer that come again at once are not refused. The gate runs it.
 # opens.py PROGRAM [times] [port]
 import base64
 import json

@@ -1,5 +1,6 @@
 #!/usr/bin/env python3
-# Every refusal of a handshake and of an attach, with the code and the reason that the session is closed with.
+# Every refusal of a handshake and of an attach, with the code and the reason that the session is closed with, and what
+# breaks the protocol of WebSockets. The gate runs it.
 # refusals.py PROGRAM [port]
 import json
 import sys
@@ -34,6 +35,16 @@ def answers(what, client, text, wanted):
     print(f'answer    {what}')
 
 
+def breaks(what, bytes_sent, code):
+    """Whoever breaks the protocol is told so, and its name is free then."""
+    client = producer(port, 'broken', '?producerName=one')
+    client.sock.sendall(bytes_sent)
+    got = client.receive()
+    assert isinstance(got, tuple) and got[0] == code, f'{what}: {got}'
+    print(f'{code}      {what}')
+    client.close()
+
+
 broker = Broker(program, port)
 try:
     closes('an unknown path', target('/reader' + T + '/s'), 4008, 'F20')
@@ -47,6 +58,11 @@ try:
     closes('a dead-letter topic that is none', target('/consumer' + T + '/s?subscriptionType=Shared&maxRedeliverCount=1&deadLetterTopic=a%2Fb'), 4002, 'F20')
     closes('an administrator of an unknown topic', target('/admin/persistent/public/default/none'), 4008, 'F11')
 
+    # RFC 6455, sections 5.1, 5.6 and 7.4.1
+    breaks('a text that is not masked', b'\x81\x01a', 1002)
+    breaks('a text that is no UTF-8', b'\x81\x81\0\0\0\0\xff', 1007)
+    breaks('the head of a message of 5 MiB', b'\x82\xff\0\0\0\0\0\x50\0\0\0\0\0\0', 1009)
+
     first = producer(port, 't', '?producerName=one')
     first.send(text_of(b'a'))
     assert first.receive()['result'] == 'ok'
@@ -58,6 +74,12 @@ try:
     closes('another type than the subscription has', lambda: consumer(port, 't', 'sole', '?subscriptionType=Shared'), 4002, 'F5')
     closes('a dead-letter topic that is the topic itself', lambda: consumer(
         port, 't', 'own', '?subscriptionType=Shared&maxRedeliverCount=1&deadLetterTopic=t'), 4002, 'F14')
+
+    members = [consumer(port, 't', 'many', '?subscriptionType=Shared') for _ in range(64)]
+    closes('a member beyond the 64 of a subscription', lambda: consumer(port, 't', 'many', '?subscriptionType=Shared'), 4002, 'F7')
+    for member in members:
+        member.leave()
+        member.close()
 
     one = lambda: consumer(port, 't', 'texts', '?subscriptionType=Shared')
     closes('a text that is no JSON', one, 4003, 'F18', ['{'])

@@ -90,13 +90,6 @@ pub(super) fn answered<R: Abort + AllocGlobal>(rt: &R, mut stream: TcpStream) ->
     panic!(rt; "no answer")
 }
 
-/// What the client says and hears: a text, or the code and the reason that the session was closed with.
-#[derive(Debug, Drop)]
-pub(super) enum Heard {
-    Text(String),
-    Closed { code: u16, reason: String },
-}
-
 pub(super) fn say<R: Abort + AllocGlobal>(rt: &R, socket: &mut Socket, text: &str) {
     let message = Message::text(rt.alloc(), text).expect(rt, "no memory");
     socket.send(message).ok().expect(rt, "not sent");
@@ -108,50 +101,24 @@ pub(super) fn say_bytes<R: Abort + AllocGlobal>(rt: &R, socket: &mut Socket, tex
     socket.send(message).ok().expect(rt, "not sent");
 }
 
-fn heard_in<R: Abort + AllocGlobal>(rt: &R, message: &Message) -> Heard {
+/// Whether the message is a text that has this in it.
+fn has_part(message: &Message, part: &str) -> bool {
     match message {
-        Message::Text(text) => {
-            let text = String::from_str(rt.alloc(), text.as_str());
-            Heard::Text(text.expect(rt, "no memory"))
-        }
-        Message::Close(Some(frame)) => {
-            let reason = String::from_str(rt.alloc(), frame.reason.as_str());
-            Heard::Closed {
-                code: u16::from(frame.code),
-                reason: reason.expect(rt, "no memory"),
-            }
-        }
-        _ => Heard::Closed {
-            code: 0,
-            reason: String::new(rt.alloc()),
-        },
+        Message::Text(text) => text.as_str().contains(part),
+        _ => false,
     }
 }
 
-pub(super) fn hear<R: Abort + AllocGlobal>(rt: &R, socket: &mut Socket) -> Heard {
+/// Whether what comes next is a text that has this in it.
+fn hears<R: Abort>(rt: &R, socket: &mut Socket, part: &str) -> bool {
     let message = socket.read().ok().expect(rt, "nothing came");
-    let heard = heard_in(rt, &message);
+    let has_part = has_part(&message, part);
     drop(message);
-    heard
-}
-
-fn has_part(heard: &Heard, part: &str) -> bool {
-    match heard {
-        Heard::Text(text) => text.as_str().contains(part),
-        Heard::Closed { .. } => false,
-    }
-}
-
-/// Whether the text that comes next has this in it.
-fn hears<R: Abort + AllocGlobal>(rt: &R, socket: &mut Socket, part: &str) -> bool {
-    let heard = hear(rt, socket);
-    let has_part = has_part(&heard, part);
-    drop(heard);
     has_part
 }
 
 /// The text that comes next has this in it.
-pub(super) fn expect<R: Abort + AllocGlobal>(rt: &R, socket: &mut Socket, part: &str) {
+pub(super) fn expect<R: Abort>(rt: &R, socket: &mut Socket, part: &str) {
     assert!(rt; hears(rt, socket, part), "{part}");
 }
 

@@ -1,0 +1,18 @@
+#!/usr/bin/env bash
+# Tries the program that was proved over real sockets, from outside: each refusal with its code, whoever comes and goes, and
+# a disk that takes no more. It wants Python's own library alone.
+set -euo pipefail
+cd "$(dirname "$0")/.."
+program=$PWD/crates/pulsar_broker/out/pulsar_broker
+ROOM=$(mktemp -d)
+export ROOM
+trap 'rm -rf "$ROOM"' EXIT
+
+# A port that is free now.
+port() {
+    python3 -c 'import socket; it = socket.socket(); it.bind(("127.0.0.1", 0)); print(it.getsockname()[1])'
+}
+
+python3 bench/server/refusals.py "$program" "$(port)"
+python3 bench/server/opens.py "$program" 60 "$(port)"
+python3 bench/server/full.py "$program" 6 "$(port)"
