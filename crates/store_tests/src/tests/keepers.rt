@@ -260,7 +260,7 @@ pub(super) fn over<S: Alter + Drop, X: Scene, R: Abort + AllocGlobal>(
 }
 
 /// A database in memory, with no table.
-fn database<R: Abort + AllocGlobal>(rt: &R) -> Connection<MemStore>
+fn empty_database<R: Abort + AllocGlobal>(rt: &R) -> Connection<MemStore>
     ensures keyed { (state over_memory result).now.schema ≡ schema_6 → AreKeyed (state over_memory result).now.trees }
 {
     match open_in_memory(rt.alloc()) {
@@ -271,5 +271,5 @@ fn database<R: Abort + AllocGlobal>(rt: &R) -> Connection<MemStore>
 
 /// Plays the scene over an empty database in memory.
 pub(super) fn in_memory<X: Scene, R: Abort + AllocGlobal>(rt: &R, scene: &X) {
-    over(rt, database(rt), scene);
+    over(rt, empty_database(rt), scene);
 }
