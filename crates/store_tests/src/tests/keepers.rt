@@ -1,5 +1,5 @@
 // The keeper as what the tests see of it, and scenes over one.
-ghost use Rattle.std.specs.Prelude.{◌≡◌, IsTrue};
+ghost use Rattle.std.specs.Prelude.{◌≡◌, IfOk, IfSome, IsTrue};
 ghost use Rattle.sqlite.specs.State.{HasCleanDisk};
 ghost use Rattle.sqlite.specs.Held.{state};
 ghost use Rattle.sqlite.specs.Steps.{over_memory};
@@ -45,7 +45,9 @@ fn loaded<S: Alter, J: Naming, R: Abort + AllocGlobal>(
     rt: &R,
     keeper: &mut Keeper<S, J>,
     name: &str,
-) -> Result<Option<Loaded<J>>, Fault> {
+) -> Result<Option<Loaded<J>>, Fault>
+    ensures { IfOk result (λ found. IfSome found (λ loaded. loaded.kept.kept ≡ loaded.snapshot)) }
+{
     let name = topic_name(rt, name);
     for _ in 0..PIECES {
         match keeper.load(&name, Pace::Pieces) {
