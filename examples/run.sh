@@ -56,6 +56,9 @@ cat "$room/consumer"
 echo "== Key_Shared"
 timeout 60 "$python" "$here/key_shared.py" "$address"
 
+echo "== Key_Shared, with ranges that the consumers ask for"
+timeout 60 "$python" "$here/sticky.py" "$address"
+
 echo "== Dead letters"
 timeout 60 "$python" "$here/dead_letters.py" "$address"
 
@@ -86,6 +89,7 @@ refused 'closed with 4001 F20' node "$here/producer.js" "$address" a%2Fb
 refused 'closed with 4001 F20' "$python" "$here/once.py" "$address" a%2Fb
 refused 'closed with 4001 F20' node "$here/once.js" "$address" a%2Fb
 refused 'closed with 4002 F20' "$python" "$here/key_shared.py" "$address" a%2Fb
+refused 'closed with 4002 F20' "$python" "$here/sticky.py" "$address" a%2Fb
 refused 'closed with 4002 F20' "$python" "$here/dead_letters.py" "$address" a%2Fb
 refused 'closed with 4008 F11' "$python" "$here/admin.py" "$address" not-there stats my-sub
 timeout 60 "$python" "$here/admin.py" "$address" my-topic delete

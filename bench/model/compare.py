@@ -19,12 +19,17 @@ from topic import Topic
 KINDS = ["Exclusive", "Failover", "Shared", "Key_Shared"]
 KEYS = ["-", "a", "b", "k1", "k2", "test", "Hello,%20world!", "%2D"]
 SUBSCRIPTIONS = ["s", "t%20x", "u"]
+RANGES = [
+    "0-65535", "0-32767", "32768-65535", "0-0", "65535-65535", "0-20000,40000-65535", "40000-65535,0-20000", "20001-39999",
+    "10000-19999", "32767-32768", "0-9999,10000-19999,20000-29999", "30000-65535", "0-29999",
+]
 NO_IDS = ["CIAAEAM=", "CAAQAw", "CAAQAA===", "xx", "-"]
 ODD_WORDS = [
     "", "-", "-1", "01", "+1", "18446744073709551616", "9223372036854775808", "4611686018427387905", "2147483648",
     "253402300800000", "100001", "1000001", "%FF", "%", "%2", "%zz", "%00", "%41", "a%2Fb", "push:0", "push:", "push:01",
     "Push:1", "pull:1", "earliest", "Earliest", "LATEST", "é", "persistent://a/b", "persistent://a/b/c/d",
-    "persistent://a//c", "x" * 300,
+    "persistent://a//c", "x" * 300, "0-65536", "5-4", "0-5,5-9", "0-5,", ",0-5", "0-5,,7-8", "00-5", "0--5", "0-+5", "7", "3-3",
+    ",".join(f"{n}-{n}" for n in range(64)), ",".join(f"{n}-{n}" for n in range(65)),
 ]
 
 
@@ -35,6 +40,7 @@ class Draw:
         self.dice, self.topic, self.lines = dice, Topic(NAMES, ledger_size), []
         self.now = 1_000
         self.kind = dice.choice([*KINDS, "Shared", "Key_Shared"])
+        self.sticky = dice.random() < 0.5
 
     def say(self, *words):
         line = " ".join(map(str, words))
@@ -60,9 +66,10 @@ class Draw:
         pick = self.dice.choice
         kind = self.kind if self.dice.random() < 0.85 else pick(KINDS)
         dead = pick(["-", "-", "persistent://public/default/t", "persistent://a/b/c"])
+        ranges = [pick(RANGES)] if self.sticky and self.dice.random() < 0.9 or self.dice.random() < 0.05 else []
         self.say(
             "subscribe", name, kind, pick([0, 0, 1, 2]), pick(["push:1", "push:2", "push:10", "pull"]), pick([0, 0, 50, 100]),
-            pick([0, 0, 10, 100]), pick([0, 1, 1, 2]), dead, pick(["Earliest", "Earliest", "Latest"]),
+            pick([0, 0, 10, 100]), pick([0, 1, 1, 2]), dead, pick(["Earliest", "Earliest", "Latest"]), *ranges,
         )
 
     def publish(self):

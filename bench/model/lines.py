@@ -182,6 +182,23 @@ LINES = {
 }
 
 
+def hash_range(word):
+    """The hashes of the range that the word is."""
+    first, dash, last = word.partition("-")
+    want(dash)
+    first, last = number(0, 65_535)(first), number(0, 65_535)(last)
+    want(first <= last)
+    return range(first, last + 1)
+
+
+def ranges(word):
+    """The hashes that a consumer asks for, in at most 64 ranges, none twice."""
+    read = [hash_range(it) for it in word.split(",")]
+    hashes = set().union(*read)
+    want(len(read) <= 64 and len(hashes) == sum(map(len, read)))
+    return hashes
+
+
 def with_dead_topic(asked):
     """What a subscribe asks, with the dead-letter topic that a dash stands for."""
     if asked[7] is None:
@@ -196,10 +213,13 @@ def answer(topic, line):
     word, *words = line.split(" ")
     want(word in LINES)
     event, *readers = LINES[word]
-    want(len(words) == len(readers))
+    more = words[len(readers):] if word == "subscribe" else []
+    words = words[:len(words) - len(more)]
+    want(len(words) == len(readers) and len(more) <= 1 and all(more))
     asked = [read(it) for read, it in zip(readers, words)]
     if word == "subscribe":
         asked = with_dead_topic(asked)
+        asked += [ranges(it) for it in more if asked[1] == "Key_Shared"]
     if any(it is None and read in (position, target) for read, it in zip(readers, asked)):
         return "refused F17"
     try:

@@ -88,10 +88,15 @@ class Subscription:
     counts: dict = field(default_factory=dict)
     members: list = field(default_factory=list)
     shares: list = field(default_factory=list)  # (hashes, consumer)
+    sticky: bool = False  # the members said which hashes they take
     served: int = 0  # who was sent a message last
 
-    def share_for(self, consumer):
-        """The joiner gets the lower half of the largest share, rounded up; of equal ones, of that with the least hash."""
+    def share_for(self, consumer, ranges):
+        """The joiner gets what it asks for; else the lower half of the largest share, rounded up; of equal ones, of that with the least hash."""
+        if ranges is not None:
+            self.shares.append((ranges, consumer))
+            self.sticky = True
+            return
         if not self.shares:
             self.shares = [(set(range(ALL_HASHES)), consumer)]
             return
@@ -102,9 +107,12 @@ class Subscription:
         self.shares += [(set(hashes[half:]), largest[1]), (set(hashes[:half]), consumer)]
 
     def join_share(self, consumer):
-        """A leaver's share joins the one that has the hash behind it, or before it where there is none behind."""
+        """A leaver's share joins the one that has the hash behind it, or before it where there is none behind; sticky, it is nobody's."""
         own = next(hashes for hashes, owner in self.shares if owner == consumer)
         rest = [share for share in self.shares if share[1] != consumer]
+        if self.sticky:
+            self.shares, self.sticky = rest, bool(rest)
+            return
         beside = max(own) + 1 if max(own) < ALL_HASHES - 1 else min(own) - 1
         self.shares = [(hashes | own if beside in hashes else hashes, owner) for hashes, owner in rest]
 
@@ -240,11 +248,14 @@ class Topic:
 
     # ---- members
 
-    def subscribe(self, name, kind, level, window, ack_timeout, nack_delay, max_redeliver, dead_topic, initial):
+    def subscribe(self, name, kind, level, window, ack_timeout, nack_delay, max_redeliver, dead_topic, initial, ranges=None):
         it = self.subscriptions.get(name)
         if it is not None and it.members:
             require(it.kind == kind, 5)
             require(kind != "Exclusive", 6)
+            if kind == "Key_Shared":
+                require(it.sticky == (ranges is not None), 24)
+                require(not any(hashes & (ranges or set()) for hashes, _ in it.shares), 23)
         require(len(self.subscriptions) < MOST_SUBSCRIPTIONS if it is None else len(it.members) < MOST_MEMBERS, 7)
         require(kind in IN_ORDER or max_redeliver == 0 or dead_topic != self.names, 14)
         if it is None:
@@ -256,7 +267,7 @@ class Topic:
         consumer, self.next_consumer = self.next_consumer, self.next_consumer + 1
         self.members[consumer] = Member(name, level, window, ack_timeout, nack_delay, max_redeliver, dead_topic)
         if kind == "Key_Shared":
-            it.share_for(consumer)
+            it.share_for(consumer, ranges)
         it.members.append(consumer)
         self.take_over(it, before)
         return ["consumer", consumer]

@@ -55,6 +55,8 @@ try:
     closes('a producer of the name of a dead-letter producer', target('/producer' + T + '?producerName=dlq%2Fx'), 4001, 'F20')
     closes('another type of subscription', target('/consumer' + T + '/s?subscriptionType=Some'), 4002, 'F20')
     closes('a window that is too large', target('/consumer' + T + '/s?receiverQueueSize=100001'), 4002, 'F20')
+    for ranges in ('', '5-4', '0-65536', '0-5,5-9', '7', ','.join(f'{n}-{n}' for n in range(65))):
+        closes(f'ranges that are none: {ranges[:12]}', target('/consumer' + T + '/s?subscriptionType=Key_Shared&keySharedRanges=' + ranges), 4002, 'F20')
     closes('a dead-letter topic that is none', target('/consumer' + T + '/s?subscriptionType=Shared&maxRedeliverCount=1&deadLetterTopic=a%2Fb'), 4002, 'F20')
     closes('an administrator of an unknown topic', target('/admin/persistent/public/default/none'), 4008, 'F11')
 
@@ -74,6 +76,18 @@ try:
     closes('another type than the subscription has', lambda: consumer(port, 't', 'sole', '?subscriptionType=Shared'), 4002, 'F5')
     closes('a dead-letter topic that is the topic itself', lambda: consumer(
         port, 't', 'own', '?subscriptionType=Shared&maxRedeliverCount=1&deadLetterTopic=t'), 4002, 'F14')
+
+    keys = lambda ranges='': consumer(port, 't', 'keys', '?subscriptionType=Key_Shared' + ranges)
+    low = keys('&keySharedRanges=200-299,0-00099')
+    low.send('{"type":"isEndOfTopic"}')
+    assert low.receive() == {'endOfTopic': 'false'}
+    closes('a hash that another consumer has', lambda: keys('&keySharedRanges=100-200'), 4002, 'F23')
+    closes('no ranges beside a consumer that has some', keys, 4002, 'F24')
+    low.leave()
+    low.close()
+    passed = consumer(port, 't', 'shared', '?subscriptionType=Shared&keySharedRanges=x')
+    passed.send('{"type":"isEndOfTopic"}')
+    assert passed.receive() == {'endOfTopic': 'false'}
 
     members = [consumer(port, 't', 'many', '?subscriptionType=Shared') for _ in range(64)]
     closes('a member beyond the 64 of a subscription', lambda: consumer(port, 't', 'many', '?subscriptionType=Shared'), 4002, 'F7')

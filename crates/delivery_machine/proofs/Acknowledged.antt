@@ -10,6 +10,7 @@ use Rattle.position_core.specs.declared.message.Entry.{Entry}
 use Rattle.position_core.specs.declared.kind.Kind.{Kind}
 use Rattle.position_core.specs.declared.kind.Kind.TheVariants.{Exclusive, Failover, Shared, KeyShared}
 use Rattle.position_core.specs.Position.{position_cmp, same_position, positions_total}
+use Rattle.position_core.specs.declared.ranges.HashRange.{HashRange}
 use Rattle.delivery_machine.specs.State.{State, Subscription, Member}
 use Rattle.delivery_machine.specs.Words.{changed, is_named, is_member, is_producer, is_dead, is_live, is_waiting, waits_with_hash, hash_of, visible, active_at, ChoosesBy}
 use Rattle.delivery_machine.specs.Refusals.{is_duplicate}
@@ -79,11 +80,11 @@ module _ (name : List ℕ) (position : Position) where
       by true = stands_changed n releasing_all (λ _. refl) (λ _ t. t) s.subscriptions there
       by false = there
 
-  stands_joined : (s : State) (n : List ℕ) (kind : Kind) (consumer : ℕ) (initial : Initial) → stands s.subscriptions → stands (joined s n kind consumer initial)
-  stands_joined s n kind consumer initial there = by (find (is_named n) s.subscriptions) refl
+  stands_joined : (s : State) (n : List ℕ) (kind : Kind) (ranges : Option (List HashRange)) (consumer : ℕ) (initial : Initial) → stands s.subscriptions → stands (joined s n kind ranges consumer initial)
+  stands_joined s n kind ranges consumer initial there = by (find (is_named n) s.subscriptions) refl
     where
       new : Subscription
-      new = new_subscription n kind consumer initial s.log
+      new = new_subscription n kind ranges consumer initial s.log
 
       beside : (b : Bool) → bytes_eq n name ≡ b → find (is_named n) s.subscriptions ≡ None → is_named name new ≡ false
       beside true t none =
@@ -91,8 +92,8 @@ module _ (name : List ℕ) (position : Position) where
           absurd (true≢false (sym there ∙ ap (λ o. option_map_or has o false) lost))
       beside false f none = f
 
-      by : (o : Option Subscription) → find (is_named n) s.subscriptions ≡ o → stands (if is_some o then changed (is_named n) (joining kind consumer) s.subscriptions else placed new s.subscriptions)
-      by (Some sub) found = stands_changed n (joining kind consumer) (λ _. refl) (λ _ t. t) s.subscriptions there
+      by : (o : Option Subscription) → find (is_named n) s.subscriptions ≡ o → stands (if is_some o then changed (is_named n) (joining kind ranges consumer) s.subscriptions else placed new s.subscriptions)
+      by (Some sub) found = stands_changed n (joining kind ranges consumer) (λ _. refl) (λ _ t. t) s.subscriptions there
       by None none = ap (λ o. option_map_or has o false) (find_inserted (is_named name) s.subscriptions _ new (beside (bytes_eq n name) refl none)) ∙ there
 
   -- ---- each step
@@ -135,8 +136,8 @@ module _ (name : List ℕ) (position : Position) where
   takes_stands s (StoredTo count ordinal) reply t h r there =
       settled t _ h.1 (still_mapped (is_named name) has (storing_below ordinal) (λ _. refl) (λ _. refl) s.subscriptions ∙ there)
   takes_stands s Progress reply t h r there = settled t s h.1 there
-  takes_stands s (Subscribe n kind level flow ack_timeout nack_delay max_redeliver dead_topic initial) reply t h r there =
-      settled t _ h.1 (stands_taken_over n (active_at s n) (with_member s kind initial _) (stands_joined s n kind s.next_consumer initial there))
+  takes_stands s (Subscribe n kind level flow ack_timeout nack_delay max_redeliver dead_topic initial ranges) reply t h r there =
+      settled t _ h.1 (stands_taken_over n (active_at s n) (with_member s kind ranges initial _) (stands_joined s n kind ranges s.next_consumer initial there))
   takes_stands s (Leave consumer) reply t h r there =
       some_elim (find (is_member consumer) s.members) _ (stands_at t) h.1 (λ m found is.
       settled t _ is (stands_taken_over m.subscription (active_at s m.subscription) (without_member s consumer m.subscription)

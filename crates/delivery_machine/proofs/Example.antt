@@ -60,7 +60,7 @@ module _ (name : TopicName) (body : Content) where
   member flow = record { number = 1; subscription = codes "s"; level = 0; flow = flow; ack_timeout = 0; nack_delay = 0; max_redeliver = 0; dead_topic = name; out = [] }
 
   abbrev pub subscription : Kind → Subscription
-  subscription kind = new_subscription (codes "s") kind 1 Earliest (message ∷ [])
+  subscription kind = new_subscription (codes "s") kind None 1 Earliest (message ∷ [])
 
   abbrev connected : State
   connected = with_producer (fresh name 1) (record { number = 1; name = codes "p"; base = pos 0 })
@@ -73,7 +73,7 @@ module _ (name : TopicName) (body : Content) where
 
   -- the consumer has joined, and has the flow
   abbrev pub joined : Kind → Flow → State
-  joined kind flow = with_member stored kind Earliest (member flow)
+  joined kind flow = with_member stored kind None Earliest (member flow)
 
   -- the message is sent to it
   abbrev pub done : Kind → Flow → State
@@ -120,13 +120,13 @@ module _ (name : TopicName) (body : Content) where
   -- the consumer joins, and then come the events
   abbrev pub joins : Kind → Flow → List Event → List Event
   joins kind flow events =
-      AddProducer (Some (codes "p")) (pos 0) ∷ Publish 1 (pos 1) body 0 ∷ Stored ∷ Subscribe (codes "s") kind 0 flow 0 0 0 name Earliest ∷ events
+      AddProducer (Some (codes "p")) (pos 0) ∷ Publish 1 (pos 1) body 0 ∷ Stored ∷ Subscribe (codes "s") kind 0 flow 0 0 0 name Earliest None ∷ events
 
-  subscribes : (kind : Kind) (flow : Flow) → Answers stored (Subscribe (codes "s") kind 0 flow 0 0 0 name Earliest) (Subscribed 1) (joined kind (begun flow))
-  subscribes Exclusive flow = (refl, (refl, refl))
-  subscribes Failover flow = (refl, (refl, refl))
-  subscribes Shared flow = (refl, (refl, refl))
-  subscribes KeyShared flow = (refl, (refl, refl))
+  subscribes : (kind : Kind) (flow : Flow) → Answers stored (Subscribe (codes "s") kind 0 flow 0 0 0 name Earliest None) (Subscribed 1) (joined kind (begun flow))
+  subscribes Exclusive flow = (refl, (refl, refl, tt))
+  subscribes Failover flow = (refl, (refl, refl, tt))
+  subscribes Shared flow = (refl, (refl, refl, tt))
+  subscribes KeyShared flow = (refl, (refl, refl, tt))
 
   pub run : (kind : Kind) (flow : Flow) (events : List Event) (replies : List Reply) (t : State) → Run (joined kind (begun flow)) events replies t → Run (fresh name 1) (joins kind flow events) (answered replies) t
   run kind flow events replies t rest = (

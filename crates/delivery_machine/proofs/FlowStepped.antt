@@ -13,6 +13,7 @@ use Rattle.position_core.specs.declared.fault.Fault.TheVariants.{NoMemory}
 use Rattle.position_core.specs.declared.flow.Flow.{Flow}
 use Rattle.position_core.specs.declared.flow.Flow.TheVariants.{Window, Credit}
 use Rattle.position_core.specs.Flow.{begun}
+use Rattle.position_core.specs.declared.ranges.HashRange.{HashRange}
 use Rattle.delivery_machine.specs.State.{State, Subscription, Member}
 use Rattle.delivery_machine.specs.Words.{changed, is_named, is_member, is_at, is_producer, is_held_by, emptied, emptied_at, active_at, next_position, count_of}
 use Rattle.delivery_machine.specs.Refusals.{refusal_of, nacking_refused, is_duplicate}
@@ -139,23 +140,23 @@ publish_moves s event reply e t false sends_none joins_none next is =
     subst (Moves s event reply) (sym is)
     (appends (record { members_as = refl; next_as = refl; e = e; next = next; log_as = refl; subscriptions_as = refl; sends = sends_none; joins = joins_none }))
 
-joined_shrinks : (s : State) (n : List ℕ) (kind : Kind) (consumer : ℕ) (initial : Initial) → Shrinks s.subscriptions (joined s n kind consumer initial)
-joined_shrinks s n kind consumer initial = by (find (is_named n) s.subscriptions)
+joined_shrinks : (s : State) (n : List ℕ) (kind : Kind) (ranges : Option (List HashRange)) (consumer : ℕ) (initial : Initial) → Shrinks s.subscriptions (joined s n kind ranges consumer initial)
+joined_shrinks s n kind ranges consumer initial = by (find (is_named n) s.subscriptions)
   where
     new : Subscription
-    new = new_subscription n kind consumer initial s.log
+    new = new_subscription n kind ranges consumer initial s.log
 
-    by : (o : Option Subscription) → Shrinks s.subscriptions (if is_some o then changed (is_named n) (joining kind consumer) s.subscriptions else placed new s.subscriptions)
-    by (Some sub) = shrinks_changed n (joining kind consumer) s.subscriptions (λ _. refl) (λ sub _. part_itself sub.pending)
+    by : (o : Option Subscription) → Shrinks s.subscriptions (if is_some o then changed (is_named n) (joining kind ranges consumer) s.subscriptions else placed new s.subscriptions)
+    by (Some sub) = shrinks_changed n (joining kind ranges consumer) s.subscriptions (λ _. refl) (λ sub _. part_itself sub.pending)
     by None = shrinks_placed new s.subscriptions none_pending
 
 -- the event is one by which the member joins
-joins_moves : (s : State) (event : Event) (reply : Reply) (t : State) (kind : Kind) (initial : Initial) (m : Member) (flow : Flow) (before : Option ℕ)
+joins_moves : (s : State) (event : Event) (reply : Reply) (t : State) (kind : Kind) (ranges : Option (List HashRange)) (initial : Initial) (m : Member) (flow : Flow) (before : Option ℕ)
     → m.number ≡ s.next_consumer → m.flow ≡ begun flow → SendsNone event reply
     → ((consumer : ℕ) → joins_to_pull consumer event reply ≡ pulls_if flow (s.next_consumer == consumer)) → ((consumer : ℕ) → joins_to_push consumer event reply ≡ pushes_if flow (s.next_consumer == consumer))
-    → t ≡ taken_over m.subscription before (with_member s kind initial m) → Moves s event reply t
-joins_moves s event reply t kind initial m flow before numbered flows sends_none pulls pushes is =
-    let after = with_member s kind initial m in
+    → t ≡ taken_over m.subscription before (with_member s kind ranges initial m) → Moves s event reply t
+joins_moves s event reply t kind ranges initial m flow before numbered flows sends_none pulls pushes is =
+    let after = with_member s kind ranges initial m in
     subst (Moves s event reply) (sym is)
     (joins (record {
       name = m.subscription;
@@ -166,7 +167,7 @@ joins_moves s event reply t kind initial m flow before numbered flows sends_none
       next_as = over_next m.subscription before after;
       log_as = over_log m.subscription before after;
       shrinks = shrinks_then s.subscriptions after.subscriptions (taken_over m.subscription before after).subscriptions
-          (joined_shrinks s m.subscription kind m.number initial) (over_shrinks m.subscription before after);
+          (joined_shrinks s m.subscription kind ranges m.number initial) (over_shrinks m.subscription before after);
       sends = sends_none;
       pulls = pulls;
       pushes = pushes;
@@ -209,15 +210,15 @@ dispatch_moves s n now sub (Sent consumer p count) t found h =
 dispatch_moves s n now sub Idle t found h = unmoved s (Dispatch n now) Idle (λ _. refl) (λ _. (refl, refl)) t h.1
 dispatch_moves s n now sub reply t found h = absurd h
 
-pulls_so : (consumer : ℕ) (name : List ℕ) (kind : Kind) (level : ℕ) (flow : Flow) (ack_timeout nack_delay max_redeliver : ℕ) (dead_topic : TopicName) (initial : Initial) (number : ℕ)
-    → joins_to_pull consumer (Subscribe name kind level flow ack_timeout nack_delay max_redeliver dead_topic initial) (Subscribed number) ≡ pulls_if flow (number == consumer)
-pulls_so consumer name kind level (Window size) ack_timeout nack_delay max_redeliver dead_topic initial number = refl
-pulls_so consumer name kind level (Credit left) ack_timeout nack_delay max_redeliver dead_topic initial number = refl
+pulls_so : (consumer : ℕ) (name : List ℕ) (kind : Kind) (level : ℕ) (flow : Flow) (ack_timeout nack_delay max_redeliver : ℕ) (dead_topic : TopicName) (initial : Initial) (ranges : Option (List HashRange)) (number : ℕ)
+    → joins_to_pull consumer (Subscribe name kind level flow ack_timeout nack_delay max_redeliver dead_topic initial ranges) (Subscribed number) ≡ pulls_if flow (number == consumer)
+pulls_so consumer name kind level (Window size) ack_timeout nack_delay max_redeliver dead_topic initial ranges number = refl
+pulls_so consumer name kind level (Credit left) ack_timeout nack_delay max_redeliver dead_topic initial ranges number = refl
 
-pushes_so : (consumer : ℕ) (name : List ℕ) (kind : Kind) (level : ℕ) (flow : Flow) (ack_timeout nack_delay max_redeliver : ℕ) (dead_topic : TopicName) (initial : Initial) (number : ℕ)
-    → joins_to_push consumer (Subscribe name kind level flow ack_timeout nack_delay max_redeliver dead_topic initial) (Subscribed number) ≡ pushes_if flow (number == consumer)
-pushes_so consumer name kind level (Window size) ack_timeout nack_delay max_redeliver dead_topic initial number = refl
-pushes_so consumer name kind level (Credit left) ack_timeout nack_delay max_redeliver dead_topic initial number = refl
+pushes_so : (consumer : ℕ) (name : List ℕ) (kind : Kind) (level : ℕ) (flow : Flow) (ack_timeout nack_delay max_redeliver : ℕ) (dead_topic : TopicName) (initial : Initial) (ranges : Option (List HashRange)) (number : ℕ)
+    → joins_to_push consumer (Subscribe name kind level flow ack_timeout nack_delay max_redeliver dead_topic initial ranges) (Subscribed number) ≡ pushes_if flow (number == consumer)
+pushes_so consumer name kind level (Window size) ack_timeout nack_delay max_redeliver dead_topic initial ranges number = refl
+pushes_so consumer name kind level (Credit left) ack_timeout nack_delay max_redeliver dead_topic initial ranges number = refl
 
 takes_moves : (s : State) (event : Event) (reply : Reply) (t : State) → refusal_of s event ≡ None → Takes s event reply t → IsKept s → Moves s event reply t
 takes_moves s (AddProducer n base) reply t allowed h kept = stays_as s (AddProducer n base) reply (λ _. refl) (λ _. (refl, refl)) t _ h.3.1 refl refl refl (shrinks_not s.subscriptions)
@@ -230,10 +231,10 @@ takes_moves s Stored reply t allowed h kept =
 takes_moves s (StoredTo count ordinal) reply t allowed h kept =
     stays_as s (StoredTo count ordinal) reply (λ _. refl) (λ _. (refl, refl)) t _ h.1 refl refl refl (shrinks_mapped (storing_below ordinal) s.subscriptions (λ _. refl) (λ _. refl))
 takes_moves s Progress reply t allowed h kept = unmoved s Progress reply (λ _. refl) (λ _. (refl, refl)) t h.1
-takes_moves s (Subscribe n kind level flow ack_timeout nack_delay max_redeliver dead_topic initial) reply t allowed h kept =
-    joins_moves s (Subscribe n kind level flow ack_timeout nack_delay max_redeliver dead_topic initial) reply t kind initial _ flow (active_at s n) refl refl (λ _. refl)
-    (λ c. ap (joins_to_pull c (Subscribe n kind level flow ack_timeout nack_delay max_redeliver dead_topic initial)) h.0 ∙ pulls_so c n kind level flow ack_timeout nack_delay max_redeliver dead_topic initial s.next_consumer)
-    (λ c. ap (joins_to_push c (Subscribe n kind level flow ack_timeout nack_delay max_redeliver dead_topic initial)) h.0 ∙ pushes_so c n kind level flow ack_timeout nack_delay max_redeliver dead_topic initial s.next_consumer)
+takes_moves s (Subscribe n kind level flow ack_timeout nack_delay max_redeliver dead_topic initial ranges) reply t allowed h kept =
+    joins_moves s (Subscribe n kind level flow ack_timeout nack_delay max_redeliver dead_topic initial ranges) reply t kind ranges initial _ flow (active_at s n) refl refl (λ _. refl)
+    (λ c. ap (joins_to_pull c (Subscribe n kind level flow ack_timeout nack_delay max_redeliver dead_topic initial ranges)) h.0 ∙ pulls_so c n kind level flow ack_timeout nack_delay max_redeliver dead_topic initial ranges s.next_consumer)
+    (λ c. ap (joins_to_push c (Subscribe n kind level flow ack_timeout nack_delay max_redeliver dead_topic initial ranges)) h.0 ∙ pushes_so c n kind level flow ack_timeout nack_delay max_redeliver dead_topic initial ranges s.next_consumer)
     h.1
 takes_moves s (Leave consumer) reply t allowed h kept =
     some_elim (find (is_member consumer) s.members) _ (Moves s (Leave consumer) reply t) h.1 (λ m found is. leaves_moves s reply t consumer m (active_at s m.subscription) is)
@@ -285,8 +286,8 @@ refused_sends (Dispatch n now) fault c = refl
 refused_sends event fault c = refl
 
 refused_joins : (event : Event) (fault : Fault) → JoinsNone event (Refused fault)
-refused_joins (Subscribe n kind level (Credit left) ack_timeout nack_delay max_redeliver dead_topic initial) fault c = (refl, refl)
-refused_joins (Subscribe n kind level (Window size) ack_timeout nack_delay max_redeliver dead_topic initial) fault c = (refl, refl)
+refused_joins (Subscribe n kind level (Credit left) ack_timeout nack_delay max_redeliver dead_topic initial ranges) fault c = (refl, refl)
+refused_joins (Subscribe n kind level (Window size) ack_timeout nack_delay max_redeliver dead_topic initial ranges) fault c = (refl, refl)
 refused_joins event fault c = (refl, refl)
 
 pub moves : (s : State) (event : Event) (reply : Reply) (t : State) → Answers s event reply t → IsKept s → Moves s event reply t

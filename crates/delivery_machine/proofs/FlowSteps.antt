@@ -19,7 +19,7 @@ use Rattle.delivery_machine.proofs.Shrinking.{Shrinks}
 
 -- the consumer joined to be pushed to
 abbrev pub joins_to_push : ℕ → Event → Reply → Bool
-joins_to_push consumer (Subscribe name kind level (Window size) ack_timeout nack_delay max_redeliver dead_topic initial) (Subscribed number) = number == consumer
+joins_to_push consumer (Subscribe name kind level (Window size) ack_timeout nack_delay max_redeliver dead_topic initial ranges) (Subscribed number) = number == consumer
 joins_to_push consumer event reply = false
 
 abbrev pub SendsNone : Event → Reply → Type 0

@@ -1,5 +1,5 @@
 -- What each subscription of a reached state has, whatever becomes of it: messages of the log, and live ones pending.
-use Rattle.std.proofs.Common.{◌≡◌, ℕ, ◌-◌, ◌<◌, ◌≤◌, List, [], ◌∷◌, ◌++◌, map, length, take, drop, Some, Bool, true, false, cond, refl, ap, ◌∙◌, sym, subst, arith, inl, inr, ◌⊎◌, Contains, true≢false, length-append}
+use Rattle.std.proofs.Common.{◌≡◌, ℕ, ◌-◌, ◌<◌, ◌≤◌, List, [], ◌∷◌, ◌++◌, map, length, take, drop, Some, Option, Bool, true, false, cond, refl, ap, ◌∙◌, sym, subst, arith, inl, inr, ◌⊎◌, Contains, true≢false, length-append}
 use Rattle.std.specs.Prelude.{◌||◌, not, is_some}
 use Rattle.std.specs.List.{All, AllByRecursion, list_any}
 use Rattle.std.specs.FinSet as set
@@ -9,9 +9,10 @@ use Rattle.std.proofs.lemmas.Bool.Decides.{nat_tests}
 use Rattle.position_core.specs.declared.position.Position.{Position}
 use Rattle.position_core.specs.declared.message.Entry.{Entry}
 use Rattle.position_core.specs.declared.held.Held.{Held}
-use Rattle.position_core.specs.declared.block.Block.{Block}
 use Rattle.position_core.specs.declared.kind.Kind.{Kind}
 use Rattle.position_core.specs.Position.{position_cmp, same_position, positions_total}
+use Rattle.position_core.specs.declared.ranges.HashRange.{HashRange}
+use Rattle.delivery_machine.specs.Shares.{Shares}
 use Rattle.delivery_machine.specs.State.{Subscription, DeadLetter}
 use Rattle.delivery_machine.specs.Words.{is_dead, is_held_by}
 use Rattle.delivery_machine.specs.Joining.{new_subscription, releasing_all, leaving}
@@ -61,7 +62,7 @@ formed_in_more log more durable longer sub grows shows formed = record {
 
 module _ (log : List Entry) (durable : ℕ) where
   -- where only its kind, its shares and how many deaths are stored change
-  pub formed_with : (kind : Kind) (shares : List Block) (safe : ℕ) (sub : Subscription) → safe ≤ length sub.dead → IsFormed log durable sub → IsFormed log durable (record sub { kind = kind; shares = shares; safe = safe })
+  pub formed_with : (kind : Kind) (shares : Shares) (safe : ℕ) (sub : Subscription) → safe ≤ length sub.dead → IsFormed log durable sub → IsFormed log durable (record sub { kind = kind; shares = shares; safe = safe })
   formed_with kind shares safe sub low formed = record {
     acknowledged = formed.acknowledged;
     visible = formed.visible;
@@ -176,7 +177,7 @@ module _ (log : List Entry) (durable : ℕ) where
   -- ---- sought
 
   -- where nothing is pending or counted
-  pub formed_begun : (name : List ℕ) (kind : Kind) (acknowledged : set.FinSet position_cmp) (shares : List Block) (dead : List DeadLetter) (safe : ℕ) → AreMessagesOf log acknowledged → AreDeadLettersOf log dead → safe ≤ length dead
+  pub formed_begun : (name : List ℕ) (kind : Kind) (acknowledged : set.FinSet position_cmp) (shares : Shares) (dead : List DeadLetter) (safe : ℕ) → AreMessagesOf log acknowledged → AreDeadLettersOf log dead → safe ≤ length dead
       → IsFormed log durable (record { name = name; kind = kind; acknowledged = acknowledged; pending = map_of.empty; counts = map_of.empty; shares = shares; dead = dead; safe = safe })
   formed_begun name kind acknowledged shares dead safe there letters low = record {
     acknowledged = there;
@@ -194,9 +195,9 @@ module _ (log : List Entry) (durable : ℕ) where
   pub formed_seeking : (before : List Entry) (sub : Subscription) → ((e : Entry) → Contains before e → Contains log e) → IsFormed log durable sub → IsFormed log durable (seeking before sub)
   formed_seeking before sub among formed = formed_begun sub.name sub.kind _ sub.shares sub.dead sub.safe (acknowledged_first before among) formed.dead formed.safe
 
-  pub formed_new : (name : List ℕ) (kind : Kind) (consumer : ℕ) (initial : Initial) → IsFormed log durable (new_subscription name kind consumer initial log)
-  formed_new name kind consumer Earliest = formed_begun name kind _ _ [] 0 (λ p is. absurd (true≢false (sym is ∙ set.contains-empty position_cmp p))) (none_dead log) (omega arith)
-  formed_new name kind consumer Latest = formed_begun name kind _ _ [] 0 (acknowledged_first log (λ e at. at)) (none_dead log) (omega arith)
+  pub formed_new : (name : List ℕ) (kind : Kind) (ranges : Option (List HashRange)) (consumer : ℕ) (initial : Initial) → IsFormed log durable (new_subscription name kind ranges consumer initial log)
+  formed_new name kind ranges consumer Earliest = formed_begun name kind _ _ [] 0 (λ p is. absurd (true≢false (sym is ∙ set.contains-empty position_cmp p))) (none_dead log) (omega arith)
+  formed_new name kind ranges consumer Latest = formed_begun name kind _ _ [] 0 (acknowledged_first log (λ e at. at)) (none_dead log) (omega arith)
 
   -- ---- dead
 

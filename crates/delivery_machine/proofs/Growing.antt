@@ -86,9 +86,9 @@ grown_taken s Stored r t h = subst (IsGrown s Stored) (sym h.1) (record { name =
 grown_taken s (StoredTo count ordinal) r t h =
     subst (IsGrown s (StoredTo count ordinal)) (sym h.1) (record { name = refl; log = prefix_same s.log; durable = λ not. absurd (true≢false not) })
 grown_taken s Progress r t h = grown s Progress t (level_as s t s h.1 (level s))
-grown_taken s (Subscribe name kind lvl flow ack_timeout nack_delay max_redeliver dead_topic initial) r t h =
-    grown s (Subscribe name kind lvl flow ack_timeout nack_delay max_redeliver dead_topic initial) t
-    (level_as s t _ h.1 (level_over s name (active_at s name) (with_member s kind initial _) (record { name = refl; log = refl; durable = refl })))
+grown_taken s (Subscribe name kind lvl flow ack_timeout nack_delay max_redeliver dead_topic initial ranges) r t h =
+    grown s (Subscribe name kind lvl flow ack_timeout nack_delay max_redeliver dead_topic initial ranges) t
+    (level_as s t _ h.1 (level_over s name (active_at s name) (with_member s kind ranges initial _) (record { name = refl; log = refl; durable = refl })))
 grown_taken s (Leave consumer) r t h =
     some_elim (find (is_member consumer) s.members) _ (IsGrown s (Leave consumer) t) h.1 (λ m found is.
     grown s (Leave consumer) t (level_as s t _ is (level_over s m.subscription (active_at s m.subscription) (without_member s consumer m.subscription) (record { name = refl; log = refl; durable = refl }))))

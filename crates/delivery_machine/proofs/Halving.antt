@@ -5,7 +5,7 @@ use Rattle.std.specs.List.{AllByRecursion, list_any}
 use Rattle.std.proofs.lemmas.Bool.{cases_lt}
 use Rattle.std.proofs.lemmas.Bool.Decides.{nat_tests}
 use Rattle.position_core.specs.declared.block.Block.{Block}
-use Rattle.delivery_machine.specs.Shares.{has_hash, owner_of, half, lower_half, upper_half, halving, most_hashes, IsRow}
+use Rattle.delivery_machine.specs.Shares.{has_hash, owner_among, half, lower_half, upper_half, halving, most_hashes, IsRow}
 use Rattle.delivery_machine.proofs.Sharing.{inside, outside, bounds, owner_here, owner_past, owner_alike, contains_here, contains_more}
 
 -- each share of a row begins at its start or after it
@@ -20,8 +20,8 @@ pub record HalvesFrom (start size consumer : ℕ) (shares new : List Block) : Ty
   pub sized : giver.size ≡ size
   pub after : start ≤ giver.from
   pub first : AllByRecursion (λ b. b.size ≡ size → giver.from ≤ b.from) shares
-  pub taken : (hash : ℕ) → has_hash hash (lower_half consumer giver) ≡ true → owner_of new hash ≡ Some consumer
-  pub others : (hash : ℕ) → has_hash hash (lower_half consumer giver) ≡ false → owner_of new hash ≡ owner_of shares hash
+  pub taken : (hash : ℕ) → has_hash hash (lower_half consumer giver) ≡ true → owner_among new hash ≡ Some consumer
+  pub others : (hash : ℕ) → has_hash hash (lower_half consumer giver) ≡ false → owner_among new hash ≡ owner_among shares hash
 
 all_from_here : (size from : ℕ) (bs : List Block) → AllByRecursion (λ b. from ≤ b.from) bs → AllByRecursion (λ b. b.size ≡ size → from ≤ b.from) bs
 all_from_here size from [] all = tt

@@ -10,6 +10,7 @@ use Rattle.position_core.specs.declared.body.Content.{Content}
 use Rattle.position_core.specs.declared.kind.Kind.{Kind}
 use Rattle.position_core.specs.declared.fault.Fault.{Fault}
 use Rattle.position_core.specs.declared.topic_name.TopicName.{TopicName}
+use Rattle.position_core.specs.declared.ranges.HashRange.{HashRange}
 use Rattle.delivery_machine.specs.State.{State, Producer, Member, Subscription}
 use Rattle.delivery_machine.specs.State as state
 use Rattle.delivery_machine.specs.Words.{changed, removed, is_named, is_member, is_at, is_producer, emptied, emptied_at, active_at, next_position}
@@ -139,10 +140,10 @@ told_shown : (s : State) (name : List ℕ) (r : Reply) (t : State) (o : Option (
 told_shown s name r t None reply is = told_as s (DeadNext name) r _ t s reply is (record { snapshot = λ _. refl; producers = refl; consumers = refl })
 told_shown s name r t (Some shown) reply is = told_as s (DeadNext name) r _ t s reply is (record { snapshot = λ _. refl; producers = refl; consumers = refl })
 
-told_joined : (s : State) (event : Event) (kind : Kind) (initial : Initial) (m : Member) (r : Reply) (t : State) → Subscribes s kind initial m r t → IsTold s event r t
-told_joined s event kind initial m r t h =
+told_joined : (s : State) (event : Event) (kind : Kind) (ranges : Option (List HashRange)) (initial : Initial) (m : Member) (r : Reply) (t : State) → Subscribes s kind ranges initial m r t → IsTold s event r t
+told_joined s event kind ranges initial m r t h =
     told_as s event r (Subscribed m.number) t _ h.0 h.1
-    (told_over s event (Subscribed m.number) m.subscription (active_at s m.subscription) (with_member s kind initial m)
+    (told_over s event (Subscribed m.number) m.subscription (active_at s m.subscription) (with_member s kind ranges initial m)
     (record { snapshot = λ (stays : true ≡ false). absurd (true≢false stays); producers = refl; consumers = map-append number s.members (m ∷ []) }))
 
 told_taken : (s : State) (e : Event) (r : Reply) (t : State) → Takes s e r t → IsTold s e r t
@@ -158,8 +159,8 @@ told_taken s Stored r t h =
 told_taken s (StoredTo count ordinal) r t h =
     told_as s (StoredTo count ordinal) r _ t _ h.0 h.1 (record { snapshot = λ _. ap (snapshot_over s) (keys_mapped kept_of (storing_below ordinal) (λ _. refl) s.subscriptions); producers = refl; consumers = refl })
 told_taken s Progress r t h = told_as s Progress r _ t s h.0 h.1 (record { snapshot = λ _. refl; producers = refl; consumers = refl })
-told_taken s (Subscribe name kind level flow ack_timeout nack_delay max_redeliver dead_topic initial) r t h =
-    told_joined s (Subscribe name kind level flow ack_timeout nack_delay max_redeliver dead_topic initial) kind initial _ r t h
+told_taken s (Subscribe name kind level flow ack_timeout nack_delay max_redeliver dead_topic initial ranges) r t h =
+    told_joined s (Subscribe name kind level flow ack_timeout nack_delay max_redeliver dead_topic initial ranges) kind ranges initial _ r t h
 told_taken s (Leave consumer) r t h =
     some_elim (find (is_member consumer) s.members) _ (IsTold s (Leave consumer) r t) h.1 (λ m found is.
     told_as s (Leave consumer) r Done t _ h.0 is
@@ -238,7 +239,7 @@ dead_in s (Publish producer sequence body now) message target ordinal t h =
 dead_in s Stored message target ordinal t h = let reply = h.0 in cc
 dead_in s (StoredTo count below) message target ordinal t h = let reply = h.0 in cc
 dead_in s Progress message target ordinal t h = let reply = h.0 in cc
-dead_in s (Subscribe name kind level flow ack_timeout nack_delay max_redeliver dead_topic initial) message target ordinal t h = let reply = h.0 in cc
+dead_in s (Subscribe name kind level flow ack_timeout nack_delay max_redeliver dead_topic initial ranges) message target ordinal t h = let reply = h.0 in cc
 dead_in s (Leave consumer) message target ordinal t h = let reply = h.0 in cc
 dead_in s (Permit consumer permits) message target ordinal t h = let reply = h.0 in cc
 dead_in s (Ack consumer position) message target ordinal t h = let reply = h.0 in cc
@@ -275,7 +276,7 @@ module _ (s : State) (kind : Kind) (members : ℕ) (mark : Option Position) (ack
   stats_in Stored h = let reply = h.0 in cc
   stats_in (StoredTo count below) h = let reply = h.0 in cc
   stats_in Progress h = let reply = h.0 in cc
-  stats_in (Subscribe name kind level flow ack_timeout nack_delay max_redeliver dead_topic initial) h = let reply = h.0 in cc
+  stats_in (Subscribe name kind level flow ack_timeout nack_delay max_redeliver dead_topic initial ranges) h = let reply = h.0 in cc
   stats_in (Leave consumer) h = let reply = h.0 in cc
   stats_in (Permit consumer permits) h = let reply = h.0 in cc
   stats_in (Ack consumer position) h = let reply = h.0 in cc

@@ -14,6 +14,7 @@ use Rattle.position_core.specs.declared.kind.Kind.TheVariants.{Exclusive, Failov
 use Rattle.position_core.specs.declared.fault.Fault.{Fault}
 use Rattle.position_core.specs.Kind.{same_kind}
 use Rattle.position_core.specs.Position.{position_cmp}
+use Rattle.position_core.specs.declared.ranges.HashRange.{HashRange}
 use Rattle.delivery_machine.specs.State.{State, Member, Subscription}
 use Rattle.delivery_machine.specs.State as state
 use Rattle.delivery_machine.specs.Words.{changed, removed, is_named, is_at, is_member, is_held_by, is_held_at, members_of, has_kind, next_position, emptied, emptied_at, count_of, IsEligible}
@@ -161,9 +162,9 @@ kinds_agree KeyShared KeyShared e = refl
 kinds_agree a b e = absurd (true≢false (sym e))
 
 -- where another kind may join, nobody is there, so that nothing is pending
-pub nothing_pending : (s : State) (kind : Kind) (sub : Subscription) (name : List ℕ) (max_redeliver : ℕ) (dead_topic : TopicName) → find (is_named name) s.subscriptions ≡ Some sub → same_kind sub.kind kind ≡ false → subscribing_refused s name kind max_redeliver dead_topic ≡ None → IsTendedIn s.log s.members sub
+pub nothing_pending : (s : State) (kind : Kind) (sub : Subscription) (name : List ℕ) (max_redeliver : ℕ) (dead_topic : TopicName) (ranges : Option (List HashRange)) → find (is_named name) s.subscriptions ≡ Some sub → same_kind sub.kind kind ≡ false → subscribing_refused s name kind max_redeliver dead_topic ranges ≡ None → IsTendedIn s.log s.members sub
     → (p : Position) (h : Held) → map_of.get sub.pending p ≡ Some h → ⊥
-nothing_pending s kind sub name max_redeliver dead_topic there other allowed tended p h is =
+nothing_pending s kind sub name max_redeliver dead_topic ranges there other allowed tended p h is =
     let named : sub.name ≡ name = same_name sub.name name (found_passes (is_named name) s.subscriptions sub there) in
     let some : nat_lt 0 (length (members_of s name)) ≡ true =
     some_kept (is_seat name h.consumer) (is_at name) s.members (λ m. and_first (is_at name m) (is_member h.consumer m))
@@ -171,26 +172,26 @@ nothing_pending s kind sub name max_redeliver dead_topic there other allowed ten
     let differs : has_kind s name kind ≡ false = ap (λ o. option_map_or (λ sub. same_kind sub.kind kind) o false) there ∙ other in
     true≢false (sym (ap₂ (λ a b. a && not b) some differs) ∙ not_refused _ _ _ allowed)
 
-tended_joining : (s : State) (kind : Kind) (m : Member) (sub : Subscription) → subscribing_refused s m.subscription kind m.max_redeliver m.dead_topic ≡ None → find (is_named m.subscription) s.subscriptions ≡ Some sub → IsTendedIn s.log s.members sub → IsTendedIn s.log (s.members ++ m ∷ []) (joining kind m.number sub)
-tended_joining s kind m sub allowed there tended = by (same_kind sub.kind kind) refl
+tended_joining : (s : State) (kind : Kind) (ranges : Option (List HashRange)) (m : Member) (sub : Subscription) → subscribing_refused s m.subscription kind m.max_redeliver m.dead_topic ranges ≡ None → find (is_named m.subscription) s.subscriptions ≡ Some sub → IsTendedIn s.log s.members sub → IsTendedIn s.log (s.members ++ m ∷ []) (joining kind ranges m.number sub)
+tended_joining s kind ranges m sub allowed there tended = by (same_kind sub.kind kind) refl
   where
     by : (b : Bool) → same_kind sub.kind kind ≡ b → IsTended s.log (s.members ++ m ∷ []) sub.name kind sub.pending
     by true same =
         subst (λ (k : Kind). IsTended s.log (s.members ++ m ∷ []) sub.name k sub.pending) (kinds_agree sub.kind kind same)
         (tended_seats s.log s.members (s.members ++ m ∷ []) sub.name sub.kind sub.pending (seats_pushed s.members m) tended)
     by false other =
-        tended_empty s.log (s.members ++ m ∷ []) sub.name kind sub.pending (nothing_pending s kind sub m.subscription m.max_redeliver m.dead_topic there other allowed tended)
+        tended_empty s.log (s.members ++ m ∷ []) sub.name kind sub.pending (nothing_pending s kind sub m.subscription m.max_redeliver m.dead_topic ranges there other allowed tended)
 
-pub kept_joined : (s : State) (kind : Kind) (initial : Initial) (m : Member) → subscribing_refused s m.subscription kind m.max_redeliver m.dead_topic ≡ None → IsKept s → IsKept (with_member s kind initial m)
-kept_joined s kind initial m allowed kept = record { rising = kept.rising; tended = by (find (is_named m.subscription) s.subscriptions) refl }
+pub kept_joined : (s : State) (kind : Kind) (ranges : Option (List HashRange)) (initial : Initial) (m : Member) → subscribing_refused s m.subscription kind m.max_redeliver m.dead_topic ranges ≡ None → IsKept s → IsKept (with_member s kind ranges initial m)
+kept_joined s kind ranges initial m allowed kept = record { rising = kept.rising; tended = by (find (is_named m.subscription) s.subscriptions) refl }
   where
-    by : (o : Option Subscription) → find (is_named m.subscription) s.subscriptions ≡ o → AllTended s.log (s.members ++ m ∷ []) (if is_some o then changed (is_named m.subscription) (joining kind m.number) s.subscriptions else placed (new_subscription m.subscription kind m.number initial s.log) s.subscriptions)
+    by : (o : Option Subscription) → find (is_named m.subscription) s.subscriptions ≡ o → AllTended s.log (s.members ++ m ∷ []) (if is_some o then changed (is_named m.subscription) (joining kind ranges m.number) s.subscriptions else placed (new_subscription m.subscription kind ranges m.number initial s.log) s.subscriptions)
     by (Some sub) found =
-        tended_changed s.log s.log s.members (s.members ++ m ∷ []) m.subscription (joining kind m.number) s.subscriptions (λ sub. refl)
+        tended_changed s.log s.log s.members (s.members ++ m ∷ []) m.subscription (joining kind ranges m.number) s.subscriptions (λ sub. refl)
         (λ sub _ t. tended_seats s.log s.members (s.members ++ m ∷ []) sub.name sub.kind sub.pending (seats_pushed s.members m) t)
-        (λ sub there t. tended_joining s kind m sub allowed there t) kept.tended
+        (λ sub there t. tended_joining s kind ranges m sub allowed there t) kept.tended
     by None none =
-        tended_placed s.log s.members (s.members ++ m ∷ []) (new_subscription m.subscription kind m.number initial s.log) s.subscriptions none_pending none (seats_pushed s.members m) kept.tended
+        tended_placed s.log s.members (s.members ++ m ∷ []) (new_subscription m.subscription kind ranges m.number initial s.log) s.subscriptions none_pending none (seats_pushed s.members m) kept.tended
 
 -- a member that leaves is no other one
 pub other_number : (consumer number : ℕ) (name : List ℕ) (m : Member) → is_member consumer m ≡ true → not (number == consumer) ≡ true → is_seat name number m ≡ false

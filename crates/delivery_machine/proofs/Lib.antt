@@ -43,6 +43,9 @@ pub mod SharesSplit
 pub mod Sharing
 pub mod Halving
 pub mod ShareLaws
+pub mod Sticky
+pub mod StickyLeft
+pub mod SharesByMode
 pub mod Retained
 pub mod Uncollected
 pub mod Seated
@@ -50,10 +53,14 @@ pub mod Formed
 pub mod WellKept
 pub mod WellTaken
 pub mod WellSeated
+pub mod Sharers
 pub mod SharedOut
+pub mod SharesSeated
 pub mod SharesReached
 pub mod WellReached
 pub mod WellFormedStates
 pub mod Journaling
 pub mod ReachedOn
 pub mod Growing
+pub mod TurnedAway
+pub mod Asking

@@ -14,6 +14,7 @@ use Rattle.position_core.specs.declared.topic_name.TopicName.{TopicName}
 use Rattle.position_core.specs.declared.fault.Fault.{Fault}
 use Rattle.position_core.specs.declared.fault.Fault.TheVariants.{WrongKind, ConsumerBusy}
 use Rattle.position_core.specs.Kind.{is_in_order, same_kind}
+use Rattle.position_core.specs.declared.ranges.HashRange.{HashRange}
 use Rattle.delivery_machine.specs.State.{State, Subscription, Member}
 use Rattle.delivery_machine.specs.Words.{changed, removed, is_named, is_at, is_member, is_held_by, is_live, has_kind, active_of, active_at, emptied, emptied_at}
 use Rattle.delivery_machine.specs.Refusals.{subscribing_refused}
@@ -125,8 +126,8 @@ each_taken_over s n before all = by (is_taken_over n before s) refl
 -- ---- joining
 
 -- nobody is at the subscription that a consumer may have for itself
-nobody_before : (s : State) (name : List ℕ) (kind : Kind) (max_redeliver : ℕ) (dead_topic : TopicName) → subscribing_refused s name kind max_redeliver dead_topic ≡ None → kind ≡ Exclusive → seats_at s.members name ≡ 0
-nobody_before s name kind max_redeliver dead_topic allowed exclusive =
+nobody_before : (s : State) (name : List ℕ) (kind : Kind) (max_redeliver : ℕ) (dead_topic : TopicName) (ranges : Option (List HashRange)) → subscribing_refused s name kind max_redeliver dead_topic ranges ≡ None → kind ≡ Exclusive → seats_at s.members name ≡ 0
+nobody_before s name kind max_redeliver dead_topic ranges allowed exclusive =
     none_below (seats_at s.members name) (some_or_not (nat_lt 0 (seats_at s.members name)) (has_kind s name kind) (same_kind kind Exclusive) (itself_exclusive kind exclusive) _ allowed)
   where
     some_or_not : (some has same : Bool) → same ≡ true → (rest : Option Fault) → (if some && not has then Some WrongKind else if some && same then Some ConsumerBusy else rest) ≡ None → some ≡ false
@@ -138,9 +139,9 @@ nobody_before s name kind max_redeliver dead_topic allowed exclusive =
 one_after : (members : List Member) (m : Member) → seats_at members m.subscription ≡ 0 → seats_at (members ++ m ∷ []) m.subscription ≤ 1
 one_after members m none = let more = those_with members m m.subscription (is_same_name m.subscription m.subscription refl) in omega (arith, none, more)
 
-pub each_joined : (s : State) (kind : Kind) (initial : Initial) (m : Member) → subscribing_refused s m.subscription kind m.max_redeliver m.dead_topic ≡ None → IsKept s → EachFirst (IsOrderlyIn s.log s.durable s.members) s.subscriptions
-    → EachFirst (IsOrderlyBut s.log s.durable (s.members ++ m ∷ []) m.subscription (active_at s m.subscription)) (with_member s kind initial m).subscriptions
-each_joined s kind initial m allowed kept all = by (find (is_named m.subscription) s.subscriptions) refl
+pub each_joined : (s : State) (kind : Kind) (ranges : Option (List HashRange)) (initial : Initial) (m : Member) → subscribing_refused s m.subscription kind m.max_redeliver m.dead_topic ranges ≡ None → IsKept s → EachFirst (IsOrderlyIn s.log s.durable s.members) s.subscriptions
+    → EachFirst (IsOrderlyBut s.log s.durable (s.members ++ m ∷ []) m.subscription (active_at s m.subscription)) (with_member s kind ranges initial m).subscriptions
+each_joined s kind ranges initial m allowed kept all = by (find (is_named m.subscription) s.subscriptions) refl
   where
     elsewhere : (sub : Subscription) → is_named m.subscription sub ≡ false → IsOrderlyIn s.log s.durable s.members sub → IsOrderlyBut s.log s.durable (s.members ++ m ∷ []) m.subscription (active_at s m.subscription) sub
     elsewhere sub other was = (
@@ -155,7 +156,7 @@ each_joined s kind initial m allowed kept all = by (find (is_named m.subscriptio
       λ here. absurd (true≢false (sym here ∙ other)),
     )
 
-    here : (sub : Subscription) → find (is_named m.subscription) s.subscriptions ≡ Some sub → IsOrderlyIn s.log s.durable s.members sub → is_in_order kind ≡ true → WasOrderly s.log s.durable (s.members ++ m ∷ []) (active_at s m.subscription) (joining kind m.number sub)
+    here : (sub : Subscription) → find (is_named m.subscription) s.subscriptions ≡ Some sub → IsOrderlyIn s.log s.durable s.members sub → is_in_order kind ≡ true → WasOrderly s.log s.durable (s.members ++ m ∷ []) (active_at s m.subscription) (joining kind ranges m.number sub)
     here sub found was order = by_kind (same_kind sub.kind kind) refl
       where
         named : sub.name ≡ m.subscription
@@ -167,14 +168,14 @@ each_joined s kind initial m allowed kept all = by (find (is_named m.subscriptio
         alone : kind ≡ Exclusive → seats_at (s.members ++ m ∷ []) sub.name ≤ 1
         alone exclusive =
             subst (λ (n : List ℕ). seats_at (s.members ++ m ∷ []) n ≤ 1) (sym named)
-            (one_after s.members m (nobody_before s m.subscription kind m.max_redeliver m.dead_topic allowed exclusive))
+            (one_after s.members m (nobody_before s m.subscription kind m.max_redeliver m.dead_topic ranges allowed exclusive))
 
         nothing : kind ≡ Exclusive → IsIdle sub
         nothing exclusive =
             idle_without_members s.log s.members sub tended
-            (ap (seats_at s.members) named ∙ nobody_before s m.subscription kind m.max_redeliver m.dead_topic allowed exclusive)
+            (ap (seats_at s.members) named ∙ nobody_before s m.subscription kind m.max_redeliver m.dead_topic ranges allowed exclusive)
 
-        by_kind : (b : Bool) → same_kind sub.kind kind ≡ b → WasOrderly s.log s.durable (s.members ++ m ∷ []) (active_at s m.subscription) (joining kind m.number sub)
+        by_kind : (b : Bool) → same_kind sub.kind kind ≡ b → WasOrderly s.log s.durable (s.members ++ m ∷ []) (active_at s m.subscription) (joining kind ranges m.number sub)
         by_kind true same =
             let one = was (ap is_in_order (kinds_agree sub.kind kind same) ∙ order) in
             record {
@@ -184,9 +185,9 @@ each_joined s kind initial m allowed kept all = by (find (is_named m.subscriptio
               idle = nothing;
             }
         by_kind false other =
-            let idle : IsIdle sub = nothing_pending s kind sub m.subscription m.max_redeliver m.dead_topic found other allowed tended in
+            let idle : IsIdle sub = nothing_pending s kind sub m.subscription m.max_redeliver m.dead_topic ranges found other allowed tended in
             record {
-              leads = leads_idle s.log s.durable (joining kind m.number sub) idle;
+              leads = leads_idle s.log s.durable (joining kind ranges m.number sub) idle;
               at_active = λ p h is. absurd (idle p h is);
               alone = alone;
               idle = nothing;
@@ -194,20 +195,20 @@ each_joined s kind initial m allowed kept all = by (find (is_named m.subscriptio
 
     by : (o : Option Subscription) → find (is_named m.subscription) s.subscriptions ≡ o
         → EachFirst (IsOrderlyBut s.log s.durable (s.members ++ m ∷ []) m.subscription (active_at s m.subscription))
-        (if is_some o then changed (is_named m.subscription) (joining kind m.number) s.subscriptions else placed (new_subscription m.subscription kind m.number initial s.log) s.subscriptions)
+        (if is_some o then changed (is_named m.subscription) (joining kind ranges m.number) s.subscriptions else placed (new_subscription m.subscription kind ranges m.number initial s.log) s.subscriptions)
     by (Some first) found =
-        each_changed (IsOrderlyIn s.log s.durable s.members) (IsOrderlyBut s.log s.durable (s.members ++ m ∷ []) m.subscription (active_at s m.subscription)) m.subscription (joining kind m.number) s.subscriptions (λ _. refl)
+        each_changed (IsOrderlyIn s.log s.durable s.members) (IsOrderlyBut s.log s.durable (s.members ++ m ∷ []) m.subscription (active_at s m.subscription)) m.subscription (joining kind ranges m.number) s.subscriptions (λ _. refl)
         elsewhere
         (λ sub there was. (λ other. absurd (true≢false (sym (found_passes (is_named m.subscription) s.subscriptions sub there) ∙ other)), λ _ order. here sub there was order))
         all
     by None none =
-        let new : Subscription = new_subscription m.subscription kind m.number initial s.log in
+        let new : Subscription = new_subscription m.subscription kind ranges m.number initial s.log in
         each_placed (IsOrderlyIn s.log s.durable s.members) (IsOrderlyBut s.log s.durable (s.members ++ m ∷ []) m.subscription (active_at s m.subscription)) new s.subscriptions none (
           λ other. absurd (true≢false (sym (is_same_name m.subscription m.subscription refl) ∙ other)),
           λ _ order. record {
             leads = leads_idle s.log s.durable new none_pending;
             at_active = λ p h is. absurd (none_pending p h is);
-            alone = λ exclusive. one_after s.members m (nobody_before s m.subscription kind m.max_redeliver m.dead_topic allowed exclusive);
+            alone = λ exclusive. one_after s.members m (nobody_before s m.subscription kind m.max_redeliver m.dead_topic ranges allowed exclusive);
             idle = λ _. none_pending;
           },
         )

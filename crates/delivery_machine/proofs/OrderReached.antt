@@ -331,8 +331,8 @@ takes_order s (StoredTo count ordinal) reply t allowed h kept all =
     let below = all.durable in
     settled t _ h.1 (order_stored s (storing_below ordinal) (max s.durable (min count (length s.log))) (taken_stored_to ordinal) (λ _. refl) (omega arith) (omega arith) all)
 takes_order s Progress reply t allowed h kept all = settled t s h.1 all
-takes_order s (Subscribe name kind level flow ack_timeout nack_delay max_redeliver dead_topic initial) reply t allowed h kept all =
-    settled t _ h.1 (order_over _ name (active_at s name) all.durable (each_joined s kind initial _ allowed kept all.each))
+takes_order s (Subscribe name kind level flow ack_timeout nack_delay max_redeliver dead_topic initial ranges) reply t allowed h kept all =
+    settled t _ h.1 (order_over _ name (active_at s name) all.durable (each_joined s kind ranges initial _ allowed kept all.each))
 takes_order s (Leave consumer) reply t allowed h kept all =
     some_elim (find (is_member consumer) s.members) _ (AllOrderly t) h.1 (λ m found is.
     settled t _ is (order_over (without_member s consumer m.subscription) m.subscription (active_at s m.subscription) all.durable (each_left s consumer m found kept all.each)))

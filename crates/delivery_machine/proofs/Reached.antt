@@ -70,8 +70,8 @@ takes_keeps s (Publish producer sequence body now) reply t allowed h kept =
 takes_keeps s Stored reply t allowed h kept = settled t _ h.1 (kept_stored s kept)
 takes_keeps s (StoredTo count ordinal) reply t allowed h kept = settled t _ h.1 (kept_stored_to s count ordinal kept)
 takes_keeps s Progress reply t allowed h kept = settled t s h.1 kept
-takes_keeps s (Subscribe name kind level flow ack_timeout nack_delay max_redeliver dead_topic initial) reply t allowed h kept =
-    settled t _ h.1 (kept_taken_over _ name (active_at s name) (kept_joined s kind initial _ allowed kept))
+takes_keeps s (Subscribe name kind level flow ack_timeout nack_delay max_redeliver dead_topic initial ranges) reply t allowed h kept =
+    settled t _ h.1 (kept_taken_over _ name (active_at s name) (kept_joined s kind ranges initial _ allowed kept))
 takes_keeps s (Leave consumer) reply t allowed h kept =
     some_elim (find (is_member consumer) s.members) _ (IsKept t) h.1 (λ m found is.
     settled t _ is (kept_taken_over (without_member s consumer m.subscription) m.subscription (active_at s m.subscription) (kept_left s consumer m found kept)))

@@ -1,4 +1,4 @@
--- Shares stay shares as consumers join and leave, and change hands by the rule.
+-- Shares that split all hashes go on to do so as consumers join and leave, and change hands by the rule.
 use Rattle.std.proofs.Common.{◌≡◌, ℕ, ◌+◌, ◌*◌, ◌<◌, ◌≤◌, zero, suc, Bool, true, false, cond, eqb, List, [], ◌∷◌, map, length, Some, inl, inr, refl, sym, subst, arith, All}
 use Rattle.std.specs.Prelude.{◌≢◌, ◌||◌, ◌&&◌, nat_eq}
 use Rattle.std.specs.List.{AllByRecursion, IsDistinct, list_any}
@@ -6,8 +6,8 @@ use Rattle.std.proofs.lemmas.Bool.{cases_lt}
 use Rattle.std.proofs.lemmas.Bool.Decides.{nat_tests}
 use Rattle.std.proofs.lemmas.Map.Keys.{IsDistinct-cons, IsDistinct-head, IsDistinct-tail}
 use Rattle.position_core.specs.declared.block.Block.{Block}
-use Rattle.delivery_machine.specs.Shares.{owner_of, lower_half, upper_half, halving, most_hashes, shared_out, all_hashes, is_share_of, with_lower, with_upper, given_back, SplitAllHashes}
-use Rattle.delivery_machine.specs.ShareSets.{AreShares, TakesHalf, GivesBack, Joins, Leaves, SharesAreSets}
+use Rattle.delivery_machine.specs.Shares.{owner_among, lower_half, upper_half, halving, most_hashes, shared_out, all_hashes, is_share_of, with_lower, with_upper, given_back, SplitAllHashes}
+use Rattle.delivery_machine.specs.ShareSets.{AreSplit, TakesHalf, GivesBack}
 use Rattle.delivery_machine.proofs.SharesSplit.{split_shared_out, split_given_back}
 use Rattle.delivery_machine.proofs.Sharing.{goes, inside, owner_here}
 use Rattle.delivery_machine.proofs.Halving.{halves, HalvesFrom, within_most, largest_there, row_total}
@@ -149,20 +149,20 @@ large b bs split few =
         one n = grind arith
     too_few n (suc (suc m)) few small total = omega (arith, small)
 
-pub shares_joined : (consumer : ℕ) (shares : List Block) → AreShares shares → list_any (is_share_of consumer) shares ≡ false → length shares < 64 → AreShares (shared_out consumer shares)
-shares_joined consumer [] are away few = record {
+pub split_joined : (consumer : ℕ) (shares : List Block) → AreSplit shares → list_any (is_share_of consumer) shares ≡ false → length shares < 64 → AreSplit (shared_out consumer shares)
+split_joined consumer [] are away few = record {
   split = split_shared_out consumer [] tt;
   some = all_from HasSome (all_hashes consumer ∷ []) (omega arith, tt);
   distinct = IsDistinct-cons nat_eq consumer [] tt are.distinct;
 }
-shares_joined consumer (b ∷ bs) are away few = record {
+split_joined consumer (b ∷ bs) are away few = record {
   split = split_shared_out consumer (b ∷ bs) are.split;
   some = all_from HasSome (halving (most_hashes (b ∷ bs)) consumer (b ∷ bs)) (some_halved (most_hashes (b ∷ bs)) consumer (b ∷ bs) (large b bs are.split few) (all_to HasSome (b ∷ bs) are.some));
   distinct = distinct_halved (most_hashes (b ∷ bs)) consumer (b ∷ bs) away are.distinct;
 }
 
-pub shares_left : (consumer : ℕ) (shares : List Block) → AreShares shares → AreShares (given_back consumer shares)
-shares_left consumer shares are = record {
+pub split_left : (consumer : ℕ) (shares : List Block) → AreSplit shares → AreSplit (given_back consumer shares)
+split_left consumer shares are = record {
   split = split_given_back consumer shares are.split;
   some = all_from HasSome (given_back consumer shares) (some_given_back consumer shares (all_to HasSome shares are.some));
   distinct = distinct_given_back consumer shares are.distinct;
@@ -185,25 +185,16 @@ takes_half consumer b bs split =
       others = halved.others;
     }
 
-first_takes_all : (consumer : ℕ) (shares : List Block) → shares ≡ [] → (hash : ℕ) → hash < 65536 → owner_of (shared_out consumer shares) hash ≡ Some consumer
+pub first_takes_all : (consumer : ℕ) (shares : List Block) → shares ≡ [] → (hash : ℕ) → hash < 65536 → owner_among (shared_out consumer shares) hash ≡ Some consumer
 first_takes_all consumer [] none hash below = owner_here hash (all_hashes consumer) [] (inside hash (all_hashes consumer) (omega arith) (omega arith))
 first_takes_all consumer (b ∷ bs) none hash below = cc
 
-others_take_half : (consumer : ℕ) (shares : List Block) → AreShares shares → shares ≢ [] → TakesHalf consumer shares (shared_out consumer shares)
+pub others_take_half : (consumer : ℕ) (shares : List Block) → AreSplit shares → shares ≢ [] → TakesHalf consumer shares (shared_out consumer shares)
 others_take_half consumer [] are some = absurd (some refl)
 others_take_half consumer (b ∷ bs) are some = takes_half consumer b bs are.split
 
-joins : Joins
-joins consumer shares are away = (first_takes_all consumer shares, others_take_half consumer shares are, shares_joined consumer shares are away)
-
-gives_back : (consumer : ℕ) (shares : List Block) → AreShares shares → list_any (is_share_of consumer) shares ≡ true → GivesBack consumer shares (given_back consumer shares)
+pub gives_back : (consumer : ℕ) (shares : List Block) → AreSplit shares → list_any (is_share_of consumer) shares ≡ true → GivesBack consumer shares (given_back consumer shares)
 gives_back consumer [] are there = cc
 gives_back consumer (b ∷ bs) are there =
     let from = goes 0 consumer (b ∷ bs) are.split (all_to HasSome (b ∷ bs) are.some) there in
     record { gone = from.gone; there = from.there; leaver = from.leaver; given = from.given; others = from.others }
-
-leaves : Leaves
-leaves consumer shares are there = (gives_back consumer shares are there, shares_left consumer shares are)
-
-pub shares_are_sets : SharesAreSets
-shares_are_sets = (joins, leaves)

@@ -1,68 +1,37 @@
 -- In Key_Shared each member of a subscription has a share, and nobody else, whoever joins or leaves.
-use Rattle.std.proofs.Common.{◌≡◌, ℕ, ◌+◌, ◌<◌, List, [], ◌∷◌, map, length, Bool, true, false, cond, eqb, refl, ap, ◌∙◌, sym, subst, suc, arith}
-use Rattle.std.specs.Prelude.{◌==◌, ◌&&◌, ◌||◌, not, nat_eq, if◌then◌else◌}
-use Rattle.std.specs.List.{AllByRecursion, IsDistinct, list_any}
+use Rattle.std.proofs.Common.{◌≡◌, ℕ, ◌+◌, ◌<◌, List, [], ◌∷◌, length, Option, Some, None, Bool, true, false, cond, refl, ap, ◌∙◌, sym, subst, arith}
+use Rattle.std.specs.Prelude.{IfSome, ◌==◌, ◌&&◌, ◌||◌, not, if◌then◌else◌}
+use Rattle.std.specs.List.{list_any}
 use Rattle.std.proofs.lemmas.Bool.Decides.{nat_tests}
-use Rattle.std.proofs.lemmas.Map.Keys.{IsDistinct-head, IsDistinct-tail}
 use Rattle.position_core.specs.declared.block.Block.{Block}
 use Rattle.position_core.specs.declared.kind.Kind.{Kind}
 use Rattle.position_core.specs.declared.kind.Kind.TheVariants.{Exclusive, Failover, Shared, KeyShared}
 use Rattle.position_core.specs.Kind.{same_kind}
-use Rattle.delivery_machine.specs.Shares.{lower_half, upper_half, halving, most_hashes, shared_out, shares_with, is_share_of, with_lower, with_upper, given_back}
+use Rattle.position_core.specs.declared.ranges.HashRange.{HashRange}
+use Rattle.position_core.specs.Ranges.{AreRanges}
+use Rattle.delivery_machine.specs.Shares.{Shares, no_shares, shares_with, shares_without, sticky_shares, is_taken, mixes, asks_taken, is_share_of, given_back}
 use Rattle.delivery_machine.specs.ShareSets.{AreShares}
 use Rattle.delivery_machine.proofs.Kept.{kinds_agree}
-use Rattle.delivery_machine.proofs.Halving.{largest_there}
-use Rattle.delivery_machine.proofs.ShareLaws.{shares_joined, shares_left}
+use Rattle.delivery_machine.proofs.Sticky.{any_with_ranges}
+use Rattle.delivery_machine.proofs.StickyLeft.{others, any_of_others}
+use Rattle.delivery_machine.proofs.SharesByMode.{none_split, nobody_shares, shares_joined, shares_joined_sticky, shares_left, split_unless_sticky, without_where_split, without_where_sticky}
+use Rattle.delivery_machine.proofs.Sharers.{any_shared_out, length_shared_out, any_given_back, length_given_back}
 
--- in Key_Shared the consumers of the shares are those that are there; in the other kinds there are no shares
-pub record HaveShares (kind : Kind) (shares : List Block) (there : ℕ → Bool) (count : ℕ) : Type 0 where
+-- in Key_Shared the consumers of the shares are those that are there, with one share each where all hashes are split; in the
+-- other kinds there are no shares
+pub record HaveShares (kind : Kind) (shares : Shares) (there : ℕ → Bool) (count : ℕ) : Type 0 where
   pub are : AreShares shares
-  pub owners : (number : ℕ) → list_any (is_share_of number) shares ≡ (same_kind kind KeyShared && there number)
-  pub as_many : length shares ≡ (if same_kind kind KeyShared then count else 0)
+  pub owners : (number : ℕ) → list_any (is_share_of number) shares.blocks ≡ (same_kind kind KeyShared && there number)
+  pub as_many : shares.sticky ≡ false → length shares.blocks ≡ (if same_kind kind KeyShared then count else 0)
 
-pub shares_of_same : (kind : Kind) (shares : List Block) (there there' : ℕ → Bool) (count count' : ℕ) → ((number : ℕ) → there' number ≡ there number) → count' ≡ count → HaveShares kind shares there count → HaveShares kind shares there' count'
+pub shares_of_same : (kind : Kind) (shares : Shares) (there there' : ℕ → Bool) (count count' : ℕ) → ((number : ℕ) → there' number ≡ there number) → count' ≡ count → HaveShares kind shares there count → HaveShares kind shares there' count'
 shares_of_same kind shares there there' count count' same as_many have = record {
   are = have.are;
   owners = λ number. have.owners number ∙ sym (ap (λ b. same_kind kind KeyShared && b) (same number));
-  as_many = have.as_many ∙ sym (ap (λ (n : ℕ). if same_kind kind KeyShared then n else 0) as_many);
+  as_many = λ split. have.as_many split ∙ sym (ap (λ (n : ℕ). if same_kind kind KeyShared then n else 0) as_many);
 }
 
 -- ---- joining
-
-any_halved : (number size consumer : ℕ) (bs : List Block) → list_any (λ b. b.size == size) bs ≡ true → list_any (is_share_of number) (halving size consumer bs) ≡ (list_any (is_share_of number) bs || consumer == number)
-any_halved number size consumer [] there = cc
-any_halved number size consumer (b ∷ bs) there = by (eqb b.size size) there (any_halved number size consumer bs)
-  where
-    here : (new old rest : Bool) → (new || (old || rest)) ≡ ((old || rest) || new)
-    here new old rest = grind (arith, nat_tests)
-
-    later : (new old rest more : Bool) → more ≡ (rest || new) → (old || more) ≡ ((old || rest) || new)
-    later new old rest more e = grind (arith, nat_tests)
-
-    by : (t : Bool) → (t || list_any (λ x. x.size == size) bs) ≡ true → (list_any (λ x. x.size == size) bs ≡ true → list_any (is_share_of number) (halving size consumer bs) ≡ (list_any (is_share_of number) bs || consumer == number))
-        → list_any (is_share_of number) (cond t (lower_half consumer b ∷ upper_half b ∷ bs) (b ∷ halving size consumer bs)) ≡ ((is_share_of number b || list_any (is_share_of number) bs) || consumer == number)
-    by true there rest = here (consumer == number) (is_share_of number b) (list_any (is_share_of number) bs)
-    by false there rest = later (consumer == number) (is_share_of number b) (list_any (is_share_of number) bs) (list_any (is_share_of number) (halving size consumer bs)) (rest there)
-
-length_halved : (size consumer : ℕ) (bs : List Block) → list_any (λ b. b.size == size) bs ≡ true → length (halving size consumer bs) ≡ length bs + 1
-length_halved size consumer [] there = cc
-length_halved size consumer (b ∷ bs) there = by (eqb b.size size) there (length_halved size consumer bs)
-  where
-    by : (t : Bool) → (t || list_any (λ x. x.size == size) bs) ≡ true → (list_any (λ x. x.size == size) bs ≡ true → length (halving size consumer bs) ≡ length bs + 1)
-        → length (cond t (lower_half consumer b ∷ upper_half b ∷ bs) (b ∷ halving size consumer bs)) ≡ length (b ∷ bs) + 1
-    by true there rest = omega arith
-    by false there rest = let more = rest there in omega (arith, more)
-
-any_shared_out : (number consumer : ℕ) (bs : List Block) → list_any (is_share_of number) (shared_out consumer bs) ≡ (list_any (is_share_of number) bs || consumer == number)
-any_shared_out number consumer [] = alone (consumer == number)
-  where
-    alone : (t : Bool) → (t || false) ≡ (false || t)
-    alone t = grind (arith, nat_tests)
-any_shared_out number consumer (b ∷ bs) = any_halved number (most_hashes (b ∷ bs)) consumer (b ∷ bs) (largest_there b bs)
-
-length_shared_out : (consumer : ℕ) (bs : List Block) → length (shared_out consumer bs) ≡ length bs + 1
-length_shared_out consumer [] = omega arith
-length_shared_out consumer (b ∷ bs) = length_halved (most_hashes (b ∷ bs)) consumer (b ∷ bs) (largest_there b bs)
 
 never : (t : Bool) → (t && false) ≡ false
 never t = grind (arith, nat_tests)
@@ -72,186 +41,137 @@ zero_ever true = refl
 zero_ever false = refl
 
 -- where nobody is there, there are no shares, and any kind may come
-pub no_shares : (kind : Kind) (there : ℕ → Bool) → ((number : ℕ) → there number ≡ false) → AreShares [] → HaveShares kind [] there 0
-no_shares kind there nobody are = record {
-  are = are;
+pub nobody_there : (kind : Kind) (there : ℕ → Bool) → ((number : ℕ) → there number ≡ false) → HaveShares kind no_shares there 0
+nobody_there kind there nobody = record {
+  are = none_split;
   owners = λ number. sym (ap (λ b. same_kind kind KeyShared && b) (nobody number) ∙ never (same_kind kind KeyShared));
-  as_many = sym (zero_ever (same_kind kind KeyShared));
+  as_many = λ split. sym (zero_ever (same_kind kind KeyShared));
 }
 
-pub of_any_kind : (old kind : Kind) (shares : List Block) (there : ℕ → Bool) (count : ℕ) → (same_kind old kind ≡ false → (count ≡ 0) × ((number : ℕ) → there number ≡ false)) → HaveShares old shares there count → HaveShares kind shares there count
+pub none_where_nobody : (kind : Kind) (shares : Shares) (there : ℕ → Bool) (count : ℕ) → ((number : ℕ) → there number ≡ false) → HaveShares kind shares there count → shares ≡ no_shares
+none_where_nobody kind shares there count nobody have =
+    nobody_shares shares have.are (λ number. have.owners number ∙ ap (λ b. same_kind kind KeyShared && b) (nobody number) ∙ never (same_kind kind KeyShared))
+
+pub of_any_kind : (old kind : Kind) (shares : Shares) (there : ℕ → Bool) (count : ℕ) → (same_kind old kind ≡ false → (count ≡ 0) × ((number : ℕ) → there number ≡ false)) → HaveShares old shares there count → HaveShares kind shares there count
 of_any_kind old kind shares there count free have = by (same_kind old kind) refl
   where
-    emptied : (shares : List Block) → (count ≡ 0) × ((number : ℕ) → there number ≡ false) → HaveShares old shares there count → HaveShares kind shares there count
-    emptied [] none had = shares_of_same kind [] there there 0 count (λ _. refl) none.0 (no_shares kind there none.1 had.are)
-    emptied (b ∷ bs) none had = absurd (some_left (had.as_many ∙ ap (λ (n : ℕ). if same_kind old KeyShared then n else 0) none.0 ∙ zero_ever (same_kind old KeyShared)))
-      where
-        some_left : length (b ∷ bs) ≡ 0 → ⊥
-        some_left e = omega (arith, e)
-
     by : (t : Bool) → same_kind old kind ≡ t → HaveShares kind shares there count
     by true same = subst (λ (k : Kind). HaveShares k shares there count) (kinds_agree old kind same) have
-    by false other = emptied shares (free other) have
+    by false other =
+        let none = free other in
+        subst (λ (left : Shares). HaveShares kind left there count) (sym (none_where_nobody old shares there count none.1 have))
+        (shares_of_same kind no_shares there there 0 count (λ _. refl) none.0 (nobody_there kind there none.1))
+
+-- what joining with the ranges, or without any, needs of the shares
+abbrev pub MayShare : Kind → Option (List HashRange) → Shares → Type 0
+MayShare KeyShared None shares = shares.sticky ≡ false
+MayShare KeyShared (Some ranges) shares = AreRanges ranges × (is_taken ranges shares ≡ false)
+MayShare Exclusive ranges shares = Unit {0}
+MayShare Failover ranges shares = Unit {0}
+MayShare Shared ranges shares = Unit {0}
+
+-- the policy is that of the consumers, where there are any, and nobody has the hashes
+pub may_share : (kind : Kind) (ranges : Option (List HashRange)) (shares : Shares) (some : Bool) → IfSome ranges AreRanges → (some && mixes kind ranges shares) ≡ false → asks_taken kind ranges shares ≡ false → (some ≡ false → shares ≡ no_shares) → MayShare kind ranges shares
+may_share KeyShared None shares some ranged pure free none = by shares.sticky refl
+  where
+    nobody : (s : Bool) → (s && true) ≡ false → s ≡ false
+    nobody s e = grind (arith, nat_tests)
+
+    by : (t : Bool) → shares.sticky ≡ t → shares.sticky ≡ false
+    by false is = is
+    by true is = ap (λ (shares : Shares). shares.sticky) (none (nobody some (sym (ap (λ t. some && (if t then true else false)) is) ∙ pure)))
+may_share KeyShared (Some ranges) shares some ranged pure free none = (ranged, free)
+may_share Exclusive ranges shares some ranged pure free none = tt
+may_share Failover ranges shares some ranged pure free none = tt
+may_share Shared ranges shares some ranged pure free none = tt
+
+-- so it is where nobody was
+pub may_share_first : (kind : Kind) (ranges : Option (List HashRange)) → IfSome ranges AreRanges → MayShare kind ranges no_shares
+may_share_first KeyShared None ranged = refl
+may_share_first KeyShared (Some ranges) ranged = (ranged, nothing_taken ranges)
+  where
+    nothing_taken : (ranges : List HashRange) → is_taken ranges no_shares ≡ false
+    nothing_taken [] = refl
+    nothing_taken (r ∷ rs) = nothing_taken rs
+may_share_first Exclusive ranges ranged = tt
+may_share_first Failover ranges ranged = tt
+may_share_first Shared ranges ranged = tt
 
 -- a further member
-pub shares_pushed : (kind : Kind) (shares : List Block) (there there' : ℕ → Bool) (count count' consumer : ℕ) → there consumer ≡ false → count < 64
-    → ((number : ℕ) → there' number ≡ (there number || consumer == number)) → count' ≡ count + 1 → HaveShares kind shares there count → HaveShares kind (shares_with kind consumer shares) there' count'
-shares_pushed KeyShared shares there there' count count' consumer away few more one have = record {
-  are = shares_joined consumer shares have.are (have.owners consumer ∙ away) (let n = have.as_many in omega (arith, n));
-  owners = λ number. any_shared_out number consumer shares ∙ ap (λ t. t || consumer == number) (have.owners number) ∙ sym (more number);
-  as_many = let n = have.as_many in let m = length_shared_out consumer shares in omega (arith, n, m);
+pub shares_pushed : (kind : Kind) (ranges : Option (List HashRange)) (shares : Shares) (there there' : ℕ → Bool) (count count' consumer : ℕ) → MayShare kind ranges shares → there consumer ≡ false → count < 64
+    → ((number : ℕ) → there' number ≡ (there number || consumer == number)) → count' ≡ count + 1 → HaveShares kind shares there count → HaveShares kind (shares_with kind ranges consumer shares) there' count'
+shares_pushed KeyShared None shares there there' count count' consumer split away few more one have =
+    let n : length shares.blocks ≡ count = have.as_many split in record {
+      are = shares_joined consumer shares have.are split (have.owners consumer ∙ away) (omega (arith, n));
+      owners = λ number. any_shared_out number consumer shares.blocks ∙ ap (λ t. t || consumer == number) (have.owners number) ∙ sym (more number);
+      as_many = λ _. let m = length_shared_out consumer shares.blocks in omega (arith, n, m);
+    }
+shares_pushed KeyShared (Some ranges) shares there there' count count' consumer may away few more one have = record {
+  are = shares_joined_sticky consumer ranges shares may.0 have.are may.1;
+  owners = λ number. any_with_ranges consumer number ranges shares.blocks may.0.some ∙ ap (λ t. t || consumer == number) (have.owners number) ∙ sym (more number);
+  as_many = λ split. cc;
 }
-shares_pushed Exclusive shares there there' count count' consumer away few more one have = record { are = have.are; owners = have.owners; as_many = have.as_many }
-shares_pushed Failover shares there there' count count' consumer away few more one have = record { are = have.are; owners = have.owners; as_many = have.as_many }
-shares_pushed Shared shares there there' count count' consumer away few more one have = record { are = have.are; owners = have.owners; as_many = have.as_many }
+shares_pushed Exclusive ranges shares there there' count count' consumer may away few more one have = record { are = have.are; owners = have.owners; as_many = have.as_many }
+shares_pushed Failover ranges shares there there' count count' consumer may away few more one have = record { are = have.are; owners = have.owners; as_many = have.as_many }
+shares_pushed Shared ranges shares there there' count count' consumer may away few more one have = record { are = have.are; owners = have.owners; as_many = have.as_many }
 
 -- ---- leaving
 
-abbrev consumers : List Block → List ℕ
-consumers shares = map (λ b. b.consumer) shares
+any_of_sticky : (number : ℕ) (bs : List Block) → list_any (is_share_of number) (sticky_shares bs).blocks ≡ list_any (is_share_of number) bs
+any_of_sticky number [] = refl
+any_of_sticky number (b ∷ bs) = refl
 
-none_of : (c number : ℕ) (bs : List Block) → c ≡ number → AllByRecursion (λ d. nat_eq c d ≡ false) (consumers bs) → list_any (is_share_of number) bs ≡ false
-none_of c number [] is all = refl
-none_of c number (b ∷ bs) is all = both (is_share_of number b) (list_any (is_share_of number) bs) (other b.consumer all.0) (none_of c number bs is all.1)
-  where
-    other : (d : ℕ) → nat_eq c d ≡ false → (d == number) ≡ false
-    other d e = grind (arith, nat_tests)
-
-    both : (s t : Bool) → s ≡ false → t ≡ false → (s || t) ≡ false
-    both s t e f = grind (arith, nat_tests)
-
--- what is told of a share that goes, and of those that stay
-module _ (number consumer : ℕ) where
-  gone_first : (c : ℕ) (rest : Bool) → (c == consumer) ≡ true → (consumer == number ≡ true → rest ≡ false) → rest ≡ (((c == number) || rest) && not (number == consumer))
-  gone_first c rest is none = by (c == number) (number == consumer) refl refl
-    where
-      by : (s t : Bool) → (c == number) ≡ s → (number == consumer) ≡ t → rest ≡ ((s || rest) && not t)
-      by true true same mine = none (turn consumer number mine) ∙ sym (never (true || rest))
-        where
-          turn : (a b : ℕ) → (b == a) ≡ true → (a == b) ≡ true
-          turn a b e = grind (arith, nat_tests)
-
-          never : (b : Bool) → (b && false) ≡ false
-          never b = grind (arith, nat_tests)
-      by true false same other = absurd (apart c number consumer same is other)
-        where
-          apart : (a b d : ℕ) → (a == b) ≡ true → (a == d) ≡ true → (b == d) ≡ false → ⊥
-          apart a b d e f g = grind (arith, nat_tests)
-      by false true differs mine = absurd (apart c number consumer differs is mine)
-        where
-          apart : (a b d : ℕ) → (a == b) ≡ false → (a == d) ≡ true → (b == d) ≡ true → ⊥
-          apart a b d e f g = grind (arith, nat_tests)
-      by false false differs other = keeps rest
-        where
-          keeps : (b : Bool) → b ≡ ((false || b) && true)
-          keeps b = grind (arith, nat_tests)
-
-  stays_first : (c : ℕ) (rest more : Bool) → (c == consumer) ≡ false → more ≡ (rest && not (number == consumer)) → ((c == number) || more) ≡ (((c == number) || rest) && not (number == consumer))
-  stays_first c rest more other e = by (c == number) (number == consumer) refl refl e
-    where
-      by : (s t : Bool) → (c == number) ≡ s → (number == consumer) ≡ t → more ≡ (rest && not t) → (s || more) ≡ ((s || rest) && not t)
-      by true true same mine e = absurd (apart c number consumer same mine other)
-        where
-          apart : (a b d : ℕ) → (a == b) ≡ true → (b == d) ≡ true → (a == d) ≡ false → ⊥
-          apart a b d e f g = grind (arith, nat_tests)
-      by true false same differs e = refl
-      by false true differs mine e = e
-      by false false differs other' e = e
-
-  any_given_back : (bs : List Block) → IsDistinct nat_eq (consumers bs) → list_any (is_share_of consumer) bs ≡ true → list_any (is_share_of number) (given_back consumer bs) ≡ (list_any (is_share_of number) bs && not (number == consumer))
-  any_given_back [] distinct there = cc
-  any_given_back (a ∷ []) distinct there = by (is_share_of consumer a) refl
-    where
-      by : (t : Bool) → is_share_of consumer a ≡ t → list_any (is_share_of number) (cond t [] (a ∷ [])) ≡ ((is_share_of number a || false) && not (number == consumer))
-      by true is = gone_first a.consumer false is (λ _. refl)
-      by false other = absurd (none (is_share_of consumer a) other there)
-        where
-          none : (t : Bool) → t ≡ false → (t || false) ≡ true → ⊥
-          none t e f = grind (arith, nat_tests)
-  any_given_back (a ∷ b ∷ rest) distinct there =
-      by (is_share_of consumer a) refl (is_share_of consumer b) refl (eqb (length rest) 0) refl (any_given_back (b ∷ rest) (IsDistinct-tail nat_eq a.consumer (consumers (b ∷ rest)) distinct))
-    where
-      skip : (t u : Bool) → t ≡ false → (t || u) ≡ true → u ≡ true
-      skip t u e f = grind (arith, nat_tests)
-
-      same : (c d : ℕ) → (c == d) ≡ true → (d == number) ≡ true → c ≡ number
-      same c d e f = grind (arith, nat_tests)
-
-      some_more : (n : ℕ) → eqb (suc n) 0 ≡ true → ⊥
-      some_more n e = grind (arith, nat_tests)
-
-      nobody : (rest : List Block) → eqb (length rest) 0 ≡ true → list_any (is_share_of number) rest ≡ false
-      nobody [] none = refl
-      nobody (r ∷ rest) none = absurd (some_more (length rest) none)
-
-      by : (s : Bool) → is_share_of consumer a ≡ s → (t : Bool) → is_share_of consumer b ≡ t → (last : Bool) → eqb (length rest) 0 ≡ last
-          → (list_any (is_share_of consumer) (b ∷ rest) ≡ true → list_any (is_share_of number) (given_back consumer (b ∷ rest)) ≡ (list_any (is_share_of number) (b ∷ rest) && not (number == consumer)))
-          → list_any (is_share_of number) (cond s (with_lower a b ∷ rest) (cond (t && last) (with_upper b a ∷ []) (a ∷ given_back consumer (b ∷ rest)))) ≡ ((is_share_of number a || list_any (is_share_of number) (b ∷ rest)) && not (number == consumer))
-      by true is t that last none deeper =
-          gone_first a.consumer (list_any (is_share_of number) (b ∷ rest)) is (λ mine. none_of a.consumer number (b ∷ rest) (same a.consumer consumer is mine) (IsDistinct-head nat_eq a.consumer (consumers (b ∷ rest)) distinct))
-      by false other true is true none deeper =
-          stays_first a.consumer (list_any (is_share_of number) (b ∷ rest)) false other
-          (ap (λ u. u) (alone (list_any (is_share_of number) rest) (nobody rest none) (gone_first b.consumer (list_any (is_share_of number) rest) is (λ _. nobody rest none))))
-        where
-          alone : (u : Bool) → u ≡ false → u ≡ ((is_share_of number b || u) && not (number == consumer)) → false ≡ ((is_share_of number b || u) && not (number == consumer))
-          alone u e f = sym e ∙ f
-      by false other true is false more deeper = stays_first a.consumer (list_any (is_share_of number) (b ∷ rest)) (list_any (is_share_of number) (given_back consumer (b ∷ rest))) other (deeper (skip (is_share_of consumer a) _ other there))
-      by false other false not_this last more deeper = stays_first a.consumer (list_any (is_share_of number) (b ∷ rest)) (list_any (is_share_of number) (given_back consumer (b ∷ rest))) other (deeper (skip (is_share_of consumer a) _ other there))
-
-length_given_back : (consumer : ℕ) (bs : List Block) → list_any (is_share_of consumer) bs ≡ true → length (given_back consumer bs) + 1 ≡ length bs
-length_given_back consumer [] there = cc
-length_given_back consumer (a ∷ []) there = by (is_share_of consumer a) refl
-  where
-    by : (t : Bool) → is_share_of consumer a ≡ t → length (cond t [] (a ∷ [])) + 1 ≡ 1
-    by true is = omega arith
-    by false other = absurd (none (is_share_of consumer a) other there)
-      where
-        none : (t : Bool) → t ≡ false → (t || false) ≡ true → ⊥
-        none t e f = grind (arith, nat_tests)
-length_given_back consumer (a ∷ b ∷ rest) there = by (is_share_of consumer a) refl (is_share_of consumer b && eqb (length rest) 0) refl (length_given_back consumer (b ∷ rest))
-  where
-    skip : (t u : Bool) → t ≡ false → (t || u) ≡ true → u ≡ true
-    skip t u e f = grind (arith, nat_tests)
-
-    last : (t : Bool) (n : ℕ) → (t && eqb n 0) ≡ true → n ≡ 0
-    last t n e = grind (arith, nat_tests)
-
-    by : (s : Bool) → is_share_of consumer a ≡ s → (t : Bool) → (is_share_of consumer b && eqb (length rest) 0) ≡ t → (list_any (is_share_of consumer) (b ∷ rest) ≡ true → length (given_back consumer (b ∷ rest)) + 1 ≡ length (b ∷ rest))
-        → length (cond s (with_lower a b ∷ rest) (cond t (with_upper b a ∷ []) (a ∷ given_back consumer (b ∷ rest)))) + 1 ≡ length (a ∷ b ∷ rest)
-    by true is t that deeper = omega arith
-    by false other true is deeper = let none = last (is_share_of consumer b) (length rest) is in omega (arith, none)
-    by false other false more deeper = let fewer = deeper (skip (is_share_of consumer a) _ other there) in omega (arith, fewer)
-
-nothing_given : (consumer : ℕ) (bs : List Block) → list_any (is_share_of consumer) bs ≡ false → length bs ≡ 0 → given_back consumer bs ≡ bs
-nothing_given consumer [] none empty = refl
-nothing_given consumer (b ∷ bs) none empty = absurd (omega (arith, empty))
+-- they are split again where nobody is left
+none_left : (bs : List Block) → (sticky_shares bs).sticky ≡ false → (length (sticky_shares bs).blocks ≡ 0) × ((number : ℕ) → list_any (is_share_of number) bs ≡ false)
+none_left [] split = (refl, λ number. refl)
+none_left (b ∷ bs) split = cc
 
 -- a member leaves, and the others stay
-pub shares_taken : (kind : Kind) (shares : List Block) (there left : ℕ → Bool) (count fewer consumer : ℕ) → there consumer ≡ true → ((number : ℕ) → left number ≡ (there number && not (number == consumer))) → count ≡ fewer + 1
-    → HaveShares kind shares there count → HaveShares kind (given_back consumer shares) left fewer
-shares_taken kind shares there left count fewer consumer at others one have = by (same_kind kind KeyShared) refl
+pub shares_taken : (kind : Kind) (shares : Shares) (there left : ℕ → Bool) (count fewer consumer : ℕ) → there consumer ≡ true → ((number : ℕ) → left number ≡ (there number && not (number == consumer))) → count ≡ fewer + 1
+    → (((number : ℕ) → left number ≡ false) → fewer ≡ 0) → HaveShares kind shares there count → HaveShares kind (shares_without consumer shares) left fewer
+shares_taken kind shares there left count fewer consumer at others_stay one last have = by (same_kind kind KeyShared) refl
   where
-    by : (t : Bool) → same_kind kind KeyShared ≡ t → HaveShares kind (given_back consumer shares) left fewer
-    by true key =
-        let mine : list_any (is_share_of consumer) shares ≡ true = have.owners consumer ∙ ap (λ t. t && there consumer) key ∙ at in
-        let many : length shares ≡ count = have.as_many ∙ ap (λ t. cond t count 0) key in
+    -- whose share goes
+    stay : same_kind kind KeyShared ≡ true → (number : ℕ) → (list_any (is_share_of number) shares.blocks && not (number == consumer)) ≡ (same_kind kind KeyShared && left number)
+    stay key number =
+        ap (λ u. u && not (number == consumer)) (have.owners number ∙ ap (λ t. t && there number) key)
+        ∙ sym (ap (λ t. t && left number) key ∙ others_stay number)
+
+    split : same_kind kind KeyShared ≡ true → shares.sticky ≡ false → HaveShares kind (record shares { blocks = given_back consumer shares.blocks }) left fewer
+    split key not_sticky =
+        let mine : list_any (is_share_of consumer) shares.blocks ≡ true = have.owners consumer ∙ ap (λ t. t && there consumer) key ∙ at in
+        let many : length shares.blocks ≡ count = have.as_many not_sticky ∙ ap (λ t. cond t count 0) key in
         record {
-          are = shares_left consumer shares have.are;
-          owners = λ number.
-              any_given_back number consumer shares have.are.distinct mine
-              ∙ ap (λ u. u && not (number == consumer)) (have.owners number ∙ ap (λ t. t && there number) key)
-              ∙ sym (ap (λ t. t && left number) key ∙ others number);
-          as_many = less many (length_given_back consumer shares mine) ∙ sym (ap (λ t. cond t fewer 0) key);
+          are = subst AreShares (without_where_split consumer shares not_sticky) (shares_left consumer shares have.are);
+          owners = λ number. any_given_back number consumer shares.blocks (split_unless_sticky shares not_sticky have.are).distinct mine ∙ stay key number;
+          as_many = λ _. less many (length_given_back consumer shares.blocks mine) ∙ sym (ap (λ t. cond t fewer 0) key);
         }
       where
-        less : length shares ≡ count → length (given_back consumer shares) + 1 ≡ length shares → length (given_back consumer shares) ≡ fewer
+        less : length shares.blocks ≡ count → length (given_back consumer shares.blocks) + 1 ≡ length shares.blocks → length (given_back consumer shares.blocks) ≡ fewer
         less same gone = omega (arith, same, gone, one)
+
+    sticky : same_kind kind KeyShared ≡ true → shares.sticky ≡ true → HaveShares kind (sticky_shares (others consumer shares.blocks)) left fewer
+    sticky key is = record {
+      are = subst AreShares (without_where_sticky consumer shares is) (shares_left consumer shares have.are);
+      owners = owned;
+      as_many = λ not_sticky.
+          let none = none_left (others consumer shares.blocks) not_sticky in
+          none.0 ∙ sym (ap (λ t. cond t fewer 0) key ∙ last (λ number. sym (ap (λ t. t && left number) key) ∙ sym (owned number) ∙ any_of_sticky number (others consumer shares.blocks) ∙ none.1 number));
+    }
+      where
+        owned : (number : ℕ) → list_any (is_share_of number) (sticky_shares (others consumer shares.blocks)).blocks ≡ (same_kind kind KeyShared && left number)
+        owned number = any_of_sticky number (others consumer shares.blocks) ∙ any_of_others consumer number shares.blocks ∙ stay key number
+
+    by_mode : same_kind kind KeyShared ≡ true → (t : Bool) → shares.sticky ≡ t → HaveShares kind (shares_without consumer shares) left fewer
+    by_mode key true is = subst (λ (new : Shares). HaveShares kind new left fewer) (sym (without_where_sticky consumer shares is)) (sticky key is)
+    by_mode key false not_sticky = subst (λ (new : Shares). HaveShares kind new left fewer) (sym (without_where_split consumer shares not_sticky)) (split key not_sticky)
+
+    by : (t : Bool) → same_kind kind KeyShared ≡ t → HaveShares kind (shares_without consumer shares) left fewer
+    by true key = by_mode key shares.sticky refl
     by false other =
-        let none : list_any (is_share_of consumer) shares ≡ false = have.owners consumer ∙ ap (λ t. t && there consumer) other in
-        let empty : length shares ≡ 0 = have.as_many ∙ ap (λ t. cond t count 0) other in
-        let same : given_back consumer shares ≡ shares = nothing_given consumer shares none empty in
-        record {
-          are = subst AreShares (sym same) have.are;
-          owners = λ number. ap (list_any (is_share_of number)) same ∙ have.owners number ∙ ap (λ t. t && there number) other ∙ sym (ap (λ t. t && left number) other);
-          as_many = ap (λ (bs : List Block). length bs) same ∙ empty ∙ sym (ap (λ t. cond t fewer 0) other);
-        }
+        let none : shares ≡ no_shares = nobody_shares shares have.are (λ number. have.owners number ∙ ap (λ t. t && there number) other) in
+        subst (λ (old : Shares). HaveShares kind (shares_without consumer old) left fewer) (sym none) (record {
+          are = none_split;
+          owners = λ number. sym (ap (λ t. t && left number) other);
+          as_many = λ _. sym (ap (λ t. cond t fewer 0) other);
+        })

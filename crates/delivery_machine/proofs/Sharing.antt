@@ -6,7 +6,7 @@ use Rattle.std.specs.Option.{option_map}
 use Rattle.std.proofs.lemmas.Bool.{cases_lt, cases_Bool}
 use Rattle.std.proofs.lemmas.Bool.Decides.{nat_tests}
 use Rattle.position_core.specs.declared.block.Block.{Block}
-use Rattle.delivery_machine.specs.Shares.{has_hash, owner_of, is_share_of, with_lower, with_upper, given_back, IsRow}
+use Rattle.delivery_machine.specs.Shares.{has_hash, owner_among, is_share_of, with_lower, with_upper, given_back, IsRow}
 use Rattle.delivery_machine.proofs.SharesSplit.{begins_within, ends_within}
 use Rattle.delivery_machine.specs.ShareSets.{heir}
 
@@ -22,14 +22,14 @@ outside hash b (inr above) = grind (arith, nat_tests)
 pub bounds : (hash : ℕ) (b : Block) → has_hash hash b ≡ true → (b.from ≤ hash) × (hash < b.from + b.size)
 bounds hash b e = (grind (arith, nat_tests), grind (arith, nat_tests))
 
-pub owner_here : (hash : ℕ) (b : Block) (bs : List Block) → has_hash hash b ≡ true → owner_of (b ∷ bs) hash ≡ Some b.consumer
+pub owner_here : (hash : ℕ) (b : Block) (bs : List Block) → has_hash hash b ≡ true → owner_among (b ∷ bs) hash ≡ Some b.consumer
 owner_here hash b bs here = ap (λ t. option_map (λ (x : Block). x.consumer) (cond t (Some b) (find (has_hash hash) bs))) here
 
-pub owner_past : (hash : ℕ) (b : Block) (bs : List Block) → has_hash hash b ≡ false → owner_of (b ∷ bs) hash ≡ owner_of bs hash
+pub owner_past : (hash : ℕ) (b : Block) (bs : List Block) → has_hash hash b ≡ false → owner_among (b ∷ bs) hash ≡ owner_among bs hash
 owner_past hash b bs past = ap (λ t. option_map (λ (x : Block). x.consumer) (cond t (Some b) (find (has_hash hash) bs))) past
 
 -- one block where another was, with other hashes of one consumer
-pub owner_alike : (hash : ℕ) (b c : Block) (bs cs : List Block) → has_hash hash b ≡ has_hash hash c → b.consumer ≡ c.consumer → owner_of bs hash ≡ owner_of cs hash → owner_of (b ∷ bs) hash ≡ owner_of (c ∷ cs) hash
+pub owner_alike : (hash : ℕ) (b c : Block) (bs cs : List Block) → has_hash hash b ≡ has_hash hash c → b.consumer ≡ c.consumer → owner_among bs hash ≡ owner_among cs hash → owner_among (b ∷ bs) hash ≡ owner_among (c ∷ cs) hash
 owner_alike hash b c bs cs same who rest =
     elim (cases_Bool (has_hash hash b)) [
       | inl here ↦ owner_here hash b bs here ∙ ap Some who ∙ sym (owner_here hash c cs (sym same ∙ here))
@@ -51,13 +51,13 @@ pub record GoesFrom (start consumer : ℕ) (shares new : List Block) : Type 0 wh
   pub leaver : gone.consumer ≡ consumer
   pub after : start ≤ gone.from
   pub last : gone.from + gone.size ≡ 65536 → ((length shares ≡ 1) × (list_any (is_share_of consumer) shares ≡ true)) ⊎ (start < gone.from)
-  pub given : (hash : ℕ) → has_hash hash gone ≡ true → owner_of new hash ≡ heir shares gone
-  pub others : (hash : ℕ) → has_hash hash gone ≡ false → owner_of new hash ≡ owner_of shares hash
+  pub given : (hash : ℕ) → has_hash hash gone ≡ true → owner_among new hash ≡ heir shares gone
+  pub others : (hash : ℕ) → has_hash hash gone ≡ false → owner_among new hash ≡ owner_among shares hash
 
-heir_at_end : (shares : List Block) (gone : Block) → gone.from + gone.size ≡ 65536 → 0 < gone.from → heir shares gone ≡ owner_of shares (gone.from - 1)
+heir_at_end : (shares : List Block) (gone : Block) → gone.from + gone.size ≡ 65536 → 0 < gone.from → heir shares gone ≡ owner_among shares (gone.from - 1)
 heir_at_end shares gone end some =
-    ap (λ t. cond t (cond (eqb gone.from 0) None (owner_of shares (gone.from - 1))) (owner_of shares (gone.from + gone.size))) (at_end (gone.from + gone.size) end)
-    ∙ ap (λ t. cond t None (owner_of shares (gone.from - 1))) (not_first gone.from some)
+    ap (λ t. cond t (cond (eqb gone.from 0) None (owner_among shares (gone.from - 1))) (owner_among shares (gone.from + gone.size))) (at_end (gone.from + gone.size) end)
+    ∙ ap (λ t. cond t None (owner_among shares (gone.from - 1))) (not_first gone.from some)
   where
     at_end : (n : ℕ) → n ≡ 65536 → eqb n 65536 ≡ true
     at_end n e = grind (arith, nat_tests)
@@ -65,9 +65,9 @@ heir_at_end shares gone end some =
     not_first : (n : ℕ) → 0 < n → eqb n 0 ≡ false
     not_first n e = grind (arith, nat_tests)
 
-heir_before_end : (shares : List Block) (gone : Block) → gone.from + gone.size < 65536 → heir shares gone ≡ owner_of shares (gone.from + gone.size)
+heir_before_end : (shares : List Block) (gone : Block) → gone.from + gone.size < 65536 → heir shares gone ≡ owner_among shares (gone.from + gone.size)
 heir_before_end shares gone before =
-    ap (λ t. cond t (cond (eqb gone.from 0) None (owner_of shares (gone.from - 1))) (owner_of shares (gone.from + gone.size))) (not_end (gone.from + gone.size) before)
+    ap (λ t. cond t (cond (eqb gone.from 0) None (owner_among shares (gone.from - 1))) (owner_among shares (gone.from + gone.size))) (not_end (gone.from + gone.size) before)
   where
     not_end : (n : ℕ) → n < 65536 → eqb n 65536 ≡ false
     not_end n e = grind (arith, nat_tests)
@@ -76,18 +76,18 @@ heir_before_end shares gone before =
 heir_alone : (gone : Block) → heir (gone ∷ []) gone ≡ None
 heir_alone gone = by_end (eqb (gone.from + gone.size) 65536) (cases_Bool (eqb gone.from 0))
   where
-    next : owner_of (gone ∷ []) (gone.from + gone.size) ≡ None
+    next : owner_among (gone ∷ []) (gone.from + gone.size) ≡ None
     next = owner_past (gone.from + gone.size) gone [] (outside (gone.from + gone.size) gone (inr (omega arith)))
 
-    before : eqb gone.from 0 ≡ false → owner_of (gone ∷ []) (gone.from - 1) ≡ None
+    before : eqb gone.from 0 ≡ false → owner_among (gone ∷ []) (gone.from - 1) ≡ None
     before some = owner_past (gone.from - 1) gone [] (outside (gone.from - 1) gone (inl (below gone.from some)))
       where
         below : (n : ℕ) → eqb n 0 ≡ false → n - 1 < n
         below n e = grind (arith, nat_tests)
 
-    by_end : (t : Bool) → ((eqb gone.from 0 ≡ true) ⊎ (eqb gone.from 0 ≡ false)) → cond t (cond (eqb gone.from 0) None (owner_of (gone ∷ []) (gone.from - 1))) (owner_of (gone ∷ []) (gone.from + gone.size)) ≡ None
-    by_end true (inl first) = ap (λ u. cond {A = Option ℕ} u None (owner_of (gone ∷ []) (gone.from - 1))) first
-    by_end true (inr some) = ap (λ u. cond {A = Option ℕ} u None (owner_of (gone ∷ []) (gone.from - 1))) some ∙ before some
+    by_end : (t : Bool) → ((eqb gone.from 0 ≡ true) ⊎ (eqb gone.from 0 ≡ false)) → cond t (cond (eqb gone.from 0) None (owner_among (gone ∷ []) (gone.from - 1))) (owner_among (gone ∷ []) (gone.from + gone.size)) ≡ None
+    by_end true (inl first) = ap (λ u. cond {A = Option ℕ} u None (owner_among (gone ∷ []) (gone.from - 1))) first
+    by_end true (inr some) = ap (λ u. cond {A = Option ℕ} u None (owner_among (gone ∷ []) (gone.from - 1))) some ∙ before some
     by_end false either = next
 
 -- a share before the others is nobody's heir
@@ -186,7 +186,7 @@ goes start consumer (a ∷ b ∷ rest) row some there =
         end [] none row' = omega (arith, row', row_b, row.0)
         end (r ∷ rest) none row' = absurd (omega (arith, none))
 
-        nobody : (rest : List Block) → length rest ≡ 0 → (hash : ℕ) → owner_of rest hash ≡ None
+        nobody : (rest : List Block) → length rest ≡ 0 → (hash : ℕ) → owner_among rest hash ≡ None
         nobody [] none hash = refl
         nobody (r ∷ rest) none hash = absurd (omega (arith, none))
 

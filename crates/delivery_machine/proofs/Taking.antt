@@ -10,6 +10,7 @@ use Rattle.position_core.specs.declared.position.Position.{Position}
 use Rattle.position_core.specs.declared.message.Entry.{Entry}
 use Rattle.position_core.specs.declared.held.Held.{Held}
 use Rattle.position_core.specs.Position.{position_cmp, same_position, positions_total}
+use Rattle.position_core.specs.declared.ranges.HashRange.{HashRange}
 use Rattle.delivery_machine.specs.State.{State, Subscription, Member}
 use Rattle.delivery_machine.specs.State as state
 use Rattle.delivery_machine.specs.Words.{is_live, is_held_by, has_position}
@@ -78,8 +79,8 @@ taken_moved sub letter is = record {
 
 -- ---- what takes nothing
 
-pub taken_joined : (sub : Subscription) (consumer : ℕ) → IsTakenFrom sub (joining sub.kind consumer sub)
-taken_joined sub consumer = taken_nothing sub (joining sub.kind consumer sub) refl refl (λ e. refl) (λ e. refl) (λ p h is. (h, is, refl))
+pub taken_joined : (sub : Subscription) (ranges : Option (List HashRange)) (consumer : ℕ) → IsTakenFrom sub (joining sub.kind ranges consumer sub)
+taken_joined sub ranges consumer = taken_nothing sub (joining sub.kind ranges consumer sub) refl refl (λ e. refl) (λ e. refl) (λ p h is. (h, is, refl))
 
 pub taken_stored : (sub : Subscription) → IsTakenFrom sub (storing sub)
 taken_stored sub = taken_nothing sub (storing sub) refl refl (λ e. refl) (λ e. refl) (λ p h is. (h, is, refl))

@@ -6,7 +6,6 @@ use Rattle.std.specs.Option.{option_and_then}
 use Rattle.std.specs.FinMap as map_of
 use Rattle.std.proofs.lemmas.Bool.{ne_eqb}
 use Rattle.std.proofs.lemmas.Bool.Decides.{nat_tests}
-use Rattle.position_core.specs.declared.block.Block.{Block}
 use Rattle.position_core.specs.declared.topic_name.TopicName.{TopicName}
 use Rattle.position_core.specs.declared.body.Content.{Content}
 use Rattle.position_core.specs.declared.flow.Flow.TheVariants.{Window}
@@ -16,7 +15,7 @@ use Rattle.murmur_core.specs.Murmur.{murmur3, with_bytes}
 use Rattle.murmur_core.specs.Sticky.{sticky_hash}
 use Rattle.murmur_core.proofs.Keys.{sticky_hash-lt, sticky_hash-empty}
 use Rattle.delivery_machine.specs.State.{State, Subscription, Member, fresh}
-use Rattle.delivery_machine.specs.Shares.{owner_of, lower_half, upper_half, all_hashes}
+use Rattle.delivery_machine.specs.Shares.{Shares, owner_of, lower_half, upper_half, all_hashes}
 use Rattle.delivery_machine.specs.Words.{count_of, is_at, is_member, IsEligible}
 use Rattle.delivery_machine.specs.Producing.{with_message}
 use Rattle.delivery_machine.specs.Joining.{with_member}
@@ -36,8 +35,8 @@ use Rattle.delivery_machine.proofs.TwoMessages.{Pending, position_at, held_by, d
 abbrev pub owner : Bool → ℕ
 owner low = cond low 2 1
 
-abbrev shares : List Block
-shares = lower_half 2 (all_hashes 1) ∷ upper_half (all_hashes 1) ∷ []
+abbrev shares : Shares
+shares = record { blocks = lower_half 2 (all_hashes 1) ∷ upper_half (all_hashes 1) ∷ []; sticky = false }
 
 owned : (low : Bool) (hash : ℕ) → hash < 65536 → nat_lt hash 32768 ≡ low → owner_of shares hash ≡ Some (owner low)
 owned true hash within half =
@@ -102,10 +101,10 @@ module _ (name : TopicName) (body : Content) (low : Bool) where
   three_published = with_message (two_published name body) (message other 2)
 
   abbrev one_joined : State
-  one_joined = with_member (record three_published { durable = 3 }) KeyShared Earliest (member name body 1)
+  one_joined = with_member (record three_published { durable = 3 }) KeyShared None Earliest (member name body 1)
 
   abbrev joined : State
-  joined = with_member one_joined KeyShared Earliest (member name body 2)
+  joined = with_member one_joined KeyShared None Earliest (member name body 2)
 
   abbrev once_given : Member
   once_given = given (record { message = message body 0; count = count_of (keyed map_of.empty) (position_at 0) }) (member name body (owner low))
@@ -122,7 +121,7 @@ module _ (name : TopicName) (body : Content) (low : Bool) where
   abbrev pub events_by_hash : List Event
   events_by_hash =
       AddProducer (Some (codes "p")) (pos 0) ∷ Publish 1 (pos 1) body 0 ∷ Publish 1 (pos 2) body 0 ∷ Publish 1 (pos 3) other 0 ∷ Stored
-      ∷ Subscribe (codes "s") KeyShared 0 (Window 2) 0 0 0 name Earliest ∷ Subscribe (codes "s") KeyShared 0 (Window 2) 0 0 0 name Earliest
+      ∷ Subscribe (codes "s") KeyShared 0 (Window 2) 0 0 0 name Earliest None ∷ Subscribe (codes "s") KeyShared 0 (Window 2) 0 0 0 name Earliest None
       ∷ dispatch ∷ dispatch ∷ dispatch ∷ []
 
   abbrev pub replies_by_hash : List Reply
@@ -224,7 +223,7 @@ module _ (name : TopicName) (body : Content) (low : Bool) (half : nat_lt (sticky
           (
             record (three_published name body low) { durable = 3 },
             (refl, (refl, refl)),
-            (one_joined name body low, (refl, (refl, refl)), (joined name body low, (refl, (refl, refl)), dispatches)),
+            (one_joined name body low, (refl, (refl, refl, tt)), (joined name body low, (refl, (refl, refl, tt)), dispatches)),
           ),
         ),
       ),

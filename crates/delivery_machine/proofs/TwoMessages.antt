@@ -5,7 +5,6 @@ use Rattle.std.specs.Option.{unwrap_or}
 use Rattle.std.specs.FinMap as map_of
 use Rattle.std.specs.FinMap.{FinMap}
 use Rattle.std.specs.FinSet as set
-use Rattle.position_core.specs.declared.block.Block.{Block}
 use Rattle.position_core.specs.declared.position.Position.{Position}
 use Rattle.position_core.specs.declared.topic_name.TopicName.{TopicName}
 use Rattle.position_core.specs.declared.body.Content.{Content}
@@ -15,6 +14,7 @@ use Rattle.position_core.specs.declared.flow.Flow.TheVariants.{Window}
 use Rattle.position_core.specs.declared.kind.Kind.{Kind}
 use Rattle.position_core.specs.declared.kind.Kind.TheVariants.{Exclusive}
 use Rattle.position_core.specs.Position.{position_cmp, positions_total}
+use Rattle.delivery_machine.specs.Shares.{Shares, no_shares}
 use Rattle.delivery_machine.specs.State.{State, Subscription, Member, fresh}
 use Rattle.delivery_machine.specs.Words.{count_of, is_waiting, IsEligible}
 use Rattle.delivery_machine.specs.Producing.{with_producer, with_message}
@@ -66,17 +66,17 @@ second-of-two consumer = map_of.get-insert positions_total (one_held consumer) (
 abbrev pub message : Content → ℕ → Entry
 message body n = record { position = position_at n; producer = codes "p"; sequence = pos (n + 1); time = 0; body = body }
 
-abbrev pub subscription : Kind → List Block → Pending → Subscription
-subscription kind shares pending = record (new_subscription (codes "s") kind 1 Earliest []) { shares = shares; pending = pending }
+abbrev pub subscription : Kind → Shares → Pending → Subscription
+subscription kind shares pending = record (new_subscription (codes "s") kind None 1 Earliest []) { shares = shares; pending = pending }
 
 -- a message that is pending at nobody waits, as none is acknowledged
-pub waits : (kind : Kind) (shares : List Block) (pending : Pending) (body : Content) (n : ℕ) {held : Option Held}
+pub waits : (kind : Kind) (shares : Shares) (pending : Pending) (body : Content) (n : ℕ) {held : Option Held}
     → map_of.get pending (position_at n) ≡ held → is_waiting (subscription kind shares pending) (message body n) ≡ not (is_some held)
 waits kind shares pending body n at =
     ap₂ (λ (b : Bool) (o : Option Held). (not b && true) && not (is_some o)) (set.contains-empty position_cmp (position_at n)) at
 
 -- no message was redelivered
-pub uncounted : (kind : Kind) (shares : List Block) (pending : Pending) (n : ℕ) → 0 ≡ count_of (subscription kind shares pending) (position_at n)
+pub uncounted : (kind : Kind) (shares : Shares) (pending : Pending) (n : ℕ) → 0 ≡ count_of (subscription kind shares pending) (position_at n)
 uncounted kind shares pending n = sym (ap (λ (o : Option ℕ). unwrap_or o 0) (map_of.get-empty position_cmp (position_at n)))
 
 -- a producer of the name `p` and a subscription of the name `s`
@@ -93,28 +93,28 @@ module _ (name : TopicName) (body : Content) where
   -- ---- in Exclusive
 
   abbrev joined : State
-  joined = with_member (record two_published { durable = 2 }) Exclusive Earliest (member 1)
+  joined = with_member (record two_published { durable = 2 }) Exclusive None Earliest (member 1)
 
   abbrev first_sent : State
-  first_sent = sent joined (codes "s") (subscription Exclusive [] map_of.empty) (message body 0) (member 1) 0
+  first_sent = sent joined (codes "s") (subscription Exclusive no_shares map_of.empty) (message body 0) (member 1) 0
 
   abbrev once_given : Member
-  once_given = given (record { message = message body 0; count = count_of (subscription Exclusive [] map_of.empty) (position_at 0) }) (member 1)
+  once_given = given (record { message = message body 0; count = count_of (subscription Exclusive no_shares map_of.empty) (position_at 0) }) (member 1)
 
   abbrev pub in_order : State
-  in_order = sent first_sent (codes "s") (subscription Exclusive [] (one_held 1)) (message body 1) once_given 0
+  in_order = sent first_sent (codes "s") (subscription Exclusive no_shares (one_held 1)) (message body 1) once_given 0
 
   abbrev pub twice_given : Member
-  twice_given = given (record { message = message body 1; count = count_of (subscription Exclusive [] (one_held 1)) (position_at 1) }) once_given
+  twice_given = given (record { message = message body 1; count = count_of (subscription Exclusive no_shares (one_held 1)) (position_at 1) }) once_given
 
-  first_may : IsEligible joined (subscription Exclusive [] map_of.empty) (message body 0) (member 1)
-  first_may = (rw (none-held 0, none-held 1) refl, (rw (waits Exclusive [] map_of.empty body 0 (none-held 0)) refl, refl))
+  first_may : IsEligible joined (subscription Exclusive no_shares map_of.empty) (message body 0) (member 1)
+  first_may = (rw (none-held 0, none-held 1) refl, (rw (waits Exclusive no_shares map_of.empty body 0 (none-held 0)) refl, refl))
 
-  second_may : IsEligible first_sent (subscription Exclusive [] (one_held 1)) (message body 1) once_given
+  second_may : IsEligible first_sent (subscription Exclusive no_shares (one_held 1)) (message body 1) once_given
   second_may = (
     rw (first-of-one 1, second-of-one 1) refl,
     (
-      rw (waits Exclusive [] (one_held 1) body 0 (first-of-one 1), waits Exclusive [] (one_held 1) body 1 (second-of-one 1)) refl,
+      rw (waits Exclusive no_shares (one_held 1) body 0 (first-of-one 1), waits Exclusive no_shares (one_held 1) body 1 (second-of-one 1)) refl,
       refl,
     ),
   )
@@ -122,7 +122,7 @@ module _ (name : TopicName) (body : Content) where
   abbrev pub events_in_order : List Event
   events_in_order =
       AddProducer (Some (codes "p")) (pos 0) ∷ Publish 1 (pos 1) body 0 ∷ Publish 1 (pos 2) body 0 ∷ Stored
-      ∷ Subscribe (codes "s") Exclusive 0 (Window 2) 0 0 0 name Earliest ∷ dispatch ∷ dispatch ∷ []
+      ∷ Subscribe (codes "s") Exclusive 0 (Window 2) 0 0 0 name Earliest None ∷ dispatch ∷ dispatch ∷ []
 
   abbrev pub replies_in_order : List Reply
   replies_in_order =
@@ -143,11 +143,11 @@ module _ (name : TopicName) (body : Content) where
           (refl, (refl, refl)),
           (
             joined,
-            (refl, (refl, refl)),
+            (refl, (refl, refl, tt)),
             (
               first_sent,
-              (refl, (message body 0, member 1, first_may, refl, refl, uncounted Exclusive [] map_of.empty 0, refl)),
-              (in_order, (refl, (message body 1, once_given, second_may, refl, refl, uncounted Exclusive [] (one_held 1) 1, refl)), refl),
+              (refl, (message body 0, member 1, first_may, refl, refl, uncounted Exclusive no_shares map_of.empty 0, refl)),
+              (in_order, (refl, (message body 1, once_given, second_may, refl, refl, uncounted Exclusive no_shares (one_held 1) 1, refl)), refl),
             ),
           ),
         ),

@@ -15,6 +15,7 @@ use Rattle.position_core.specs.declared.topic_name.TopicName.{TopicName}
 use Rattle.position_core.specs.declared.held.Held.{Held}
 use Rattle.position_core.specs.declared.fault.Fault.TheVariants.{ProducerBusy, NoSession, NoSuchMessage, TopicFull}
 use Rattle.position_core.specs.Position.{position_cmp}
+use Rattle.delivery_machine.specs.Shares.{no_shares}
 use Rattle.delivery_machine.specs.State.{State, Member, Subscription, DeadLetter, fresh}
 use Rattle.delivery_machine.specs.Words.{count_of, is_named, is_member, is_producer, is_connected, is_live, has_member, has_position, next_position, visible, emptied, active_at}
 use Rattle.delivery_machine.specs.Refusals.{refusal_of, adding_refused, publishing_refused, acking_refused, nacking_refused, dropping_refused, is_full, is_duplicate}
@@ -48,7 +49,8 @@ use Rattle.delivery_machine.proofs.Formed.{IsFormed, held_logged, formed_begun}
 use Rattle.delivery_machine.proofs.Uncollected.{none_out}
 use Rattle.delivery_machine.proofs.WellKept.{IsWellKept, letters, well_stored, well_published, well_connected, well_disconnected}
 use Rattle.delivery_machine.proofs.WellTaken.{AreLogged, well_acknowledged, well_redelivered, well_died, well_moved, well_sought, well_taken_over}
-use Rattle.delivery_machine.proofs.SharesReached.{AreShared, step_shared, beginning_shared}
+use Rattle.delivery_machine.proofs.SharesSeated.{AreShared}
+use Rattle.delivery_machine.proofs.SharesReached.{step_shared, beginning_shared}
 use Rattle.delivery_machine.proofs.WellSeated.{well_nacked, well_sent, well_members, well_joined, well_left, well_dropped}
 
 settled : (t u : State) → t ≡ u → IsWellKept u → IsWellKept t
@@ -145,8 +147,8 @@ takes_well s (StoredTo count ordinal) reply t allowed h order well =
     settled t _ h.1 (well_stored s (λ sub. max sub.safe (count_by (λ d. nat_lt d.ordinal ordinal) sub.dead)) (max s.durable (min count (length s.log)))
     (λ sub low. let less = count_by-le-length (λ (d : DeadLetter). nat_lt d.ordinal ordinal) sub.dead in omega arith) (omega arith) well)
 takes_well s Progress reply t allowed h order well = settled t s h.1 well
-takes_well s (Subscribe name kind level flow ack_timeout nack_delay max_redeliver dead_topic initial) reply t allowed h order well =
-    settled t _ h.1 (well_taken_over _ name (active_at s name) (well_joined s kind initial _ refl refl well))
+takes_well s (Subscribe name kind level flow ack_timeout nack_delay max_redeliver dead_topic initial ranges) reply t allowed h order well =
+    settled t _ h.1 (well_taken_over _ name (active_at s name) (well_joined s kind ranges initial _ refl refl well))
 takes_well s (Leave consumer) reply t allowed h order well =
     some_elim (find (is_member consumer) s.members) _ (IsWellKept t) h.1 (λ m found is.
     settled t _ is (well_taken_over (without_member s consumer m.subscription) m.subscription (active_at s m.subscription) (well_left s consumer m found well)))
@@ -209,7 +211,7 @@ well_restarted kept sound = record {
   each = each_from_all (IsFormed kept.log (length kept.log)) (map subscription_from kept.subscriptions)
       (All-map (IsFormed kept.log (length kept.log)) subscription_from kept.subscriptions
       (All-weaker (IsSoundSubscription kept.log) (λ sub. IsFormed kept.log (length kept.log) (subscription_from sub))
-      (λ sub one. formed_begun kept.log (length kept.log) sub.name sub.kind sub.acknowledged [] sub.dead (length sub.dead) one.acknowledged one.dead (omega arith)) kept.subscriptions sound.subscriptions));
+      (λ sub one. formed_begun kept.log (length kept.log) sub.name sub.kind sub.acknowledged no_shares sub.dead (length sub.dead) one.acknowledged one.dead (omega arith)) kept.subscriptions sound.subscriptions));
   uncollected = λ m at. absurd (none_out m at);
 }
 

@@ -16,6 +16,7 @@ use Rattle.position_core.specs.declared.held.Held.{Held}
 use Rattle.position_core.specs.declared.kind.Kind.{Kind}
 use Rattle.position_core.specs.declared.kind.Kind.TheVariants.{Exclusive, Failover, Shared, KeyShared}
 use Rattle.position_core.specs.Name.{name_order}
+use Rattle.position_core.specs.declared.ranges.HashRange.{HashRange}
 use Rattle.delivery_machine.specs.State.{State, Member, Subscription}
 use Rattle.delivery_machine.specs.Words.{changed, removed, is_named, is_at, is_member, is_held_by, is_held_at, is_live, is_dead, is_waiting, waits_with_hash, hash_of, visible, count_of, ChoosesBy, IsEligible}
 use Rattle.delivery_machine.specs.Refusals.{nacking_refused}
@@ -164,14 +165,14 @@ well_pushed s m subs is none keeps there named ordinals each holds well = record
     one_more [] all = (there, tt)
     one_more (n ∷ ns) all = (all.0, one_more ns all.1)
 
-pub well_joined : (s : State) (kind : Kind) (initial : Initial) (m : Member) → m.number ≡ s.next_consumer → m.out ≡ [] → IsWellKept s → IsWellKept (with_member s kind initial m)
-well_joined s kind initial m is none well = by (find (is_named m.subscription) s.subscriptions) refl
+pub well_joined : (s : State) (kind : Kind) (ranges : Option (List HashRange)) (initial : Initial) (m : Member) → m.number ≡ s.next_consumer → m.out ≡ [] → IsWellKept s → IsWellKept (with_member s kind ranges initial m)
+well_joined s kind ranges initial m is none well = by (find (is_named m.subscription) s.subscriptions) refl
   where
     new : Subscription
-    new = new_subscription m.subscription kind m.number initial s.log
+    new = new_subscription m.subscription kind ranges m.number initial s.log
 
     join : Subscription → Subscription
-    join = joining kind m.number
+    join = joining kind ranges m.number
 
     by : (o : Option Subscription) → find (is_named m.subscription) s.subscriptions ≡ o
         → IsWellKept (record s { subscriptions = cond (is_some o) (changed (is_named m.subscription) join s.subscriptions) (placed new s.subscriptions); members = s.members ++ m ∷ []; next_consumer = s.next_consumer + 1 })
@@ -189,7 +190,7 @@ well_joined s kind initial m is none well = by (find (is_named m.subscription) s
         well_pushed s m after is none (λ name. any_inserted (is_named name) s.subscriptions _ new) (inserted_there (is_named m.subscription) s.subscriptions _ new (is_same_name m.subscription m.subscription refl))
         (named_placed new s.subscriptions absent well.named)
         (once_fewer letters s.next_ordinal s.subscriptions after (λ k. let same : times_among letters k after ≡ times_among letters k s.subscriptions = among_inserted letters k s.subscriptions _ new refl in omega arith) well.ordinals)
-        (each_placed (IsFormed s.log s.durable) (IsFormed s.log s.durable) new s.subscriptions absent (formed_new s.log s.durable m.subscription kind m.number initial) (λ sub _ formed. formed) well.each)
+        (each_placed (IsFormed s.log s.durable) (IsFormed s.log s.durable) new s.subscriptions absent (formed_new s.log s.durable m.subscription kind ranges m.number initial) (λ sub _ formed. formed) well.each)
         (λ name consumer p. holds_placed name consumer p new s.subscriptions absent) well
 
 -- ---- a member leaves

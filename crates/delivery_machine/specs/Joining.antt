@@ -1,5 +1,5 @@
 -- Members: joining a subscription, which the first one makes, leaving it, and permits.
-use Rattle.std.specs.Prelude.{◌≡◌, ℕ, ◌+◌, ◌==◌, Bool, not, ◌&&◌, List, [], ◌∷◌, ◌++◌, Option, map, IsSomeAnd, if◌then◌else◌}
+use Rattle.std.specs.Prelude.{◌≡◌, ℕ, ◌+◌, ◌==◌, Bool, not, ◌&&◌, List, [], ◌∷◌, ◌++◌, Option, map, IsSomeAnd, IfSome, if◌then◌else◌}
 use Rattle.std.specs.List.{find, insert, position_or_len}
 use Rattle.std.specs.Option.{option_eq}
 use Rattle.std.specs.Ordering.{is_lt}
@@ -7,13 +7,15 @@ use Rattle.std.specs.FinSet as set
 use Rattle.std.specs.FinMap as map_of
 use Rattle.position_core.specs.declared.message.Entry.{Entry}
 use Rattle.position_core.specs.declared.kind.Kind.{Kind}
+use Rattle.position_core.specs.declared.ranges.HashRange.{HashRange}
 use Rattle.position_core.specs.declared.kind.Kind.TheVariants.{Failover}
 use Rattle.position_core.specs.Position.{position_cmp}
 use Rattle.position_core.specs.Name.{name_order}
 use Rattle.position_core.specs.Flow.{granted}
+use Rattle.position_core.specs.Ranges.{AreRanges}
 use Rattle.position_core.specs.Numbers.{ConsumerNumber}
 use Rattle.delivery_machine.specs.State.{State, Member, Subscription}
-use Rattle.delivery_machine.specs.Shares.{shares_with, given_back}
+use Rattle.delivery_machine.specs.Shares.{no_shares, shares_with, shares_without}
 use Rattle.delivery_machine.specs.Words.{changed, removed, is_member, is_named, is_held_by, has_subscription, has_kind, active_at, emptied_at}
 use Rattle.delivery_machine.specs.declared.event.Initial.{Initial}
 use Rattle.delivery_machine.specs.declared.event.Initial.TheVariants.{Earliest, Latest}
@@ -25,14 +27,14 @@ abbrev pub acknowledged_at_first : Initial → List Entry → set.FinSet positio
 acknowledged_at_first Earliest log = set.empty
 acknowledged_at_first Latest log = set.from_list (map (λ e. e.position) log)
 
-abbrev pub new_subscription : List ℕ → Kind → ConsumerNumber → Initial → List Entry → Subscription
-new_subscription name kind consumer initial log = record {
+abbrev pub new_subscription : List ℕ → Kind → Option (List HashRange) → ConsumerNumber → Initial → List Entry → Subscription
+new_subscription name kind ranges consumer initial log = record {
   name = name;
   kind = kind;
   acknowledged = acknowledged_at_first initial log;
   pending = map_of.empty;
   counts = map_of.empty;
-  shares = shares_with kind consumer [];
+  shares = shares_with kind ranges consumer no_shares;
   dead = [];
   safe = 0;
 }
@@ -42,14 +44,14 @@ abbrev pub placed : Subscription → List Subscription → List Subscription
 placed sub subs = insert subs (position_or_len (λ other. is_lt (name_order sub.name other.name)) subs) sub
 
 -- the subscription takes the kind of the new member, which gets its share
-abbrev pub joining : Kind → ConsumerNumber → Subscription → Subscription
-joining kind consumer sub = record sub { kind = kind; shares = shares_with kind consumer sub.shares }
+abbrev pub joining : Kind → Option (List HashRange) → ConsumerNumber → Subscription → Subscription
+joining kind ranges consumer sub = record sub { kind = kind; shares = shares_with kind ranges consumer sub.shares }
 
-abbrev pub joined : State → List ℕ → Kind → ConsumerNumber → Initial → List Subscription
-joined s name kind consumer initial =
+abbrev pub joined : State → List ℕ → Kind → Option (List HashRange) → ConsumerNumber → Initial → List Subscription
+joined s name kind ranges consumer initial =
     if has_subscription s name
-    then changed (is_named name) (joining kind consumer) s.subscriptions
-    else placed (new_subscription name kind consumer initial s.log) s.subscriptions
+    then changed (is_named name) (joining kind ranges consumer) s.subscriptions
+    else placed (new_subscription name kind ranges consumer initial s.log) s.subscriptions
 
 -- ---- takeover
 
@@ -73,19 +75,21 @@ taken_over name before s = if is_taken_over name before s then all_released name
 
 -- ---- joining, leaving, permits
 
-abbrev pub with_member : State → Kind → Initial → Member → State
-with_member s kind initial m =
-    record s { subscriptions = joined s m.subscription kind m.number initial; members = s.members ++ m ∷ []; next_consumer = s.next_consumer + 1 }
+abbrev pub with_member : State → Kind → Option (List HashRange) → Initial → Member → State
+with_member s kind ranges initial m =
+    record s { subscriptions = joined s m.subscription kind ranges m.number initial; members = s.members ++ m ∷ []; next_consumer = s.next_consumer + 1 }
 
-abbrev pub Subscribes : State → Kind → Initial → Member → Reply → State → Type 0
-Subscribes s kind initial m reply t =
-    (reply ≡ Subscribed m.number) × (t ≡ taken_over m.subscription (active_at s m.subscription) (with_member s kind initial m))
+-- what a consumer asks for are ranges in their order
+abbrev pub Subscribes : State → Kind → Option (List HashRange) → Initial → Member → Reply → State → Type 0
+Subscribes s kind ranges initial m reply t =
+    (reply ≡ Subscribed m.number) × (t ≡ taken_over m.subscription (active_at s m.subscription) (with_member s kind ranges initial m))
+    × IfSome ranges AreRanges
 
--- what is pending at the consumer waits again, and its share goes to another; no count rises
+-- what is pending at the consumer waits again, and its share goes from it; no count rises
 abbrev pub leaving : ConsumerNumber → Subscription → Subscription
 leaving consumer sub = record sub {
   pending = map_of.retain_keys sub.pending (λ p. not (is_held_by consumer (map_of.get sub.pending p)));
-  shares = given_back consumer sub.shares;
+  shares = shares_without consumer sub.shares;
 }
 
 abbrev pub without_member : State → ConsumerNumber → List ℕ → State

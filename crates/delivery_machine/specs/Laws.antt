@@ -98,7 +98,7 @@ IsSentAndAcknowledged body events replies s =
 
 -- the consumer joined to pull
 abbrev pub joins_to_pull : ℕ → Event → Reply → Bool
-joins_to_pull consumer (Subscribe name kind level (Credit left) ack_timeout nack_delay max_redeliver dead_topic initial) (Subscribed number) = number == consumer
+joins_to_pull consumer (Subscribe name kind level (Credit left) ack_timeout nack_delay max_redeliver dead_topic initial ranges) (Subscribed number) = number == consumer
 joins_to_pull consumer event reply = false
 
 abbrev pub sent_to : ℕ → Event → Reply → ℕ

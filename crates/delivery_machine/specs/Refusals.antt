@@ -1,11 +1,13 @@
 -- Why each event is refused, in the order of the tests. Being out of memory comes after all of them.
 use Rattle.std.specs.Prelude.{ℕ, ◌^◌, nat_lt, nat_le, Bool, true, false, not, ◌&&◌, ◌||◌, length, List, Option, Some, None, is_some, if◌then◌else◌, ℤ, int_le}
 use Rattle.std.specs.List.{list_any, find}
+use Rattle.std.specs.Option.{option_map_or}
 use Rattle.position_core.specs.declared.position.Position.{Position}
 use Rattle.position_core.specs.declared.kind.Kind.{Kind}
 use Rattle.position_core.specs.declared.kind.Kind.TheVariants.{Exclusive}
+use Rattle.position_core.specs.declared.ranges.HashRange.{HashRange}
 use Rattle.position_core.specs.declared.fault.Fault.{Fault}
-use Rattle.position_core.specs.declared.fault.Fault.TheVariants.{ProducerBusy, NoSession, TopicFull, WrongKind, ConsumerBusy, TooMany, NoSuchMessage, NotCumulative, NotPending, NoSuchSubscription, SubscriptionBusy, DeadLetterSelf}
+use Rattle.position_core.specs.declared.fault.Fault.TheVariants.{ProducerBusy, NoSession, TopicFull, WrongKind, ConsumerBusy, TooMany, NoSuchMessage, NotCumulative, NotPending, NoSuchSubscription, SubscriptionBusy, DeadLetterSelf, HashOverlap, MixedPolicy}
 use Rattle.position_core.specs.declared.topic_name.TopicName.{TopicName}
 use Rattle.position_core.specs.Kind.{same_kind, is_in_order}
 use Rattle.position_core.specs.TopicName.{same_topic}
@@ -14,6 +16,7 @@ use Rattle.position_core.specs.Numbers.{ProducerNumber, ConsumerNumber, Ordinal}
 use Rattle.delivery_machine.specs.State.{State, Producer, Member, Subscription}
 use Rattle.delivery_machine.specs.Words.{is_producer, is_named, has_member, has_subscription, has_kind, is_in_order_at, is_held_at, is_member, is_connected, members_of, last_sequence, next_position, has_position, visible}
 use Rattle.delivery_machine.specs.Dying.{is_next_letter}
+use Rattle.delivery_machine.specs.Shares.{mixes, asks_taken}
 use Rattle.delivery_machine.specs.declared.event.Target.{Target}
 use Rattle.delivery_machine.specs.declared.event.Target.TheVariants.{Earliest, Latest, At}
 use Rattle.delivery_machine.specs.declared.event.Event.{Event}
@@ -55,10 +58,20 @@ publishing_refused s sequence (Some p) =
 abbrev pub dies_into_itself : State → Kind → ℕ → TopicName → Bool
 dies_into_itself s kind max_redeliver dead_topic = not (is_in_order kind) && nat_lt 0 max_redeliver && same_topic dead_topic s.name
 
-abbrev pub subscribing_refused : State → List ℕ → Kind → ℕ → TopicName → Option Fault
-subscribing_refused s name kind max_redeliver dead_topic =
+-- the members have the other policy: they said which hashes they take, or did not
+abbrev pub mixes_policies : State → List ℕ → Kind → Option (List HashRange) → Bool
+mixes_policies s name kind ranges =
+    nat_lt 0 (length (members_of s name)) && option_map_or (λ sub. mixes kind ranges sub.shares) (find (is_named name) s.subscriptions) false
+
+abbrev pub overlaps : State → List ℕ → Kind → Option (List HashRange) → Bool
+overlaps s name kind ranges = option_map_or (λ sub. asks_taken kind ranges sub.shares) (find (is_named name) s.subscriptions) false
+
+abbrev pub subscribing_refused : State → List ℕ → Kind → ℕ → TopicName → Option (List HashRange) → Option Fault
+subscribing_refused s name kind max_redeliver dead_topic ranges =
     if nat_lt 0 (length (members_of s name)) && not (has_kind s name kind) then Some WrongKind
     else if nat_lt 0 (length (members_of s name)) && same_kind kind Exclusive then Some ConsumerBusy
+    else if mixes_policies s name kind ranges then Some MixedPolicy
+    else if overlaps s name kind ranges then Some HashOverlap
     else if nat_le 64 (length (members_of s name)) then Some TooMany
     else if nat_le 64 (length s.subscriptions) && not (has_subscription s name) then Some TooMany
     else if is_used_up s.next_consumer then Some TooMany
@@ -122,8 +135,8 @@ refusal_of s (Publish producer sequence body now) = publishing_refused s sequenc
 refusal_of s Stored = None
 refusal_of s (StoredTo count ordinal) = None
 refusal_of s Progress = None
-refusal_of s (Subscribe name kind level flow ack_timeout nack_delay max_redeliver dead_topic initial) =
-    subscribing_refused s name kind max_redeliver dead_topic
+refusal_of s (Subscribe name kind level flow ack_timeout nack_delay max_redeliver dead_topic initial ranges) =
+    subscribing_refused s name kind max_redeliver dead_topic ranges
 refusal_of s (Leave consumer) = session_refused s consumer
 refusal_of s (Permit consumer permits) = permitting_refused permits (find (is_member consumer) s.members)
 refusal_of s (Ack consumer position) = acking_refused s consumer position
@@ -148,7 +161,7 @@ takes_memory (Publish producer sequence body now) = true
 takes_memory Stored = false
 takes_memory (StoredTo count ordinal) = false
 takes_memory Progress = false
-takes_memory (Subscribe name kind level flow ack_timeout nack_delay max_redeliver dead_topic initial) = true
+takes_memory (Subscribe name kind level flow ack_timeout nack_delay max_redeliver dead_topic initial ranges) = true
 takes_memory (Leave consumer) = false
 takes_memory (Permit consumer permits) = false
 takes_memory (Ack consumer position) = true

@@ -27,8 +27,8 @@ Takes s (Publish producer sequence body now) r t = IsSomeAnd (find (is_producer 
 Takes s Stored r t = Stores s r t
 Takes s (StoredTo count ordinal) r t = StoresTo s count ordinal r t
 Takes s Progress r t = Progresses s r t
-Takes s (Subscribe name kind level flow ack_timeout nack_delay max_redeliver dead_topic initial) r t =
-    Subscribes s kind initial (record {
+Takes s (Subscribe name kind level flow ack_timeout nack_delay max_redeliver dead_topic initial ranges) r t =
+    Subscribes s kind ranges initial (record {
       number = s.next_consumer;
       subscription = name;
       level = level;

@@ -6,6 +6,7 @@ use Rattle.position_core.specs.declared.topic_name.TopicName.{TopicName}
 use Rattle.position_core.specs.declared.message.Entry.{Entry}
 use Rattle.position_core.specs.declared.kind.Kind.{Kind}
 use Rattle.position_core.specs.Position.{position_cmp}
+use Rattle.delivery_machine.specs.Shares.{no_shares}
 use Rattle.delivery_machine.specs.State.{State, Subscription, DeadLetter}
 
 -- what is kept of a subscription
@@ -44,7 +45,7 @@ subscription_from kept = record {
   acknowledged = kept.acknowledged;
   pending = map_of.empty;
   counts = map_of.empty;
-  shares = [];
+  shares = no_shares;
   dead = kept.dead;
   safe = length kept.dead;
 }

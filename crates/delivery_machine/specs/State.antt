@@ -11,12 +11,12 @@ use Rattle.std.specs.FinMap.{FinMap}
 use Rattle.position_core.specs.declared.position.Position.{Position}
 use Rattle.position_core.specs.declared.topic_name.TopicName.{TopicName}
 use Rattle.position_core.specs.declared.message.Entry.{Entry}
-use Rattle.position_core.specs.declared.block.Block.{Block}
 use Rattle.position_core.specs.declared.held.Held.{Held}
 use Rattle.position_core.specs.declared.kind.Kind.{Kind}
 use Rattle.position_core.specs.declared.flow.Flow.{Flow}
 use Rattle.position_core.specs.Position.{position_cmp}
 use Rattle.position_core.specs.Numbers.{ProducerNumber, ConsumerNumber, Ordinal}
+use Rattle.delivery_machine.specs.Shares.{Shares}
 use Rattle.delivery_machine.specs.declared.delivery.Delivery.{Delivery}
 
 -- a connected producer; `base` stands for its last sequence number where the log has none of its messages
@@ -43,15 +43,15 @@ pub record DeadLetter : Type 0 where
   pub target : TopicName
   pub ordinal : Ordinal
 
--- `counts` has the messages that were redelivered; `shares` has the hashes of a Key_Shared subscription in their order,
--- each block with the consumer in whose share it is; the first `safe` dead letters are stored
+-- `counts` has the messages that were redelivered; `shares` says who has which hashes in Key_Shared; the first `safe` dead
+-- letters are stored
 pub record Subscription : Type 0 where
   pub name : List ℕ
   pub kind : Kind
   pub acknowledged : FinSet position_cmp
   pub pending : FinMap position_cmp Held
   pub counts : FinMap position_cmp ℕ
-  pub shares : List Block
+  pub shares : Shares
   pub dead : List DeadLetter
   pub safe : ℕ
 

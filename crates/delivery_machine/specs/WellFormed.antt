@@ -70,7 +70,7 @@ pub record IsWellFormedIn (s : State) (sub : Subscription) : Type 0 where
   pub dead : AreDeadLettersOf s.log sub.dead
   pub safe : sub.safe ≤ length sub.dead
   pub shares : AreShares sub.shares
-  pub sharers : (number : ℕ) → list_any (is_share_of number) sub.shares ≡ (same_kind sub.kind KeyShared && list_any (is_member number) (members_of s sub.name))
+  pub sharers : (number : ℕ) → list_any (is_share_of number) sub.shares.blocks ≡ (same_kind sub.kind KeyShared && list_any (is_member number) (members_of s sub.name))
 
 -- what the member was sent and has not collected are messages of the log, pending at it
 abbrev pub IsSentWell : State → Member → Type 0

@@ -3,7 +3,7 @@ ghost use Rattle.std.specs.Prelude.{◌≡◌, ◌↔◌, IsTrue};
 
 use position_core::{
     Base, Body, ConsumerNumber, Flow, Kind, Level, Millis, Moment, Ordinal, Permits, Position,
-    ProducerName, ProducerNumber, RedeliverLimit, SkipLength, SubscriptionName, TopicName,
+    ProducerName, ProducerNumber, Ranges, RedeliverLimit, SkipLength, SubscriptionName, TopicName,
 };
 
 /// What a new subscription begins with.
@@ -55,7 +55,8 @@ pub enum Event {
     },
     /// How much of the log is stored.
     Progress,
-    /// Joins a consumer to a subscription, which the first one makes.
+    /// Joins a consumer to a subscription, which the first one makes. In Key_Shared it may say which
+    /// hashes it takes; in the other kinds the ranges are not looked at.
     Subscribe {
         subscription: SubscriptionName,
         kind: Kind,
@@ -66,6 +67,7 @@ pub enum Event {
         max_redeliver: RedeliverLimit,
         dead_topic: TopicName,
         initial: Initial,
+        ranges: Option<Ranges>,
     },
     /// The consumer leaves its subscription.
     Leave {
@@ -152,6 +154,18 @@ fn same_name(name: &Option<ProducerName>, other: &Option<ProducerName>) -> bool
     }
 }
 
+fn same_ranges(ranges: &Option<Ranges>, other: &Option<Ranges>) -> bool
+    ensures { IsTrue result ↔ ranges.now ≡ other.now }
+{
+    match ranges {
+        Some(ranges) => match other {
+            Some(other) => ranges.is(other),
+            None => false,
+        },
+        None => other.is_none(),
+    }
+}
+
 impl Event {
     /// Whether two events are the same.
     pub fn is(&self, other: &Event) -> bool
@@ -183,6 +197,7 @@ impl Event {
                 max_redeliver,
                 dead_topic,
                 initial,
+                ranges,
             } => match other {
                 Event::Subscribe {
                     subscription: their_subscription,
@@ -194,6 +209,7 @@ impl Event {
                     max_redeliver: their_max_redeliver,
                     dead_topic: their_dead_topic,
                     initial: their_initial,
+                    ranges: their_ranges,
                 } => subscription.is(their_subscription)
                     && kind == their_kind
                     && level == their_level
@@ -202,7 +218,8 @@ impl Event {
                     && nack_delay == their_nack_delay
                     && max_redeliver == their_max_redeliver
                     && dead_topic.is(their_dead_topic)
-                    && initial == their_initial,
+                    && initial == their_initial
+                    && same_ranges(ranges, their_ranges),
                 _ => false,
             },
             Event::Leave { consumer } =>

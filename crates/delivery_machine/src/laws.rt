@@ -67,7 +67,8 @@ pub fn stored_is_stored_to()
 {}
 
 /// A consumer that joins takes half of the largest share, and one that leaves gives its share to its
-/// neighbour; nobody else's hashes change, and all hashes stay split among the shares.
+/// neighbour; nobody else's hashes change, and all hashes stay split among the shares. One that says
+/// which hashes it takes has those until it leaves; then they are nobody's.
 pub fn shares_are_sets()
     ensures { SharesAreSets }
 {}

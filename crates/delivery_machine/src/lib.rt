@@ -17,9 +17,9 @@ pub use delivery::{Deliveries, Delivery, is_one_of};
 pub use event::{Event, Initial, Target};
 pub use kept_subscription::KeptSubscription;
 pub use position_core::{
-    Base, Body, ConsumerNumber, DueMoment, Fault, Flow, Kind, Level, LogIndex, Message, Millis,
-    Moment, Ordinal, Permits, Position, ProducerName, ProducerNumber, RedeliverLimit, SkipLength,
-    SubscriptionName, TopicName,
+    Base, Body, ConsumerNumber, DueMoment, Fault, Flow, HashRange, Kind, Level, LogIndex, Message,
+    Millis, Moment, Ordinal, Permits, Position, ProducerName, ProducerNumber, Ranges,
+    RedeliverLimit, SkipLength, SubscriptionName, TopicName,
 };
 pub use reply::Reply;
 pub use runs::run;

@@ -1,11 +1,12 @@
 -- What happens to a topic, as one of its subscriptions sees it: by indexes of the log, by the line of its members and by
 -- their shares.
-use Rattle.std.specs.Prelude.{◌≡◌, ◌≢◌, ℕ, ◌==◌, ◌<◌, ◌≤◌, true, false, not, [], ◌∷◌, ◌++◌, length, Some, None, IsSome}
+use Rattle.std.specs.Prelude.{◌≡◌, ◌≢◌, ℕ, ◌==◌, ◌<◌, ◌≤◌, true, false, not, List, [], ◌∷◌, ◌++◌, length, Option, Some, None, IsSome}
 use Rattle.std.specs.List.{filter, list_any}
 use Rattle.position_core.specs.declared.message.Entry.{Entry}
+use Rattle.position_core.specs.declared.ranges.HashRange.{HashRange}
 use Rattle.delivery_machine.specs.State.{State, Subscription}
 use Rattle.delivery_machine.specs.Words.{visible}
-use Rattle.delivery_machine.specs.Shares.{shares_with, given_back}
+use Rattle.delivery_machine.specs.Shares.{shares_with, shares_without}
 use Rattle.dispatch_core.specs.Log.{waits_at, holder_at, line_of}
 
 -- ---- what stays
@@ -53,20 +54,20 @@ pub record TakenBack (s : State) (sub : Subscription) (t : State) (new : Subscri
 
 -- ---- the line
 
--- the consumer joined, as the last in line, and got its share where hashes are shared out
-pub record Joined (consumer : ℕ) (s : State) (sub : Subscription) (t : State) (new : Subscription) : Type 0 where
+-- the consumer joined, as the last in line, and got its share in Key_Shared, where it may say which hashes it takes
+pub record Joined (ranges : Option (List HashRange)) (consumer : ℕ) (s : State) (sub : Subscription) (t : State) (new : Subscription) : Type 0 where
   pub stays : OnlyLineChanges s sub t new
   pub level : ℕ
   pub line : line_of t new ≡ line_of s sub ++ (consumer, level) ∷ []
-  pub shares : new.shares ≡ shares_with sub.kind consumer sub.shares
+  pub shares : new.shares ≡ shares_with sub.kind ranges consumer sub.shares
   pub absent : list_any (λ m. m.0 == consumer) (line_of s sub) ≡ false
   pub few : length (line_of s sub) < 64
 
--- the consumer left, with nothing pending at it, and its share went to another
+-- the consumer left, with nothing pending at it, and its share went from it
 pub record Left (consumer : ℕ) (s : State) (sub : Subscription) (t : State) (new : Subscription) : Type 0 where
   pub stays : OnlyLineChanges s sub t new
   pub line : line_of t new ≡ filter (λ m. not (m.0 == consumer)) (line_of s sub)
-  pub shares : new.shares ≡ given_back consumer sub.shares
+  pub shares : new.shares ≡ shares_without consumer sub.shares
   pub idle : (i : ℕ) → holder_at s sub i ≢ Some consumer
 
 -- ---- a message

@@ -1,7 +1,8 @@
 // What every dispatcher keeps.
-ghost use Rattle.std.specs.Prelude.{◌≡◌, [], Bool, IsTrue, IfOk, IfErr, OnOk, OnErr, IfSome, IfNone};
+ghost use Rattle.std.specs.Prelude.{◌≡◌, [], Bool, None, IsTrue, IfOk, IfErr, OnOk, OnErr, IfSome, IfNone};
 ghost use Rattle.position_core.specs.declared.fault.Fault.TheVariants.{NoMemory};
 ghost use Rattle.position_core.specs.declared.kind.Kind.{Kind};
+ghost use Rattle.delivery_machine.specs.Shares.{no_shares};
 ghost use Rattle.delivery_machine.specs.State.{State, Subscription};
 ghost use Rattle.delivery_machine.specs.Words.{members_of, NoneEligible};
 ghost use Rattle.dispatch_core.specs.Offers.{IsGoodOffer};
@@ -37,7 +38,7 @@ pub trait Dispatcher {
     fn begin<V: View>(alloc: Global, view: &V) -> Result<Self, Fault>
         requires kind { IsTrue (serves (V.subscription view.now).kind) }
         requires empty { members_of (V.state view.now) (V.subscription view.now).name ≡ [] }
-        requires unshared { (V.subscription view.now).shares ≡ [] }
+        requires unshared { (V.subscription view.now).shares ≡ no_shares }
         ensures ok { IfOk result (λ d. agrees d (V.state view.now) (V.subscription view.now)) }
         ensures err { IfErr result (λ fault. fault ≡ NoMemory) };
 
@@ -59,9 +60,9 @@ pub trait Dispatcher {
         ensures { WillAgree TakenBack (agrees self.old) (agrees self.new)
             (V.state view.now) (V.subscription view.now) };
 
-    /// The consumer joined.
+    /// The consumer joined, and did not say which hashes it takes.
     fn on_join<V: View>(&mut self, view: &V, consumer: ConsumerNumber) -> Result<(), Fault>
-        ensures ok { OnOk result (AgreesAfter (Joined consumer) (agrees self.old) (agrees self.new)
+        ensures ok { OnOk result (AgreesAfter (Joined None consumer) (agrees self.old) (agrees self.new)
             (V.state view.now) (V.subscription view.now)) }
         ensures err { IfErr result (λ fault. fault ≡ NoMemory) }
         ensures unchanged { OnErr result (self.new ≡ self.old) };

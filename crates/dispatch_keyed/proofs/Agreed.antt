@@ -20,7 +20,6 @@ use Rattle.delivery_machine.specs.Shares.{owner_of}
 use Rattle.dispatch_core.specs.Log.{waits_at, holder_at, key_at}
 use Rattle.dispatch_core.specs.Offers.{IsGoodOffer}
 use Rattle.dispatch_core.specs.Changes.{OnlyLineChanges, Kept, Appended, TakenBack}
-use Rattle.hash_firsts.specs.Firsts.{NoneIn}
 use Rattle.hash_rows.specs.declared.row.Row.{Row}
 use Rattle.hash_rows.specs.Hashes.{hash_at}
 use Rattle.hash_rows.specs.Standing.{is_placed, waits_there, holds_there, keeper_of, AllPlacedBefore, SameKnowledge, Stands, Added}
@@ -118,15 +117,6 @@ module _ (d : Keyed) (s : State) (sub : Subscription) (agreed : Agrees d s sub) 
         by None is =
             true≢false (sym (in_row k (hash_at s k) (hash_within s k) below refl ready.waits) ∙ known.first.none is free k (omega arith))
 
--- no hash has a first message
-pub none_stuck : (d : Keyed) (s : State) (sub : Subscription) → NoneIn d.firsts.numbers 0 65536 → (h : ℕ) → h < 2 ^ 16 → IsStuck d s sub h
-none_stuck d s sub none h within n is = absurd (none-some n (sym (none h (omega arith) (omega (arith, within))) ∙ is))
-
--- nobody is there
-pub nobody_free : (d : Keyed) (s : State) (sub : Subscription) → Agrees d s sub → d.owners.shares ≡ [] → NoneFreeBefore s sub d.read
-nobody_free d s sub agreed none k _ _ m take =
-    none-some m.number (ap (λ bs. owner_of bs (hash_at s k)) (sym (sym (shares_in agreed.owners) ∙ none)) ∙ owner_number s sub (hash_at s k) m take.owner)
-
 -- ---- what is told
 
 module _ (d : Keyed) (s : State) (sub : Subscription) (t : State) (new : Subscription) (agreed : Agrees d s sub) where
@@ -179,7 +169,7 @@ module _ (d : Keyed) (s : State) (sub : Subscription) (t : State) (new : Subscri
             known_still (row_of d h) h d.read s sub t new
             (λ i below. sym (hash_in_front t s put.message i put.log (omega (arith, below, inside))))
             (λ i below _. let was = put.others i (omega (arith, below, inside)) in record { waits = sym was.waits; holder = sym was.holder })
-            known.row (number_of d h) (ap (λ bs. owner_of bs h) (sym put.shares)) known.first;
+            known.row (number_of d h) (ap (λ shares. owner_of shares h) (sym put.shares)) known.first;
       }
 
 -- ---- a change of one message
@@ -218,7 +208,7 @@ module _ (d e : Keyed) (index hash : ℕ) (wait : Bool) (holder : Option ℕ) (s
           (subst (λ (o : Option ℕ). Knows (row_of d h) o h d.read t new) (sym (others_first h other))
           (known_still (row_of d h) h d.read s sub t new (λ i _. hash_of_log s t i news.stays.log.log)
           (λ i _ at. news.stays.others i (λ same. other (sym at ∙ ap (hash_at s) same ∙ same_hash)))
-          known.row (number_of d h) (ap (λ bs. owner_of bs h) news.stays.shares) known.first)))
+          known.row (number_of d h) (ap (λ shares. owner_of shares h) news.stays.shares) known.first)))
     ];
   }
     where
@@ -229,7 +219,7 @@ module _ (d e : Keyed) (index hash : ℕ) (wait : Bool) (holder : Option ℕ) (s
       at_hash : Knows (row_of e hash) (number_of e hash) hash e.read t new
       at_hash = subst (λ (n : ℕ). Knows (row_of e hash) (number_of e hash) hash n t new) (sym read) (record {
         row = row_now;
-        first = subst (λ bs. IsFirstOf (row_of e hash) (number_of e hash) (owner_of bs hash) t new) (shares_in (owners ∙ agreed.owners) ∙ sym news.stays.shares)
+        first = subst (λ shares. IsFirstOf (row_of e hash) (number_of e hash) (owner_of shares hash) t new) (shares_in (owners ∙ agreed.owners) ∙ sym news.stays.shares)
             (first row_now.keeper (λ i waits. omega (arith, (waiting_read (row_of e hash) hash d.read t new i row_now waits).0, agreed.small)));
       })
 
@@ -280,7 +270,7 @@ agrees_shared d e s sub t new change agreed owners read sent rows firsts = recor
       (row_stays (row_of d h) h d.read s sub t new (λ i _. hash_of_log s t i change.log.log) (λ i _ _. change.messages i) known.row) in
       subst (λ (n : ℕ). Knows (row_of e h) (number_of e h) h n t new) (sym read) (record {
         row = row;
-        first = subst (λ bs. IsFirstOf (row_of e h) (number_of e h) (owner_of bs h) t new) (shares_in owners)
+        first = subst (λ shares. IsFirstOf (row_of e h) (number_of e h) (owner_of shares h) t new) (shares_in owners)
             (firsts h within row.keeper (λ i waits. omega (arith, (waiting_read (row_of e h) h d.read t new i row waits).0, agreed.small))
             (λ none. no_first (row_of d h) (number_of d h) (owner_of sub.shares h) s sub (sym (rows h) ∙ none) known.first));
       });
@@ -393,6 +383,6 @@ module _ (d e : Keyed) (made pushed : Option Row) (hash : ℕ) (wait : Bool) (ho
       at_hash : Knows (row_of e hash) (number_of e hash) hash e.read s sub
       at_hash = subst (λ (n : ℕ). Knows (row_of e hash) (number_of e hash) hash n s sub) (sym read) (record {
         row = row_now;
-        first = subst (λ bs. IsFirstOf (row_of e hash) (number_of e hash) (owner_of bs hash) s sub) (shares_in (owners ∙ agreed.owners))
+        first = subst (λ shares. IsFirstOf (row_of e hash) (number_of e hash) (owner_of shares hash) s sub) (shares_in (owners ∙ agreed.owners))
             (first row_now.keeper (λ i waits. omega (arith, (waiting_read (row_of e hash) hash (d.read + 1) s sub i row_now waits).0, small)));
       })

@@ -1,8 +1,10 @@
 -- The first messages of hashes, from their rows.
-use Rattle.std.proofs.Common.{◌≡◌, ◌≢◌, ℕ, ◌<◌, Bool, true, cond, Option, Some, None, refl, sym, ap, ◌∙◌, subst, true≢false}
+use Rattle.std.proofs.Common.{◌≡◌, ◌≢◌, ℕ, ◌-◌, ◌<◌, inl, inr, arith, Bool, true, cond, Option, Some, None, refl, sym, ap, ◌∙◌, subst, true≢false}
 use Rattle.std.specs.Cmp.{nat_cmp_total, unsigned_tied}
+use Rattle.std.specs.Ordering.{nat_cmp}
 use Rattle.std.specs.FinMap as map_of
-use Rattle.std.proofs.lemmas.Bool.{ne_eqb, eq-eqb}
+use Rattle.std.specs.Option.{is_some}
+use Rattle.std.proofs.lemmas.Bool.{cases_eq, cases_lt, ne_eqb, eq-eqb}
 use Rattle.std.proofs.lemmas.Option.{same_Some, none-some}
 use Rattle.place_bits.specs.Places.{IsNext, NoneFrom}
 use Rattle.delivery_machine.specs.State.{State, Subscription}
@@ -102,3 +104,20 @@ module _ (old new : Firsts) (k : ℕ) where
   take_here is =
       ap (λ (f : Firsts). map_of.get f.numbers k) is ∙ map_of.get-remove nat_cmp_total old.numbers k k
       ∙ ap (λ (b : Bool). cond b None (map_of.get old.numbers k)) (unsigned_tied k k ∙ eq-eqb k k refl)
+
+-- without one of them there are fewer
+pub fewer : (m : map_of.FinMap nat_cmp ℕ) (k n : ℕ) → map_of.get m k ≡ Some n → map_of.len (map_of.remove m k) < map_of.len m
+fewer m k n there = elim (cases_lt 0 (map_of.len m)) [
+  | inl some ↦ omega (arith, less, some)
+  | inr none ↦ absurd (none-some n (sym (map_of.get-empty nat_cmp k) ∙ ap (λ (x : map_of.FinMap nat_cmp ℕ). map_of.get x k) (sym (map_of.empty_of_len m (omega (arith, none)))) ∙ there))
+]
+  where
+    less : map_of.len (map_of.remove m k) ≡ map_of.len m - 1
+    less = map_of.len-remove nat_cmp_total m k ∙ ap (λ (t : Bool). cond t (map_of.len m - 1) (map_of.len m)) (ap is_some there)
+
+-- and none that was not there comes
+pub still_none : (old new : Firsts) (k h : ℕ) → new ≡ record old { numbers = map_of.remove old.numbers k } → map_of.get old.numbers h ≡ None → map_of.get new.numbers h ≡ None
+still_none old new k h is none = elim (cases_eq h k) [
+  | inl same ↦ ap (map_of.get new.numbers) same ∙ take_here old new k is
+  | inr other ↦ take_others old new k is h other ∙ none
+]

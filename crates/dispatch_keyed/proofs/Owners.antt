@@ -1,5 +1,5 @@
 -- The owner of a hash, as the members and the log are gone through.
-use Rattle.std.proofs.Common.{◌≡◌, ℕ, ◌+◌, ◌<◌, ◌≤◌, ◌∙◌, Bool, true, false, List, Option, Some, None, take, get_or, length, refl, sym, ap, arith, inl, inr, true≢false}
+use Rattle.std.proofs.Common.{◌≡◌, ℕ, ◌+◌, ◌<◌, ◌≤◌, ◌∙◌, Bool, true, false, Option, Some, None, take, get_or, length, refl, sym, ap, arith, inl, inr, true≢false}
 use Rattle.std.specs.Prelude.{◌==◌, ◌&&◌, ◌||◌, not}
 use Rattle.std.specs.List.{find, list_any}
 use Rattle.std.specs.Option.{option_map, option_map_or, option_and_then}
@@ -9,7 +9,6 @@ use Rattle.std.proofs.lemmas.Bool.{eqb-true}
 use Rattle.std.proofs.lemmas.List.{get_or-take, length-take}
 use Rattle.std.proofs.lemmas.List.Folds.{list_any_more, list_any_at}
 use Rattle.std.proofs.lemmas.Option.{slice_get_cases, slice_get-get_or, same_Some, none-some}
-use Rattle.position_core.specs.declared.block.Block.{Block}
 use Rattle.position_core.specs.declared.message.Entry.{Entry}
 use Rattle.position_core.specs.declared.held.Held.{Held}
 use Rattle.murmur_core.specs.Sticky.{sticky_hash}
@@ -133,10 +132,7 @@ owner_number s sub hash m is = by (owner_of sub.shares hash) refl is
     by (Some number) owned found =
         owned ∙ ap Some (sym (number_of_found s sub number m (sym (find-filter (is_at sub.name) (is_member number) s.members) ∙ found)))
 
--- of the hashes of one consumer all have an owner with room, or none
-pub full_alike : (s : State) (sub : Subscription) (bs : List Block) (h k consumer : ℕ) → bs ≡ sub.shares → owner_of bs h ≡ Some consumer → owner_of bs k ≡ Some consumer → HasNoRoomyOwner s sub h → HasNoRoomyOwner s sub k
-full_alike s sub bs h k consumer same at_h at_k none m is room =
-    none m (ap (option_and_then (λ (number : ℕ). find (λ m. is_at sub.name m && is_member number m) s.members)) (at_sub h at_h ∙ sym (at_sub k at_k)) ∙ is) room
-  where
-    at_sub : (j : ℕ) → owner_of bs j ≡ Some consumer → owner_of sub.shares j ≡ Some consumer
-    at_sub j at = sym (ap (λ (xs : List Block). owner_of xs j) same) ∙ at
+-- of hashes with one owner all have an owner with room, or none
+pub full_alike : (s : State) (sub : Subscription) (h k : ℕ) → owner_of sub.shares k ≡ owner_of sub.shares h → HasNoRoomyOwner s sub h → HasNoRoomyOwner s sub k
+full_alike s sub h k same none m is =
+    none m (ap (option_and_then (λ (number : ℕ). find (λ m. is_at sub.name m && is_member number m) s.members)) (sym same) ∙ is)

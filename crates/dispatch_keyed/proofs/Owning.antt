@@ -1,16 +1,16 @@
 -- The shares and the line, as they change.
-use Rattle.std.proofs.Common.{◌≡◌, ℕ, suc, ◌+◌, length, List, [], ◌∷◌, ◌++◌, map, Bool, true, false, cond, Some, None, refl, sym, ap, ap₂, ◌∙◌}
+use Rattle.std.proofs.Common.{◌≡◌, ℕ, suc, ◌+◌, length, List, [], ◌∷◌, ◌++◌, map, Bool, true, false, cond, Option, Some, None, refl, sym, ap, ap₂, ◌∙◌}
 use Rattle.std.specs.Prelude.{◌==◌, not, nat_lt, slice_get}
 use Rattle.std.specs.List.{filter, find, position, position_or_len}
 use Rattle.std.specs.Option.{option_map}
 use Rattle.std.proofs.lemmas.List.{map-append}
 use Rattle.std.proofs.lemmas.List.Quantifiers.{position-Some}
 use Rattle.std.proofs.lemmas.Option.{slice_get-get_or}
-use Rattle.position_core.specs.declared.block.Block.{Block}
+use Rattle.position_core.specs.declared.ranges.HashRange.{HashRange}
 use Rattle.position_core.specs.declared.kind.Kind.{Kind}
 use Rattle.position_core.specs.declared.kind.Kind.TheVariants.{KeyShared}
 use Rattle.delivery_machine.specs.State.{State, Subscription, Member}
-use Rattle.delivery_machine.specs.Shares.{shares_with, shared_out, given_back}
+use Rattle.delivery_machine.specs.Shares.{Shares, shares_with, shares_without}
 use Rattle.delivery_machine.specs.Words.{is_member, members_of}
 use Rattle.delivery_machine.proofs.Places.{find-position, found_nothing}
 use Rattle.dispatch_core.specs.Changes.{Joined, Left}
@@ -31,14 +31,14 @@ firsts_of line = map (λ m. m.0) line
 module _ (s : State) (sub : Subscription) (t : State) (new : Subscription) where
   -- they stay
   pub same_owners : (o : Owners) → o ≡ owners_in s sub → new.shares ≡ sub.shares → line_of t new ≡ line_of s sub → o ≡ owners_in t new
-  same_owners o was shares line = was ∙ ap₂ (λ (bs : List Block) (l : List (ℕ × ℕ)). owners_with bs (firsts_of l)) (sym shares) (sym line)
+  same_owners o was shares line = was ∙ ap₂ (λ (shares : Shares) (l : List (ℕ × ℕ)). owners_with shares (firsts_of l)) (sym shares) (sym line)
 
   -- somebody joined
-  pub joined_owners : (consumer : ℕ) (old joined : Owners) → Joined consumer s sub t new → sub.kind ≡ KeyShared → old ≡ owners_in s sub → joined ≡ owners_with (shared_out consumer old.shares) (old.line ++ consumer ∷ []) → joined ≡ owners_in t new
-  joined_owners consumer old joined change kind was is = is ∙ ap₂ owners_with shares line
+  pub joined_owners : (ranges : Option (List HashRange)) (consumer : ℕ) (old joined : Owners) → Joined ranges consumer s sub t new → sub.kind ≡ KeyShared → old ≡ owners_in s sub → joined ≡ owners_with (shares_with KeyShared ranges consumer old.shares) (old.line ++ consumer ∷ []) → joined ≡ owners_in t new
+  joined_owners ranges consumer old joined change kind was is = is ∙ ap₂ owners_with shares line
     where
-      shares : shared_out consumer old.shares ≡ new.shares
-      shares = ap (λ (o : Owners). shared_out consumer o.shares) was ∙ sym (change.shares ∙ ap (λ (k : Kind). shares_with k consumer sub.shares) kind)
+      shares : shares_with KeyShared ranges consumer old.shares ≡ new.shares
+      shares = ap (λ (o : Owners). shares_with KeyShared ranges consumer o.shares) was ∙ sym (change.shares ∙ ap (λ (k : Kind). shares_with k ranges consumer sub.shares) kind)
 
       line : old.line ++ consumer ∷ [] ≡ numbers_in t new
       line =
@@ -47,11 +47,11 @@ module _ (s : State) (sub : Subscription) (t : State) (new : Subscription) where
           ∙ ap firsts_of (sym change.line)
 
   -- somebody left
-  pub left_owners : (consumer : ℕ) (old left : Owners) → Left consumer s sub t new → old ≡ owners_in s sub → left ≡ owners_with (given_back consumer old.shares) (filter (λ number. not (number == consumer)) old.line) → left ≡ owners_in t new
+  pub left_owners : (consumer : ℕ) (old left : Owners) → Left consumer s sub t new → old ≡ owners_in s sub → left ≡ owners_with (shares_without consumer old.shares) (filter (λ number. not (number == consumer)) old.line) → left ≡ owners_in t new
   left_owners consumer old left change was is = is ∙ ap₂ owners_with shares line
     where
-      shares : given_back consumer old.shares ≡ new.shares
-      shares = ap (λ (o : Owners). given_back consumer o.shares) was ∙ sym change.shares
+      shares : shares_without consumer old.shares ≡ new.shares
+      shares = ap (λ (o : Owners). shares_without consumer o.shares) was ∙ sym change.shares
 
       firsts_left : (l : List (ℕ × ℕ)) → filter (λ number. not (number == consumer)) (firsts_of l) ≡ firsts_of (filter (λ m. not (m.0 == consumer)) l)
       firsts_left [] = refl

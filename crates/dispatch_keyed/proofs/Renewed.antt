@@ -1,21 +1,28 @@
 -- The first messages that are kept, as some are renewed.
-use Rattle.std.proofs.Common.{◌≡◌, ◌≢◌, ℕ, ◌-◌, ◌^◌, ◌<◌, ◌≤◌, List, Option, Some, None, ◌⊎◌, inl, inr, sym, ap, ◌∙◌, subst, arith}
+use Rattle.std.proofs.Common.{◌≡◌, ◌≢◌, ℕ, ◌-◌, ◌^◌, ◌<◌, ◌≤◌, Bool, true, false, cond, List, [], ◌∷◌, Option, Some, None, ◌⊎◌, inl, inr, refl, sym, ap, ◌∙◌, subst, arith}
 use Rattle.std.specs.List.{find}
 use Rattle.std.specs.Ordering.{nat_cmp}
 use Rattle.std.specs.BTreeMap as tree
-use Rattle.std.proofs.lemmas.Bool.{cases_eq, cases_lt}
+use Rattle.std.proofs.lemmas.Bool.{cases_eq, cases_lt, cases_Bool}
 use Rattle.std.proofs.lemmas.Option.{same_Some, none-some}
 use Rattle.position_core.specs.declared.block.Block.{Block}
+use Rattle.position_core.specs.declared.ranges.HashRange.{HashRange}
+use Rattle.position_core.specs.Ranges.{AreRanges, have_hash}
 use Rattle.delivery_machine.specs.State.{State, Subscription}
-use Rattle.delivery_machine.specs.Shares.{owner_of, shared_out, given_back, is_share_of, SplitAllHashes}
+use Rattle.delivery_machine.specs.Shares.{Shares, owner_of, owner_among, split_with, sticky_with, is_taken, shares_without, sticky_shares, given_back, is_share_of, SplitAllHashes}
+use Rattle.delivery_machine.specs.ShareSets.{AreApart}
+use Rattle.delivery_machine.proofs.Sticky.{free_of, owner_stays}
+use Rattle.delivery_machine.proofs.StickyLeft.{others as gone_from, owner_gone, owner_left as owner_stayed}
 use Rattle.dispatch_core.specs.Changes.{OnlyLineChanges}
 use Rattle.hash_rows.specs.declared.row.Row.{Row}
 use Rattle.hash_rows.specs.Knowing.{Knows, KeeperIsRight, WaitBefore, IsFirstOf}
 use Rattle.hash_rows.proofs.Moving.{hash_of_log, first_stays}
+use Rattle.dispatch_keyed.specs.Owning.{owners_in}
 use Rattle.dispatch_keyed.specs.Agreeing.{Agrees}
 use Rattle.dispatch_keyed.specs.Resharing.{IsOutside, SameButFirsts, IsRenewed}
 use Rattle.dispatch_keyed.specs.declared.keyed.Keyed.{Keyed}
-use Rattle.dispatch_keyed.proofs.Agreed.{row_of, number_of}
+use Rattle.dispatch_keyed.proofs.Agreed.{row_of, number_of, agrees_shared}
+use Rattle.dispatch_keyed.proofs.Firsts.{ownerless, no_first}
 use Rattle.dispatch_keyed.proofs.Owning.{shares_in}
 use Rattle.dispatch_keyed.proofs.Shares.{owner_joined, owner_left}
 
@@ -36,7 +43,7 @@ renewed_on a b c h s sub rest number renewed =
     (subst (λ shares. Of b.rows (number_of c h) shares) (sym (shares_in rest.owners))
     (subst (λ (o : Option ℕ). Of b.rows o b.owners.shares) (sym number) renewed))
   where
-    Of : tree.BTreeMap ℕ Row → Option ℕ → List Block → Type 0
+    Of : tree.BTreeMap ℕ Row → Option ℕ → Shares → Type 0
     Of rows first shares =
         KeeperIsRight (tree.get nat_cmp rows h) s sub
         → WaitBefore (tree.get nat_cmp rows h) (2 ^ 32 - 1)
@@ -47,7 +54,34 @@ renewed_on a b c h s sub rest number renewed =
 pub renewed_since : (a b c : Keyed) (h : ℕ) (s : State) (sub : Subscription) → number_of b h ≡ number_of a h → IsRenewed b c h s sub → IsRenewed a c h s sub
 renewed_since a b c h s sub number renewed right before absent = renewed right before (λ none. number ∙ absent none)
 
+-- it was renewed before, too
+pub renewed_again : (a b c : Keyed) (h : ℕ) (s : State) (sub : Subscription) → SameButFirsts b c → IsRenewed a b h s sub → IsRenewed b c h s sub → IsRenewed a c h s sub
+renewed_again a b c h s sub rest first then right before absent =
+    then right before (λ none.
+    no_first (row_of b h) (number_of b h) (owner_of b.owners.shares h) s sub (at_b (λ (o : Option Row). o ≡ None) none)
+    (first (at_b (λ (o : Option Row). KeeperIsRight o s sub) right) (at_b (λ (o : Option Row). WaitBefore o (2 ^ 32 - 1)) before) (λ gone. absent (same_row ∙ gone))))
+  where
+    same_row : row_of c h ≡ row_of b h
+    same_row = ap (λ m. tree.get nat_cmp m h) rest.rows
+
+    at_b : (P : Option Row → Type 0) → P (row_of c h) → P (row_of b h)
+    at_b P p = subst P same_row p
+
 -- ---- members
+
+-- who has a hash when a consumer has left, in either mode
+owner_of_split : (consumer : ℕ) (shares : Shares) (h : ℕ) → shares.sticky ≡ false → owner_of (shares_without consumer shares) h ≡ owner_among (given_back consumer shares.blocks) h
+owner_of_split consumer shares h not_sticky =
+    ap (λ (t : Bool). owner_of (cond t (sticky_shares (gone_from consumer shares.blocks)) (record shares { blocks = given_back consumer shares.blocks })) h) not_sticky
+
+owner_of_sticky : (consumer : ℕ) (shares : Shares) (h : ℕ) → shares.sticky ≡ true → owner_of (shares_without consumer shares) h ≡ owner_among (gone_from consumer shares.blocks) h
+owner_of_sticky consumer shares h is_sticky =
+    ap (λ (t : Bool). owner_of (cond t (sticky_shares (gone_from consumer shares.blocks)) (record shares { blocks = given_back consumer shares.blocks })) h) is_sticky
+    ∙ in_them (gone_from consumer shares.blocks)
+  where
+    in_them : (bs : List Block) → owner_of (sticky_shares bs) h ≡ owner_among bs h
+    in_them [] = refl
+    in_them (b ∷ bs) = refl
 
 module _ (d e : Keyed) (s : State) (sub : Subscription) (t : State) (new : Subscription) (agreed : Agrees d s sub) (change : OnlyLineChanges s sub t new) (rows : e.rows ≡ d.rows) where
   -- the owner stays
@@ -68,17 +102,26 @@ module _ (d e : Keyed) (s : State) (sub : Subscription) (t : State) (new : Subsc
     | inr other ↦ inr (λ is. other (same_Some x c is))
   ]
 
-  pub firsts_joined : (consumer : ℕ) (joined : List Block) → joined ≡ shared_out consumer d.owners.shares → e.owners.shares ≡ joined → ((h : ℕ) → owner_of joined h ≢ Some consumer → number_of e h ≡ number_of d h) → ((h : ℕ) → h < 2 ^ 16 → owner_of joined h ≡ Some consumer → IsRenewed d e h t new) → (h : ℕ) → h < 2 ^ 16 → IsRenewed d e h t new
+  pub firsts_joined : (consumer : ℕ) (joined : Shares) → joined ≡ split_with consumer d.owners.shares → e.owners.shares ≡ joined → ((h : ℕ) → owner_of joined h ≢ Some consumer → number_of e h ≡ number_of d h) → ((h : ℕ) → h < 2 ^ 16 → owner_of joined h ≡ Some consumer → IsRenewed d e h t new) → (h : ℕ) → h < 2 ^ 16 → IsRenewed d e h t new
   firsts_joined consumer joined is shares others first h within = elim (owned_or_not (owner_of joined h) consumer) [
     | inl theirs ↦ first h within theirs
-    | inr not ↦ elim (owner_joined consumer d.owners.shares h within) [
-      | inl taken ↦ absurd (not (ap (λ bs. owner_of bs h) is ∙ taken))
-      | inr same ↦ still_first h within (others h not) (ap (λ bs. owner_of bs h) (shares ∙ is) ∙ same)
+    | inr not ↦ elim (owner_joined consumer d.owners.shares.blocks h within) [
+      | inl taken ↦ absurd (not (ap (λ shares. owner_of shares h) is ∙ taken))
+      | inr same ↦ still_first h within (others h not) (ap (λ shares. owner_of shares h) (shares ∙ is) ∙ same)
     ]
   ]
 
-  pub firsts_left : (consumer from end : ℕ) → e.owners.shares ≡ given_back consumer d.owners.shares → SplitAllHashes d.owners.shares → ((h : ℕ) → (from ≤ h → h < end → ⊥) → IsOutside (find (is_share_of consumer) d.owners.shares) h) → ((h : ℕ) → (from ≤ h → h < end → ⊥) → number_of e h ≡ number_of d h) → ((h : ℕ) → from ≤ h → h < end → h < 2 ^ 16 → IsRenewed d e h t new) → (h : ℕ) → h < 2 ^ 16 → IsRenewed d e h t new
-  firsts_left consumer from end shares split outside others first h within = elim (cases_lt h from) [
+  pub firsts_taken : (consumer : ℕ) (ranges : List HashRange) → e.owners.shares ≡ sticky_with consumer ranges d.owners.shares → AreRanges ranges → is_taken ranges d.owners.shares ≡ false → ((h : ℕ) → have_hash ranges h ≡ false → number_of e h ≡ number_of d h) → ((h : ℕ) → h < 2 ^ 16 → have_hash ranges h ≡ true → IsRenewed d e h t new) → (h : ℕ) → h < 2 ^ 16 → IsRenewed d e h t new
+  firsts_taken consumer ranges shares are free others first h within = elim (cases_Bool (have_hash ranges h)) [
+    | inl theirs ↦ first h within theirs
+    | inr not ↦
+        still_first h within (others h not)
+        (ap (λ shares. owner_of shares h) shares
+        ∙ owner_stays consumer h 0 ranges d.owners.shares.blocks are.rise (free_of consumer 0 ranges d.owners.shares.blocks are.rise free) not)
+  ]
+
+  pub firsts_left : (consumer from end : ℕ) → e.owners.shares ≡ shares_without consumer d.owners.shares → d.owners.shares.sticky ≡ false → SplitAllHashes d.owners.shares.blocks → ((h : ℕ) → (from ≤ h → h < end → ⊥) → IsOutside (find (is_share_of consumer) d.owners.shares.blocks) h) → ((h : ℕ) → (from ≤ h → h < end → ⊥) → number_of e h ≡ number_of d h) → ((h : ℕ) → from ≤ h → h < end → h < 2 ^ 16 → IsRenewed d e h t new) → (h : ℕ) → h < 2 ^ 16 → IsRenewed d e h t new
+  firsts_left consumer from end shares not_sticky split outside others first h within = elim (cases_lt h from) [
     | inl before ↦ still (λ start _. omega (arith, start, before))
     | inr start ↦ elim (cases_lt h end) [
       | inl below ↦ first h start below within
@@ -87,4 +130,24 @@ module _ (d e : Keyed) (s : State) (sub : Subscription) (t : State) (new : Subsc
   ]
     where
       still : (from ≤ h → h < end → ⊥) → IsRenewed d e h t new
-      still out = still_first h within (others h out) (ap (λ bs. owner_of bs h) shares ∙ owner_left consumer d.owners.shares h split (outside h out))
+      still out =
+          still_first h within (others h out)
+          (ap (λ shares. owner_of shares h) shares ∙ owner_of_split consumer d.owners.shares h not_sticky
+          ∙ owner_left consumer d.owners.shares.blocks h split (outside h out))
+
+  -- the leaver's hashes have no owner then
+  firsts_forgotten : (consumer : ℕ) → e.owners.shares ≡ shares_without consumer d.owners.shares → d.owners.shares.sticky ≡ true → AreApart 0 d.owners.shares.blocks → ((h : ℕ) → owner_of d.owners.shares h ≢ Some consumer → number_of e h ≡ number_of d h) → ((h : ℕ) → owner_of d.owners.shares h ≡ Some consumer → number_of e h ≡ None) → (h : ℕ) → h < 2 ^ 16 → IsRenewed d e h t new
+  firsts_forgotten consumer shares is_sticky apart others gone h within = elim (owned_or_not (owner_of d.owners.shares h) consumer) [
+    | inl theirs ↦ λ right before absent.
+        let nobody : owner_of e.owners.shares h ≡ None = owner_now ∙ owner_gone consumer h 0 d.owners.shares.blocks apart theirs in
+        subst (λ (o : Option ℕ). IsFirstOf (row_of e h) o (owner_of e.owners.shares h) t new) (sym (gone h theirs)) (ownerless (row_of e h) (owner_of e.owners.shares h) t new nobody)
+    | inr not ↦ still_first h within (others h not) (owner_now ∙ owner_stayed consumer h d.owners.shares.blocks not)
+  ]
+    where
+      owner_now : owner_of e.owners.shares h ≡ owner_among (gone_from consumer d.owners.shares.blocks) h
+      owner_now = ap (λ shares. owner_of shares h) shares ∙ owner_of_sticky consumer d.owners.shares h is_sticky
+
+  -- the consumer left, and the first messages of its hashes were taken out before
+  pub agrees_forgotten : (consumer : ℕ) → e.owners ≡ owners_in t new → e.read ≡ d.read → e.sent ≡ d.sent → e.owners.shares ≡ shares_without consumer d.owners.shares → d.owners.shares.sticky ≡ true → AreApart 0 d.owners.shares.blocks → ((h : ℕ) → owner_of d.owners.shares h ≢ Some consumer → number_of e h ≡ number_of d h) → ((h : ℕ) → owner_of d.owners.shares h ≡ Some consumer → number_of e h ≡ None) → Agrees e t new
+  agrees_forgotten consumer owners read sent shares is_sticky apart others gone =
+      agrees_shared d e s sub t new change agreed owners read sent (λ h. ap (λ m. tree.get nat_cmp m h) rows) (firsts_forgotten consumer shares is_sticky apart others gone)

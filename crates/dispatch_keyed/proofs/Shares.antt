@@ -6,7 +6,7 @@ use Rattle.std.specs.Option.{option_map}
 use Rattle.std.proofs.lemmas.Bool.{cases_lt, lt-leb, le-ltb, and_parts, eqb-true}
 use Rattle.std.proofs.lemmas.Option.{same_Some, none-some}
 use Rattle.position_core.specs.declared.block.Block.{Block}
-use Rattle.delivery_machine.specs.Shares.{has_hash, owner_of, half, lower_half, upper_half, halving, most_hashes, shared_out, all_hashes, is_share_of, with_lower, with_upper, given_back, IsRow, SplitAllHashes}
+use Rattle.delivery_machine.specs.Shares.{has_hash, owner_among, half, lower_half, upper_half, halving, most_hashes, shared_out, all_hashes, is_share_of, with_lower, with_upper, given_back, IsRow, SplitAllHashes}
 use Rattle.dispatch_keyed.specs.Resharing.{IsOutside}
 use Rattle.dispatch_keyed.proofs.Blocks.{has, and_false, row_end}
 
@@ -34,14 +34,14 @@ has_not h b away = elim (cases_lt h b.from) [
 ]
 
 module _ (h : ℕ) (b : Block) (bs : List Block) where
-  owner_here : IsIn h b → owner_of (b ∷ bs) h ≡ Some b.consumer
+  owner_here : IsIn h b → owner_among (b ∷ bs) h ≡ Some b.consumer
   owner_here at = ap (λ (t : Bool). option_map (λ (x : Block). x.consumer) (cond t (Some b) (find (has_hash h) bs))) (has h b at.0 at.1)
 
-  owner_behind : (IsIn h b → ⊥) → owner_of (b ∷ bs) h ≡ owner_of bs h
+  owner_behind : (IsIn h b → ⊥) → owner_among (b ∷ bs) h ≡ owner_among bs h
   owner_behind away = ap (λ (t : Bool). option_map (λ (x : Block). x.consumer) (cond t (Some b) (find (has_hash h) bs))) (has_not h b away)
 
 -- where both begin with a share of one consumer and the same hashes, as far as the hash is concerned
-same_behind : (h : ℕ) (a : Block) (bs cs : List Block) → owner_of bs h ≡ owner_of cs h → owner_of (a ∷ bs) h ≡ owner_of (a ∷ cs) h
+same_behind : (h : ℕ) (a : Block) (bs cs : List Block) → owner_among bs h ≡ owner_among cs h → owner_among (a ∷ bs) h ≡ owner_among (a ∷ cs) h
 same_behind h a bs cs same = elim (in_or_not h a) [
   | inl at ↦ owner_here h a bs at ∙ sym (owner_here h a cs at)
   | inr away ↦ owner_behind h a bs away ∙ same ∙ sym (owner_behind h a cs away)
@@ -50,7 +50,7 @@ same_behind h a bs cs same = elim (in_or_not h a) [
 -- ---- joining
 
 abbrev IsTakenOrSame : ℕ → List Block → List Block → ℕ → Type 0
-IsTakenOrSame consumer old new h = (owner_of new h ≡ Some consumer) ⊎ (owner_of new h ≡ owner_of old h)
+IsTakenOrSame consumer old new h = (owner_among new h ≡ Some consumer) ⊎ (owner_among new h ≡ owner_among old h)
 
 halved_here : (consumer : ℕ) (b : Block) (bs : List Block) (h : ℕ) → IsTakenOrSame consumer (b ∷ bs) (lower_half consumer b ∷ upper_half b ∷ bs) h
 halved_here consumer b bs h = elim (in_or_not h (lower_half consumer b)) [
@@ -58,7 +58,7 @@ halved_here consumer b bs h = elim (in_or_not h (lower_half consumer b)) [
   | inr away ↦ inr (owner_behind h (lower_half consumer b) (upper_half b ∷ bs) away ∙ rest away)
 ]
   where
-    rest : (IsIn h (lower_half consumer b) → ⊥) → owner_of (upper_half b ∷ bs) h ≡ owner_of (b ∷ bs) h
+    rest : (IsIn h (lower_half consumer b) → ⊥) → owner_among (upper_half b ∷ bs) h ≡ owner_among (b ∷ bs) h
     rest away = elim (in_or_not h b) [
       | inl at ↦
           let upper : IsIn h (upper_half b) = elim (cases_lt h (b.from + half b.size)) [
@@ -98,7 +98,7 @@ nothing [] _ = refl
 nothing (x ∷ xs) some = absurd (omega (arith, some))
 
 -- the share in front goes
-gone_lower : (a b : Block) (rest : List Block) (h : ℕ) → b.from ≡ a.from + a.size → (IsIn h a → ⊥) → owner_of (with_lower a b ∷ rest) h ≡ owner_of (a ∷ b ∷ rest) h
+gone_lower : (a b : Block) (rest : List Block) (h : ℕ) → b.from ≡ a.from + a.size → (IsIn h a → ⊥) → owner_among (with_lower a b ∷ rest) h ≡ owner_among (a ∷ b ∷ rest) h
 gone_lower a b rest h next away = elim (in_or_not h b) [
   | inl at ↦
       owner_here h (with_lower a b) rest (omega (arith, at.0, next), omega (arith, at.1, next))
@@ -112,7 +112,7 @@ gone_lower a b rest h next away = elim (in_or_not h b) [
 ]
 
 -- the last share goes
-gone_upper : (a b : Block) (h : ℕ) → b.from ≡ a.from + a.size → (IsIn h b → ⊥) → owner_of (with_upper b a ∷ []) h ≡ owner_of (a ∷ b ∷ []) h
+gone_upper : (a b : Block) (h : ℕ) → b.from ≡ a.from + a.size → (IsIn h b → ⊥) → owner_among (with_upper b a ∷ []) h ≡ owner_among (a ∷ b ∷ []) h
 gone_upper a b h next away = elim (in_or_not h a) [
   | inl at ↦ owner_here h (with_upper b a) [] (at.0, omega (arith, at.1)) ∙ sym (owner_here h a (b ∷ []) at)
   | inr out ↦
@@ -123,11 +123,11 @@ gone_upper a b h next away = elim (in_or_not h a) [
       ∙ sym (owner_behind h a (b ∷ []) out ∙ owner_behind h b [] away)
 ]
 
-left_row : (consumer start : ℕ) (bs : List Block) (h : ℕ) → IsRow start bs → IsOutside (find (is_share_of consumer) bs) h → owner_of (given_back consumer bs) h ≡ owner_of bs h
+left_row : (consumer start : ℕ) (bs : List Block) (h : ℕ) → IsRow start bs → IsOutside (find (is_share_of consumer) bs) h → owner_among (given_back consumer bs) h ≡ owner_among bs h
 left_row consumer start [] h row out = refl
 left_row consumer start (a ∷ []) h row out = by (is_share_of consumer a) refl
   where
-    by : (t : Bool) → is_share_of consumer a ≡ t → owner_of (cond t [] (a ∷ [])) h ≡ owner_of (a ∷ []) h
+    by : (t : Bool) → is_share_of consumer a ≡ t → owner_among (cond t [] (a ∷ [])) h ≡ owner_among (a ∷ []) h
     by false _ = refl
     by true is = sym (owner_behind h a [] (λ at. out a (ap (λ (t : Bool). cond t (Some a) None) is) at.0 at.1))
 left_row consumer start (a ∷ b ∷ rest) h row out =
@@ -142,25 +142,25 @@ left_row consumer start (a ∷ b ∷ rest) h row out =
     find_second : is_share_of consumer b ≡ true → find (is_share_of consumer) (b ∷ rest) ≡ Some b
     find_second is = ap (λ (t : Bool). cond t (Some b) (find (is_share_of consumer) rest)) is
 
-    last : is_share_of consumer a ≡ false → is_share_of consumer b ≡ true → rest ≡ [] → owner_of (with_upper b a ∷ []) h ≡ owner_of (a ∷ b ∷ rest) h
+    last : is_share_of consumer a ≡ false → is_share_of consumer b ≡ true → rest ≡ [] → owner_among (with_upper b a ∷ []) h ≡ owner_among (a ∷ b ∷ rest) h
     last away is none =
         gone_upper a b h next (λ at. out b (find_behind away ∙ find_second is) at.0 at.1)
-        ∙ ap (λ (bs : List Block). owner_of (a ∷ b ∷ bs) h) (sym none)
+        ∙ ap (λ (bs : List Block). owner_among (a ∷ b ∷ bs) h) (sym none)
 
-    by_second : is_share_of consumer a ≡ false → (t : Bool) → (is_share_of consumer b && length rest == 0) ≡ t → (IsOutside (find (is_share_of consumer) (b ∷ rest)) h → owner_of (given_back consumer (b ∷ rest)) h ≡ owner_of (b ∷ rest) h) → owner_of (cond t (with_upper b a ∷ []) (a ∷ given_back consumer (b ∷ rest))) h ≡ owner_of (a ∷ b ∷ rest) h
+    by_second : is_share_of consumer a ≡ false → (t : Bool) → (is_share_of consumer b && length rest == 0) ≡ t → (IsOutside (find (is_share_of consumer) (b ∷ rest)) h → owner_among (given_back consumer (b ∷ rest)) h ≡ owner_among (b ∷ rest) h) → owner_among (cond t (with_upper b a ∷ []) (a ∷ given_back consumer (b ∷ rest))) h ≡ owner_among (a ∷ b ∷ rest) h
     by_second away true is _ =
         let both = and_parts (is_share_of consumer b) (length rest == 0) is in
         last away both.0 (nothing rest (eqb-true (length rest) 0 both.1))
     by_second away false _ later =
         same_behind h a (given_back consumer (b ∷ rest)) (b ∷ rest) (later (λ x found. out x (find_behind away ∙ found)))
 
-    by_first : (t : Bool) → is_share_of consumer a ≡ t → (IsOutside (find (is_share_of consumer) (b ∷ rest)) h → owner_of (given_back consumer (b ∷ rest)) h ≡ owner_of (b ∷ rest) h) → owner_of (cond t (with_lower a b ∷ rest) (cond (is_share_of consumer b && length rest == 0) (with_upper b a ∷ []) (a ∷ given_back consumer (b ∷ rest)))) h ≡ owner_of (a ∷ b ∷ rest) h
+    by_first : (t : Bool) → is_share_of consumer a ≡ t → (IsOutside (find (is_share_of consumer) (b ∷ rest)) h → owner_among (given_back consumer (b ∷ rest)) h ≡ owner_among (b ∷ rest) h) → owner_among (cond t (with_lower a b ∷ rest) (cond (is_share_of consumer b && length rest == 0) (with_upper b a ∷ []) (a ∷ given_back consumer (b ∷ rest)))) h ≡ owner_among (a ∷ b ∷ rest) h
     by_first true is _ =
         gone_lower a b rest h next (λ at. out a (ap (λ (t : Bool). cond t (Some a) (find (is_share_of consumer) (b ∷ rest))) is) at.0 at.1)
     by_first false away later = by_second away (is_share_of consumer b && length rest == 0) refl later
 
 -- the owner of a hash outside the share of who leaves stays
-pub owner_left : (consumer : ℕ) (bs : List Block) (h : ℕ) → SplitAllHashes bs → IsOutside (find (is_share_of consumer) bs) h → owner_of (given_back consumer bs) h ≡ owner_of bs h
+pub owner_left : (consumer : ℕ) (bs : List Block) (h : ℕ) → SplitAllHashes bs → IsOutside (find (is_share_of consumer) bs) h → owner_among (given_back consumer bs) h ≡ owner_among bs h
 owner_left consumer [] h split out = refl
 owner_left consumer (b ∷ bs) h split out = left_row consumer 0 (b ∷ bs) h split out
 

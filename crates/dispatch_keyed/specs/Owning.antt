@@ -1,11 +1,11 @@
 -- Who has which hashes, and who is in line.
 use Rattle.std.specs.Prelude.{ℕ, List, map}
-use Rattle.position_core.specs.declared.block.Block.{Block}
 use Rattle.delivery_machine.specs.State.{State, Subscription}
+use Rattle.delivery_machine.specs.Shares.{Shares}
 use Rattle.dispatch_core.specs.Log.{line_of}
 use Rattle.dispatch_keyed.specs.declared.seats.Owners.{Owners}
 
-abbrev pub owners_with : List Block → List ℕ → Owners
+abbrev pub owners_with : Shares → List ℕ → Owners
 owners_with shares line = record { shares = shares; line = line }
 
 -- the numbers of the subscription's members, in the order of joining

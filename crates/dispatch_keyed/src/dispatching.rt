@@ -59,9 +59,14 @@ impl Dispatcher for Keyed {
     }
 
     fn on_leave<V: View>(&mut self, view: &V, consumer: ConsumerNumber) {
-        let (from, end) = hashes_of(&self.owners.shares, consumer);
-        self.owners.leave(consumer);
-        self.renew_between(view, from, end);
+        if self.owners.shares.is_sticky() {
+            self.forget_owned(consumer);
+            self.owners.leave(consumer);
+        } else {
+            let (from, end) = hashes_of(&self.owners.shares, consumer);
+            self.owners.leave(consumer);
+            self.renew_between(view, from, end);
+        }
     }
 
     fn on_sent<V: View>(

@@ -17,9 +17,9 @@ pub(crate) const HASHES: u32 = 65_536;
 ///
 /// The messages before the read index that wait or are pending stand in the rows of their hashes, and
 /// of each hash that is free for its owner the first that waits is at hand. So an offer takes time by
-/// the members, and the logarithm of the messages, as long as `look` has read what can be seen: it
-/// goes over the messages from the read index on one by one. Who joins or leaves costs time by the
-/// hashes that get another owner, as far as they have rows.
+/// the shares whose owners have no room, and the logarithm of the messages, as long as `look` has read
+/// what can be seen: it goes over the messages from the read index on one by one. Who joins or leaves
+/// costs time by the shares, and by the hashes that get another owner, as far as they have rows.
 #[derive(Drop)]
 pub struct Keyed {
     pub(crate) alloc: Global,

@@ -11,5 +11,6 @@ mod renewing;
 mod resharing;
 mod rows;
 mod seats;
+mod sticking;
 
 pub use keyed::Keyed;

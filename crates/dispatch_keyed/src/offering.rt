@@ -9,7 +9,7 @@ ghost use Rattle.dispatch_keyed.specs.Agreeing.{Agrees, IsStuck};
 use crate::hashes::{first_free_from, roomy_owner};
 use crate::keyed::{HASHES, Keyed};
 use dispatch_core::{Offer, View};
-use hash_ranges::Block;
+use hash_ranges::SplitTable;
 
 impl Keyed {
     /// Of the messages that may be sent, the first.
@@ -36,45 +36,54 @@ impl Keyed {
         ensures none { Agrees self.now (V.state view.now) (V.subscription view.now)
             → IfNone result (NoneFreeBefore (V.state view.now) (V.subscription view.now) self.now.read) }
     {
-        let (index, hash) = self.firsts.least(0, HASHES)?;
-        match roomy_owner(view, &self.owners, hash) {
-            Some(consumer) => Some(Offer { index, consumer }),
-            None => self.first_of_shares(view),
-        }
+        self.first_between(view, 0, HASHES)
     }
 
-    /// Of the firsts of all shares.
-    fn first_of_shares<V: View>(&self, view: &V) -> Option<Offer>
-        requires { self.now.sent ≤ self.now.read }
-        ensures some { Agrees self.now (V.state view.now) (V.subscription view.now)
-            → IfSome result (IsGoodOffer (V.state view.now) (V.subscription view.now)) }
-        ensures none { Agrees self.now (V.state view.now) (V.subscription view.now)
-            → IfNone result (NoneFreeBefore (V.state view.now) (V.subscription view.now) self.now.read) }
-    {
-        let mut best = None;
-        let mut from = 0;
-        while from < HASHES {
-            let share = self.owners.shares.share_at(from as u16)?;
-            best = sooner(best, self.first_of_share(view, share));
-            from = share.from + share.size;
-        }
-        best
-    }
-
-    /// Of the firsts of one share, if its consumer has room.
-    fn first_of_share<V: View>(&self, view: &V, share: Block) -> Option<Offer>
+    /// Of the firsts of the hashes `from` up to but not `end`. Where the owner of the least first has no
+    /// room, none of its hashes around that one is served: what is left is on both sides of them, and
+    /// also cut in the middle, so that the calls do not go deep.
+    fn first_between<V: View>(&self, view: &V, from: u32, end: u32) -> Option<Offer>
         requires read { self.now.sent ≤ self.now.read }
-        requires end { share.from + share.size ≤ 65536 }
-        requires owned { (h : ℕ) → share.from ≤ h → h < share.from + share.size → owner_of self.now.owners.shares h ≡ Some share.consumer }
+        requires order { from ≤ end }
+        requires within { end ≤ 65536 }
         ensures some { Agrees self.now (V.state view.now) (V.subscription view.now)
             → IfSome result (IsGoodOffer (V.state view.now) (V.subscription view.now)) }
         ensures none { Agrees self.now (V.state view.now) (V.subscription view.now)
-            → IfNone result ((h : ℕ) → share.from ≤ h → h < share.from + share.size → IsStuck self.now (V.state view.now) (V.subscription view.now) h) }
+            → IfNone result ((h : ℕ) → from ≤ h → h < end → IsStuck self.now (V.state view.now) (V.subscription view.now) h) }
     {
-        let (index, hash) = self.firsts.least(share.from, share.from + share.size)?;
-        let consumer = roomy_owner(view, &self.owners, hash)?;
-        Some(Offer { index, consumer })
+        let (index, hash) = self.firsts.least(from, end)?;
+        if let Some(consumer) = roomy_owner(view, &self.owners, hash) {
+            return Some(Offer { index, consumer });
+        }
+        let (start, stop) = hashes_around(&self.owners.shares, hash);
+        let middle = from + (end - from) / 2;
+        let below = start.max(from);
+        let above = stop.min(end);
+        let lower = middle.min(below);
+        let upper = middle.max(above);
+        let first = self.first_between(view, from, lower);
+        let second = self.first_between(view, lower, below);
+        let third = self.first_between(view, above, upper);
+        let fourth = self.first_between(view, upper, end);
+        sooner(sooner(first, second), sooner(third, fourth))
     }
+}
+
+/// Hashes of one owner around the hash: from the first number up to but not the second.
+fn hashes_around(shares: &SplitTable, hash: u16) -> (u32, u32)
+    ensures from { result.0 ≤ hash }
+    ensures end { hash < result.1 }
+    ensures owner { (h : ℕ) → result.0 ≤ h → h < result.1 → owner_of shares.now h ≡ owner_of shares.now hash }
+{
+    match shares.block_from(u32::from(hash)) {
+        Some(block) => {
+            if block.from <= u32::from(hash) {
+                return (block.from, block.from + block.size);
+            }
+        }
+        None => (),
+    }
+    (u32::from(hash), u32::from(hash) + 1)
 }
 
 /// Of two offers the one that stands sooner in the log.

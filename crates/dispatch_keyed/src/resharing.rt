@@ -1,11 +1,11 @@
 // The first messages of the hashes that get another owner.
-ghost use Rattle.std.specs.Prelude.{◌≡◌, ◌≢◌, ℕ, ◌^◌, ◌≤◌, ◌<◌, Bool, true, Some};
+ghost use Rattle.std.specs.Prelude.{◌≡◌, ◌≢◌, ℕ, ◌^◌, ◌≤◌, ◌<◌, true, false, Some};
 ghost use Rattle.std.specs.List.{find};
 ghost use Rattle.std.specs.FinMap as map_of;
 ghost use Rattle.delivery_machine.specs.Shares.{is_share_of, owner_of, SplitAllHashes};
 ghost use Rattle.dispatch_keyed.specs.Resharing.{IsOutside, SameButFirsts, IsRenewed};
 
-use crate::keyed::{HASHES, Keyed};
+use crate::keyed::Keyed;
 use crate::renewing::renew;
 use crate::rows::next_hash_before;
 use dispatch_core::View;
@@ -14,14 +14,12 @@ use position_core::ConsumerNumber;
 
 /// The hashes of the consumer's share: from the first number up to but not the second.
 pub(crate) fn hashes_of(shares: &SplitTable, consumer: ConsumerNumber) -> (u32, u32)
-    ensures split { SplitAllHashes shares.now }
-    ensures outside { (h : ℕ) → (result.0 ≤ h → h < result.1 → ⊥) → IsOutside (find (is_share_of consumer) shares.now) h }
+    requires { shares.now.sticky ≡ false }
+    ensures split { SplitAllHashes shares.now.blocks }
+    ensures outside { (h : ℕ) → (result.0 ≤ h → h < result.1 → ⊥) → IsOutside (find (is_share_of consumer) shares.now.blocks) h }
 {
-    match shares.owner(0) {
-        Some(_) => match shares.share_of(consumer) {
-            Some(share) => (share.from, share.from + share.size),
-            None => (0, 0),
-        },
+    match shares.share_of(consumer) {
+        Some(share) => (share.from, share.from + share.size),
         None => (0, 0),
     }
 }
@@ -64,16 +62,11 @@ impl Keyed {
         ensures first { (h : ℕ) → h < 2 ^ 16 → owner_of self.old.owners.shares h ≡ Some consumer → IsRenewed self.old self.new h (V.state view.now) (V.subscription view.now) }
     {
         let mut from = 0;
-        while from < HASHES {
-            match self.owners.shares.share_at(from as u16) {
-                Some(share) => {
-                    let end = share.from + share.size;
-                    let theirs = share.consumer == consumer;
-                    self.renew_if(view, from, end, theirs);
-                    from = end;
-                }
-                None => return,
-            }
+        while let Some(block) = self.owners.shares.block_from(from) {
+            let end = block.from + block.size;
+            let theirs = block.consumer == consumer;
+            self.renew_if(view, block.from.max(from), end, theirs);
+            from = end;
         }
     }
 }

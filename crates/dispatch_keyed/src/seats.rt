@@ -1,11 +1,11 @@
 // Who has which hashes, and who is in line.
-ghost use Rattle.std.specs.Prelude.{◌≡◌, ℕ, ◌==◌, not, List, [], ◌∷◌, ◌++◌, OnOk, OnErr};
+ghost use Rattle.std.specs.Prelude.{◌≡◌, ℕ, ◌==◌, false, not, List, [], ◌∷◌, ◌++◌, OnOk, OnErr};
 ghost use Rattle.std.specs.List.{filter, position};
-ghost use Rattle.delivery_machine.specs.Shares.{shared_out, given_back};
+ghost use Rattle.delivery_machine.specs.Shares.{no_shares, is_taken, split_with, sticky_with, shares_without};
 ghost use Rattle.dispatch_keyed.specs.Owning.{owners_with};
 
 use hash_ranges::SplitTable;
-use position_core::ConsumerNumber;
+use position_core::{ConsumerNumber, Ranges};
 use std::alloc::{AllocError, Global};
 use std::marker::Model;
 
@@ -69,7 +69,7 @@ pub(crate) struct Owners {
 
 impl Owners {
     pub(crate) fn new(alloc: Global) -> Self
-        ensures { result ≡ owners_with [] [] }
+        ensures { result ≡ owners_with no_shares [] }
     {
         Owners {
             shares: SplitTable::new(alloc),
@@ -78,7 +78,7 @@ impl Owners {
     }
 
     pub(crate) fn join(&mut self, consumer: ConsumerNumber) -> Result<(), AllocError>
-        ensures ok { OnOk result (self.new ≡ owners_with (shared_out consumer self.old.shares) (self.old.line ++ consumer ∷ [])) }
+        ensures ok { OnOk result (self.new ≡ owners_with (split_with consumer self.old.shares) (self.old.line ++ consumer ∷ [])) }
         ensures err { OnErr result (self.new ≡ self.old) }
     {
         self.line.push(consumer)?;
@@ -91,8 +91,27 @@ impl Owners {
         }
     }
 
+    pub(crate) fn join_sticky(
+        &mut self,
+        consumer: ConsumerNumber,
+        ranges: &Ranges,
+    ) -> Result<(), AllocError>
+        requires free { is_taken ranges.now self.old.shares ≡ false }
+        ensures ok { OnOk result (self.new ≡ owners_with (sticky_with consumer ranges.now self.old.shares) (self.old.line ++ consumer ∷ [])) }
+        ensures err { OnErr result (self.new ≡ self.old) }
+    {
+        self.line.push(consumer)?;
+        match self.shares.join_sticky(consumer, ranges) {
+            Ok(()) => Ok(()),
+            Err(failed) => {
+                self.line.pop();
+                Err(failed)
+            }
+        }
+    }
+
     pub(crate) fn leave(&mut self, consumer: ConsumerNumber)
-        ensures { self.new ≡ owners_with (given_back consumer self.old.shares) (filter (λ number. not (number == consumer)) self.old.line) }
+        ensures { self.new ≡ owners_with (shares_without consumer self.old.shares) (filter (λ number. not (number == consumer)) self.old.line) }
     {
         self.shares.leave(consumer);
         self.line.take_out(consumer);

@@ -52,7 +52,7 @@ at_end : (line : List (ℕ × ℕ)) (x : ℕ × ℕ) → slice_get (line ++ x �
 at_end [] x = refl
 at_end (y ∷ line) x = at_end line x
 
-module _ (w : Waiting) (last : ℕ) (seats : List Seat) (consumer : ℕ) (s : State) (sub : Subscription) (t : State) (new : Subscription) (change : Joined consumer s sub t new) (agreed : Agrees (record { waiting = w; line = map seat_pair seats; last = last }) s sub) where
+module _ (w : Waiting) (last : ℕ) (seats : List Seat) (consumer : ℕ) (s : State) (sub : Subscription) (t : State) (new : Subscription) (change : Joined None consumer s sub t new) (agreed : Agrees (record { waiting = w; line = map seat_pair seats; last = last }) s sub) where
   last_in_line : slice_get (line_of t new) (length seats) ≡ Some (consumer, change.level)
   last_in_line =
       ap (λ (l : List (ℕ × ℕ)). slice_get l (length seats)) change.line

@@ -1,5 +1,5 @@
 -- The tables agree with the topic where another table tells what waits, and where the line changed.
-use Rattle.std.proofs.Common.{◌≡◌, ℕ, ◌+◌, ◌<◌, ◌≤◌, List, [], ◌∷◌, ◌++◌, map, Option, sym, ap, subst, ◌∙◌, length, arith}
+use Rattle.std.proofs.Common.{◌≡◌, ℕ, ◌+◌, ◌<◌, ◌≤◌, List, [], ◌∷◌, ◌++◌, map, Option, None, sym, ap, subst, ◌∙◌, length, arith}
 use Rattle.std.proofs.lemmas.List.{length-append}
 use Rattle.position_core.specs.Kind.{is_in_order}
 use Rattle.delivery_machine.specs.State.{State, Subscription}
@@ -22,7 +22,7 @@ agrees-with d s sub agreed t new w kind line tells = record {
 }
 
 -- the line changed, and what is kept of it with it
-pub agrees-joined : (d : Serving) (s : State) (sub : Subscription) → Agrees d s sub → (consumer : ℕ) (t : State) (new : Subscription) → Joined consumer s sub t new → (line : Line) → ((l : List (ℕ × ℕ)) (m : ℕ × ℕ) → line_of t new ≡ l ++ m ∷ [] → NumbersDiffer (l ++ m ∷ []) → length l < 64 → TellsLine d.line l → TellsLine line (l ++ m ∷ [])) → Agrees (record { waiting = d.waiting; line = line }) t new
+pub agrees-joined : (d : Serving) (s : State) (sub : Subscription) → Agrees d s sub → (consumer : ℕ) (t : State) (new : Subscription) → Joined None consumer s sub t new → (line : Line) → ((l : List (ℕ × ℕ)) (m : ℕ × ℕ) → line_of t new ≡ l ++ m ∷ [] → NumbersDiffer (l ++ m ∷ []) → length l < 64 → TellsLine d.line l → TellsLine line (l ++ m ∷ [])) → Agrees (record { waiting = d.waiting; line = line }) t new
 agrees-joined d s sub agreed consumer t new change line joins = record {
   kind = ap is_in_order change.stays.log.kind ∙ agreed.kind;
   waiting = tells-line d.waiting s sub t new agreed.waiting change.stays;

@@ -6,6 +6,7 @@ use Rattle.std.specs.Str.{bytes_eq}
 use Rattle.std.proofs.lemmas.List.{length-map, map-append}
 use Rattle.std.proofs.lemmas.List.Elements.{filter-append}
 use Rattle.position_core.specs.declared.kind.Kind.{Kind}
+use Rattle.position_core.specs.declared.ranges.HashRange.{HashRange}
 use Rattle.delivery_machine.specs.State.{State, Subscription, Member}
 use Rattle.delivery_machine.specs.Words.{changed, is_at, is_member, is_named, members_of}
 use Rattle.delivery_machine.specs.Joining.{joining, placed, new_subscription, with_member}
@@ -59,7 +60,7 @@ pub record MayJoin (s : State) (i : ℕ) (sub : Subscription) (m : Member) : Typ
   pub fresh : list_any (is_member m.number) s.members ≡ false
   pub few : length (members_of s m.subscription) < 64
 
-module _ (s t : State) (i : ℕ) (sub : Subscription) (m : Member) (may : MayJoin s i sub m) (members : t.members ≡ s.members ++ m ∷ []) where
+module _ (s t : State) (i : ℕ) (sub : Subscription) (m : Member) (may : MayJoin s i sub m) (ranges : Option (List HashRange)) (members : t.members ≡ s.members ++ m ∷ []) where
   name : sub.name ≡ m.subscription
   name = has_name s.subscriptions m.subscription i sub may.place may.was
 
@@ -71,25 +72,25 @@ module _ (s t : State) (i : ℕ) (sub : Subscription) (m : Member) (may : MayJoi
       ∙ those_pushed s.members m other.name (ap (λ (n : List ℕ). bytes_eq n other.name) (sym name) ∙ names_apart s.subscriptions i k sub other may.named differs may.was at))
 
   -- where nothing else of the log and of the subscriptions changes
-  pub joined_at : t.log ≡ s.log → t.durable ≡ s.durable → t.subscriptions ≡ changed (is_named m.subscription) (joining sub.kind m.number) s.subscriptions → HappensAt i (Joined m.number) s sub t (joining sub.kind m.number sub)
+  pub joined_at : t.log ≡ s.log → t.durable ≡ s.durable → t.subscriptions ≡ changed (is_named m.subscription) (joining sub.kind ranges m.number) s.subscriptions → HappensAt i (Joined ranges m.number) s sub t (joining sub.kind ranges m.number sub)
   joined_at log durable changes = record {
     was = may.was;
-    is = changed_is s t m.subscription (joining sub.kind m.number) i sub may.place may.was changes;
+    is = changed_is s t m.subscription (joining sub.kind ranges m.number) i sub may.place may.was changes;
     change = record {
-      stays = record { log = record { kind = refl; log = log; durable = durable }; messages = λ k. stays_at s t sub (joining sub.kind m.number sub) k log (λ e _. record { waits = refl; holder = refl }) };
+      stays = record { log = record { kind = refl; log = log; durable = durable }; messages = λ k. stays_at s t sub (joining sub.kind ranges m.number sub) k log (λ e _. record { waits = refl; holder = refl }) };
       level = m.level;
-      line = line_pushed s t sub (joining sub.kind m.number sub) m refl members (is_same_name m.subscription sub.name (sym name));
+      line = line_pushed s t sub (joining sub.kind ranges m.number sub) m refl members (is_same_name m.subscription sub.name (sym name));
       shares = refl;
       absent = not_in_line s sub m.number may.fresh;
       few = omega (arith, length_of_line s sub, ap (λ (n : List ℕ). length (members_of s n)) name, may.few);
     };
-    others = others_kept s t m.subscription (joining sub.kind m.number) i sub may.place may.was changes log (omega (arith, durable)) other_line;
+    others = others_kept s t m.subscription (joining sub.kind ranges m.number) i sub may.place may.was changes log (omega (arith, durable)) other_line;
   }
 
 -- as the machine has it, where the subscription is there and of the kind
-pub joined_with_member : (s : State) (kind : Kind) (initial : Initial) (i : ℕ) (sub : Subscription) (m : Member) → MayJoin s i sub m → sub.kind ≡ kind → HappensAt i (Joined m.number) s sub (with_member s kind initial m) (joining kind m.number sub)
-joined_with_member s kind initial i sub m may same =
-    subst (λ (k : Kind). HappensAt i (Joined m.number) s sub (with_member s k initial m) (joining k m.number sub)) same
-    (joined_at s (with_member s sub.kind initial m) i sub m may refl refl refl
-    (ap (λ (o : Option Subscription). if is_some o then changed (is_named m.subscription) (joining sub.kind m.number) s.subscriptions else placed (new_subscription m.subscription sub.kind m.number initial s.log) s.subscriptions)
+pub joined_with_member : (s : State) (kind : Kind) (ranges : Option (List HashRange)) (initial : Initial) (i : ℕ) (sub : Subscription) (m : Member) → MayJoin s i sub m → sub.kind ≡ kind → HappensAt i (Joined ranges m.number) s sub (with_member s kind ranges initial m) (joining kind ranges m.number sub)
+joined_with_member s kind ranges initial i sub m may same =
+    subst (λ (k : Kind). HappensAt i (Joined ranges m.number) s sub (with_member s k ranges initial m) (joining k ranges m.number sub)) same
+    (joined_at s (with_member s sub.kind ranges initial m) i sub m may ranges refl refl refl
+    (ap (λ (o : Option Subscription). if is_some o then changed (is_named m.subscription) (joining sub.kind ranges m.number) s.subscriptions else placed (new_subscription m.subscription sub.kind ranges m.number initial s.log) s.subscriptions)
     (find-position (is_named m.subscription) s.subscriptions i sub may.place)))

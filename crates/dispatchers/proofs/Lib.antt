@@ -12,6 +12,7 @@ pub mod Resetting
 pub mod Coming
 pub mod Naming
 pub mod Joining
+pub mod Asking
 pub mod Leaving
 pub mod Chaining
 pub mod Opening

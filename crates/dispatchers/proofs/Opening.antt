@@ -6,6 +6,7 @@ use Rattle.std.specs.Ordering.{is_lt}
 use Rattle.std.proofs.lemmas.Bool.Decides.{nat_tests}
 use Rattle.std.proofs.lemmas.List.Edits.{length-insert}
 use Rattle.position_core.specs.declared.kind.Kind.{Kind}
+use Rattle.position_core.specs.declared.ranges.HashRange.{HashRange}
 use Rattle.position_core.specs.Name.{name_order}
 use Rattle.delivery_machine.specs.State.{State, Subscription, Member}
 use Rattle.delivery_machine.specs.Words.{changed, removed, is_named}
@@ -81,22 +82,22 @@ placed_there s new none =
     (first_within (λ other. is_lt (name_order new.name other.name)) s.subscriptions)
 
 -- the first member joins it
-pub joined_opened : (s : State) (kind : Kind) (initial : Initial) (i : ℕ) (m : Member) → find (is_named m.subscription) s.subscriptions ≡ None → MayJoin (opened s m.subscription kind initial) i (unshared m.subscription kind initial s.log) m
-    → HappensAt i (Joined m.number) (opened s m.subscription kind initial) (unshared m.subscription kind initial s.log) (with_member s kind initial m) (new_subscription m.subscription kind m.number initial s.log)
-joined_opened s kind initial i m none may =
-    joined_at (opened s m.subscription kind initial) (with_member s kind initial m) i (unshared m.subscription kind initial s.log) m may refl refl refl
-    (ap (λ (o : Option Subscription). if is_some o then changed (is_named m.subscription) (joining kind m.number) s.subscriptions else placed (new_subscription m.subscription kind m.number initial s.log) s.subscriptions) none
-    ∙ sym (changed_inserted (is_named m.subscription) (joining kind m.number) s.subscriptions (place_for (unshared m.subscription kind initial s.log) s.subscriptions) (unshared m.subscription kind initial s.log) none (is_same_name m.subscription m.subscription refl)))
+pub joined_opened : (s : State) (kind : Kind) (ranges : Option (List HashRange)) (initial : Initial) (i : ℕ) (m : Member) → find (is_named m.subscription) s.subscriptions ≡ None → MayJoin (opened s m.subscription kind initial) i (unshared m.subscription kind initial s.log) m
+    → HappensAt i (Joined ranges m.number) (opened s m.subscription kind initial) (unshared m.subscription kind initial s.log) (with_member s kind ranges initial m) (new_subscription m.subscription kind ranges m.number initial s.log)
+joined_opened s kind ranges initial i m none may =
+    joined_at (opened s m.subscription kind initial) (with_member s kind ranges initial m) i (unshared m.subscription kind initial s.log) m may ranges refl refl refl
+    (ap (λ (o : Option Subscription). if is_some o then changed (is_named m.subscription) (joining kind ranges m.number) s.subscriptions else placed (new_subscription m.subscription kind ranges m.number initial s.log) s.subscriptions) none
+    ∙ sym (changed_inserted (is_named m.subscription) (joining kind ranges m.number) s.subscriptions (place_for (unshared m.subscription kind initial s.log) s.subscriptions) (unshared m.subscription kind initial s.log) none (is_same_name m.subscription m.subscription refl)))
 
 -- ---- of another kind
 
-pub joined_of_kind : (s : State) (kind : Kind) (initial : Initial) (i : ℕ) (sub : Subscription) (m : Member) → position (is_named m.subscription) s.subscriptions ≡ Some i → MayJoin (with_kind s m.subscription kind) i (of_kind kind sub) m
-    → HappensAt i (Joined m.number) (with_kind s m.subscription kind) (of_kind kind sub) (with_member s kind initial m) (joining kind m.number sub)
-joined_of_kind s kind initial i sub m place may =
-    joined_at (with_kind s m.subscription kind) (with_member s kind initial m) i (of_kind kind sub) m may refl refl refl
-    (ap (λ (o : Option Subscription). if is_some o then changed (is_named m.subscription) (joining kind m.number) s.subscriptions else placed (new_subscription m.subscription kind m.number initial s.log) s.subscriptions)
+pub joined_of_kind : (s : State) (kind : Kind) (ranges : Option (List HashRange)) (initial : Initial) (i : ℕ) (sub : Subscription) (m : Member) → position (is_named m.subscription) s.subscriptions ≡ Some i → MayJoin (with_kind s m.subscription kind) i (of_kind kind sub) m
+    → HappensAt i (Joined ranges m.number) (with_kind s m.subscription kind) (of_kind kind sub) (with_member s kind ranges initial m) (joining kind ranges m.number sub)
+joined_of_kind s kind ranges initial i sub m place may =
+    joined_at (with_kind s m.subscription kind) (with_member s kind ranges initial m) i (of_kind kind sub) m may ranges refl refl refl
+    (ap (λ (o : Option Subscription). if is_some o then changed (is_named m.subscription) (joining kind ranges m.number) s.subscriptions else placed (new_subscription m.subscription kind ranges m.number initial s.log) s.subscriptions)
     (find-position (is_named m.subscription) s.subscriptions i sub place)
-    ∙ sym (changed_twice (is_named m.subscription) (of_kind kind) (joining kind m.number) s.subscriptions (λ _. refl)))
+    ∙ sym (changed_twice (is_named m.subscription) (of_kind kind) (joining kind ranges m.number) s.subscriptions (λ _. refl)))
 
 -- ---- dropped
 

@@ -1,4 +1,7 @@
 -- When a dispatcher agrees with the topic.
+use Rattle.std.specs.Prelude.{◌≡◌, false, List, Option, Some, None}
+use Rattle.position_core.specs.declared.ranges.HashRange.{HashRange}
+use Rattle.delivery_machine.specs.Shares.{is_taken}
 use Rattle.delivery_machine.specs.State.{State, Subscription}
 use Rattle.dispatch_single.specs.InOrder as in_order
 use Rattle.dispatch_shared.specs.Turn as in_turn
@@ -11,3 +14,10 @@ abbrev pub agrees : Dispatch → State → Subscription → Type 0
 agrees (InOrder d) s sub = in_order.Agrees d s sub
 agrees (InTurn d) s sub = in_turn.Agrees d s sub
 agrees (ByKey d) s sub = by_key.Agrees d s sub
+
+-- the consumer asks for no hash that is another's
+abbrev pub AsksForFree : Dispatch → Option (List HashRange) → Type 0
+AsksForFree (ByKey d) (Some ranges) = is_taken ranges d.owners.shares ≡ false
+AsksForFree (ByKey d) None = Unit {0}
+AsksForFree (InOrder d) ranges = Unit {0}
+AsksForFree (InTurn d) ranges = Unit {0}

@@ -1,5 +1,5 @@
 -- Small changes of a topic, of which the machine's steps are made.
-use Rattle.std.specs.Prelude.{ℕ, ◌+◌, List, [], ◌∷◌, map}
+use Rattle.std.specs.Prelude.{ℕ, ◌+◌, List, [], ◌∷◌, None, map}
 use Rattle.std.specs.FinMap as map_of
 use Rattle.position_core.specs.declared.position.Position.{Position}
 use Rattle.position_core.specs.declared.message.Entry.{Entry}
@@ -9,6 +9,7 @@ use Rattle.delivery_machine.specs.Words.{changed, is_named}
 use Rattle.delivery_machine.specs.Acknowledging.{forgetting}
 use Rattle.delivery_machine.specs.Dying.{burying}
 use Rattle.delivery_machine.specs.Joining.{new_subscription, placed}
+use Rattle.delivery_machine.specs.Shares.{no_shares}
 use Rattle.delivery_machine.specs.declared.event.Initial.{Initial}
 use Rattle.delivery_machine.specs.Ticking.{redelivering}
 
@@ -40,7 +41,7 @@ with_kind s name kind = record s { subscriptions = changed (is_named name) (of_k
 
 -- as its first member finds it: nobody has a share yet
 abbrev pub unshared : List ℕ → Kind → Initial → List Entry → Subscription
-unshared name kind initial log = record (new_subscription name kind 0 initial log) { shares = [] }
+unshared name kind initial log = record (new_subscription name kind None 0 initial log) { shares = no_shares }
 
 -- a subscription is there that was not
 abbrev pub opened : State → List ℕ → Kind → Initial → State

@@ -1,18 +1,19 @@
 // A subscription's dispatcher, of whichever kind.
-ghost use Rattle.std.specs.Prelude.{◌≡◌, [], None, IsOk, IfOk, IfErr, OnOk, OnErr, IfSome, IfNone, if◌then◌else◌};
+ghost use Rattle.std.specs.Prelude.{◌≡◌, [], Some, None, IsOk, IfOk, IfErr, OnOk, OnErr, IfSome, IfNone, if◌then◌else◌};
 ghost use Rattle.position_core.specs.declared.fault.Fault.TheVariants.{NoMemory};
 ghost use Rattle.position_core.specs.Kind.{is_in_order};
+ghost use Rattle.delivery_machine.specs.Shares.{no_shares};
 ghost use Rattle.delivery_machine.specs.State.{State, Subscription};
 ghost use Rattle.delivery_machine.specs.Words.{active_at, members_of, NoneEligible};
 ghost use Rattle.dispatch_core.specs.Offers.{IsGoodOffer};
 ghost use Rattle.dispatch_core.specs.Changes.{Appended, TakenBack, Joined, Left, Sent, Gone, Released, Reset, AgreesAfter, WillAgree};
-ghost use Rattle.dispatchers.specs.Agreeing.{agrees};
+ghost use Rattle.dispatchers.specs.Agreeing.{agrees, AsksForFree};
 
 use dispatch_core::{Dispatcher, Offer, View};
 use dispatch_keyed::Keyed;
 use dispatch_shared::Shared;
 use dispatch_single::Single;
-use position_core::{ConsumerNumber, Fault, Kind, LogIndex};
+use position_core::{ConsumerNumber, Fault, Kind, LogIndex, Ranges};
 use std::alloc::Global;
 
 /// The dispatcher of a subscription, by its kind.
@@ -38,7 +39,7 @@ impl Dispatch {
     pub fn begin<V: View>(alloc: Global, view: &V, kind: Kind) -> Result<Self, Fault>
         requires kind { kind ≡ (V.subscription view.now).kind }
         requires empty { members_of (V.state view.now) (V.subscription view.now).name ≡ [] }
-        requires unshared { (V.subscription view.now).shares ≡ [] }
+        requires unshared { (V.subscription view.now).shares ≡ no_shares }
         ensures ok { IfOk result (λ d. agrees d (V.state view.now) (V.subscription view.now)) }
         ensures err { IfErr result (λ fault. fault ≡ NoMemory) }
     {
@@ -119,9 +120,15 @@ impl Dispatch {
         }
     }
 
-    /// The consumer joined.
-    pub fn on_join<V: View>(&mut self, view: &V, consumer: ConsumerNumber) -> Result<(), Fault>
-        ensures ok { OnOk result (AgreesAfter (Joined consumer) (agrees self.old) (agrees self.new)
+    /// The consumer joined, and in Key_Shared may have said which hashes it takes.
+    pub fn on_join<V: View>(
+        &mut self,
+        view: &V,
+        consumer: ConsumerNumber,
+        ranges: &Option<Ranges>,
+    ) -> Result<(), Fault>
+        requires free { AsksForFree self.old ranges.now }
+        ensures ok { OnOk result (AgreesAfter (Joined ranges.now consumer) (agrees self.old) (agrees self.new)
             (V.state view.now) (V.subscription view.now)) }
         ensures err { IfErr result (λ fault. fault ≡ NoMemory) }
         ensures unchanged { OnErr result (self.new ≡ self.old) }
@@ -129,7 +136,10 @@ impl Dispatch {
         match self {
             Dispatch::InOrder(d) => d.on_join(view, consumer),
             Dispatch::InTurn(d) => d.on_join(view, consumer),
-            Dispatch::ByKey(d) => d.on_join(view, consumer),
+            Dispatch::ByKey(d) => match ranges {
+                Some(ranges) => d.on_join_sticky(view, consumer, ranges),
+                None => d.on_join(view, consumer),
+            },
         }
     }
 

@@ -15,6 +15,7 @@ use Rattle.endpoint_core.specs.Queries.{Parameter, said}
 use Rattle.endpoint_core.specs.Numbers.{number_up_to}
 use Rattle.endpoint_core.specs.Words.{truth_of, kind_of, initial_of}
 use Rattle.endpoint_core.specs.DeadLetters.{death_in}
+use Rattle.endpoint_core.specs.Ranges.{ranges_in}
 
 abbrev pub kind_said : List Parameter → Result Kind Cause
 kind_said query = said (codes "subscriptionType") Exclusive kind_of query
@@ -60,6 +61,7 @@ with_settings topic subscription s = record {
   max_redeliver = s.max_redeliver;
   dead_topic = s.dead_topic;
   initial = s.initial;
+  ranges = s.ranges;
 }
 
 abbrev pub consumer_of : TopicName → List ℕ → List Parameter → Result ConsumerEndpoint Cause
@@ -71,6 +73,7 @@ consumer_of topic subscription query =
     and_then (nack_delay_said query) (λ nack_delay.
     and_then (death_in topic subscription kind query) (λ death.
     and_then (initial_said query) (λ initial.
+    and_then (ranges_in kind query) (λ ranges.
     Ok (record {
       topic = topic;
       subscription = subscription;
@@ -82,4 +85,5 @@ consumer_of topic subscription query =
       max_redeliver = death.0;
       dead_topic = death.1;
       initial = initial;
-    }))))))))
+      ranges = ranges;
+    })))))))))

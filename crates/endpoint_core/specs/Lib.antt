@@ -6,5 +6,6 @@ pub mod Numbers
 pub mod Words
 pub mod DeadLetters
 pub mod Producers
+pub mod Ranges
 pub mod Consumers
 pub mod Routes

@@ -7,11 +7,12 @@ use crate::dead_letters::death_in;
 use crate::faults::Cause;
 use crate::numbers::number_said;
 use crate::queries::Query;
+use crate::ranges::ranges_in;
 use crate::words::{initial_of, kind_of, truth_of};
 use delivery_machine::Initial;
 use position_core::{
-    Bounded, Credit, Flow, Kind, Level, Millis, RedeliverLimit, SubscriptionName, TopicName,
-    WindowSize,
+    Bounded, Credit, Flow, Kind, Level, Millis, Ranges, RedeliverLimit, SubscriptionName,
+    TopicName, WindowSize,
 };
 use std::alloc::Global;
 
@@ -31,6 +32,8 @@ pub struct ConsumerEndpoint {
     /// The topic itself where no message dies.
     pub dead_topic: TopicName,
     pub initial: Initial,
+    /// The hashes that it takes, where it says so, in Key_Shared.
+    pub ranges: Option<Ranges>,
 }
 
 fn kind_said(query: &Query) -> Result<Kind, Cause>
@@ -109,6 +112,7 @@ struct Settings {
     max_redeliver: RedeliverLimit,
     dead_topic: TopicName,
     initial: Initial,
+    ranges: Option<Ranges>,
 }
 
 fn settings_in(
@@ -126,6 +130,7 @@ fn settings_in(
     let nack_delay = number_said(query, "negativeAckRedeliveryDelay", 60_000)?;
     let (max_redeliver, dead_topic) = death_in(alloc, topic, subscription, kind, query)?;
     let initial = initial_said(query)?;
+    let ranges = ranges_in(alloc, kind, query)?;
     Ok(Settings {
         kind,
         level,
@@ -135,6 +140,7 @@ fn settings_in(
         max_redeliver,
         dead_topic,
         initial,
+        ranges,
     })
 }
 
@@ -156,6 +162,7 @@ fn with_settings(
         max_redeliver: settings.max_redeliver,
         dead_topic: settings.dead_topic,
         initial: settings.initial,
+        ranges: settings.ranges,
     }
 }
 

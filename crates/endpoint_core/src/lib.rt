@@ -8,6 +8,7 @@ mod numbers;
 mod paths;
 mod producers;
 mod queries;
+mod ranges;
 mod routes;
 mod texts;
 mod words;

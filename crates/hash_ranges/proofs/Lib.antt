@@ -1,3 +1,6 @@
+pub mod Apart
+pub mod Placed
+pub mod Free
 pub mod Shares
 pub mod Joins
 pub mod Leaves

@@ -10,7 +10,7 @@ use Rattle.std.proofs.lemmas.Bool.{cases_lt, lt-ltb, le-ltb, le-leb, lt-leb}
 use Rattle.std.proofs.lemmas.Grind.{common_steps}
 use Rattle.std.proofs.lemmas.Option.{same_Some}
 use Rattle.position_core.specs.declared.block.Block.{Block}
-use Rattle.delivery_machine.specs.Shares.{has_hash, owner_of, IsRow, SplitAllHashes}
+use Rattle.delivery_machine.specs.Shares.{has_hash, owner_among, IsRow, SplitAllHashes}
 use Rattle.hash_ranges.specs.Ends.{begin_from, share_between, shares_from, shares_of, largest_with, largest_of, Rise, SplitFrom, SplitAll}
 
 pub split_after : (from : ℕ) (e : ℕ × ℕ) (es : List (ℕ × ℕ)) → SplitFrom from (e ∷ es) → SplitFrom e.0 es
@@ -58,11 +58,11 @@ has_not_past hash from end consumer low some past =
 abbrev pub behind : ℕ → List (ℕ × ℕ) → List (ℕ × ℕ)
 behind hash es = entries_between nat_cmp (Included (hash + 1)) Unbounded es
 
-owner_at : (t : Bool) (hash : ℕ) (b : Block) (bs : List Block) → has_hash hash b ≡ t → owner_of (b ∷ bs) hash ≡ cond t (Some b.consumer) (owner_of bs hash)
+owner_at : (t : Bool) (hash : ℕ) (b : Block) (bs : List Block) → has_hash hash b ≡ t → owner_among (b ∷ bs) hash ≡ cond t (Some b.consumer) (owner_among bs hash)
 owner_at true hash b bs e = ap (λ t. option_map (λ (b' : Block). b'.consumer) (cond t (Some b) (find (has_hash hash) bs))) e
 owner_at false hash b bs e = ap (λ t. option_map (λ (b' : Block). b'.consumer) (cond t (Some b) (find (has_hash hash) bs))) e
 
-pub owner_found : (hash from : ℕ) (es : List (ℕ × ℕ)) (x : ℕ × ℕ) (rest : List (ℕ × ℕ)) → SplitFrom from es → from ≤ hash → behind hash es ≡ x ∷ rest → Some x.1 ≡ owner_of (shares_from from es) hash
+pub owner_found : (hash from : ℕ) (es : List (ℕ × ℕ)) (x : ℕ × ℕ) (rest : List (ℕ × ℕ)) → SplitFrom from es → from ≤ hash → behind hash es ≡ x ∷ rest → Some x.1 ≡ owner_among (shares_from from es) hash
 owner_found hash from [] x rest split low is = absurd (bad is)
   where
     bad : ◌≡◌ {A = List (ℕ × ℕ)} [] (x ∷ rest) → ⊥

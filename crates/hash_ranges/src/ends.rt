@@ -1,7 +1,7 @@
 // The shares, by where they end: each begins where the one before it ends.
-ghost use Rattle.std.specs.Prelude.{◌≡◌, [], ◌∷◌, IfSome, IfNone};
+ghost use Rattle.std.specs.Prelude.{◌≡◌, ◌+◌, nat_lt, [], ◌∷◌, IfSome, IfNone};
 ghost use Rattle.std.specs.List.{find};
-ghost use Rattle.delivery_machine.specs.Shares.{has_hash, owner_of, is_share_of};
+ghost use Rattle.delivery_machine.specs.Shares.{has_hash, owner_among, is_share_of};
 ghost use Rattle.hash_ranges.specs.Ends.{begin_from, shares_of, largest_of, SplitAll};
 
 use crate::share::{larger, share_between};
@@ -9,10 +9,13 @@ use position_core::{Block, ConsumerNumber};
 use std::collections::BTreeMap;
 use std::collections::btree_map::Iter;
 
+/// The end of the last share.
+pub(crate) const HASHES: u32 = 65_536;
+
 /// The first end behind the hash has the consumer.
 pub(crate) fn owner_of(ends: &BTreeMap<u32, ConsumerNumber>, hash: u16) -> Option<u64>
     requires { SplitAll ends.now.entries }
-    ensures value { result ≡ owner_of (shares_of ends.now.entries) hash }
+    ensures value { result ≡ owner_among (shares_of ends.now.entries) hash }
     ensures whole { IfNone result (shares_of ends.now.entries ≡ []) }
 {
     match ends.range(u32::from(hash) + 1..).next() {
@@ -72,6 +75,18 @@ pub(crate) fn share_at(ends: &BTreeMap<u32, ConsumerNumber>, hash: u16) -> Optio
     match ends.range(behind..).next() {
         Some((end, consumer)) => Some(share_between(from, *end, *consumer)),
         None => None,
+    }
+}
+
+/// The first share that ends behind the hash.
+pub(crate) fn block_from(ends: &BTreeMap<u32, ConsumerNumber>, hash: u32) -> Option<Block>
+    requires { SplitAll ends.now.entries }
+    ensures { result ≡ find (λ b. nat_lt hash (b.from + b.size)) (shares_of ends.now.entries) }
+{
+    if hash < HASHES {
+        share_at(ends, hash as u16)
+    } else {
+        None
     }
 }
 

@@ -7,14 +7,11 @@ ghost use Rattle.std.specs.Map.{set_value};
 ghost use Rattle.delivery_machine.specs.Shares.{is_share_of, shared_out, given_back};
 ghost use Rattle.hash_ranges.specs.Ends.{shares_of, SplitAll, IsEndToJoin};
 
-use crate::ends::{largest_of, share_of};
+use crate::ends::{HASHES, largest_of, share_of};
 use crate::share::half;
 use position_core::{Block, ConsumerNumber};
 use std::alloc::AllocError;
 use std::collections::BTreeMap;
-
-/// The end of the last share.
-const HASHES: u32 = 65_536;
 
 /// Where the share of a consumer that joins is to end. There is none where each hash has a consumer of
 /// its own.

@@ -12,7 +12,7 @@ use Rattle.journal_lines.specs.declared.short.ShortReply.TheVariants as reply_in
 -- an event that comes seldom, or has long names
 abbrev pub is_long : Event → Bool
 is_long (event.AddProducer name base) = true
-is_long (event.Subscribe subscription kind level flow ack_timeout nack_delay max_redeliver dead_topic initial) = true
+is_long (event.Subscribe subscription kind level flow ack_timeout nack_delay max_redeliver dead_topic initial ranges) = true
 is_long (event.Seek subscription target) = true
 is_long (event.SeekTime subscription time) = true
 is_long (event.Skip subscription count) = true

@@ -4,6 +4,7 @@ use Rattle.std.specs.Prelude.{is_some, not, ◌&&◌, ◌==◌, if◌then◌else
 use Rattle.std.specs.List.{find, position}
 use Rattle.std.specs.Option.{option_eq, option_map, option_map_or}
 use Rattle.std.proofs.lemmas.Option.{slice_get-get_or}
+use Rattle.position_core.specs.declared.ranges.HashRange.{HashRange}
 use Rattle.position_core.specs.declared.kind.Kind.{Kind}
 use Rattle.position_core.specs.declared.kind.Kind.TheVariants.{Failover}
 use Rattle.position_core.specs.declared.topic_name.TopicName.{TopicName}
@@ -82,7 +83,7 @@ same_takeover t name known active same = by (has_kind t name Failover) refl
     by false is = ap (λ (b : Bool). cond (b && is_other known) (all_released name t) t) is ∙ sym (ap (λ (b : Bool). cond (b && is_other active) (all_released name t) t) is)
 
 -- a subscription that takes another kind has no members
-module _ (s : State) (name : List ℕ) (kind : Kind) (terms : Terms) (dead_topic : TopicName) (allowed : IsAllowed s name kind terms dead_topic) where
+module _ (s : State) (name : List ℕ) (kind : Kind) (terms : Terms) (dead_topic : TopicName) (ranges : Option (List HashRange)) (allowed : IsAllowed s name kind terms dead_topic ranges) where
   no_failover : kind ≡ Failover → is_in_order_at s name ≡ false → has_kind s name kind ≡ false
   no_failover failover out = by (has_kind s name kind) refl
     where
@@ -90,18 +91,18 @@ module _ (s : State) (name : List ℕ) (kind : Kind) (terms : Terms) (dead_topic
       by true is = absurd (true≢false (sym (failover_in_order s name (ap (has_kind s name) (sym failover) ∙ is)) ∙ out))
       by false is = is
 
-  pub known_before_joining : (m : Member) (initial : Initial) → m.subscription ≡ name → has_kind (with_member s kind initial m) name Failover ≡ true → active_in_order s name ≡ active_at s name
+  pub known_before_joining : (m : Member) (initial : Initial) → m.subscription ≡ name → has_kind (with_member s kind ranges initial m) name Failover ≡ true → active_in_order s name ≡ active_at s name
   known_before_joining m initial at after = by (find (is_named name) s.subscriptions) refl
     where
       by : (o : Option Subscription) → find (is_named name) s.subscriptions ≡ o → active_in_order s name ≡ active_at s name
-      by None none = known_or_nobody s name (λ _. nobody_there s name kind terms dead_topic allowed (ap (λ (o : Option Subscription). option_map_or (λ sub. same_kind sub.kind kind) o false) none))
+      by None none = known_or_nobody s name (λ _. nobody_there s name kind terms dead_topic ranges allowed (ap (λ (o : Option Subscription). option_map_or (λ sub. same_kind sub.kind kind) o false) none))
       by (Some sub) there =
-          let found : find (is_named name) (with_member s kind initial m).subscriptions ≡ Some (joining kind m.number sub) =
-          ap (λ (n : List ℕ). find (is_named name) (if is_some (find (is_named n) s.subscriptions) then changed (is_named n) (joining kind m.number) s.subscriptions else placed (new_subscription n kind m.number initial s.log) s.subscriptions)) at
-          ∙ ap (λ (b : Bool). find (is_named name) (if b then changed (is_named name) (joining kind m.number) s.subscriptions else placed (new_subscription name kind m.number initial s.log) s.subscriptions)) (ap is_some there)
-          ∙ found_itself_changed (is_named name) (joining kind m.number) (λ _. refl) s.subscriptions sub there in
+          let found : find (is_named name) (with_member s kind ranges initial m).subscriptions ≡ Some (joining kind ranges m.number sub) =
+          ap (λ (n : List ℕ). find (is_named name) (if is_some (find (is_named n) s.subscriptions) then changed (is_named n) (joining kind ranges m.number) s.subscriptions else placed (new_subscription n kind ranges m.number initial s.log) s.subscriptions)) at
+          ∙ ap (λ (b : Bool). find (is_named name) (if b then changed (is_named name) (joining kind ranges m.number) s.subscriptions else placed (new_subscription name kind ranges m.number initial s.log) s.subscriptions)) (ap is_some there)
+          ∙ found_itself_changed (is_named name) (joining kind ranges m.number) (λ _. refl) s.subscriptions sub there in
           let failover = kinds_agree kind Failover (sym (ap (λ (o : Option Subscription). option_map_or (λ z. same_kind z.kind Failover) o false) found) ∙ after) in
-          known_or_nobody s name (λ out. nobody_there s name kind terms dead_topic allowed (no_failover failover out))
+          known_or_nobody s name (λ out. nobody_there s name kind terms dead_topic ranges allowed (no_failover failover out))
 
 pub known_before_leaving : (s : State) (consumer : ℕ) (name : List ℕ) (sub : Subscription) → find (is_named name) s.subscriptions ≡ Some sub → has_kind (without_member s consumer name) name Failover ≡ true → active_in_order s name ≡ active_at s name
 known_before_leaving s consumer name sub there after =

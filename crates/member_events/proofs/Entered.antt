@@ -1,10 +1,11 @@
 -- A member that enters a subscription: in the machine's words, that the others stay tied, and that it is taken back.
-use Rattle.std.proofs.Common.{◌≡◌, ◌≢◌, ℕ, zero, suc, ◌+◌, ◌<◌, List, [], ◌∷◌, ◌++◌, map, length, Some, All, get_or, set, slice_get, false, refl, ap, ap₂, ◌∙◌, sym, subst, subst₂}
+use Rattle.std.proofs.Common.{◌≡◌, ◌≢◌, ℕ, zero, suc, ◌+◌, ◌<◌, List, [], ◌∷◌, ◌++◌, map, length, Some, Option, All, get_or, set, slice_get, false, refl, ap, ap₂, ◌∙◌, sym, subst, subst₂}
 use Rattle.std.specs.List.{list_any}
 use Rattle.std.specs.Str.{bytes_eq}
 use Rattle.std.specs.Vec.{with_item}
 use Rattle.std.proofs.lemmas.List.Elements.{All-contains}
 use Rattle.std.proofs.lemmas.Option.{get_or_from_slice_get, slice_get_within, same_Some}
+use Rattle.position_core.specs.declared.ranges.HashRange.{HashRange}
 use Rattle.position_core.specs.declared.message.Entry.{Entry}
 use Rattle.delivery_machine.specs.State.{State, Member, Subscription}
 use Rattle.delivery_machine.specs.Words.{changed, is_at, is_member, is_named}
@@ -29,7 +30,7 @@ use Rattle.topic_served.proofs.Telling.{at_place, named_place, place_within}
 use Rattle.member_events.specs.Entering.{LetsIn, MayEnter, StaysAs, entered}
 use Rattle.member_events.proofs.Standing.{all_but, are_named, its_name, names_written, one_there}
 
-module _ (t : Parts) (place : ℕ) (m : Member) (x : Placed) (may : MayEnter t place m.subscription) (number : m.number ≡ t.members.next) (at : x ≡ get_or t.subscriptions.items place x) where
+module _ (t : Parts) (place : ℕ) (m : Member) (ranges : Option (List HashRange)) (x : Placed) (may : MayEnter t place m.subscription) (number : m.number ≡ t.members.next) (at : x ≡ get_or t.subscriptions.items place x) where
   abbrev subs : List Placed
   subs = t.subscriptions.items
 
@@ -47,30 +48,30 @@ module _ (t : Parts) (place : ℕ) (m : Member) (x : Placed) (may : MayEnter t p
       ap (λ (n : List ℕ). bytes_eq n other.name) (sym name_is)
       ∙ names_apart (state_of t).subscriptions place k (sub_in (log_of t) x) (sub_in (log_of t) other) (are_named t may.ordered) differs (at_place t place x stands) (at_place t k other (sym at_k))
 
-  pub tied_entered : (y : Placed) → y ≡ joined_by x.kind m.number x → All (IsPlacedIn (log_of t) (ms ++ m ∷ [])) (set subs place y)
+  pub tied_entered : (y : Placed) → y ≡ joined_by x.kind ranges m.number x → All (IsPlacedIn (log_of t) (ms ++ m ∷ [])) (set subs place y)
   tied_entered y is =
       all_but (IsPlacedIn (log_of t) (ms ++ m ∷ [])) subs place y (place_within (is_placed m.subscription) subs place may.named)
       (subst (λ (p : Placed). IsPlacedIn (log_of t) (ms ++ m ∷ []) p) (sym is)
-      (joined_placed (log_of t) ms m x.kind x (is_same_name m.subscription x.name (sym name_is)) (placed_there (log_of t) subs m.subscription place may.named ms x may.tied at)))
+      (joined_placed (log_of t) ms m x.kind ranges x (is_same_name m.subscription x.name (sym name_is)) (placed_there (log_of t) subs m.subscription place may.named ms x may.tied at)))
       (λ k other differs at_k.
       placed_beside (log_of t) ms (ms ++ m ∷ []) other (line_joined other.name ms m (elsewhere k other differs at_k))
       (All-contains (IsPlacedIn (log_of t) ms) subs other may.tied (k, slice_get_within subs k other at_k, get_or_from_slice_get subs k other other at_k)))
 
-  pub subs_entered : (y : Placed) → y ≡ joined_by x.kind m.number x → map (sub_in (log_of t)) (set subs place y) ≡ changed (is_named m.subscription) (λ (sub : Subscription). joining sub.kind m.number sub) (map (sub_in (log_of t)) subs)
-  subs_entered y is = changed_sub (log_of t) subs m.subscription place may.named (λ (sub : Subscription). joining sub.kind m.number sub) x y at (ap (sub_in (log_of t)) is)
+  pub subs_entered : (y : Placed) → y ≡ joined_by x.kind ranges m.number x → map (sub_in (log_of t)) (set subs place y) ≡ changed (is_named m.subscription) (λ (sub : Subscription). joining sub.kind ranges m.number sub) (map (sub_in (log_of t)) subs)
+  subs_entered y is = changed_sub (log_of t) subs m.subscription place may.named (λ (sub : Subscription). joining sub.kind ranges m.number sub) x y at (ap (sub_in (log_of t)) is)
 
-  pub happens_entered : HappensAt place (Joined m.number) (state_of t) (sub_in (log_of t) x) (entered (state_of t) m) (joining x.kind m.number (sub_in (log_of t) x))
+  pub happens_entered : HappensAt place (Joined ranges m.number) (state_of t) (sub_in (log_of t) x) (entered (state_of t) ranges m) (joining x.kind ranges m.number (sub_in (log_of t) x))
   happens_entered =
       let s : State = state_of t in
       let sub : Subscription = sub_in (log_of t) x in
-      joined_at s (entered s m) place sub m (record {
+      joined_at s (entered s ranges m) place sub m (record {
         named = are_named t may.ordered;
         place = named_place t m.subscription place may.named;
         was = at_place t place x stands;
         fresh = subst (λ (n : ℕ). list_any (is_member n) t.members.members ≡ false) (sym number) may.fresh;
         few = may.few;
-      }) refl refl refl
-      (changed_alike (is_named m.subscription) (λ (z : Subscription). joining z.kind m.number z) (joining x.kind m.number) s.subscriptions place sub (named_place t m.subscription place may.named) (at_place t place x stands) refl)
+      }) ranges refl refl refl
+      (changed_alike (is_named m.subscription) (λ (z : Subscription). joining z.kind ranges m.number z) (joining x.kind ranges m.number) s.subscriptions place sub (named_place t m.subscription place may.named) (at_place t place x stands) refl)
 
 -- what is read of the one that is seen
 pub told_as_there : (Changes : State → Subscription → State → Subscription → Type 0) (Before After : State → Subscription → Type 0) (place : ℕ) (seen new : Parts) (v p : Placed) → seen ≡ new → Some v ≡ slice_get new.subscriptions.items place → Some p ≡ slice_get new.subscriptions.items place
@@ -103,22 +104,22 @@ same_ties old new stays tied =
 -- ---- the whole
 
 -- the member entered
-pub lets_in : (t seen : Parts) (place : ℕ) (m : Member) (x y v : Placed) (after : MemberList) (before told : Dispatch) → MayEnter t place m.subscription → m.number ≡ t.members.next → x ≡ get_or t.subscriptions.items place x → y ≡ joined_by x.kind m.number x
+pub lets_in : (t seen : Parts) (place : ℕ) (m : Member) (ranges : Option (List HashRange)) (x y v : Placed) (after : MemberList) (before told : Dispatch) → MayEnter t place m.subscription → m.number ≡ t.members.next → x ≡ get_or t.subscriptions.items place x → y ≡ joined_by x.kind ranges m.number x
     → after.members ≡ t.members.members ++ m ∷ [] → after.next ≡ t.members.next + 1
     → seen ≡ record t { members = after; subscriptions = with_item t.subscriptions place y } → Some v ≡ slice_get (set t.subscriptions.items place y) place
-    → AgreesAfter (Joined m.number) (agrees before) (agrees told) (state_of seen) (sub_in (log_of seen) v)
-    → LetsIn place m t (record t { members = after; subscriptions = with_item t.subscriptions place y }) before told
-lets_in t seen place m x y v after before told may number at is members next same at_v agreeing =
+    → AgreesAfter (Joined ranges m.number) (agrees before) (agrees told) (state_of seen) (sub_in (log_of seen) v)
+    → LetsIn place ranges m t (record t { members = after; subscriptions = with_item t.subscriptions place y }) before told
+lets_in t seen place m ranges x y v after before told may number at is members next same at_v agreeing =
     let new : Parts = record t { members = after; subscriptions = with_item t.subscriptions place y } in
     let s : State = state_of t in
     record {
       log = refl;
       state =
           ap₂ (λ (ms : List Member) (n : ℕ). record s { members = ms; next_consumer = n; subscriptions = map (sub_in (log_of t)) (set t.subscriptions.items place y) }) members next
-          ∙ ap (λ (subs : List Subscription). record (entered s m) { subscriptions = subs }) (subs_entered t place m x may number at y is);
-      tied = subst (λ (ms : List Member). All (IsPlacedIn (log_of t) ms) (set t.subscriptions.items place y)) (sym members) (tied_entered t place m x may number at y is);
+          ∙ ap (λ (subs : List Subscription). record (entered s ranges m) { subscriptions = subs }) (subs_entered t place m ranges x may number at y is);
+      tied = subst (λ (ms : List Member). All (IsPlacedIn (log_of t) ms) (set t.subscriptions.items place y)) (sym members) (tied_entered t place m ranges x may number at y is);
       names = names_written t.subscriptions.items place x y at (ap (λ (p : Placed). p.name) is);
-      told = λ p at_p. told_as_there (Joined m.number) (agrees before) (agrees told) place seen new v p same at_v at_p agreeing;
+      told = λ p at_p. told_as_there (Joined ranges m.number) (agrees before) (agrees told) place seen new v p same at_v at_p agreeing;
     }
 
 -- the member was taken back

@@ -1,5 +1,5 @@
 -- A subscription without members that takes another kind.
-use Rattle.std.proofs.Common.{◌≡◌, ℕ, ◌<◌, List, [], map, length, Some, All, get_or, set, slice_get, refl, ap, ◌∙◌, sym, subst, subst₂}
+use Rattle.std.proofs.Common.{◌≡◌, ℕ, ◌<◌, List, [], map, length, Option, Some, All, get_or, set, slice_get, refl, ap, ◌∙◌, sym, subst, subst₂}
 use Rattle.std.specs.Prelude.{Vec}
 use Rattle.std.specs.List.{filter, list_any}
 use Rattle.std.specs.Vec.{with_item}
@@ -17,7 +17,8 @@ use Rattle.dispatchers.proofs.Agreed.{told_at}
 use Rattle.dispatchers.proofs.Coming.{others_of_kind}
 use Rattle.dispatchers.proofs.Spots.{set_at}
 use Rattle.std.proofs.lemmas.Option.{get_or_from_slice_get, same_Some}
-use Rattle.delivery_machine.specs.Shares.{is_share_of}
+use Rattle.position_core.specs.declared.ranges.HashRange.{HashRange}
+use Rattle.delivery_machine.specs.Shares.{Shares, is_share_of, no_shares}
 use Rattle.dispatchers.specs.Happening.{OthersKept}
 use Rattle.topic_log.specs.Written.{Written}
 use Rattle.topic_subscriptions.specs.Placed.{IsPlacedIn, Placed, is_placed, sub_in}
@@ -29,8 +30,9 @@ use Rattle.topic_served.specs.declared.served.Served.{Served}
 use Rattle.topic_served.specs.Served.{IsBound}
 use Rattle.topic_served.proofs.Telling.{are_told_within, at_place, named_place, place_within}
 use Rattle.member_events.specs.Places.{names_of}
-use Rattle.member_events.specs.Entering.{HasNoShares, IsBareAt, MayEnter, StaysAs}
+use Rattle.member_events.specs.Entering.{AsksWell, HasNoShares, IsBareAt, MayEnter, StaysAs}
 use Rattle.member_events.proofs.Entered.{same_state, same_ties, set_twice}
+use Rattle.member_events.proofs.Asking.{asks_none}
 use Rattle.member_events.proofs.Standing.{its_name, names_written, one_there, same_place}
 
 kinded_placed : (log : List Entry) (ms : List Member) (p : Placed) (kind : Kind) → IsPlacedIn log ms p → IsPlacedIn log ms (record p { kind = kind })
@@ -65,8 +67,8 @@ module _ (t : Parts) (place : ℕ) (name : List ℕ) (kind : Kind) (x y : Placed
   pub names_kind : names_of (set subs place y) ≡ names_of subs
   names_kind = names_written subs place x y at (ap (λ (p : Placed). p.name) is)
 
-  no_shares : HasNoShares t place → y.shares ≡ []
-  no_shares none = ap (λ (p : Placed). p.shares) is ∙ none x (one_there subs name place x may.named at)
+  pub none_shared : HasNoShares t place → y.shares ≡ no_shares
+  none_shared none = ap (λ (p : Placed). p.shares) is ∙ none x (one_there subs name place x may.named at)
 
   pub bare_kind : members_of (state_of t) name ≡ [] → HasNoShares t place → IsBareAt now place kind
   bare_kind nobody none = record {
@@ -74,7 +76,7 @@ module _ (t : Parts) (place : ℕ) (name : List ℕ) (kind : Kind) (x y : Placed
     there = written;
     of_kind = sym (ap (λ (p : Placed). p.kind) is);
     nobody = ap (λ (n : List ℕ). filter (is_at n) t.members.members) (ap (λ (p : Placed). p.name) is ∙ its_name subs name place x may.named at) ∙ nobody;
-    unshared = no_shares none;
+    unshared = none_shared none;
   }
 
   pub may_still : HasNoShares t place → MayEnter now place name
@@ -84,10 +86,16 @@ module _ (t : Parts) (place : ℕ) (name : List ℕ) (kind : Kind) (x y : Placed
     named = may.named ∙ sym (same_place subs (set subs place y) name names_kind);
     fresh = may.fresh;
     few = may.few;
-    unshared = λ p at_p. ap (λ (q : Placed). list_any (is_share_of t.members.next) q.shares) (same_Some p y (at_p ∙ sym written)) ∙ ap (list_any (is_share_of t.members.next)) (no_shares none);
+    unshared = λ p at_p. ap (λ (q : Placed). list_any (is_share_of t.members.next) q.shares.blocks) (same_Some p y (at_p ∙ sym written)) ∙ ap (λ (z : Shares). list_any (is_share_of t.members.next) z.blocks) (none_shared none);
     room = may.room;
     left = may.left;
   }
+
+  -- whatever is asked for is nobody's
+  pub asks_well : (ranges : Option (List HashRange)) → HasNoShares t place → AsksWell now place ranges
+  asks_well ranges none p at_p =
+      let p_is = ap (λ (q : Placed). q.shares) (same_Some p y (at_p ∙ sym written)) ∙ none_shared none in
+      asks_none p ranges p_is
 
   pub state_kind : ◌≡◌ {A = State} (record (state_of t) { subscriptions = map (sub_in (log_of t)) (set subs place y) }) (with_kind (state_of t) name kind)
   state_kind = ap (λ (ss : List Subscription). record (state_of t) { subscriptions = ss }) (changed_sub (log_of t) subs name place may.named (of_kind kind) x y at (ap (sub_in (log_of t)) is))

@@ -6,6 +6,7 @@ pub mod Entered
 pub mod Opened
 pub mod Absent
 pub mod Kinded
+pub mod Asking
 pub mod Welcome
 pub mod Newcomer
 pub mod Active

@@ -5,6 +5,7 @@ use Rattle.std.specs.List.{find, insert, position, position_or_len}
 use Rattle.std.specs.Ordering.{is_lt}
 use Rattle.std.proofs.lemmas.List.Sums.{prefix_len-le-length}
 use Rattle.std.proofs.lemmas.Option.{get_or_from_slice_get}
+use Rattle.position_core.specs.declared.ranges.HashRange.{HashRange}
 use Rattle.position_core.specs.declared.kind.Kind.{Kind}
 use Rattle.position_core.specs.Name.{name_order}
 use Rattle.delivery_machine.specs.State.{State, Member, Subscription}
@@ -28,26 +29,26 @@ use Rattle.member_events.proofs.Standing.{one_there}
 
 -- ---- where the subscription is there
 
-module _ (t : Parts) (place : ℕ) (m : Member) (x : Placed) (kind : Kind) (initial : Initial) (named : Some place ≡ position (is_placed m.subscription) t.subscriptions.items) (at : x ≡ get_or t.subscriptions.items place x) where
+module _ (t : Parts) (place : ℕ) (m : Member) (x : Placed) (kind : Kind) (ranges : Option (List HashRange)) (initial : Initial) (named : Some place ≡ position (is_placed m.subscription) t.subscriptions.items) (at : x ≡ get_or t.subscriptions.items place x) where
   abbrev s : State
   s = state_of t
 
-  joined_there : joined s m.subscription kind m.number initial ≡ changed (is_named m.subscription) (joining kind m.number) s.subscriptions
+  joined_there : joined s m.subscription kind ranges m.number initial ≡ changed (is_named m.subscription) (joining kind ranges m.number) s.subscriptions
   joined_there =
-      ap (λ (o : Option Subscription). if is_some o then changed (is_named m.subscription) (joining kind m.number) s.subscriptions else placed (new_subscription m.subscription kind m.number initial s.log) s.subscriptions)
+      ap (λ (o : Option Subscription). if is_some o then changed (is_named m.subscription) (joining kind ranges m.number) s.subscriptions else placed (new_subscription m.subscription kind ranges m.number initial s.log) s.subscriptions)
       (named_sub (log_of t) t.subscriptions.items m.subscription place named x at)
 
-  pub entered_of_kind : x.kind ≡ kind → entered s m ≡ with_member s kind initial m
+  pub entered_of_kind : x.kind ≡ kind → entered s ranges m ≡ with_member s kind ranges initial m
   entered_of_kind same =
-      ap (λ (subs : List Subscription). record (entered s m) { subscriptions = subs })
-      (changed_alike (is_named m.subscription) (λ (z : Subscription). joining z.kind m.number z) (joining kind m.number) s.subscriptions place (sub_in (log_of t) x) (named_place t m.subscription place named)
-      (at_place t place x (one_there t.subscriptions.items m.subscription place x named at)) (ap (λ (k : Kind). joining k m.number (sub_in (log_of t) x)) same)
+      ap (λ (subs : List Subscription). record (entered s ranges m) { subscriptions = subs })
+      (changed_alike (is_named m.subscription) (λ (z : Subscription). joining z.kind ranges m.number z) (joining kind ranges m.number) s.subscriptions place (sub_in (log_of t) x) (named_place t m.subscription place named)
+      (at_place t place x (one_there t.subscriptions.items m.subscription place x named at)) (ap (λ (k : Kind). joining k ranges m.number (sub_in (log_of t) x)) same)
       ∙ sym joined_there)
 
-  pub entered_kinded : entered (with_kind s m.subscription kind) m ≡ with_member s kind initial m
+  pub entered_kinded : entered (with_kind s m.subscription kind) ranges m ≡ with_member s kind ranges initial m
   entered_kinded =
-      ap (λ (subs : List Subscription). record (entered s m) { subscriptions = subs })
-      (changed_twice (is_named m.subscription) (of_kind kind) (λ (z : Subscription). joining z.kind m.number z) s.subscriptions (λ _. refl) ∙ sym joined_there)
+      ap (λ (subs : List Subscription). record (entered s ranges m) { subscriptions = subs })
+      (changed_twice (is_named m.subscription) (of_kind kind) (λ (z : Subscription). joining z.kind ranges m.number z) s.subscriptions (λ _. refl) ∙ sym joined_there)
 
 -- ---- where it is made
 
@@ -72,12 +73,12 @@ module _ (s : State) (name : List ℕ) (kind : Kind) (initial : Initial) (absent
       ap (λ (v : State). let w : State = record v { subscriptions = removed (is_named name) v.subscriptions } in w) is
       ∙ ap (λ (subs : List Subscription). record s { subscriptions = subs }) (taken_out (is_named name) s.subscriptions place first absent (is_same_name name name refl) low)
 
-module _ (s : State) (m : Member) (kind : Kind) (initial : Initial) (absent : find (is_named m.subscription) s.subscriptions ≡ None) where
+module _ (s : State) (m : Member) (kind : Kind) (ranges : Option (List HashRange)) (initial : Initial) (absent : find (is_named m.subscription) s.subscriptions ≡ None) where
   abbrev new : Subscription
   new = unshared m.subscription kind initial s.log
 
   abbrev made : Subscription
-  made = new_subscription m.subscription kind m.number initial s.log
+  made = new_subscription m.subscription kind ranges m.number initial s.log
 
   abbrev at : ℕ
   at = position_or_len (λ (other : Subscription). is_lt (name_order m.subscription other.name)) s.subscriptions
@@ -85,10 +86,10 @@ module _ (s : State) (m : Member) (kind : Kind) (initial : Initial) (absent : fi
   within : at ≤ length s.subscriptions
   within = low s m.subscription kind initial absent
 
-  pub entered_new : entered (opened s m.subscription kind initial) m ≡ with_member s kind initial m
+  pub entered_new : entered (opened s m.subscription kind initial) ranges m ≡ with_member s kind ranges initial m
   entered_new =
-      ap (λ (subs : List Subscription). record (entered s m) { subscriptions = subs })
-      (sym (changed_there (is_named m.subscription) (λ (z : Subscription). joining z.kind m.number z) (placed new s.subscriptions) at new made (sym (placed_there s new absent))
-      (ap (λ (z : Subscription). joining z.kind m.number z) (sym (get_or_from_slice_get (placed new s.subscriptions) at new new (inserted_at s.subscriptions at new within)))))
+      ap (λ (subs : List Subscription). record (entered s ranges m) { subscriptions = subs })
+      (sym (changed_there (is_named m.subscription) (λ (z : Subscription). joining z.kind ranges m.number z) (placed new s.subscriptions) at new made (sym (placed_there s new absent))
+      (ap (λ (z : Subscription). joining z.kind ranges m.number z) (sym (get_or_from_slice_get (placed new s.subscriptions) at new new (inserted_at s.subscriptions at new within)))))
       ∙ written_in s.subscriptions at new made within
-      ∙ sym (ap (λ (o : Option Subscription). if is_some o then changed (is_named m.subscription) (joining kind m.number) s.subscriptions else placed made s.subscriptions) absent))
+      ∙ sym (ap (λ (o : Option Subscription). if is_some o then changed (is_named m.subscription) (joining kind ranges m.number) s.subscriptions else placed made s.subscriptions) absent))

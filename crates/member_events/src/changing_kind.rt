@@ -10,7 +10,7 @@ ghost use Rattle.member_events.specs.Entering.{HasNoShares, MayEnter, entered};
 
 use crate::entering::let_in;
 use crate::opening::begin;
-use position_core::{Fault, Kind, SubscriptionName, TopicName};
+use position_core::{Fault, Kind, Ranges, SubscriptionName, TopicName};
 use topic_members::Terms;
 use topic_served::Served;
 
@@ -23,12 +23,13 @@ pub(crate) fn enter_anew(
     name: SubscriptionName,
     terms: Terms,
     dead_topic: TopicName,
+    ranges: &Option<Ranges>,
 ) -> Result<(), Fault>
     requires bound { IsBound served.old }
     requires may { MayEnter served.old.parts place name }
     requires nobody { members_of (state_in served.old) name ≡ [] }
     requires unshared { HasNoShares served.old.parts place }
-    ensures ok { OnOk result (state_in served.new ≡ entered (with_kind (state_in served.old) name kind) (joining served.old.parts.members.next name terms dead_topic)) }
+    ensures ok { OnOk result (state_in served.new ≡ entered (with_kind (state_in served.old) name kind) ranges.now (joining served.old.parts.members.next name terms dead_topic)) }
     ensures names { names_of served.new.parts.subscriptions.items ≡ names_of served.old.parts.subscriptions.items }
     ensures err { IfErr result (λ fault. fault ≡ NoMemory) }
     ensures same { OnErr result (state_in served.new ≡ state_in served.old) }
@@ -50,6 +51,7 @@ pub(crate) fn enter_anew(
         name,
         terms,
         dead_topic,
+        ranges,
     );
     match entered {
         Ok(()) => {

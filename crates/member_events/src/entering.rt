@@ -1,13 +1,14 @@
 // A newcomer enters a subscription that is there.
 ghost use Rattle.std.specs.Prelude.{◌≡◌, OnOk, OnErr, IfErr};
 ghost use Rattle.position_core.specs.declared.fault.Fault.TheVariants.{NoMemory};
+ghost use Rattle.dispatchers.specs.Agreeing.{AsksForFree};
 ghost use Rattle.topic_members.specs.Members.{joining};
 ghost use Rattle.topic_served.specs.Served.{IsBound, state_in};
 ghost use Rattle.member_events.specs.Places.{names_of};
-ghost use Rattle.member_events.specs.Entering.{LetsIn, MayEnter, StaysAs, entered};
+ghost use Rattle.member_events.specs.Entering.{AsksWell, LetsIn, MayEnter, StaysAs, entered};
 
 use dispatchers::Dispatch;
-use position_core::{Fault, SubscriptionName, TopicName};
+use position_core::{Fault, Ranges, SubscriptionName, TopicName};
 use topic_members::Terms;
 use topic_parts::Parts;
 use topic_served::Served;
@@ -20,9 +21,12 @@ pub(crate) fn let_in(
     name: SubscriptionName,
     terms: Terms,
     dead_topic: TopicName,
+    ranges: &Option<Ranges>,
 ) -> Result<(), Fault>
-    requires { MayEnter parts.old place name }
-    ensures ok { OnOk result (LetsIn place (joining parts.old.members.next name terms dead_topic) parts.old parts.new dispatch.old dispatch.new) }
+    requires may { MayEnter parts.old place name }
+    requires free { AsksWell parts.old place ranges.now }
+    requires untaken { AsksForFree dispatch.old ranges.now }
+    ensures ok { OnOk result (LetsIn place ranges.now (joining parts.old.members.next name terms dead_topic) parts.old parts.new dispatch.old dispatch.new) }
     ensures err { IfErr result (λ fault. fault ≡ NoMemory) }
     ensures stays { OnErr result (StaysAs parts.old parts.new) }
     ensures untold { OnErr result (dispatch.new ≡ dispatch.old) }
@@ -31,14 +35,14 @@ pub(crate) fn let_in(
     let _many = parts.members.len();
     let consumer = parts.members.next();
     let kind = parts.subscriptions[place].kind();
-    let Ok(()) = parts.subscriptions[place].join(kind, consumer) else {
+    let Ok(()) = parts.subscriptions[place].join(kind, ranges, consumer) else {
         drop(name);
         drop(dead_topic);
         return Err(Fault::NoMemory);
     };
     parts.members.add_reserved(name, terms, dead_topic);
     let view = parts.at(place);
-    let told = dispatch.on_join(&view, consumer);
+    let told = dispatch.on_join(&view, consumer, ranges);
     match told {
         Ok(()) => Ok(()),
         Err(fault) => {
@@ -56,10 +60,12 @@ pub(crate) fn enter(
     name: SubscriptionName,
     terms: Terms,
     dead_topic: TopicName,
+    ranges: &Option<Ranges>,
 ) -> Result<(), Fault>
     requires bound { IsBound served.old }
     requires may { MayEnter served.old.parts place name }
-    ensures ok { OnOk result (state_in served.new ≡ entered (state_in served.old) (joining served.old.parts.members.next name terms dead_topic)) }
+    requires free { AsksWell served.old.parts place ranges.now }
+    ensures ok { OnOk result (state_in served.new ≡ entered (state_in served.old) ranges.now (joining served.old.parts.members.next name terms dead_topic)) }
     ensures names { names_of served.new.parts.subscriptions.items ≡ names_of served.old.parts.subscriptions.items }
     ensures err { IfErr result (λ fault. fault ≡ NoMemory) }
     ensures same { OnErr result (state_in served.new ≡ state_in served.old) }
@@ -73,6 +79,7 @@ pub(crate) fn enter(
         name,
         terms,
         dead_topic,
+        ranges,
     );
     match entered {
         Ok(()) => Ok(()),

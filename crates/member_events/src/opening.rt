@@ -28,7 +28,7 @@ fn make(
 ) -> Result<Subscription, AllocError>
     ensures { IfOk result (λ sub. sub ≡ made_bare name kind end) }
 {
-    match Subscription::new(alloc, name, kind, consumer, end) {
+    match Subscription::new(alloc, name, kind, &None, consumer, end) {
         Ok(mut sub) => {
             sub.leave(consumer);
             Ok(sub)

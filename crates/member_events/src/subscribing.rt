@@ -19,7 +19,7 @@ use crate::opening::{close, open};
 use crate::refusing::subscribing_refused;
 use crate::taking_over::{active_at, take_over};
 use delivery_machine::{Initial, Reply};
-use position_core::{ConsumerNumber, Fault, Kind, SubscriptionName, TopicName};
+use position_core::{ConsumerNumber, Fault, Kind, Ranges, SubscriptionName, TopicName};
 use topic_members::Terms;
 use topic_served::Served;
 
@@ -57,10 +57,11 @@ fn enter_as(
     name: SubscriptionName,
     terms: Terms,
     dead_topic: TopicName,
+    ranges: &Option<Ranges>,
 ) -> Result<(), Fault>
-    requires welcome { IsWelcome served.old name kind terms dead_topic }
+    requires welcome { IsWelcome served.old name kind terms dead_topic ranges.now }
     requires named { Some place ≡ place_in (is_placed name) served.old.parts.subscriptions.items }
-    ensures ok { OnOk result ((initial : Initial) → state_in served.new ≡ with_member (state_in served.old) kind initial (joining (state_in served.old).next_consumer name terms dead_topic)) }
+    ensures ok { OnOk result ((initial : Initial) → state_in served.new ≡ with_member (state_in served.old) kind ranges.now initial (joining (state_in served.old).next_consumer name terms dead_topic)) }
     ensures names { names_of served.new.parts.subscriptions.items ≡ names_of served.old.parts.subscriptions.items }
     ensures err { IfErr result (λ fault. fault ≡ NoMemory) }
     ensures same { OnErr result (state_in served.new ≡ state_in served.old) }
@@ -68,9 +69,9 @@ fn enter_as(
 {
     let present = served.parts.subscriptions[place].kind();
     if present.is(kind) {
-        return enter(served, place, name, terms, dead_topic);
+        return enter(served, place, name, terms, dead_topic, ranges);
     }
-    enter_anew(served, place, kind, name, terms, dead_topic)
+    enter_anew(served, place, kind, name, terms, dead_topic, ranges)
 }
 
 /// Lets the next consumer into the subscription at the place, and answers the place. Nothing changes where there
@@ -82,16 +83,17 @@ fn enter_there(
     name: SubscriptionName,
     terms: Terms,
     dead_topic: TopicName,
+    ranges: &Option<Ranges>,
 ) -> Result<usize, Fault>
-    requires welcome { IsWelcome served.old name kind terms dead_topic }
+    requires welcome { IsWelcome served.old name kind terms dead_topic ranges.now }
     requires named { Some place ≡ place_in (is_placed name) served.old.parts.subscriptions.items }
-    ensures ok { OnOk result ((initial : Initial) → state_in served.new ≡ with_member (state_in served.old) kind initial (joining (state_in served.old).next_consumer name terms dead_topic)) }
+    ensures ok { OnOk result ((initial : Initial) → state_in served.new ≡ with_member (state_in served.old) kind ranges.now initial (joining (state_in served.old).next_consumer name terms dead_topic)) }
     ensures place { IfOk result (λ at. Some at ≡ place_in (is_placed name) served.new.parts.subscriptions.items) }
     ensures err { IfErr result (λ fault. fault ≡ NoMemory) }
     ensures same { OnErr result (state_in served.new ≡ state_in served.old) }
     ensures bound { IsBound served.new }
 {
-    match enter_as(served, place, kind, name, terms, dead_topic) {
+    match enter_as(served, place, kind, name, terms, dead_topic, ranges) {
         Ok(()) => Ok(place),
         Err(fault) => Err(fault),
     }
@@ -106,10 +108,11 @@ fn enter_new(
     initial: Initial,
     terms: Terms,
     dead_topic: TopicName,
+    ranges: &Option<Ranges>,
 ) -> Result<usize, Fault>
-    requires welcome { IsWelcome served.old name kind terms dead_topic }
+    requires welcome { IsWelcome served.old name kind terms dead_topic ranges.now }
     requires absent { None ≡ place_in (is_placed name) served.old.parts.subscriptions.items }
-    ensures ok { OnOk result (state_in served.new ≡ with_member (state_in served.old) kind initial (joining (state_in served.old).next_consumer name terms dead_topic)) }
+    ensures ok { OnOk result (state_in served.new ≡ with_member (state_in served.old) kind ranges.now initial (joining (state_in served.old).next_consumer name terms dead_topic)) }
     ensures place { IfOk result (λ at. Some at ≡ place_in (is_placed name) served.new.parts.subscriptions.items) }
     ensures err { IfErr result (λ fault. fault ≡ NoMemory) }
     ensures same { OnErr result (state_in served.new ≡ state_in served.old) }
@@ -121,7 +124,7 @@ fn enter_new(
     let Ok(place) = open(served, name, kind, initial) else {
         return Err(Fault::NoMemory);
     };
-    match enter(served, place, own, terms, dead_topic) {
+    match enter(served, place, own, terms, dead_topic, ranges) {
         Ok(()) => Ok(place),
         Err(fault) => {
             // A subscription without its first member would show.
@@ -140,17 +143,18 @@ fn enter_named(
     initial: Initial,
     terms: Terms,
     dead_topic: TopicName,
+    ranges: &Option<Ranges>,
 ) -> Result<usize, Fault>
-    requires { IsWelcome served.old name kind terms dead_topic }
-    ensures ok { OnOk result (state_in served.new ≡ with_member (state_in served.old) kind initial (joining (state_in served.old).next_consumer name terms dead_topic)) }
+    requires { IsWelcome served.old name kind terms dead_topic ranges.now }
+    ensures ok { OnOk result (state_in served.new ≡ with_member (state_in served.old) kind ranges.now initial (joining (state_in served.old).next_consumer name terms dead_topic)) }
     ensures place { IfOk result (λ at. Some at ≡ place_in (is_placed name) served.new.parts.subscriptions.items) }
     ensures err { IfErr result (λ fault. fault ≡ NoMemory) }
     ensures same { OnErr result (state_in served.new ≡ state_in served.old) }
     ensures bound { IsBound served.new }
 {
     match served.parts.place_of(&name) {
-        Some(place) => enter_there(served, place, kind, name, terms, dead_topic),
-        None => enter_new(served, kind, name, initial, terms, dead_topic),
+        Some(place) => enter_there(served, place, kind, name, terms, dead_topic, ranges),
+        None => enter_new(served, kind, name, initial, terms, dead_topic, ranges),
     }
 }
 
@@ -163,10 +167,11 @@ fn come_in(
     terms: Terms,
     dead_topic: &TopicName,
     initial: Initial,
+    ranges: &Option<Ranges>,
 ) -> Result<usize, Fault>
     requires settled { IsSettled served.old }
-    requires allowed { IsAllowed (state_in served.old) name.now kind terms dead_topic.now }
-    ensures ok { OnOk result (state_in served.new ≡ with_member (state_in served.old) kind initial (joining (state_in served.old).next_consumer name.now terms dead_topic.now)) }
+    requires allowed { IsAllowed (state_in served.old) name.now kind terms dead_topic.now ranges.now }
+    ensures ok { OnOk result (state_in served.new ≡ with_member (state_in served.old) kind ranges.now initial (joining (state_in served.old).next_consumer name.now terms dead_topic.now)) }
     ensures place { IfOk result (λ at. Some at ≡ place_in (is_placed name.now) served.new.parts.subscriptions.items) }
     ensures err { IfErr result (λ fault. fault ≡ NoMemory) }
     ensures same { OnErr result (state_in served.new ≡ state_in served.old) }
@@ -184,14 +189,15 @@ fn come_in(
         drop(own_topic);
         return Err(Fault::NoMemory);
     };
-    enter_named(served, kind, own_name, initial, terms, own_topic)
+    enter_named(served, kind, own_name, initial, terms, own_topic, ranges)
 }
 
 /// A consumer joins the subscription, which is made where it is not there, and then begins at `initial`; one
 /// without members takes the kind. Refused are another kind than its members have (`WrongKind`), a second
-/// consumer of an exclusive one (`ConsumerBusy`), a 65th consumer or subscription and a number past 2^63-1
-/// (`TooMany`), and dead letters that would come back into the topic itself (`DeadLetterSelf`). Nothing changes
-/// where the consumer is refused, or there is no memory (`NoMemory`).
+/// consumer of an exclusive one (`ConsumerBusy`), in Key_Shared the policy that its members do not have
+/// (`MixedPolicy`) and hashes that one of them has (`HashOverlap`), a 65th consumer or subscription and a
+/// number past 2^63-1 (`TooMany`), and dead letters that would come back into the topic itself
+/// (`DeadLetterSelf`). Nothing changes where the consumer is refused, or there is no memory (`NoMemory`).
 pub fn subscribe(
     served: &mut Served,
     subscription: &SubscriptionName,
@@ -199,19 +205,36 @@ pub fn subscribe(
     terms: Terms,
     dead_topic: &TopicName,
     initial: Initial,
+    ranges: &Option<Ranges>,
 ) -> Reply
     requires { IsSettled served.old }
-    ensures answers { Answers (state_in served.old) (Subscribe subscription.now kind terms.level terms.flow terms.ack_timeout terms.nack_delay terms.max_redeliver dead_topic.now initial) result (state_in served.new) }
+    ensures answers { Answers (state_in served.old) (Subscribe subscription.now kind terms.level terms.flow terms.ack_timeout terms.nack_delay terms.max_redeliver dead_topic.now initial ranges.now) result (state_in served.new) }
     ensures bound { IsBound served.new }
 {
-    let refused = subscribing_refused(served, subscription, kind, terms.max_redeliver, dead_topic);
+    let _asked = Ranges::number_of(ranges);
+    let refused = subscribing_refused(
+        served,
+        subscription,
+        kind,
+        terms.max_redeliver,
+        dead_topic,
+        ranges,
+    );
     if let Some(fault) = refused {
         return Reply::Refused(fault);
     }
     // Read before the consumer comes in: a takeover shows by the change.
     let before = active_in(served, subscription);
     let consumer = served.parts.members.next();
-    match come_in(served, subscription, kind, terms, dead_topic, initial) {
+    match come_in(
+        served,
+        subscription,
+        kind,
+        terms,
+        dead_topic,
+        initial,
+        ranges,
+    ) {
         Ok(place) => {
             take_over(served, place, before);
             Reply::Subscribed { consumer }

@@ -1,12 +1,12 @@
 // What a subscription knows of its messages.
-ghost use Rattle.std.specs.Prelude.{◌≡◌, OnOk, OnErr, Some};
+ghost use Rattle.std.specs.Prelude.{◌≡◌, false, OnOk, OnErr, Some};
 ghost use Rattle.std.specs.Bool.{OnFalse, OnTrue};
 ghost use Rattle.std.specs.Option.{option_and_then, option_map};
 ghost use Rattle.std.specs.FinSet as set;
 ghost use Rattle.std.specs.FinMap as map_of;
 ghost use Rattle.delivery_machine.specs.Words.{count_of, is_named, is_held_by, is_held_beside, is_live, is_waiting};
 ghost use Rattle.delivery_machine.specs.Joining.{joining, leaving, releasing_all};
-ghost use Rattle.delivery_machine.specs.Shares.{owner_of, shares_with};
+ghost use Rattle.delivery_machine.specs.Shares.{asks_taken, mixes, no_shares, owner_of, shares_with};
 ghost use Rattle.delivery_machine.specs.Acknowledging.{acknowledging};
 ghost use Rattle.delivery_machine.specs.Delivering.{holding};
 ghost use Rattle.delivery_machine.specs.Seeking.{seeking};
@@ -15,7 +15,9 @@ ghost use Rattle.delivery_machine.specs.Ticking.{redelivering};
 use delivery_machine::DeadLetter;
 use hash_ranges::SplitTable;
 use plain_tables::{CountTable, PendingTable, PositionSet};
-use position_core::{ConsumerNumber, DueMoment, Held, Kind, Message, Position, SubscriptionName};
+use position_core::{
+    ConsumerNumber, DueMoment, Held, Kind, Message, Position, Ranges, SubscriptionName,
+};
 use std::alloc::{AllocError, Global};
 use std::marker::Model;
 
@@ -70,21 +72,6 @@ impl Model for Subscription {
     } };
 }
 
-/// Gives the consumer its share, where hashes are shared out.
-fn share_out(
-    shares: &mut SplitTable,
-    kind: Kind,
-    consumer: ConsumerNumber,
-) -> Result<(), AllocError>
-    ensures ok { OnOk result (shares.new ≡ shares_with kind consumer shares.old) }
-    ensures err { OnErr result (shares.new ≡ shares.old) }
-{
-    match kind {
-        Kind::KeyShared => shares.join(consumer),
-        Kind::Exclusive | Kind::Failover | Kind::Shared => Ok(()),
-    }
-}
-
 impl Subscription {
     ghost use Rattle.std.specs.Prelude.{◌≡◌, [], OnOk, OnErr, IfOk};
 
@@ -93,13 +80,14 @@ impl Subscription {
         alloc: Global,
         name: SubscriptionName,
         kind: Kind,
+        ranges: &Option<Ranges>,
         consumer: ConsumerNumber,
         acknowledged: PositionSet,
     ) -> Result<Self, AllocError>
-        ensures { IfOk result (λ sub. sub ≡ record { name = name; kind = kind; acknowledged = acknowledged; pending = map_of.empty; counts = map_of.empty; shares = shares_with kind consumer []; dead = []; safe = 0 }) }
+        ensures { IfOk result (λ sub. sub ≡ record { name = name; kind = kind; acknowledged = acknowledged; pending = map_of.empty; counts = map_of.empty; shares = shares_with kind ranges.now consumer no_shares; dead = []; safe = 0 }) }
     {
         let mut shares = SplitTable::new(alloc);
-        share_out(&mut shares, kind, consumer)?;
+        shares.join_by(kind, ranges, consumer)?;
         Ok(Subscription {
             name,
             kind,
@@ -131,12 +119,33 @@ impl Subscription {
         self.name.is(name)
     }
 
+    /// Whether the consumer would say which hashes it takes where the members did not, or the other way
+    /// about.
+    pub fn mixes(&self, kind: Kind, ranges: &Option<Ranges>) -> bool
+        ensures { result ≡ mixes kind ranges.now self.now.shares }
+    {
+        self.shares.mixes(kind, ranges)
+    }
+
+    /// Whether a hash that the consumer asks for is in a member's share.
+    pub fn asks_taken(&self, kind: Kind, ranges: &Option<Ranges>) -> bool
+        ensures { result ≡ asks_taken kind ranges.now self.now.shares }
+    {
+        self.shares.asks_taken(kind, ranges)
+    }
+
     /// Lets the consumer in, and takes its kind. Nothing changes where there is no memory.
-    pub fn join(&mut self, kind: Kind, consumer: ConsumerNumber) -> Result<(), AllocError>
-        ensures ok { OnOk result (self.new ≡ joining kind consumer self.old) }
+    pub fn join(
+        &mut self,
+        kind: Kind,
+        ranges: &Option<Ranges>,
+        consumer: ConsumerNumber,
+    ) -> Result<(), AllocError>
+        requires free { asks_taken kind ranges.now self.old.shares ≡ false }
+        ensures ok { OnOk result (self.new ≡ joining kind ranges.now consumer self.old) }
         ensures err { OnErr result (self.new ≡ self.old) }
     {
-        share_out(&mut self.shares, kind, consumer)?;
+        self.shares.join_by(kind, ranges, consumer)?;
         self.kind = kind;
         Ok(())
     }
@@ -269,7 +278,7 @@ impl Subscription {
         Ok(())
     }
 
-    /// Lets the consumer out: what is pending at it waits again, and its share goes to another.
+    /// Lets the consumer out: what is pending at it waits again, and its share goes from it.
     pub fn leave(&mut self, consumer: ConsumerNumber)
         ensures { self.new ≡ leaving consumer self.old }
     {

@@ -2,6 +2,5 @@ pub mod Used
 mod Chosen
 pub mod Placed
 pub mod Handed
-pub mod Joins
 pub mod Moved
 pub mod Saved

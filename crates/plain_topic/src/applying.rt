@@ -32,6 +32,7 @@ impl Topic for Lists {
                 max_redeliver,
                 dead_topic,
                 initial,
+                ranges,
             } => self.subscribe(
                 subscription,
                 *kind,
@@ -44,6 +45,7 @@ impl Topic for Lists {
                 },
                 dead_topic,
                 *initial,
+                ranges,
             ),
             Event::Leave { consumer } => self.leave(*consumer),
             Event::Permit { consumer, permits } => self.permit(*consumer, *permits),

@@ -1,7 +1,7 @@
 -- The number of each refusal, which is the same on the wire and in printed lines.
 use Rattle.std.specs.Prelude.{ℕ}
 use Rattle.position_core.specs.declared.fault.Fault.{Fault}
-use Rattle.position_core.specs.declared.fault.Fault.TheVariants.{NoMemory, ProducerBusy, NoSession, TopicFull, WrongKind, ConsumerBusy, TooMany, NoSuchMessage, NotCumulative, NotPending, NoSuchSubscription, SubscriptionBusy, TooManyPermits, DeadLetterSelf, JournalFull, StoreFailed, BadId, BadJson, BadPayload, BadRoute, NoRoom, PushMode}
+use Rattle.position_core.specs.declared.fault.Fault.TheVariants.{NoMemory, ProducerBusy, NoSession, TopicFull, WrongKind, ConsumerBusy, TooMany, NoSuchMessage, NotCumulative, NotPending, NoSuchSubscription, SubscriptionBusy, TooManyPermits, DeadLetterSelf, JournalFull, StoreFailed, BadId, BadJson, BadPayload, BadRoute, NoRoom, PushMode, HashOverlap, MixedPolicy}
 
 abbrev pub number_of : Fault → ℕ
 number_of NoMemory = 1
@@ -26,3 +26,5 @@ number_of BadPayload = 19
 number_of BadRoute = 20
 number_of NoRoom = 21
 number_of PushMode = 22
+number_of HashOverlap = 23
+number_of MixedPolicy = 24

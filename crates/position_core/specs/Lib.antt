@@ -6,4 +6,7 @@ pub mod Id
 pub mod Name
 pub mod TopicName
 pub mod Properties
+pub mod Ranges
 pub mod Numbers
+pub mod Decimals
+pub mod RangesText

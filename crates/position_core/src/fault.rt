@@ -49,6 +49,10 @@ pub enum Fault {
     NoRoom,
     /// A permit for a consumer that is pushed to.
     PushMode,
+    /// A hash of the ranges is another consumer's.
+    HashOverlap,
+    /// The Key_Shared subscription has members of the other policy.
+    MixedPolicy,
 }
 
 impl Fault {
@@ -79,6 +83,8 @@ impl Fault {
             Fault::BadRoute => 20,
             Fault::NoRoom => 21,
             Fault::PushMode => 22,
+            Fault::HashOverlap => 23,
+            Fault::MixedPolicy => 24,
         }
     }
 }

@@ -4,6 +4,7 @@
 mod block;
 mod body;
 mod bounded;
+mod decimals;
 mod fault;
 mod flow;
 mod held;
@@ -16,6 +17,8 @@ mod numbers;
 mod payload;
 mod position;
 mod properties;
+mod ranges;
+mod ranges_text;
 mod text;
 mod topic_name;
 
@@ -24,6 +27,7 @@ pub use body::{Body, Content};
 pub use bounded::{
     Bounded, Credit, LedgerSize, Level, Millis, Permits, RedeliverLimit, SkipLength, WindowSize,
 };
+pub use decimals::decimal_in;
 pub use fault::Fault;
 pub use flow::Flow;
 pub use held::Held;
@@ -35,5 +39,7 @@ pub use numbers::{ConsumerNumber, DueMoment, LogIndex, Ordinal, ProducerNumber};
 pub use payload::Payload;
 pub use position::Position;
 pub use properties::Properties;
+pub use ranges::{HashRange, Ranges};
+pub use ranges_text::LeadingZeros;
 pub use text::{Key, ProducerName, Text};
 pub use topic_name::TopicName;

@@ -1,6 +1,6 @@
 // The arguments of the program.
 ghost use Rattle.std.specs.Prelude.{map, string_bytes};
-ghost use Rattle.replay_lines.specs.Reads.{Finds};
+ghost use Rattle.position_core.specs.Decimals.{Finds};
 ghost use Rattle.replay_core.specs.Arguments.{AskFor};
 
 use position_core::LedgerSize;

@@ -1,4 +1,3 @@
-pub mod Decimals
 pub mod Findings
 pub mod Splits
 pub mod BaseLemmas
@@ -6,4 +5,5 @@ pub mod Commands
 pub mod ByWords
 pub mod Deaths
 pub mod OneWord
+pub mod LastWords
 pub mod OneLine

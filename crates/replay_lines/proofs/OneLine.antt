@@ -1,25 +1,25 @@
 -- A line stands for at most one thing.
-use Rattle.std.proofs.Common.{◌≡◌, ℕ, List, [], ◌∷◌, Option, Some, None, ℤ, refl, sym, ap, ◌∙◌, subst, arith}
+use Rattle.std.proofs.Common.{◌≡◌, ℕ, List, Option, Some, refl, sym, ap, ◌∙◌, subst, arith}
 use Rattle.std.specs.List.{find}
 use Rattle.std.specs.Str.{bytes_eq}
 use Rattle.position_core.specs.declared.topic_name.TopicName.{TopicName}
 use Rattle.position_core.specs.declared.position.Position.{Position}
-use Rattle.position_core.specs.Id.{IsIdOf}
 use Rattle.position_core.proofs.Ids.{one_id}
 use Rattle.delivery_machine.specs.declared.event.Event.{Event}
-use Rattle.delivery_machine.specs.declared.event.Event.TheVariants.{AddProducer, DropProducer, Publish, Stored, Progress, Subscribe, Leave, Permit, Ack, AckUpTo, Nack, Tick, Seek, SeekTime, Skip, DropSubscription, Stats, Dispatch, Collect, DeadNext, DeadDone}
+use Rattle.delivery_machine.specs.declared.event.Event.TheVariants.{DropProducer, Leave, Ack, AckUpTo, Nack, DropSubscription, Stats, Collect, DeadNext}
 use Rattle.delivery_machine.specs.declared.event.Target.{Target}
 use Rattle.replay_lines.specs.declared.command.Command.{Command}
 use Rattle.replay_lines.specs.declared.command.Command.TheVariants as commands
 use Rattle.replay_lines.specs.declared.command.TheConstants.{ALL}
 use Rattle.replay_lines.specs.declared.reading.Line.{Line}
 use Rattle.replay_lines.specs.declared.reading.Line.TheVariants as lines
-use Rattle.replay_lines.specs.Splitting.{words_of}
-use Rattle.replay_lines.specs.Grammar.{command_text, IsById, IsLineOf, Complete, StandFor, EachLineIsOne, seek_line}
-use Rattle.replay_lines.specs.Numbers.{IsNumber, IsSequence, IsBase, IsMoment, IsBetween}
+use Rattle.replay_lines.specs.Grammar.{command_text, IsById, IsLineOf, EachLineIsOne, seek_line}
+use Rattle.position_core.specs.Decimals.{IsNumber}
+use Rattle.replay_lines.specs.Numbers.{IsSequence, IsBase, IsMoment, IsBetween}
 use Rattle.replay_lines.specs.Names.{IsNameWord, IsProducerWord}
 use Rattle.replay_lines.specs.Grammar.{IsBody, IsKind, IsFlow, IsInitial, IsTarget, IsDeath}
-use Rattle.replay_lines.proofs.Decimals.{one_number}
+use Rattle.position_core.proofs.LastDigits.{one_number}
+use Rattle.replay_lines.proofs.LastWords.{one_last, one_said}
 use Rattle.replay_lines.proofs.OneWord.{one_moment, one_between, one_sequence, one_base, one_name, one_producer, one_body, one_kind, one_flow, one_initial, one_target, one_death}
 
 -- ---- commands
@@ -114,29 +114,31 @@ one_line_of this commands.Publish words a b h k =
 one_line_of this commands.Stored words a b h k = h.1 ∙ sym k.1
 one_line_of this commands.Progress words a b h k = h.1 ∙ sym k.1
 one_line_of this commands.Subscribe words a b h k =
-    let s : h.0 ≡ k.0 = cc (h.18, k.18) in
-    let x : h.1 ≡ k.1 = cc (h.18, k.18) in
-    let l : h.2 ≡ k.2 = cc (h.18, k.18) in
-    let f : h.3 ≡ k.3 = cc (h.18, k.18) in
-    let t : h.4 ≡ k.4 = cc (h.18, k.18) in
-    let n : h.5 ≡ k.5 = cc (h.18, k.18) in
-    let m : h.6 ≡ k.6 = cc (h.18, k.18) in
-    let d : h.7 ≡ k.7 = cc (h.18, k.18) in
-    let i : h.8 ≡ k.8 = cc (h.18, k.18) in
-    let name = at_place IsNameWord one_name h.0 k.0 s h.9 k.9 h.19 k.19 in
-    let kind = at_place IsKind one_kind h.1 k.1 x h.10 k.10 h.20 k.20 in
-    let level = at_place (IsBetween 0 2147483647) (λ w y z. one_between 0 2147483647 w y z (omega arith)) h.2 k.2 l h.11 k.11 h.21 k.21 in
-    let flow = at_place IsFlow one_flow h.3 k.3 f h.12 k.12 h.22 k.22 in
-    let timeout = at_place (IsBetween 0 2147483647) (λ w y z. one_between 0 2147483647 w y z (omega arith)) h.4 k.4 t h.13 k.13 h.23 k.23 in
-    let delay = at_place (IsBetween 0 2147483647) (λ w y z. one_between 0 2147483647 w y z (omega arith)) h.5 k.5 n h.14 k.14 h.24 k.24 in
-    let death = one_death this k.9 k.6 k.7 (h.15, h.16) (k.15, k.16)
-    (subst (λ (z : List ℕ). IsDeath this z k.6 k.7 (h.15, h.16)) name
-    (subst (λ (z : List ℕ). IsDeath this h.9 z k.7 (h.15, h.16)) m
-    (subst (λ (z : List ℕ). IsDeath this h.9 h.6 z (h.15, h.16)) d h.25))) k.25 in
-    let limit : h.15 ≡ k.15 = death.0 in
-    let target : h.16 ≡ k.16 = death.1 in
-    let initial = at_place IsInitial one_initial h.8 k.8 i h.17 k.17 h.26 k.26 in
-    cc (h.27, k.27, name, kind, level, flow, timeout, delay, limit, target, initial)
+    let s : h.0 ≡ k.0 = cc (h.20, k.20) in
+    let x : h.1 ≡ k.1 = cc (h.20, k.20) in
+    let l : h.2 ≡ k.2 = cc (h.20, k.20) in
+    let f : h.3 ≡ k.3 = cc (h.20, k.20) in
+    let t : h.4 ≡ k.4 = cc (h.20, k.20) in
+    let n : h.5 ≡ k.5 = cc (h.20, k.20) in
+    let m : h.6 ≡ k.6 = cc (h.20, k.20) in
+    let d : h.7 ≡ k.7 = cc (h.20, k.20) in
+    let i : h.8 ≡ k.8 = cc (h.20, k.20) in
+    let z : h.9 ≡ k.9 = one_last h.9 k.9 (cc (h.20, k.20)) in
+    let name = at_place IsNameWord one_name h.0 k.0 s h.10 k.10 h.21 k.21 in
+    let kind = at_place IsKind one_kind h.1 k.1 x h.11 k.11 h.22 k.22 in
+    let level = at_place (IsBetween 0 2147483647) (λ w y z. one_between 0 2147483647 w y z (omega arith)) h.2 k.2 l h.12 k.12 h.23 k.23 in
+    let flow = at_place IsFlow one_flow h.3 k.3 f h.13 k.13 h.24 k.24 in
+    let timeout = at_place (IsBetween 0 2147483647) (λ w y z. one_between 0 2147483647 w y z (omega arith)) h.4 k.4 t h.14 k.14 h.25 k.25 in
+    let delay = at_place (IsBetween 0 2147483647) (λ w y z. one_between 0 2147483647 w y z (omega arith)) h.5 k.5 n h.15 k.15 h.26 k.26 in
+    let death = one_death this k.10 k.6 k.7 (h.16, h.17) (k.16, k.17)
+    (subst (λ (z : List ℕ). IsDeath this z k.6 k.7 (h.16, h.17)) name
+    (subst (λ (z : List ℕ). IsDeath this h.10 z k.7 (h.16, h.17)) m
+    (subst (λ (z : List ℕ). IsDeath this h.10 h.6 z (h.16, h.17)) d h.27))) k.27 in
+    let limit : h.16 ≡ k.16 = death.0 in
+    let target : h.17 ≡ k.17 = death.1 in
+    let initial = at_place IsInitial one_initial h.8 k.8 i h.18 k.18 h.28 k.28 in
+    let ranges : h.19 ≡ k.19 = one_said h.11 k.11 h.9 k.9 h.19 k.19 kind z h.29 k.29 in
+    cc (h.30, k.30, name, kind, level, flow, timeout, delay, limit, target, initial, ranges)
 one_line_of this commands.Leave words a b h k =
     let w : h.0 ≡ k.0 = cc (h.2, k.2) in
     h.4 ∙ ap (λ n. lines.Event (Leave n)) (at_place IsNumber one_number_at h.0 k.0 w h.1 k.1 h.3 k.3) ∙ sym k.4

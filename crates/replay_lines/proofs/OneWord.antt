@@ -1,6 +1,6 @@
 -- A word stands for at most one value of each kind.
-use Rattle.std.proofs.Common.{◌≡◌, ℕ, ◌<◌, ◌≤◌, ◌^◌, zero, suc, List, [], ◌∷◌, ◌++◌, length, Option, Some, None, ℤ, Bool, true, false, cond, codes, refl, sym, ap, ◌∙◌, subst, inl, inr, arith, IsTrue, Ok}
-use Rattle.std.specs.Prelude.{pos, negsuc, ◌==◌, if◌then◌else◌}
+use Rattle.std.proofs.Common.{◌≡◌, ℕ, ◌<◌, ◌^◌, zero, suc, List, [], ◌∷◌, ◌++◌, Option, Some, None, ℤ, codes, refl, sym, ap, ◌∙◌, subst, inl, inr, arith}
+use Rattle.std.specs.Prelude.{pos, if◌then◌else◌}
 use Rattle.std.specs.Str.{bytes_eq}
 use Rattle.std.specs.Fmt.{decimal}
 use Rattle.base64.specs.Engines.{standard}
@@ -9,7 +9,6 @@ use Rattle.std.proofs.lemmas.Option.{none-some}
 use Rattle.base64.specs.GeneralPurpose.{decode_of, decoded_of, encode_of, IsBytes}
 use Rattle.base64.proofs.OnLiterals.{base64_on_literals}
 use Rattle.base64.proofs.EngineFacts.{decode_of-encode_of}
-use Rattle.percent_encoding.specs.Percent.{percent_decode}
 use Rattle.position_core.specs.declared.topic_name.TopicName.{TopicName}
 use Rattle.position_core.specs.declared.position.Position.{Position}
 use Rattle.position_core.specs.declared.body.Content.{Content}
@@ -17,7 +16,6 @@ use Rattle.position_core.specs.declared.kind.Kind.{Kind}
 use Rattle.position_core.specs.declared.kind.Kind.TheVariants.{Exclusive, Failover, Shared, KeyShared}
 use Rattle.position_core.specs.declared.flow.Flow.{Flow}
 use Rattle.position_core.specs.declared.flow.Flow.TheVariants.{Window, Credit}
-use Rattle.position_core.specs.Name.{is_name}
 use Rattle.position_core.specs.TopicName.{topic_text}
 use Rattle.position_core.specs.Id.{IsIdOf, id_bytes}
 use Rattle.position_core.proofs.Ids.{one_id, text_decodes}
@@ -26,11 +24,11 @@ use Rattle.delivery_machine.specs.declared.event.Initial.{Initial}
 use Rattle.delivery_machine.specs.declared.event.Initial.TheVariants.{Earliest, Latest}
 use Rattle.delivery_machine.specs.declared.event.Target.{Target}
 use Rattle.delivery_machine.specs.declared.event.Target.TheVariants as targets
-use Rattle.replay_lines.specs.Numbers.{IsNumber, IsNumberUpTo, IsSequence, IsBase, IsMoment, IsBetween}
+use Rattle.replay_lines.specs.Numbers.{IsSequence, IsBase, IsMoment, IsBetween}
 use Rattle.replay_lines.specs.Names.{IsText, IsNameWord, IsProducerWord, IsKeyWord, IsTopicWord, IsUnsaidTopic, IsDeadTopic}
 use Rattle.replay_lines.specs.Payloads.{IsPayload}
 use Rattle.replay_lines.specs.Grammar.{IsKind, IsFlow, IsInitial, IsTarget, IsBody, IsDeath}
-use Rattle.replay_lines.proofs.Decimals.{one_number, digit_ends}
+use Rattle.position_core.proofs.LastDigits.{one_number, digit_ends}
 
 -- ---- numbers
 

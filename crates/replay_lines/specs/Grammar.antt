@@ -1,5 +1,5 @@
 -- What each line stands for.
-use Rattle.std.specs.Prelude.{◌≡◌, ℕ, ℤ, List, [], ◌∷◌, ◌++◌, ◌<◌, ◌≤◌, ◌^◌, length, codes, Option, Some, None}
+use Rattle.std.specs.Prelude.{◌≡◌, ℕ, ℤ, List, [], ◌∷◌, ◌++◌, ◌≤◌, length, codes, Option, Some, None, option_map, if◌then◌else◌}
 use Rattle.position_core.specs.declared.topic_name.TopicName.{TopicName}
 use Rattle.position_core.specs.declared.position.Position.{Position}
 use Rattle.position_core.specs.declared.body.Content.{Content}
@@ -7,6 +7,10 @@ use Rattle.position_core.specs.Id.{IsIdOf}
 use Rattle.delivery_machine.specs.declared.event.Event.{Event}
 use Rattle.delivery_machine.specs.declared.event.Event.TheVariants.{AddProducer, DropProducer, Publish, Stored, Progress, Subscribe, Leave, Permit, Ack, AckUpTo, Nack, Tick, Seek, SeekTime, Skip, DropSubscription, Stats, Dispatch, Collect, DeadNext, DeadDone}
 use Rattle.position_core.specs.declared.kind.Kind.{Kind}
+use Rattle.position_core.specs.declared.ranges.HashRange.{HashRange}
+use Rattle.position_core.specs.Kind.{same_kind}
+use Rattle.position_core.specs.declared.ranges_text.LeadingZeros.TheVariants.{Refused}
+use Rattle.position_core.specs.RangesText.{ranges_of}
 use Rattle.position_core.specs.declared.kind.Kind.TheVariants.{Exclusive, Failover, Shared, KeyShared}
 use Rattle.position_core.specs.declared.flow.Flow.{Flow}
 use Rattle.position_core.specs.declared.flow.Flow.TheVariants.{Window, Credit}
@@ -19,7 +23,8 @@ use Rattle.replay_lines.specs.declared.command.Command.TheVariants as commands
 use Rattle.replay_lines.specs.declared.reading.Line.{Line}
 use Rattle.replay_lines.specs.declared.reading.Line.TheVariants as lines
 use Rattle.replay_lines.specs.Splitting.{NoneEmpty, words_of}
-use Rattle.replay_lines.specs.Numbers.{IsNumber, IsSequence, IsBase, IsMoment, IsBetween}
+use Rattle.position_core.specs.Decimals.{IsNumber}
+use Rattle.replay_lines.specs.Numbers.{IsSequence, IsBase, IsMoment, IsBetween}
 use Rattle.replay_lines.specs.Names.{IsNameWord, IsProducerWord, IsKeyWord, IsDeadTopic}
 use Rattle.replay_lines.specs.Payloads.{IsPayload}
 
@@ -85,6 +90,19 @@ abbrev pub IsDeath : TopicName → List ℕ → List ℕ → List ℕ → ℕ ×
 IsDeath this subscription limit target death =
     IsBetween 0 1000000 limit death.0 × IsDeadTopic this subscription death.0 target death.1
 
+-- the words at the end of a consumer's line, of which there is at most one
+abbrev pub last_word : Option (List ℕ) → List (List ℕ)
+last_word None = []
+last_word (Some word) = word ∷ []
+
+-- the ranges that the last word says; only in Key_Shared it is looked at
+abbrev pub ranges_said : Kind → Option (List ℕ) → Option (Option (List HashRange))
+ranges_said kind None = Some None
+ranges_said kind (Some word) = if same_kind kind KeyShared then option_map Some (ranges_of Refused word) else Some None
+
+abbrev pub AreSaid : Kind → Option (List ℕ) → Option (List HashRange) → Type 0
+AreSaid kind last ranges = ranges_said kind last ≡ Some ranges
+
 -- ---- lines
 
 -- the line stands for the event of the id's position, or the id is that of no position
@@ -115,12 +133,12 @@ IsLineOf this commands.Publish words line =
 IsLineOf this commands.Stored words line = (words ≡ []) × (line ≡ lines.Event Stored)
 IsLineOf this commands.Progress words line = (words ≡ []) × (line ≡ lines.Event Progress)
 IsLineOf this commands.Subscribe words line =
-    (s k l f a n m d i : List ℕ) × (name : List ℕ) × (kind : Kind) × (level : ℕ) × (flow : Flow) × (ack_timeout nack_delay max_redeliver : ℕ) × (dead_topic : TopicName) × (initial : Initial)
-    × (words ≡ s ∷ k ∷ l ∷ f ∷ a ∷ n ∷ m ∷ d ∷ i ∷ [])
+    (s k l f a n m d i : List ℕ) × (last : Option (List ℕ)) × (name : List ℕ) × (kind : Kind) × (level : ℕ) × (flow : Flow) × (ack_timeout nack_delay max_redeliver : ℕ) × (dead_topic : TopicName) × (initial : Initial) × (ranges : Option (List HashRange))
+    × (words ≡ s ∷ k ∷ l ∷ f ∷ a ∷ n ∷ m ∷ d ∷ i ∷ last_word last)
     × IsNameWord s name × IsKind k kind × IsBetween 0 2147483647 l level × IsFlow f flow
     × IsBetween 0 2147483647 a ack_timeout × IsBetween 0 2147483647 n nack_delay
-    × IsDeath this name m d (max_redeliver, dead_topic) × IsInitial i initial
-    × (line ≡ lines.Event (Subscribe name kind level flow ack_timeout nack_delay max_redeliver dead_topic initial))
+    × IsDeath this name m d (max_redeliver, dead_topic) × IsInitial i initial × AreSaid kind last ranges
+    × (line ≡ lines.Event (Subscribe name kind level flow ack_timeout nack_delay max_redeliver dead_topic initial ranges))
 IsLineOf this commands.Leave words line =
     (c : List ℕ) × (consumer : ℕ) × (words ≡ c ∷ [])
     × IsNumber c consumer

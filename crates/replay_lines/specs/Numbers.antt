@@ -2,10 +2,6 @@
 use Rattle.std.specs.Prelude.{◌≡◌, ℕ, ◌^◌, ◌<◌, ◌≤◌, List, ◌⊎◌, ℤ, pos, negsuc, codes}
 use Rattle.std.specs.Fmt.{decimal}
 
--- the word is the number's decimal text
-abbrev pub IsNumber : List ℕ → ℕ → Type 0
-IsNumber word n = (n < 2 ^ 64) × (word ≡ decimal n)
-
 abbrev pub IsNumberUpTo : ℕ → List ℕ → ℕ → Type 0
 IsNumberUpTo most word n = (n ≤ most) × (word ≡ decimal n)
 

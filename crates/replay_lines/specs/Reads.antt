@@ -1,14 +1,9 @@
 -- What it is to find and to read a value.
-use Rattle.std.specs.Prelude.{Option, Some, None, ⊤}
+use Rattle.std.specs.Prelude.{⊤}
 use Rattle.std.specs.declared.result.Result.{Result}
 use Rattle.std.specs.declared.result.Result.TheVariants.{Ok, Err}
 use Rattle.replay_lines.specs.declared.words.Unread.{Unread}
 use Rattle.replay_lines.specs.declared.words.Unread.TheVariants.{BadLine, Memory}
-
--- what was found passes, and nothing was found only where nothing passes
-abbrev pub Finds : {A : Type 0} → (A → Type 0) → Option A → Type 0
-Finds {A} P None = (x : A) → P x → ⊥
-Finds P (Some x) = P x
 
 -- what was read passes, and the line is bad only where nothing passes; being out of memory says nothing
 abbrev pub Reads : {A : Type 0} → (A → Type 0) → Result A Unread → Type 0

@@ -1,6 +1,7 @@
 // The lines of consumers who join and leave.
+ghost use Rattle.std.specs.Option.{option_copied};
 ghost use Rattle.replay_lines.specs.Reads.{Reads, ReadsAtOnce};
-ghost use Rattle.replay_lines.specs.Grammar.{Complete, IsFlow, IsInitial, IsKind};
+ghost use Rattle.replay_lines.specs.Grammar.{AreSaid, Complete, IsFlow, IsInitial, IsKind};
 
 use crate::command::Command;
 use crate::dying::read_death;
@@ -9,7 +10,7 @@ use crate::numbers::{read_bounded, read_number};
 use crate::reading::Line;
 use crate::words::{Unread, Words};
 use delivery_machine::{Event, Flow, Initial, Kind};
-use position_core::{Credit, TopicName};
+use position_core::{Credit, LeadingZeros, Ranges, TopicName};
 use std::alloc::Global;
 
 fn read_kind(word: &[u8]) -> Result<Kind, Unread>
@@ -55,6 +56,22 @@ fn read_initial(word: &[u8]) -> Result<Initial, Unread>
     }
 }
 
+/// Reads the ranges of hashes that stand at the end of a line. Only in Key_Shared they are looked at.
+fn read_ranges(alloc: Global, kind: Kind, last: Option<&[u8]>) -> Result<Option<Ranges>, Unread>
+    ensures { Reads (AreSaid kind (option_copied last.entry)) result }
+{
+    let Some(word) = last else {
+        return Ok(None);
+    };
+    if !kind.is(Kind::KeyShared) {
+        return Ok(None);
+    }
+    match Ranges::from_text(alloc, LeadingZeros::Refused, word)? {
+        Some(ranges) => Ok(Some(ranges)),
+        None => Err(Unread::BadLine),
+    }
+}
+
 pub fn read_leave(words: Words<'_>) -> Result<Line, Unread>
     ensures { (this : TopicName) → Reads (Complete this Command.Leave words.entry) result }
 {
@@ -77,13 +94,15 @@ pub fn read_subscribe(alloc: Global, this: &TopicName, mut words: Words<'_>) -> 
 {
     let (subscription, kind, level) = words.take_three()?;
     let (flow, ack_timeout, nack_delay) = words.take_three()?;
-    let (max_redeliver, dead_topic, initial) = words.three()?;
+    let (max_redeliver, dead_topic, initial) = words.take_three()?;
+    let last = words.last()?;
     let kind = read_kind(kind)?;
     let level = read_bounded(level)?;
     let flow = read_flow(flow)?;
     let ack_timeout = read_bounded(ack_timeout)?;
     let nack_delay = read_bounded(nack_delay)?;
     let initial = read_initial(initial)?;
+    let ranges = read_ranges(alloc, kind, last)?;
     let subscription = read_name(alloc, subscription)?;
     let (max_redeliver, dead_topic) = read_death(
         alloc,
@@ -102,5 +121,6 @@ pub fn read_subscribe(alloc: Global, this: &TopicName, mut words: Words<'_>) -> 
         max_redeliver,
         dead_topic,
         initial,
+        ranges,
     }))
 }

@@ -1,60 +1,15 @@
 // Words that are numbers: decimal, without sign and leading zeros.
-ghost use Rattle.std.specs.Prelude.{◌≡◌, ◌+◌, ◌-◌, ◌*◌, ◌^◌, ◌<◌, ◌≤◌};
-ghost use Rattle.std.specs.Option.{SomeIff};
-ghost use Rattle.replay_lines.specs.Reads.{Finds, ReadsAtOnce};
-ghost use Rattle.replay_lines.specs.Numbers.{IsNumber, IsSequence, IsBase, IsMoment, IsBetween};
+ghost use Rattle.replay_lines.specs.Reads.{ReadsAtOnce};
+ghost use Rattle.position_core.specs.Decimals.{IsNumber};
+ghost use Rattle.replay_lines.specs.Numbers.{IsSequence, IsBase, IsMoment, IsBetween};
 
 use crate::words::{Unread, is_none};
-use position_core::{Base, Bounded, Moment};
-
-fn digit(byte: u8) -> Option<u64>
-    ensures { SomeIff result ((48 ≤ byte) × (byte ≤ 57)) (byte - 48) }
-{
-    if byte >= b'0' && byte <= b'9' {
-        Some(u64::from(byte - b'0'))
-    } else {
-        None
-    }
-}
-
-/// The number with one more digit at its end.
-fn followed(high: u64, digit: u64) -> Option<u64>
-    ensures { SomeIff result (10 * high + digit < 2 ^ 64) (10 * high + digit) }
-{
-    high.checked_mul(10)?.checked_add(digit)
-}
-
-fn digits(word: &[u8]) -> Option<u64>
-    ensures { Finds (IsNumber word.now) result }
-{
-    let Some((last, front)) = word.split_last() else {
-        return None;
-    };
-    let Some(last) = digit(*last) else {
-        return None;
-    };
-    if front.is_empty() {
-        return Some(last);
-    }
-    let Some(high) = digits(front) else {
-        return None;
-    };
-    if high == 0 {
-        return None;
-    }
-    followed(high, last)
-}
-
-fn number(word: &[u8]) -> Option<u64>
-    ensures { Finds (IsNumber word.now) result }
-{
-    if word.len() > 20 { None } else { digits(word) }
-}
+use position_core::{Base, Bounded, Moment, decimal_in};
 
 pub fn read_number(word: &[u8]) -> Result<u64, Unread>
     ensures { ReadsAtOnce (IsNumber word.now) result }
 {
-    number(word).ok_or(Unread::BadLine)
+    decimal_in(word).ok_or(Unread::BadLine)
 }
 
 #[tactic(auto, unfolding(crate::specs::Numbers::IsSequence))]

@@ -1,6 +1,8 @@
 // The words of a line, which is split at single spaces.
-ghost use Rattle.std.specs.Prelude.{◌≡◌, ◌<◌, ◌↔◌, List, ℕ, [], ◌∷◌, IsTrue, IfOk, IfErr, OnOk, OnErr, codes, length};
+ghost use Rattle.std.specs.Prelude.{◌≡◌, ◌<◌, ◌↔◌, List, ℕ, Option, [], ◌∷◌, IsTrue, IfOk, IfErr, OnOk, OnErr, codes, length};
+ghost use Rattle.std.specs.Option.{option_copied};
 ghost use Rattle.replay_lines.specs.Splitting.{words_of, NoneEmpty};
+ghost use Rattle.replay_lines.specs.Grammar.{last_word};
 ghost use Rattle.replay_lines.specs.declared.words.Unread.TheVariants.{BadLine};
 
 use crate::splitting::split;
@@ -86,6 +88,22 @@ impl<'a> Words<'a> {
         match self.rest {
             None => Ok(()),
             Some(_) => Err(Unread::BadLine),
+        }
+    }
+
+    /// The only word that is left, where there is one.
+    pub fn last(self) -> Result<Option<&'a [u8]>, Unread>
+        ensures ok { IfOk result (λ last. self.entry ≡ last_word (option_copied last)) }
+        ensures some { OnOk result (NoneEmpty self.entry) }
+        ensures bad { IfErr result (λ unread. unread ≡ BadLine) }
+        ensures more { OnErr result ((last : Option (List ℕ)) → NoneEmpty self.entry → self.entry ≡ last_word last → ⊥) }
+    {
+        match self.rest {
+            None => Ok(None),
+            Some(_) => match self.one() {
+                Ok(word) => Ok(Some(word)),
+                Err(unread) => Err(unread),
+            },
         }
     }
 

@@ -13,8 +13,9 @@ use Rattle.std.proofs.lemmas.List.Folds.{Any-from_list_any}
 use Rattle.position_core.specs.declared.held.Held.{Held}
 use Rattle.position_core.specs.declared.kind.Kind.{Kind}
 use Rattle.position_core.specs.declared.position.Position.{Position}
+use Rattle.position_core.specs.declared.ranges.HashRange.{HashRange}
 use Rattle.position_core.specs.declared.topic_name.TopicName.{TopicName}
-use Rattle.position_core.specs.declared.fault.Fault.TheVariants.{ConsumerBusy, DeadLetterSelf, TooMany, WrongKind}
+use Rattle.position_core.specs.declared.fault.Fault.TheVariants.{ConsumerBusy, DeadLetterSelf, HashOverlap, MixedPolicy, TooMany, WrongKind}
 use Rattle.position_core.specs.Kind.{is_in_order, same_kind}
 use Rattle.position_core.specs.Name.{name_order}
 use Rattle.position_core.specs.TopicName.{same_topic}
@@ -61,11 +62,12 @@ pub record IsJoin (s : State) (kind : Kind) (m : Member) : Type 0 where
   pub room : has_subscription s m.subscription ≡ false → length s.subscriptions < 64
   pub elsewhere : dies_into s.name kind (will_of m) ≡ false
 
-pub may_join : (s : State) (kind : Kind) (m : Member) → subscribing_refused s m.subscription kind m.max_redeliver m.dead_topic ≡ None → IsJoin s kind m
-may_join s kind m allowed =
+pub may_join : (s : State) (kind : Kind) (m : Member) (ranges : Option (List HashRange)) → subscribing_refused s m.subscription kind m.max_redeliver m.dead_topic ranges ≡ None → IsJoin s kind m
+may_join s kind m ranges allowed =
     let right = not_refused _ WrongKind _ allowed in
     let after_kind = not_refused_next _ WrongKind _ allowed in
-    let after_members = not_refused_next _ TooMany _ (not_refused_next _ ConsumerBusy _ after_kind) in
+    let after_shares = not_refused_next _ HashOverlap _ (not_refused_next _ MixedPolicy _ (not_refused_next _ ConsumerBusy _ after_kind)) in
+    let after_members = not_refused_next _ TooMany _ after_shares in
     let few = not_refused _ TooMany _ after_members in
     let after_counts = not_refused_next _ TooMany _ (not_refused_next _ TooMany _ after_members) in
     record {
@@ -95,9 +97,9 @@ module _ (s : State) (kind : Kind) (m : Member) (may : IsJoin s kind m) where
   its_own : (name : List ℕ) → AreElsewhere s.name name kind (wills s.members) → AreElsewhere s.name name kind (wills s.members ++ will_of m ∷ [])
   its_own name all = all_with (λ w. bytes_eq w.subscription name ≡ true → dies_into s.name kind w ≡ false) (wills s.members) (will_of m) all (λ at. may.elsewhere)
 
-  within_joining : (sub : Subscription) → find (is_named m.subscription) s.subscriptions ≡ Some sub → sub.name ≡ m.subscription → IsSubWithin s.name (wills s.members) sub
-      → IsSubWithin s.name (wills s.members ++ will_of m ∷ []) (joining kind m.number sub)
-  within_joining sub found named within = record { name = within.name; letters = within.letters; elsewhere = its_own sub.name (by (same_kind sub.kind kind) refl) }
+  within_joining : (ranges : Option (List HashRange)) (sub : Subscription) → find (is_named m.subscription) s.subscriptions ≡ Some sub → sub.name ≡ m.subscription → IsSubWithin s.name (wills s.members) sub
+      → IsSubWithin s.name (wills s.members ++ will_of m ∷ []) (joining kind ranges m.number sub)
+  within_joining ranges sub found named within = record { name = within.name; letters = within.letters; elsewhere = its_own sub.name (by (same_kind sub.kind kind) refl) }
     where
       by : (b : Bool) → same_kind sub.kind kind ≡ b → AreElsewhere s.name sub.name kind (wills s.members)
       by true same = subst (λ (k : Kind). AreElsewhere s.name sub.name k (wills s.members)) (kinds_agree sub.kind kind same) within.elsewhere
@@ -105,20 +107,20 @@ module _ (s : State) (kind : Kind) (m : Member) (may : IsJoin s kind m) where
           subst (λ (n : List ℕ). AreElsewhere s.name n kind (wills s.members)) (sym named)
           (none_dies s.name m.subscription kind (wills s.members) (may.agrees (ap (λ o. option_map_or (λ sub. same_kind sub.kind kind) o false) found ∙ other)))
 
-  seated_joined : (initial : Initial) → IsSubscriptionName m.subscription → IsTopic m.dead_topic → AreSeated s.name (wills s.members) s.subscriptions → AreSeated s.name (wills s.members ++ will_of m ∷ []) (joined s m.subscription kind m.number initial)
-  seated_joined initial named topic seated = by (find (is_named m.subscription) s.subscriptions) refl
+  seated_joined : (ranges : Option (List HashRange)) (initial : Initial) → IsSubscriptionName m.subscription → IsTopic m.dead_topic → AreSeated s.name (wills s.members) s.subscriptions → AreSeated s.name (wills s.members ++ will_of m ∷ []) (joined s m.subscription kind ranges m.number initial)
+  seated_joined ranges initial named topic seated = by (find (is_named m.subscription) s.subscriptions) refl
     where
       by : (o : Option Subscription) → find (is_named m.subscription) s.subscriptions ≡ o
-          → AreSeated s.name (wills s.members ++ will_of m ∷ []) (if is_some o then changed (is_named m.subscription) (joining kind m.number) s.subscriptions else placed (new_subscription m.subscription kind m.number initial s.log) s.subscriptions)
+          → AreSeated s.name (wills s.members ++ will_of m ∷ []) (if is_some o then changed (is_named m.subscription) (joining kind ranges m.number) s.subscriptions else placed (new_subscription m.subscription kind ranges m.number initial s.log) s.subscriptions)
       by (Some sub) found = record {
-        few = let same = as_many m.subscription (joining kind m.number) s.subscriptions (λ _. refl) in omega (arith, same, seated.few);
+        few = let same = as_many m.subscription (joining kind ranges m.number) s.subscriptions (λ _. refl) in omega (arith, same, seated.few);
         targets = all_with (λ w. IsTopic w.target) (wills s.members) (will_of m) seated.targets topic;
-        each = each_changed (IsSubWithin s.name (wills s.members)) (IsSubWithin s.name (wills s.members ++ will_of m ∷ [])) m.subscription (joining kind m.number) s.subscriptions (λ _. refl) beside
-            (λ other there within. within_joining other there (same_name other.name m.subscription (found_passes (is_named m.subscription) s.subscriptions other there)) within) seated.each;
+        each = each_changed (IsSubWithin s.name (wills s.members)) (IsSubWithin s.name (wills s.members ++ will_of m ∷ [])) m.subscription (joining kind ranges m.number) s.subscriptions (λ _. refl) beside
+            (λ other there within. within_joining ranges other there (same_name other.name m.subscription (found_passes (is_named m.subscription) s.subscriptions other there)) within) seated.each;
       }
       by None none =
           let differs : has_kind s m.subscription kind ≡ false = ap (λ o. option_map_or (λ (sub : Subscription). same_kind sub.kind kind) o false) none in
-          let new : Subscription = new_subscription m.subscription kind m.number initial s.log in
+          let new : Subscription = new_subscription m.subscription kind ranges m.number initial s.log in
           record {
             few =
                 let more = length_inserted s.subscriptions (position_or_len (λ other. is_lt (name_order new.name other.name)) s.subscriptions) new in
@@ -130,12 +132,12 @@ module _ (s : State) (kind : Kind) (m : Member) (may : IsJoin s kind m) where
                 beside seated.each;
           }
 
-  pub limits_joined : (initial : Initial) → IsSubscriptionName m.subscription → IsTopic m.dead_topic → KeepsLimits s → KeepsLimits (with_member s kind initial m)
-  limits_joined initial named topic keeps = record {
+  pub limits_joined : (ranges : Option (List HashRange)) (initial : Initial) → IsSubscriptionName m.subscription → IsTopic m.dead_topic → KeepsLimits s → KeepsLimits (with_member s kind ranges initial m)
+  limits_joined ranges initial named topic keeps = record {
     size = keeps.size;
     log = keeps.log;
     producers = keeps.producers;
-    seated = subst (λ all. AreSeated s.name all (joined s m.subscription kind m.number initial)) (sym (map-append will_of s.members (m ∷ []))) (seated_joined initial named topic keeps.seated);
+    seated = subst (λ all. AreSeated s.name all (joined s m.subscription kind ranges m.number initial)) (sym (map-append will_of s.members (m ∷ []))) (seated_joined ranges initial named topic keeps.seated);
   }
 
 -- ---- leaving

@@ -66,8 +66,8 @@ takes_within s Stored reply t allowed h within all keeps = settled t _ h.1 (limi
 takes_within s (StoredTo count ordinal) reply t allowed h within all keeps =
     settled t _ h.1 (limits_stored s (λ sub. max sub.safe (count_by (λ d. nat_lt d.ordinal ordinal) sub.dead)) (max s.durable (min count (length s.log))) keeps)
 takes_within s Progress reply t allowed h within all keeps = settled t s h.1 keeps
-takes_within s (Subscribe name kind level flow ack_timeout nack_delay max_redeliver dead_topic initial) reply t allowed h within all keeps =
-    settled t _ h.1 (limits_taken_over _ name (active_at s name) (limits_joined s kind _ (may_join s kind _ allowed) initial within.0 within.1 keeps))
+takes_within s (Subscribe name kind level flow ack_timeout nack_delay max_redeliver dead_topic initial ranges) reply t allowed h within all keeps =
+    settled t _ h.1 (limits_taken_over _ name (active_at s name) (limits_joined s kind _ (may_join s kind _ ranges allowed) ranges initial within.0 within.1 keeps))
 takes_within s (Leave consumer) reply t allowed h within all keeps =
     some_elim (find (is_member consumer) s.members) _ (KeepsLimits t) h.1 (λ m found is.
     settled t _ is (limits_taken_over (without_member s consumer m.subscription) m.subscription (active_at s m.subscription) (limits_left s consumer m.subscription keeps)))

@@ -25,7 +25,7 @@ IsSubscriptionName name = IsTrue (is_name name) × IsUtf8 name
 abbrev pub IsWithinLimits : Event → Type 0
 IsWithinLimits (AddProducer name base) = IfSome name (IsText 1 1280) × (negsuc 0 ≤ℤ base)
 IsWithinLimits (Publish producer sequence body now) = IsContent body × (now ≤ 253402300799999)
-IsWithinLimits (Subscribe name kind level flow ack_timeout nack_delay max_redeliver dead_topic initial) = IsSubscriptionName name × IsTopic dead_topic
+IsWithinLimits (Subscribe name kind level flow ack_timeout nack_delay max_redeliver dead_topic initial ranges) = IsSubscriptionName name × IsTopic dead_topic
 IsWithinLimits event = Unit {0}
 
 -- a topic with nothing in it, or one that goes on from a snapshot that is read back

@@ -23,7 +23,7 @@ joins_producer p = AddProducer p.name (unwrap_or p.base (negsuc 0))
 
 -- the event with which a consumer's session begins
 abbrev pub joins_consumer : ConsumerEndpoint → Event
-joins_consumer c = Subscribe c.subscription c.kind c.level c.flow c.ack_timeout c.nack_delay c.max_redeliver c.dead_topic c.initial
+joins_consumer c = Subscribe c.subscription c.kind c.level c.flow c.ack_timeout c.nack_delay c.max_redeliver c.dead_topic c.initial c.ranges
 
 -- a producer's numbers go on from the base that it gave, or from the last number under its name
 abbrev pub producer_party : Option ℤ → Reply → Option Party

@@ -189,6 +189,7 @@ fn joins_consumer(endpoint: ConsumerEndpoint) -> Event
         max_redeliver: endpoint.max_redeliver,
         dead_topic: endpoint.dead_topic,
         initial: endpoint.initial,
+        ranges: endpoint.ranges,
     }
 }
 

@@ -1,7 +1,7 @@
 -- The sequence numbers that a session gives, and the reasons of its closes.
 use Rattle.std.specs.Prelude.{ℤ, pos, ◌+ℤ◌, int_lt, ℕ, List, Option, Some, None, codes, if◌then◌else◌}
 use Rattle.position_core.specs.declared.fault.Fault.{Fault}
-use Rattle.position_core.specs.declared.fault.Fault.TheVariants.{NoMemory, ProducerBusy, NoSession, TopicFull, WrongKind, ConsumerBusy, TooMany, NoSuchMessage, NotCumulative, NotPending, NoSuchSubscription, SubscriptionBusy, TooManyPermits, DeadLetterSelf, JournalFull, StoreFailed, BadId, BadJson, BadPayload, BadRoute, NoRoom, PushMode}
+use Rattle.position_core.specs.declared.fault.Fault.TheVariants.{NoMemory, ProducerBusy, NoSession, TopicFull, WrongKind, ConsumerBusy, TooMany, NoSuchMessage, NotCumulative, NotPending, NoSuchSubscription, SubscriptionBusy, TooManyPermits, DeadLetterSelf, JournalFull, StoreFailed, BadId, BadJson, BadPayload, BadRoute, NoRoom, PushMode, HashOverlap, MixedPolicy}
 
 -- the number after a number, up to the last of 64 bits
 abbrev pub number_after : ℤ → Option ℤ
@@ -31,3 +31,5 @@ reason_of BadPayload = codes "F19"
 reason_of BadRoute = codes "F20"
 reason_of NoRoom = codes "F21"
 reason_of PushMode = codes "F22"
+reason_of HashOverlap = codes "F23"
+reason_of MixedPolicy = codes "F24"

@@ -56,5 +56,7 @@ pub fn reason(fault: Fault) -> &'static str
         Fault::BadRoute => "F20",
         Fault::NoRoom => "F21",
         Fault::PushMode => "F22",
+        Fault::HashOverlap => "F23",
+        Fault::MixedPolicy => "F24",
     }
 }

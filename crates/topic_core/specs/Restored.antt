@@ -2,6 +2,7 @@
 use Rattle.std.specs.Prelude.{◌≡◌, List, [], length}
 use Rattle.position_core.specs.declared.message.Entry.{Entry}
 use Rattle.delivery_machine.specs.Places.{AreBelow, KeptPlaces, kept_in}
+use Rattle.delivery_machine.specs.Shares.{no_shares}
 use Rattle.delivery_machine.specs.Snapshot.{subscription_from}
 use Rattle.delivery_machine.specs.WellFormed.{AreDeadLettersOf}
 use Rattle.topic_subscriptions.specs.Placed.{IsPlacedIn, Placed, sub_in}
@@ -14,7 +15,7 @@ pub record IsSoundOver (log : List Entry) (kept : KeptPlaces) : Type 0 where
 -- nobody is there, and nobody has a share
 pub record IsAlone (p : Placed) : Type 0 where
   pub line : p.line ≡ []
-  pub shares : p.shares ≡ []
+  pub shares : p.shares ≡ no_shares
 
 -- it is the machine's subscription that goes on from what was kept, and nobody is there
 pub record IsRestoredFrom (log : List Entry) (kept : KeptPlaces) (p : Placed) : Type 0 where

@@ -40,6 +40,7 @@ pub(crate) fn answer(served: &mut Served, event: &Event) -> Reply
             max_redeliver,
             dead_topic,
             initial,
+            ranges,
         } => subscribe(
             served,
             subscription,
@@ -53,6 +54,7 @@ pub(crate) fn answer(served: &mut Served, event: &Event) -> Reply
             },
             dead_topic,
             *initial,
+            ranges,
         ),
         Event::Leave { consumer } => leave(served, *consumer),
         Event::Permit { consumer, permits } => permit(served, *consumer, *permits),

@@ -48,8 +48,8 @@ takes_fits s (Publish producer sequence body now) r t h =
 takes_fits s Stored r t h = ap (fits Stored) h.0
 takes_fits s (StoredTo count ordinal) r t h = ap (fits (StoredTo count ordinal)) h.0
 takes_fits s Progress r t h = ap (fits Progress) h.0
-takes_fits s (Subscribe name kind level flow ack_timeout nack_delay max_redeliver dead_topic initial) r t h =
-    ap (fits (Subscribe name kind level flow ack_timeout nack_delay max_redeliver dead_topic initial)) h.0
+takes_fits s (Subscribe name kind level flow ack_timeout nack_delay max_redeliver dead_topic initial ranges) r t h =
+    ap (fits (Subscribe name kind level flow ack_timeout nack_delay max_redeliver dead_topic initial ranges)) h.0
 takes_fits s (Leave consumer) r t h = ap (fits (Leave consumer)) h.0
 takes_fits s (Permit consumer permits) r t h = ap (fits (Permit consumer permits)) h.0
 takes_fits s (Ack consumer position) r t h = ap (fits (Ack consumer position)) h.0

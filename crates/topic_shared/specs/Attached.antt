@@ -19,7 +19,7 @@ detaches producers consumers event = false
 -- the event asks to be attached
 abbrev pub asks_to_attach : Event → Bool
 asks_to_attach (AddProducer name base) = true
-asks_to_attach (Subscribe name kind level flow ack_timeout nack_delay max_redeliver dead_topic initial) = true
+asks_to_attach (Subscribe name kind level flow ack_timeout nack_delay max_redeliver dead_topic initial ranges) = true
 asks_to_attach event = false
 
 -- the reply attaches a producer or a consumer

@@ -1,5 +1,5 @@
 -- A member joins a subscription, or leaves it: what that is in the machine's words.
-use Rattle.std.proofs.Common.{◌≡◌, ℕ, ◌<◌, List, [], ◌∷◌, ◌++◌, map, Some, None, Bool, true, false, cond, refl, ap, ◌∙◌, sym, subst, arith, append-nil}
+use Rattle.std.proofs.Common.{◌≡◌, ℕ, ◌<◌, List, [], ◌∷◌, ◌++◌, map, Option, Some, None, Bool, true, false, cond, refl, ap, ◌∙◌, sym, subst, arith, append-nil}
 use Rattle.std.specs.Prelude.{◌==◌, not}
 use Rattle.std.specs.List.{AllByRecursion, filter, find}
 use Rattle.std.specs.List.Sorted.{IsStrictlyIncreasing, IsStrictlySortedBy}
@@ -15,6 +15,7 @@ use Rattle.position_core.specs.declared.position.Position.{Position}
 use Rattle.position_core.specs.declared.message.Entry.{Entry}
 use Rattle.position_core.specs.declared.held.Held.{Held}
 use Rattle.position_core.specs.declared.kind.Kind.{Kind}
+use Rattle.position_core.specs.declared.ranges.HashRange.{HashRange}
 use Rattle.position_core.specs.Position.{exact_positions, position_cmp, positions_total}
 use Rattle.delivery_machine.specs.State.{Member}
 use Rattle.delivery_machine.specs.Words.{is_at, is_held_by, is_member, removed}
@@ -26,8 +27,8 @@ use Rattle.topic_subscriptions.proofs.Changes.{still_live}
 
 -- ---- joining
 
-pub joined_in : (log : List Entry) (p : Placed) (kind : Kind) (consumer : ℕ) → sub_in log (joined_by kind consumer p) ≡ joining kind consumer (sub_in log p)
-joined_in log p kind consumer = refl
+pub joined_in : (log : List Entry) (p : Placed) (kind : Kind) (ranges : Option (List HashRange)) (consumer : ℕ) → sub_in log (joined_by kind ranges consumer p) ≡ joining kind ranges consumer (sub_in log p)
+joined_in log p kind ranges consumer = refl
 
 line_and : (name : List ℕ) (ms : List Member) (m : Member) → line_at name (ms ++ m ∷ []) ≡ line_at name ms ++ cond (is_at name m) (m.number ∷ []) []
 line_and name ms m =
@@ -39,14 +40,14 @@ line_and name ms m =
     one true = refl
     one false = refl
 
-pub joined_placed : (log : List Entry) (ms : List Member) (m : Member) (kind : Kind) (p : Placed) → is_at p.name m ≡ true → IsPlacedIn log ms p → IsPlacedIn log (ms ++ m ∷ []) (joined_by kind m.number p)
-joined_placed log ms m kind p here placed = record {
+pub joined_placed : (log : List Entry) (ms : List Member) (m : Member) (kind : Kind) (ranges : Option (List HashRange)) (p : Placed) → is_at p.name m ≡ true → IsPlacedIn log ms p → IsPlacedIn log (ms ++ m ∷ []) (joined_by kind ranges m.number p)
+joined_placed log ms m kind ranges p here placed = record {
   within = placed.within;
   buried_within = placed.buried_within;
   live = placed.live;
   line = ap (λ (ns : List ℕ). ns ++ m.number ∷ []) placed.line ∙ ap (λ b. line_at p.name ms ++ cond b (m.number ∷ []) []) (sym here) ∙ sym (line_and p.name ms m);
-  pending = λ q key. still_live log p (joined_by kind m.number p) q (placed.pending q key) (placed.pending q key).live;
-  counted = λ q key. still_live log p (joined_by kind m.number p) q (placed.counted q key) (placed.counted q key).live;
+  pending = λ q key. still_live log p (joined_by kind ranges m.number p) q (placed.pending q key) (placed.pending q key).live;
+  counted = λ q key. still_live log p (joined_by kind ranges m.number p) q (placed.counted q key) (placed.counted q key).live;
 }
 
 -- the line of another subscription

@@ -1,5 +1,5 @@
 -- A subscription as the fast topic keeps it: what is acknowledged and dead by places in the log, all else by positions.
-use Rattle.std.specs.Prelude.{◌≡◌, ℕ, ◌≤◌, ◌<◌, ◌==◌, nat_le, Bool, true, false, not, ◌||◌, List, [], ◌∷◌, ◌++◌, map, length, Some, slice_get}
+use Rattle.std.specs.Prelude.{◌⊎◌, Option, is_some, ◌≡◌, ℕ, ◌≤◌, ◌<◌, ◌==◌, nat_le, Bool, true, false, not, ◌||◌, List, [], ◌∷◌, ◌++◌, map, length, Some, slice_get}
 use Rattle.std.specs.List.{filter, list_any}
 use Rattle.std.specs.List.Sorted.{IsStrictlySortedBy}
 use Rattle.std.specs.Str.{bytes_eq}
@@ -10,13 +10,14 @@ use Rattle.position_core.specs.declared.position.Position.{Position}
 use Rattle.position_core.specs.declared.message.Entry.{Entry}
 use Rattle.position_core.specs.declared.held.Held.{Held}
 use Rattle.position_core.specs.declared.kind.Kind.{Kind}
-use Rattle.position_core.specs.declared.block.Block.{Block}
+use Rattle.position_core.specs.declared.ranges.HashRange.{HashRange}
 use Rattle.position_core.specs.Position.{position_cmp}
 use Rattle.delivery_machine.specs.State.{Member, DeadLetter, Subscription}
 use Rattle.delivery_machine.specs.Words.{is_at, is_live}
 use Rattle.delivery_machine.specs.Places.{AreBelow, KeptPlaces, positions_at}
 use Rattle.log_pieces.specs.Pieces.{index_of}
-use Rattle.delivery_machine.specs.Shares.{shares_with, given_back, is_share_of}
+use Rattle.delivery_machine.specs.Shares.{Shares, no_shares, shares_with, shares_without, is_share_of}
+use Rattle.delivery_machine.specs.ShareSets.{AreShares}
 use Rattle.ack_ranges.specs.Ranges.{below}
 use Rattle.pending_core.specs.Pending as pending
 use Rattle.dead_core.specs.Letters as letters
@@ -30,7 +31,7 @@ pub record Placed : Type 0 where
   pub buried : set.FinSet nat_cmp
   pub line : List ℕ
   pub pending : pending.Pending
-  pub shares : List Block
+  pub shares : Shares
   pub letters : letters.Letters
 
 -- the machine's subscription, where the log is its topic's
@@ -100,35 +101,40 @@ restored_from kept dead = record {
   buried = set.from_list (filter (λ place. not (set.contains kept.acknowledged place)) dead);
   line = [];
   pending = pending.nothing_pending;
-  shares = [];
+  shares = no_shares;
   letters = record { dead = kept.dead; safe = length kept.dead };
 }
 
 -- ---- changes
 
 -- as the first consumer makes it, with so many messages acknowledged
-abbrev pub made : List ℕ → Kind → ℕ → ℕ → Placed
-made name kind consumer end = record {
+abbrev pub made : List ℕ → Kind → Option (List HashRange) → ℕ → ℕ → Placed
+made name kind ranges consumer end = record {
   name = name;
   kind = kind;
   places = below end;
   buried = set.empty;
   line = consumer ∷ [];
   pending = pending.nothing_pending;
-  shares = shares_with kind consumer [];
+  shares = shares_with kind ranges consumer no_shares;
   letters = letters.none_dead;
 }
 
-abbrev pub joined_by : Kind → ℕ → Placed → Placed
-joined_by kind consumer p = record p { kind = kind; shares = shares_with kind consumer p.shares; line = p.line ++ consumer ∷ [] }
+abbrev pub joined_by : Kind → Option (List HashRange) → ℕ → Placed → Placed
+joined_by kind ranges consumer p = record p { kind = kind; shares = shares_with kind ranges consumer p.shares; line = p.line ++ consumer ∷ [] }
 
 abbrev pub left_by : ℕ → Placed → Placed
-left_by consumer p = record p { shares = given_back consumer p.shares; line = filter (λ n. not (n == consumer)) p.line }
+left_by consumer p = record p { shares = shares_without consumer p.shares; line = filter (λ n. not (n == consumer)) p.line }
+
+-- a further consumer keeps the policy of those that have shares, if anybody has
+abbrev pub KeepsPolicy : Option (List HashRange) → Shares → Type 0
+KeepsPolicy ranges shares = (shares ≡ no_shares) ⊎ ((shares.sticky ≡ is_some ranges) × AreShares shares)
 
 -- the consumer is out again who joined with no share, and the kind is as it was
 abbrev pub UndoesJoin : Kind → ℕ → Placed → Placed → Type 0
 UndoesJoin kind consumer joined q =
-    (taken : Kind) (p : Placed) → joined ≡ joined_by taken consumer p → p.kind ≡ kind → list_any (is_share_of consumer) p.shares ≡ false → q ≡ p
+    (taken : Kind) (ranges : Option (List HashRange)) (p : Placed) → joined ≡ joined_by taken ranges consumer p → p.kind ≡ kind
+    → KeepsPolicy ranges p.shares → list_any (is_share_of consumer) p.shares.blocks ≡ false → q ≡ p
 
 abbrev pub acknowledged_at : ℕ → Position → Placed → Placed
 acknowledged_at place position p = record p {

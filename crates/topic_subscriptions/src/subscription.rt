@@ -1,7 +1,7 @@
 // A subscription, and the consumers that are at it.
-ghost use Rattle.std.specs.Prelude.{◌≡◌, ◌<◌, ◌^◌, ◌==◌, not, IfOk, OnOk, OnErr, length, slice_get};
+ghost use Rattle.std.specs.Prelude.{◌≡◌, ◌<◌, ◌^◌, ◌==◌, false, not, IfOk, OnOk, OnErr, length, slice_get};
 ghost use Rattle.std.specs.List.{filter};
-ghost use Rattle.delivery_machine.specs.Shares.{owner_of, shares_with};
+ghost use Rattle.delivery_machine.specs.Shares.{asks_taken, mixes, owner_of};
 ghost use Rattle.topic_subscriptions.specs.Placed.{UndoesJoin, is_placed, joined_by, left_by, made};
 
 use crate::closed::Closed;
@@ -9,7 +9,7 @@ use ack_ranges::AckSet;
 use dead_core::DeadQueue;
 use hash_ranges::SplitTable;
 use pending_core::PendingMap;
-use position_core::{ConsumerNumber, Kind, LogIndex, SubscriptionName};
+use position_core::{ConsumerNumber, Kind, LogIndex, Ranges, SubscriptionName};
 use std::alloc::{AllocError, Global};
 use std::marker::Model;
 
@@ -63,21 +63,6 @@ impl Model for Subscription {
     } };
 }
 
-/// Gives the consumer its share, where hashes are shared out.
-fn share_out(
-    shares: &mut SplitTable,
-    kind: Kind,
-    consumer: ConsumerNumber,
-) -> Result<(), AllocError>
-    ensures ok { OnOk result (shares.new ≡ shares_with kind consumer shares.old) }
-    ensures err { OnErr result (shares.new ≡ shares.old) }
-{
-    match kind {
-        Kind::KeyShared => shares.join(consumer),
-        Kind::Exclusive | Kind::Failover | Kind::Shared => Ok(()),
-    }
-}
-
 fn take_out(line: &mut Vec<ConsumerNumber>, consumer: ConsumerNumber)
     ensures { line.new.items ≡ filter (λ n. not (n == consumer)) line.old.items }
 {
@@ -92,13 +77,14 @@ impl Subscription {
         alloc: Global,
         name: SubscriptionName,
         kind: Kind,
+        ranges: &Option<Ranges>,
         consumer: ConsumerNumber,
         end: LogIndex,
     ) -> Result<Self, AllocError>
-        ensures { IfOk result (λ sub. sub ≡ made name kind consumer end) }
+        ensures { IfOk result (λ sub. sub ≡ made name kind ranges.now consumer end) }
     {
         let mut shares = SplitTable::new(alloc);
-        share_out(&mut shares, kind, consumer)?;
+        shares.join_by(kind, ranges, consumer)?;
         let mut acknowledged = AckSet::new(alloc);
         acknowledged.reset(end);
         let mut line = Vec::new(alloc);
@@ -147,19 +133,40 @@ impl Subscription {
         self.line.get(place as usize).copied()
     }
 
+    /// Whether the consumer would say which hashes it takes where the members did not, or the other way
+    /// about.
+    pub fn mixes(&self, kind: Kind, ranges: &Option<Ranges>) -> bool
+        ensures { result ≡ mixes kind ranges.now self.now.shares }
+    {
+        self.shares.mixes(kind, ranges)
+    }
+
+    /// Whether a hash that the consumer asks for is in a member's share.
+    pub fn asks_taken(&self, kind: Kind, ranges: &Option<Ranges>) -> bool
+        ensures { result ≡ asks_taken kind ranges.now self.now.shares }
+    {
+        self.shares.asks_taken(kind, ranges)
+    }
+
     /// Lets the consumer in, and takes its kind. Nothing changes where there is no memory.
-    pub fn join(&mut self, kind: Kind, consumer: ConsumerNumber) -> Result<(), AllocError>
-        ensures ok { OnOk result (self.new ≡ joined_by kind consumer self.old) }
+    pub fn join(
+        &mut self,
+        kind: Kind,
+        ranges: &Option<Ranges>,
+        consumer: ConsumerNumber,
+    ) -> Result<(), AllocError>
+        requires free { asks_taken kind ranges.now self.old.shares ≡ false }
+        ensures ok { OnOk result (self.new ≡ joined_by kind ranges.now consumer self.old) }
         ensures err { OnErr result (self.new ≡ self.old) }
     {
         self.line.reserve(1)?;
-        share_out(&mut self.shares, kind, consumer)?;
+        self.shares.join_by(kind, ranges, consumer)?;
         self.line.push_reserved(consumer);
         self.kind = kind;
         Ok(())
     }
 
-    /// Lets the consumer out, with nothing pending at it: its share goes to another.
+    /// Lets the consumer out, with nothing pending at it: its share goes from it.
     pub fn leave(&mut self, consumer: ConsumerNumber)
         ensures { self.new ≡ left_by consumer self.old }
     {

@@ -4,7 +4,7 @@ use Rattle.json.specs.Tree.{MembersHaveNumbers, members_depth}
 use Rattle.json.proofs.Printed.Decimals.{IsNumber-decimal}
 use Rattle.json.specs.Json.{Json, document}
 use Rattle.position_core.specs.declared.fault.Fault.{Fault}
-use Rattle.position_core.specs.declared.fault.Fault.TheVariants.{BadJson, BadPayload, NoMemory, ProducerBusy, NoSession, TopicFull, WrongKind, ConsumerBusy, TooMany, NoSuchMessage, NotCumulative, NotPending, NoSuchSubscription, SubscriptionBusy, TooManyPermits, DeadLetterSelf, JournalFull, StoreFailed, BadId, BadRoute, NoRoom, PushMode}
+use Rattle.position_core.specs.declared.fault.Fault.TheVariants.{BadJson, BadPayload, NoMemory, ProducerBusy, NoSession, TopicFull, WrongKind, ConsumerBusy, TooMany, NoSuchMessage, NotCumulative, NotPending, NoSuchSubscription, SubscriptionBusy, TooManyPermits, DeadLetterSelf, JournalFull, StoreFailed, BadId, BadRoute, NoRoom, PushMode, HashOverlap, MixedPolicy}
 use Rattle.position_core.specs.declared.kind.Kind.{Kind}
 use Rattle.position_core.specs.declared.message.Entry.{Entry}
 use Rattle.position_core.specs.declared.position.Position.{Position}
@@ -73,6 +73,8 @@ small BadPayload = omega arith
 small BadRoute = omega arith
 small NoRoom = omega arith
 small PushMode = omega arith
+small HashOverlap = omega arith
+small MixedPolicy = omega arith
 
 statistics_back : (kind : Kind) (members : ℕ) (mark_delete : Option Position) (acknowledged live pending dead : ℕ) → HasFittingCounts (Stats kind members mark_delete acknowledged live pending dead)
     → (let fields = statistics_fields kind members mark_delete acknowledged live pending dead in document (object_text fields) ≡ Some (object_with fields))

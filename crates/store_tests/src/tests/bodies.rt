@@ -89,6 +89,7 @@ fn joining<R: Abort + AllocGlobal>(rt: &R, topic: TopicName) -> Event {
         max_redeliver: RedeliverLimit::new(0).expect(rt, "no limit"),
         dead_topic: topic,
         initial: Initial::Earliest,
+        ranges: None,
     }
 }
 

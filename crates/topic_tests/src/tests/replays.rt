@@ -13,6 +13,7 @@ mod rules;
 mod seeking;
 mod shared;
 mod statistics;
+mod sticky;
 
 use delivery_machine::Opened;
 use doubles::{ByByte, Narrow};

@@ -15,6 +15,7 @@ mod ranges;
 mod sequences;
 mod shares;
 mod splits;
+mod sticky;
 mod subscription;
 mod texts;
 mod topic_names;

@@ -1,5 +1,6 @@
-use Rattle.std.proofs.Common.{[], refl}
+use Rattle.std.proofs.Common.{refl}
 use Rattle.position_core.specs.declared.kind.Kind.TheVariants.{Exclusive}
+use Rattle.delivery_machine.specs.Shares.{no_shares}
 use Rattle.delivery_machine.specs.Laws.{MayCome, ArePendingInOrder}
 use Rattle.delivery_machine.proofs.TwoMessages.{message, subscription, two_held, first-of-two, second-of-two, twice_given, in_order, events_in_order, replies_in_order, run_in_order}
 use Rattle.delivery_machine.proofs.laws.l3_example.Goals as goal
@@ -12,7 +13,7 @@ comes name body = (
   run_in_order name body,
   (
     twice_given name body,
-    subscription Exclusive [] (two_held 1),
+    subscription Exclusive no_shares (two_held 1),
     message body 0,
     message body 1,
     refl,

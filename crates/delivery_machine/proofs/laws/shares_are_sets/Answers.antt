@@ -1,4 +1,4 @@
-use Rattle.delivery_machine.proofs.ShareLaws as sets
+use Rattle.delivery_machine.proofs.SharesByMode as sets
 use Rattle.delivery_machine.proofs.laws.shares_are_sets.Goals as goal
 
 pub returns : goal.returns

@@ -8,6 +8,7 @@ use Rattle.dispatch_core.specs.Changes.{Joined}
 use Rattle.dispatchers.specs.Told.{AreTold}
 use Rattle.dispatchers.specs.declared.dispatch.Dispatch.{Dispatch}
 use Rattle.dispatchers.proofs.Spots.{set_at}
+use Rattle.dispatchers.proofs.Asking.{asks_for_free}
 use Rattle.topic_log.specs.Written.{Written}
 use Rattle.topic_members.specs.Members.{joining}
 use Rattle.topic_subscriptions.specs.Placed.{Placed, is_placed, sub_in}
@@ -18,7 +19,7 @@ use Rattle.topic_served.proofs.Telling.{are_told_within, one_stands, told_there}
 use Rattle.member_events.specs.Entering.{StaysAs, entered}
 use Rattle.member_events.specs.Places.{names_of}
 use Rattle.member_events.proofs.Entered.{happens_entered, same_state, set_twice}
-use Rattle.member_events.proofs.Kinded.{bare_kind, bound_stays, may_still, names_kind, state_kind, taken_back, tied_kind, told_kind, written}
+use Rattle.member_events.proofs.Kinded.{asks_well, bare_kind, bound_stays, may_still, names_kind, state_kind, taken_back, tied_kind, told_kind, written}
 use Rattle.member_events.proofs.Standing.{same_place}
 use Rattle.member_events.proofs.changing_kind.enter_anew.Goals as goal
 
@@ -101,8 +102,8 @@ returns-in_default-clause-bound c =
     } in
     bound_stays c.args.served.now final c.args.served.now.dispatchers stays refl c.requires.bound
 
-pub let_in-entered-requires : goal.let_in-entered-requires
-let_in-entered-requires c =
+pub let_in-entered-requires-clause-may : goal.let_in-entered-requires-clause-may
+let_in-entered-requires-clause-may c =
     let t = c.args.served.now.parts in
     let place = c.args.place in
     let name = c.args.name in
@@ -111,6 +112,23 @@ let_in-entered-requires c =
     let at = c.index_mut.ensures.value in
     let is = c.set_kind.ensures in
     may_still t place name c.args.kind x y c.requires.may at is c.requires.unshared
+
+pub let_in-entered-requires-clause-free : goal.let_in-entered-requires-clause-free
+let_in-entered-requires-clause-free c =
+    asks_well c.args.served.now.parts c.args.place c.args.name c.args.kind c.index_mut.result.now c.set_kind.new.self c.requires.may c.index_mut.ensures.value c.set_kind.ensures c.args.ranges.now c.requires.unshared
+
+pub let_in-entered-requires-clause-untaken : goal.let_in-entered-requires-clause-untaken
+let_in-entered-requires-clause-untaken c =
+    let t = c.args.served.now.parts in
+    let place = c.args.place in
+    let x = c.index_mut.result.now in
+    let y = c.set_kind.new.self in
+    let at = c.index_mut.ensures.value in
+    let is = c.set_kind.ensures in
+    let there = written t place c.args.name c.args.kind x y c.requires.may at is in
+    let now : Parts = record t { subscriptions = with_item t.subscriptions place y } in
+    let well = asks_well t place c.args.name c.args.kind x y c.requires.may at is c.args.ranges.now c.requires.unshared y there in
+    asks_for_free c.in-Ok.begun (state_of now) (sub_in (log_of t) y) c.args.ranges.now (c.in-Ok.ensures.ok y there) well.0
 
 pub returns-in-Ok-entered-clause-ok : goal.returns-in-Ok-entered-clause-ok
 returns-in-Ok-entered-clause-ok c =
@@ -122,7 +140,7 @@ returns-in-Ok-entered-clause-ok c =
     let at = c.index_mut.ensures.value in
     let is = c.set_kind.ensures in
     c.in-Ok-entered.ensures.ok.state
-    ∙ ap (λ (s : State). entered s (joining t.members.next name c.args.terms c.args.dead_topic)) (state_kind t place name c.args.kind x y c.requires.may at is)
+    ∙ ap (λ (s : State). entered s c.args.ranges.now (joining t.members.next name c.args.terms c.args.dead_topic)) (state_kind t place name c.args.kind x y c.requires.may at is)
 
 pub returns-in-Ok-entered-clause-names : goal.returns-in-Ok-entered-clause-names
 returns-in-Ok-entered-clause-names c =
@@ -159,9 +177,9 @@ returns-in-Ok-entered-clause-bound c =
       numbers = subst (λ (w : Written). AgreesWith w.log.log w.numbers) (sym c.in-Ok-entered.ensures.ok.log) c.requires.bound.numbers;
       tied = c.in-Ok-entered.ensures.ok.tied;
       told = subst (λ (d : Dispatch). AreTold (set ds place d) (state_of new)) (sym c.replace.ensures.after) (subst (λ (xs : List Dispatch). AreTold xs (state_of new)) (set_twice ds place begun told)
-          (told_there (set ds place begun) now new new (entered (state_of now) m) place (Joined m.number) (sub_in (log_of t) y) (machine.joining y.kind m.number (sub_in (log_of t) y)) v.0 begun told
+          (told_there (set ds place begun) now new new (entered (state_of now) c.args.ranges.now m) place (Joined c.args.ranges.now m.number) (sub_in (log_of t) y) (machine.joining y.kind c.args.ranges.now m.number (sub_in (log_of t) y)) v.0 begun told
           (told_kind t place name c.args.kind x y c.requires.may at is ds begun c.requires.bound.told (c.in-Ok.ensures.ok y there))
-          (happens_entered now place m y may refl at_y) c.in-Ok-entered.ensures.ok.state refl v.1 here (c.in-Ok-entered.ensures.ok.told v.0 v.1)));
+          (happens_entered now place m c.args.ranges.now y may refl at_y) c.in-Ok-entered.ensures.ok.state refl v.1 here (c.in-Ok-entered.ensures.ok.told v.0 v.1)));
     }
 
 pub returns-in-Err-clause-names : goal.returns-in-Err-clause-names

@@ -1,9 +1,11 @@
-use Rattle.std.proofs.Common.{◌∙◌, List, ap, refl, sym, subst, subst₂}
+use Rattle.std.proofs.Common.{◌∙◌, List, Some, ap, refl, sym, subst, subst₂}
+use Rattle.std.proofs.lemmas.Option.{slice_get-get_or}
 use Rattle.dispatch_core.specs.Changes.{Joined}
 use Rattle.delivery_machine.specs.State.{State}
 use Rattle.dedup_core.specs.Sequences.{AgreesWith}
 use Rattle.dispatchers.specs.Told.{AreTold}
 use Rattle.dispatchers.specs.declared.dispatch.Dispatch.{Dispatch}
+use Rattle.dispatchers.proofs.Asking.{asks_for_free}
 use Rattle.topic_log.specs.Written.{Written}
 use Rattle.topic_members.specs.Members.{joining}
 use Rattle.topic_subscriptions.specs.Placed.{is_placed, sub_in}
@@ -11,12 +13,22 @@ use Rattle.delivery_machine.specs.Joining as machine
 use Rattle.topic_parts.specs.declared.parts.Parts.{Parts}
 use Rattle.topic_parts.specs.Parts.{log_of, state_of}
 use Rattle.topic_parts.proofs.Changing.{written_back}
-use Rattle.topic_served.proofs.Telling.{one_stands, told_there}
+use Rattle.topic_served.proofs.Telling.{are_told_within, at_place, one_stands, told_there}
 use Rattle.member_events.specs.Entering.{entered}
 use Rattle.member_events.specs.Places.{names_of}
 use Rattle.member_events.proofs.Entered.{happens_entered, same_state, same_ties}
 use Rattle.member_events.proofs.Standing.{same_place}
 use Rattle.member_events.proofs.entering.enter.Goals as goal
+
+pub let_in-entered-requires-clause-untaken : goal.let_in-entered-requires-clause-untaken
+let_in-entered-requires-clause-untaken c =
+    let t = c.args.served.now.parts in
+    let ds = c.args.served.now.dispatchers.items in
+    let place = c.args.place in
+    let x = one_stands (is_placed c.args.name) t.subscriptions.items place c.requires.may.named in
+    let d = c.index_mut.result.now in
+    let there = slice_get-get_or ds place d (are_told_within ds t c.args.name place c.requires.bound.told c.requires.may.named) ∙ ap (λ (e : Dispatch). Some e) (sym c.index_mut.ensures.value) in
+    asks_for_free d (state_of t) (sub_in (log_of t) x.0) c.args.ranges.now (c.requires.bound.told.each place d (sub_in (log_of t) x.0) there (at_place t place x.0 x.1)) (c.requires.free x.0 x.1).0
 
 pub returns-in-Ok-clause-ok : goal.returns-in-Ok-clause-ok
 returns-in-Ok-clause-ok c = c.in-Ok.ensures.ok.state
@@ -34,8 +46,8 @@ returns-in-Ok-clause-bound c =
     record {
       numbers = subst (λ (w : Written). AgreesWith w.log.log w.numbers) (sym c.in-Ok.ensures.ok.log) c.requires.bound.numbers;
       tied = c.in-Ok.ensures.ok.tied;
-      told = told_there c.args.served.now.dispatchers.items t new new (entered (state_of t) m) c.args.place (Joined m.number) (sub_in (log_of t) x.0) (machine.joining x.0.kind m.number (sub_in (log_of t) x.0)) v.0 c.index_mut.result.now c.let_in-entered.new.dispatch
-          c.requires.bound.told (happens_entered t c.args.place m x.0 c.requires.may refl x.2) c.in-Ok.ensures.ok.state refl v.1 c.index_mut.ensures.value (c.in-Ok.ensures.ok.told v.0 v.1);
+      told = told_there c.args.served.now.dispatchers.items t new new (entered (state_of t) c.args.ranges.now m) c.args.place (Joined c.args.ranges.now m.number) (sub_in (log_of t) x.0) (machine.joining x.0.kind c.args.ranges.now m.number (sub_in (log_of t) x.0)) v.0 c.index_mut.result.now c.let_in-entered.new.dispatch
+          c.requires.bound.told (happens_entered t c.args.place m c.args.ranges.now x.0 c.requires.may refl x.2) c.in-Ok.ensures.ok.state refl v.1 c.index_mut.ensures.value (c.in-Ok.ensures.ok.told v.0 v.1);
     }
 
 pub returns-in-Err-clause-names : goal.returns-in-Err-clause-names

@@ -1,5 +1,6 @@
-use Rattle.std.proofs.Common.{◌≡◌, ◌∙◌, ℕ, List, None, refl, ap, ap₂, subst, sym}
+use Rattle.std.proofs.Common.{◌≡◌, ◌∙◌, ℕ, List, Option, None, refl, ap, ap₂, subst, sym}
 use Rattle.std.specs.List.{find, position}
+use Rattle.position_core.specs.declared.ranges.HashRange.{HashRange}
 use Rattle.position_core.specs.declared.kind.Kind.{Kind}
 use Rattle.position_core.specs.declared.topic_name.TopicName.{TopicName}
 use Rattle.delivery_machine.specs.State.{State}
@@ -18,6 +19,7 @@ use Rattle.topic_parts.proofs.Mapped.{position_mapped}
 use Rattle.topic_served.specs.Served.{state_in}
 use Rattle.member_events.specs.Entering.{MayEnter, entered}
 use Rattle.member_events.proofs.Absent.{nobody_at}
+use Rattle.member_events.proofs.Asking.{asks_none}
 use Rattle.member_events.proofs.Newcomer.{closed_again, entered_new}
 use Rattle.member_events.proofs.Standing.{same_place}
 use Rattle.member_events.proofs.Welcome.{may_enter_new, well}
@@ -31,25 +33,28 @@ module _ (t : Parts) (name : List ℕ) (absent : None ≡ position (is_placed na
   none_found = found_nothing (is_named name) (state_of t).subscriptions nowhere
 
   -- the member that enters the one that was made, under a name of its own
-  joined_new : (mid : Parts) (own : List ℕ) (kind : Kind) (initial : Initial) (terms : Terms) (dead_topic : TopicName) → own ≡ name → mid.members ≡ t.members → state_of mid ≡ opened (state_of t) name kind initial
-      → entered (state_of mid) (joining mid.members.next own terms dead_topic) ≡ with_member (state_of t) kind initial (joining t.members.next name terms dead_topic)
-  joined_new mid own kind initial terms dead_topic same members is =
-      ap₂ (λ (u : State) (ms : Joined). entered u (joining ms.next own terms dead_topic)) is members
-      ∙ ap (λ (n : List ℕ). entered (opened (state_of t) name kind initial) (joining t.members.next n terms dead_topic)) same
-      ∙ entered_new (state_of t) (joining t.members.next name terms dead_topic) kind initial none_found
+  joined_new : (mid : Parts) (own : List ℕ) (kind : Kind) (ranges : Option (List HashRange)) (initial : Initial) (terms : Terms) (dead_topic : TopicName) → own ≡ name → mid.members ≡ t.members → state_of mid ≡ opened (state_of t) name kind initial
+      → entered (state_of mid) ranges (joining mid.members.next own terms dead_topic) ≡ with_member (state_of t) kind ranges initial (joining t.members.next name terms dead_topic)
+  joined_new mid own kind ranges initial terms dead_topic same members is =
+      ap₂ (λ (u : State) (ms : Joined). entered u ranges (joining ms.next own terms dead_topic)) is members
+      ∙ ap (λ (n : List ℕ). entered (opened (state_of t) name kind initial) ranges (joining t.members.next n terms dead_topic)) same
+      ∙ entered_new (state_of t) (joining t.members.next name terms dead_topic) kind ranges initial none_found
 
 pub open-requires-clause-nobody : goal.open-requires-clause-nobody
 open-requires-clause-nobody c =
     let t = c.args.served.now.parts in
-    nobody_at (state_of t) c.args.name (well c.args.served.now c.args.name c.args.kind c.args.terms c.args.dead_topic c.requires.welcome) (nowhere t c.args.name c.requires.absent)
+    nobody_at (state_of t) c.args.name (well c.args.served.now c.args.name c.args.kind c.args.terms c.args.dead_topic c.args.ranges.now c.requires.welcome) (nowhere t c.args.name c.requires.absent)
 
 pub enter-requires-clause-may : goal.enter-requires-clause-may
 enter-requires-clause-may c =
     let new = c.open.new.served.parts in
     let made = c.in-Ok-open.ensures in
     subst (λ (n : List ℕ). MayEnter new c.in-Ok-open.place n) (sym c.in-Ok.ensures.cases)
-    (may_enter_new c.args.served.now c.args.name c.args.kind c.args.terms c.args.dead_topic c.requires.welcome new c.in-Ok-open.place c.args.initial
+    (may_enter_new c.args.served.now c.args.name c.args.kind c.args.terms c.args.dead_topic c.args.ranges.now c.requires.welcome new c.in-Ok-open.place c.args.initial
     (none_found c.args.served.now.parts c.args.name c.requires.absent) made.ok made.members made.bound.tied made.place made.unshared)
+
+pub enter-requires-clause-free : goal.enter-requires-clause-free
+enter-requires-clause-free c p at = asks_none p c.args.ranges.now (c.in-Ok-open.ensures.unshared p at)
 
 pub close-requires-clause-stands : goal.close-requires-clause-stands
 close-requires-clause-stands c = record {
@@ -61,7 +66,7 @@ pub returns-in-Ok-enter-clause-ok : goal.returns-in-Ok-enter-clause-ok
 returns-in-Ok-enter-clause-ok c =
     let made = c.in-Ok-open.ensures in
     c.in-Ok-enter.ensures.ok
-    ∙ joined_new c.args.served.now.parts c.args.name c.requires.absent c.open.new.served.parts c.in-Ok.own c.args.kind c.args.initial c.args.terms c.args.dead_topic c.in-Ok.ensures.cases made.members made.ok
+    ∙ joined_new c.args.served.now.parts c.args.name c.requires.absent c.open.new.served.parts c.in-Ok.own c.args.kind c.args.ranges.now c.args.initial c.args.terms c.args.dead_topic c.in-Ok.ensures.cases made.members made.ok
 
 pub returns-in-Ok-enter-clause-place : goal.returns-in-Ok-enter-clause-place
 returns-in-Ok-enter-clause-place c =

@@ -137,6 +137,7 @@ fn joins<R: Abort + AllocGlobal>(rt: &R) -> Event {
         max_redeliver: RedeliverLimit::new(0).expect(rt, "none"),
         dead_topic: this_topic(rt),
         initial: Initial::Earliest,
+        ranges: None,
     }
 }
 

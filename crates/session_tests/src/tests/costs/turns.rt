@@ -58,6 +58,7 @@ impl Counter {
                 max_redeliver: _,
                 dead_topic: _,
                 initial: _,
+                ranges: _,
             } => Reply::Subscribed { consumer: 1 },
             Event::Tick {
                 subscription: _,

@@ -414,3 +414,47 @@ fn where_dead_letters_go(rt: HostRuntime) {
     ];
     check_refused(&rt, target.as_str(), "4002 F20 BadParameter", bad);
 }
+
+const BY_KEY: &str = "/ws/v2/consumer/persistent/public/default/t/s?subscriptionType=Key_Shared";
+
+#[test]
+fn ranges_of_hashes(rt: HostRuntime) {
+    check_ends(
+        &rt,
+        BY_KEY,
+        "consumer public/default/t s KeyShared 0 window 1000 0 60000 0 public/default/t Latest",
+        &[
+            ("", ""),
+            ("&keySharedRanges=0-65535", " 0 65535"),
+            (
+                "&keySharedRanges=300-400,007-0009,10-10",
+                " 7 9 10 10 300 400",
+            ),
+            ("&keySharedRanges=5-5&keySharedRanges=x", " 5 5"),
+            ("&keySharedRanges=0%2D9%2C20-29", " 0 9 20 29"),
+        ],
+    );
+    let ends = &[
+        "&keySharedRanges=",
+        "&keySharedRanges=7",
+        "&keySharedRanges=9-8",
+        "&keySharedRanges=0-65536",
+        "&keySharedRanges=0-9,9-10",
+        "&keySharedRanges=0-9,",
+        "&keySharedRanges=0-9,+10-11",
+        "&keySharedRanges=-1-9",
+        "&keySharedRanges=0-18446744073709551617",
+    ];
+    check_refused(&rt, BY_KEY, "4002 F20 BadParameter", ends);
+}
+
+/// Only in Key_Shared they are looked at.
+#[test]
+fn ranges_of_other_types(rt: HostRuntime) {
+    check_end(
+        &rt,
+        CONSUMER,
+        "subscriptionType=Shared&keySharedRanges=x",
+        "consumer public/default/t s Shared 0 window 1000 0 60000 0 public/default/t Latest",
+    );
+}

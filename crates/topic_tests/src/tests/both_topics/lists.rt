@@ -239,11 +239,24 @@ impl Lines {
         }
     }
 
+    /// The hashes that a consumer asks for: often none.
+    fn ranges(&mut self) -> &'static str {
+        match self.dice.roll(12) {
+            0 => "0-65535",
+            1 => "0-20000",
+            2 => "20001-50000,60000-65535",
+            3 => "50001-59999",
+            4 => "60000-65535,0-20000",
+            _ => "",
+        }
+    }
+
     fn join<R: Abort + AllocGlobal>(&mut self, rt: &R) {
         let subscription = self.subscription();
         let kind = self.kind(subscription);
         let level = self.dice.roll(3);
         let flow = self.flow();
+        let ranges = self.ranges();
         let words = [
             Word::Text("subscribe"),
             Word::Text(subscription),
@@ -255,9 +268,11 @@ impl Lines {
             Word::Number(self.dice.roll(3)),
             Word::Text("-"),
             Word::Text(self.initial()),
+            Word::Text(ranges),
         ];
         self.joined = self.joined.saturating_add(1);
-        self.add(rt, &words);
+        let asked = if ranges.is_empty() { 10 } else { 11 };
+        self.add(rt, &words[..asked]);
         if flow == "pull" {
             self.permit(rt, self.joined, 5);
         }

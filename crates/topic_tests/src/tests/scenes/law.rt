@@ -1,5 +1,6 @@
 // The law of a dispatcher, used through its trait.
-ghost use Rattle.std.specs.Prelude.{◌≡◌, [], IsTrue};
+ghost use Rattle.std.specs.Prelude.{◌≡◌, [], None, IsTrue};
+ghost use Rattle.delivery_machine.specs.Shares.{no_shares};
 ghost use Rattle.delivery_machine.specs.Words.{members_of};
 ghost use Rattle.dispatch_core.specs.Changes.{Joined, Kept};
 ghost use Rattle.topic_tests.specs.Listed.{listed};
@@ -27,8 +28,8 @@ fn offers<D: Dispatcher + Drop, V: View>(
 ) -> Result<(Option<Offer>, Option<Offer>), Fault>
     requires kind { IsTrue (D.serves (V.subscription empty.now).kind) }
     requires nobody { members_of (V.state empty.now) (V.subscription empty.now).name ≡ [] }
-    requires unshared { (V.subscription empty.now).shares ≡ [] }
-    requires joins { Joined consumer (V.state empty.now) (V.subscription empty.now) (V.state joined.now) (V.subscription joined.now) }
+    requires unshared { (V.subscription empty.now).shares ≡ no_shares }
+    requires joins { Joined None consumer (V.state empty.now) (V.subscription empty.now) (V.state joined.now) (V.subscription joined.now) }
     requires stores { Kept (V.state joined.now) (V.subscription joined.now) (V.state stored.now) (V.subscription stored.now) }
 {
     let mut dispatcher = D::begin(alloc, empty)?;
@@ -62,7 +63,7 @@ fn check_offers<R: Abort>(rt: &R, unstored: Option<Offer>, offered: Option<Offer
 fn expect_told<R: Abort + AllocGlobal, D: Dispatcher + Drop, V: View>(rt: &R, empty: &V, stored: &V)
     requires kind { IsTrue (D.serves (V.subscription empty.now).kind) }
     requires nobody { members_of (V.state empty.now) (V.subscription empty.now).name ≡ [] }
-    requires unshared { (V.subscription empty.now).shares ≡ [] }
+    requires unshared { (V.subscription empty.now).shares ≡ no_shares }
 {
     let mut told = D::begin(rt.alloc(), empty).expect(rt, "no memory");
     tell(&mut told, stored).expect(rt, "no memory");
@@ -77,8 +78,8 @@ fn expect_offers<R: Abort + AllocGlobal, D: Dispatcher + Drop>(
     members: &[Member],
 )
     requires kind { IsTrue (D.serves before.now.kind) }
-    requires unshared { before.now.shares ≡ [] }
-    requires joins { Joined 1 (listed log.now 0 []) before.now (listed log.now 0 members.now) after.now }
+    requires unshared { before.now.shares ≡ no_shares }
+    requires joins { Joined None 1 (listed log.now 0 []) before.now (listed log.now 0 members.now) after.now }
 {
     let empty = ListView {
         log,

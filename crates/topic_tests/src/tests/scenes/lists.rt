@@ -51,7 +51,7 @@ fn the_least_free_number_is_found(rt: HostRuntime) {
 /// A subscription in which the first message is pending.
 fn holding<R: Abort + AllocGlobal>(rt: &R) -> Subscription {
     let none = PositionSet::new(rt.alloc());
-    let made = Subscription::new(rt.alloc(), name(rt), Kind::Shared, 1, none);
+    let made = Subscription::new(rt.alloc(), name(rt), Kind::Shared, &None, 1, none);
     let mut made = made.expect(rt, "no memory");
     let held = Held {
         consumer: 1,

@@ -1,6 +1,7 @@
 // The topic's only subscription, as members come and go and messages are sent and acknowledged.
-ghost use Rattle.std.specs.Prelude.{◌≡◌, [], codes};
+ghost use Rattle.std.specs.Prelude.{◌≡◌, [], None, codes};
 ghost use Rattle.delivery_machine.specs.Joining.{joining, leaving, new_subscription};
+ghost use Rattle.delivery_machine.specs.Shares.{no_shares};
 ghost use Rattle.delivery_machine.specs.declared.event.Initial.TheVariants.{Earliest};
 
 use super::message::position_at;
@@ -27,11 +28,11 @@ pub(super) fn name<R: Abort + AllocGlobal>(rt: &R) -> Name
 impl Only {
     /// The subscription once its first member has left.
     pub(super) fn new<R: Abort + AllocGlobal>(rt: &R, kind: Kind) -> Self
-        ensures begun { result.subscription ≡ leaving 1 (new_subscription (codes "s") kind 1 Earliest []) }
-        ensures unshared { result.subscription.shares ≡ [] }
+        ensures begun { result.subscription ≡ leaving 1 (new_subscription (codes "s") kind None 1 Earliest []) }
+        ensures unshared { result.subscription.shares ≡ no_shares }
     {
         let acknowledged = PositionSet::new(rt.alloc());
-        let subscription = Subscription::new(rt.alloc(), name(rt), kind, 1, acknowledged);
+        let subscription = Subscription::new(rt.alloc(), name(rt), kind, &None, 1, acknowledged);
         let mut only = Only {
             subscription: subscription.expect(rt, "no memory"),
         };
@@ -54,10 +55,10 @@ impl Only {
 
     /// A further consumer joins.
     pub(super) fn join<R: Abort>(&mut self, rt: &R, consumer: u64)
-        ensures { self.new.subscription ≡ joining self.old.subscription.kind consumer self.old.subscription }
+        ensures { self.new.subscription ≡ joining self.old.subscription.kind None consumer self.old.subscription }
     {
         let kind = self.subscription.kind();
-        let done = self.subscription.join(kind, consumer);
+        let done = self.subscription.join(kind, &None, consumer);
         done.expect(rt, "no memory");
     }
 

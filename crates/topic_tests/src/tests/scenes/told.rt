@@ -46,7 +46,7 @@ impl View for Bare {
 
 /// Makes each call that tells of a change.
 fn tell_each<V: View>(dispatch: &mut Dispatch, view: &V) -> Result<(), Fault> {
-    dispatch.on_join(view, 2)?;
+    dispatch.on_join(view, 2, &None)?;
     dispatch.on_sent(view, 0, 2)?;
     dispatch.on_released(view, 0);
     dispatch.on_gone(view, 0);

@@ -1,6 +1,7 @@
 // A topic of three messages, which events change.
-ghost use Rattle.std.specs.Prelude.{◌≡◌, []};
+ghost use Rattle.std.specs.Prelude.{◌≡◌, [], None};
 ghost use Rattle.delivery_machine.specs.Joining.{joining, leaving};
+ghost use Rattle.delivery_machine.specs.Shares.{no_shares};
 
 use super::member::{Takes, new_member};
 use super::message::{message_at, new_log, position_at};
@@ -46,7 +47,7 @@ fn push_messages<R: Abort + AllocGlobal>(rt: &R, log: &mut Vec<Message>, count: 
 impl Topic {
     /// The scene's topic as it begins.
     pub(super) fn new<R: Abort + AllocGlobal>(rt: &R, kind: Kind, scene: &Scene) -> Self
-        ensures { (result.only.subscription.kind ≡ kind) × (result.only.subscription.shares ≡ []) }
+        ensures { (result.only.subscription.kind ≡ kind) × (result.only.subscription.shares ≡ no_shares) }
     {
         let mut members = Vec::new(rt.alloc());
         push_members(rt, &mut members, scene.members);
@@ -69,7 +70,7 @@ impl Topic {
 
     /// A topic of these messages, which are all visible, and of nobody.
     pub(super) fn of<R: Abort + AllocGlobal>(rt: &R, kind: Kind, log: Vec<Message>) -> Self
-        ensures begun { (result.only.subscription.kind ≡ kind) × (result.only.subscription.shares ≡ []) }
+        ensures begun { (result.only.subscription.kind ≡ kind) × (result.only.subscription.shares ≡ no_shares) }
         ensures nobody { result.members.items ≡ [] }
     {
         Topic {
@@ -100,7 +101,7 @@ impl Topic {
     }
 
     pub(super) fn join<R: Abort + AllocGlobal>(&mut self, rt: &R, consumer: u64, window: u32)
-        ensures { self.new.only.subscription ≡ joining self.old.only.subscription.kind consumer self.old.only.subscription }
+        ensures { self.new.only.subscription ≡ joining self.old.only.subscription.kind None consumer self.old.only.subscription }
     {
         let member = new_member(rt, consumer, 0, Takes::Pushed(window));
         push_member(rt, &mut self.members, member);

@@ -89,6 +89,7 @@ fn joining<R: Abort + AllocGlobal>(rt: &R, who: &str) -> Event {
         max_redeliver,
         dead_topic: topic_name(rt, "persistent://public/default/t-DLQ"),
         initial: Initial::Earliest,
+        ranges: None,
     }
 }
 

@@ -8,7 +8,7 @@ use topic_subscriptions::Subscription;
 /// With consumer 3, and the first two messages acknowledged.
 fn subscription<R: Abort + AllocGlobal>(rt: &R) -> Subscription {
     let name = SubscriptionName::new(shared_text(rt, "billing")).expect(rt, "no name");
-    let made = Subscription::new(rt.alloc(), name, Kind::Shared, 3, 2);
+    let made = Subscription::new(rt.alloc(), name, Kind::Shared, &None, 3, 2);
     made.expect(rt, "no memory")
 }
 
@@ -61,7 +61,8 @@ struct ComeAndGo;
 
 impl Case for ComeAndGo {
     fn play<R: Abort + AllocGlobal>(rt: &R, subscription: &mut Subscription) {
-        subscription.join(Kind::Shared, 5).expect(rt, "no memory");
+        let joined = subscription.join(Kind::Shared, &None, 5);
+        joined.expect(rt, "no memory");
         check_number(rt, subscription, 0, Some(3));
         check_number(rt, subscription, 1, Some(5));
         subscription.leave(3);
@@ -79,7 +80,7 @@ struct TakenBack;
 
 impl Case for TakenBack {
     fn play<R: Abort + AllocGlobal>(rt: &R, subscription: &mut Subscription) {
-        let joined = subscription.join(Kind::KeyShared, 7);
+        let joined = subscription.join(Kind::KeyShared, &None, 7);
         joined.expect(rt, "no memory");
         check_owner(rt, subscription, Some(7));
         subscription.undo_join(Kind::Shared, 7);

@@ -1,4 +1,4 @@
-use Rattle.std.proofs.Common.{ap, ◌∙◌}
+use Rattle.std.proofs.Common.{None, ap, ◌∙◌}
 use Rattle.std.specs.Ordering.{nat_cmp}
 use Rattle.std.specs.BTreeMap as tree
 use Rattle.dispatch_keyed.proofs.Agreed.{agrees_shared}
@@ -14,6 +14,6 @@ returns-in-Ok-clause-ok g c s sub change agreed =
     let e = c.renew_owned.new.self in
     let call = c.renew_owned.ensures in
     agrees_shared d e s sub t new change.stays agreed
-    (call.rest.owners ∙ joined_owners s sub t new c.args.consumer d.owners c.join.new.self change agreed.kind agreed.owners c.in-Ok.ensures.ok)
+    (call.rest.owners ∙ joined_owners s sub t new None c.args.consumer d.owners c.join.new.self change agreed.kind agreed.owners c.in-Ok.ensures.ok)
     call.rest.read call.rest.sent (λ h. ap (λ m. tree.get nat_cmp m h) call.rest.rows)
     (firsts_joined d e s sub t new agreed change.stays call.rest.rows c.args.consumer c.join.new.self.shares (shares_in c.in-Ok.ensures.ok) (shares_in call.rest.owners) call.others call.first)

@@ -4,13 +4,13 @@ use Rattle.delivery_machine.specs.Shares.{owner_of}
 use Rattle.dispatch_keyed.specs.Resharing.{SameButFirsts, IsRenewed}
 use Rattle.dispatch_keyed.proofs.keyed.Keyed.renew_owned.Given as goal
 
-abbrev pub invariant-loop-from : goal.invariant-loop-from
-invariant-loop-from g l = record {
+abbrev pub invariant-loop-block : goal.invariant-loop-block
+invariant-loop-block g l = record {
   rest : SameButFirsts l.initial.self l.self;
   within : l.from ≤ 65536;
   others : (h : ℕ) → (h < l.from → owner_of l.initial.self.owners.shares h ≢ Some l.consumer) → map_of.get l.self.firsts.numbers h ≡ map_of.get l.initial.self.firsts.numbers h;
   first : (h : ℕ) → h < l.from → owner_of l.initial.self.owners.shares h ≡ Some l.consumer → IsRenewed l.initial.self l.self h (g.V.View.state l.view) (g.V.View.subscription l.view);
 }
 
-abbrev pub decreases-loop-from : goal.decreases-loop-from
-decreases-loop-from g l = 65536 - l.from
+abbrev pub decreases-loop-block : goal.decreases-loop-block
+decreases-loop-block g l = 65536 - l.from

@@ -2,7 +2,7 @@
 use super::super::{joined, number, push};
 use delivery_machine::Initial;
 use endpoint_core::{ConsumerEndpoint, Endpoint, ProducerEndpoint, RouteFault, route};
-use position_core::{Base, Flow, Kind, TopicName};
+use position_core::{Base, Flow, Kind, Ranges, TopicName};
 use std::process::Abort;
 
 fn show_topic<R: Abort + AllocGlobal>(rt: &R, out: &mut String, topic: &TopicName) {
@@ -69,7 +69,17 @@ fn show_terms<R: Abort + AllocGlobal>(rt: &R, out: &mut String, consumer: &Consu
     show_number(rt, out, consumer.max_redeliver.get());
 }
 
-/// Its subscription, terms, dead-letter topic and beginning.
+/// The first and the last hash of each range that it asks for.
+fn show_ranges<R: Abort + AllocGlobal>(rt: &R, out: &mut String, ranges: &Option<Ranges>) {
+    if let Some(ranges) = ranges {
+        for range in ranges.as_slice() {
+            show_number(rt, out, range.first);
+            show_number(rt, out, range.last);
+        }
+    }
+}
+
+/// Its subscription, terms, dead-letter topic, beginning and ranges.
 fn show_consumer<R: Abort + AllocGlobal>(rt: &R, out: &mut String, consumer: &ConsumerEndpoint) {
     show_topic(rt, out, &consumer.topic);
     push(rt, out, " ");
@@ -80,6 +90,7 @@ fn show_consumer<R: Abort + AllocGlobal>(rt: &R, out: &mut String, consumer: &Co
     show_topic(rt, out, &consumer.dead_topic);
     push(rt, out, " ");
     push(rt, out, initial_text(rt, consumer.initial).as_str());
+    show_ranges(rt, out, &consumer.ranges);
 }
 
 fn show_endpoint<R: Abort + AllocGlobal>(rt: &R, out: &mut String, endpoint: &Endpoint) {

@@ -1,4 +1,4 @@
-use Rattle.std.proofs.Common.{◌≡◌, ℕ, List, [], ◌∷◌, map, cond, refl, ap, subst, ◌∙◌, sym, arith}
+use Rattle.std.proofs.Common.{◌≡◌, ℕ, List, [], ◌∷◌, None, map, cond, refl, ap, subst, ◌∙◌, sym, arith}
 use Rattle.std.proofs.lemmas.Slice.Eq.{bytes_eq-Decides}
 use Rattle.position_core.specs.declared.message.Entry.{Entry}
 use Rattle.delivery_machine.specs.State.{Subscription, Member}
@@ -8,7 +8,7 @@ use Rattle.dispatch_core.specs.Log.{waits_at, holder_at, line_of}
 use Rattle.topic_tests.specs.Listed.{listed}
 use Rattle.topic_tests.proofs.tests.scenes.law.expect_law.Goals as goal
 
-joined_alone : (log : List Entry) (durable : ℕ) (sub : Subscription) (m : Member) (n : ℕ) → m.number ≡ n → m.subscription ≡ sub.name → Joined n (listed log durable []) sub (listed log durable (m ∷ [])) (joining sub.kind n sub)
+joined_alone : (log : List Entry) (durable : ℕ) (sub : Subscription) (m : Member) (n : ℕ) → m.number ≡ n → m.subscription ≡ sub.name → Joined None n (listed log durable []) sub (listed log durable (m ∷ [])) (joining sub.kind None n sub)
 unfolding waits_at holder_at line_of
 joined_alone log durable sub m n number name = record {
   stays = record { log = record { kind = refl; log = refl; durable = refl }; messages = λ i. record { waits = refl; holder = refl } };
@@ -27,6 +27,6 @@ expect_offers-requires-clause-joins g c =
     let m = c.new_member.result in
     let log = c.as_slice.result.now in
     let same : c.new-after.result.subscription ≡ before = c.new-after.ensures.begun ∙ sym c.new-before.ensures.begun in
-    let is = c.join.ensures ∙ ap (λ (s : Subscription). joining s.kind 1 s) same in
-    subst (λ (new : Subscription). Joined 1 (listed log 0 []) before (listed log 0 (m ∷ [])) new) (sym is)
+    let is = c.join.ensures ∙ ap (λ (s : Subscription). joining s.kind None 1 s) same in
+    subst (λ (new : Subscription). Joined None 1 (listed log 0 []) before (listed log 0 (m ∷ [])) new) (sym is)
     (joined_alone log 0 before m 1 c.new_member.ensures.0 (c.new_member.ensures.1 ∙ sym c.new-before.result.named))
