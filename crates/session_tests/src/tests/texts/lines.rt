@@ -183,7 +183,13 @@ fn bad_subscribes(rt: HostRuntime) {
         "subscribe s Exclusive 0 push:1 0 60000 0 - earliest",
         "subscribe s Exclusive 0 push:1 0 60000 0 -",
         "subscribe - Exclusive 0 push:1 0 60000 0 - Latest",
-        "subscribe s Exclusive 0 push:1 0 60000 0 - Latest 0-1",
+        "subscribe s Exclusive 0 push:1 0 60000 0 - Latest 0-1 0-1",
+        "subscribe s Exclusive 0 push:1 0 60000 0 - Latest ",
+        "subscribe s Key_Shared 0 push:1 0 60000 0 - Latest 5-4",
+        "subscribe s Key_Shared 0 push:1 0 60000 0 - Latest 0-65536",
+        "subscribe s Key_Shared 0 push:1 0 60000 0 - Latest 00-5",
+        "subscribe s Key_Shared 0 push:1 0 60000 0 - Latest 0-5,5-9",
+        "subscribe s Key_Shared 0 push:1 0 60000 0 - Latest 7",
     ];
     check_lines(&rt, lines, Want::BadLine);
 }
