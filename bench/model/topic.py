@@ -134,7 +134,7 @@ class Topic:
     # ---- snapshots
 
     def snapshot(self):
-        kept = {name: (it.kind, set(it.acknowledged), list(it.dead)) for name, it in self.subscriptions.items()}
+        kept = {name: (it.kind, set(it.acknowledged), list(it.dead), dict(it.counts)) for name, it in self.subscriptions.items()}
         return self.ledger, self.ordinal, list(self.log), kept
 
     def restart(self):
@@ -144,8 +144,8 @@ class Topic:
         self.producers, self.members = {}, {}
         self.next_producer = self.next_consumer = 1
         self.subscriptions = {
-            name: Subscription(kind, set(acknowledged), list(dead), len(dead))
-            for name, (kind, acknowledged, dead) in kept.items()
+            name: Subscription(kind, set(acknowledged), list(dead), len(dead), counts=dict(counts))
+            for name, (kind, acknowledged, dead, counts) in kept.items()
         }
         return ["restarted", self.ledger]
 

@@ -56,7 +56,7 @@ def check(size):
     """What the stock sqlite3 reads."""
     of_it = f"FROM entry WHERE topic = '{NAME}'"
     for question, answer in (
-            ('PRAGMA integrity_check', 'ok'), ('PRAGMA journal_mode', 'wal'), ('SELECT id, version FROM meta', '1|1'),
+            ('PRAGMA integrity_check', 'ok'), ('PRAGMA journal_mode', 'wal'), ('SELECT id, version FROM meta', '1|2'),
             ('SELECT name FROM topic', NAME),
             (f'SELECT count(*), min(idx), max(idx) {of_it}', f'{size + CHANGES + 1}|0|{size + CHANGES}'),
             (f'SELECT DISTINCT typeof(payload), length(payload), properties {of_it} AND idx < {size}', 'blob|100|{}'),

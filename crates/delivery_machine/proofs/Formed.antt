@@ -1,7 +1,8 @@
--- What each subscription of a reached state has, whatever becomes of it: messages of the log, and live ones pending.
-use Rattle.std.proofs.Common.{◌≡◌, ℕ, ◌-◌, ◌<◌, ◌≤◌, List, [], ◌∷◌, ◌++◌, map, length, take, drop, Some, Option, Bool, true, false, cond, refl, ap, ◌∙◌, sym, subst, arith, inl, inr, ◌⊎◌, Contains, true≢false, length-append}
-use Rattle.std.specs.Prelude.{◌||◌, not, is_some}
+-- What each subscription of a reached state has, whatever becomes of it: messages of the log, of which live ones are pending, and counted.
+use Rattle.std.proofs.Common.{◌≡◌, ℕ, ◌-◌, ◌<◌, ◌≤◌, List, [], ◌∷◌, ◌++◌, map, length, take, drop, Some, Option, Bool, true, false, refl, ap, ◌∙◌, sym, subst, arith, inl, inr, ◌⊎◌, Contains, true≢false, length-append}
+use Rattle.std.specs.Prelude.{◌||◌, not}
 use Rattle.std.specs.List.{All, AllByRecursion, list_any}
+use Rattle.std.specs.Option.{unwrap_or}
 use Rattle.std.specs.FinSet as set
 use Rattle.std.specs.FinMap as map_of
 use Rattle.std.proofs.lemmas.List.Elements.{All-head}
@@ -18,18 +19,17 @@ use Rattle.delivery_machine.specs.Words.{is_dead, is_held_by}
 use Rattle.delivery_machine.specs.Joining.{new_subscription, releasing_all, leaving}
 use Rattle.delivery_machine.specs.Acknowledging.{acknowledging, is_one_of}
 use Rattle.delivery_machine.specs.Delivering.{holding}
-use Rattle.delivery_machine.specs.Ticking.{redelivering, recounted}
+use Rattle.delivery_machine.specs.Ticking.{redelivering, recounted, counted_again, most_count}
 use Rattle.delivery_machine.specs.Seeking.{seeking}
 use Rattle.delivery_machine.specs.Dying.{burying, moving, first_safe}
-use Rattle.delivery_machine.specs.WellFormed.{has_message, AreMessagesOf, AreDeadLettersOf}
+use Rattle.delivery_machine.specs.WellFormed.{has_message, AreMessagesOf, AreDeadLettersOf, AreCountsOf}
 use Rattle.delivery_machine.specs.declared.event.Initial.{Initial}
 use Rattle.delivery_machine.specs.declared.event.Initial.TheVariants.{Earliest, Latest}
-use Rattle.delivery_machine.proofs.Deciding.{turned, or_false, and_first}
+use Rattle.delivery_machine.proofs.Deciding.{turned, or_false, or_second}
 use Rattle.delivery_machine.proofs.Tended.{got_inserted}
 use Rattle.delivery_machine.proofs.Tending.{got_retained, none_pending}
-use Rattle.delivery_machine.proofs.Messages.{either_way, message_taken, one_listed, one_of_itself}
+use Rattle.delivery_machine.proofs.Messages.{either_way, position_itself, message_taken, one_listed, one_of_itself}
 use Rattle.delivery_machine.proofs.Letters.{none_dead, dead_in_more, dead_pushed, dead_dropped}
-use Rattle.delivery_machine.proofs.InOrder.{held_retained}
 use Rattle.delivery_machine.proofs.Taking.{first_letter}
 
 -- neither acknowledged nor dead
@@ -40,9 +40,13 @@ pub record IsFormed (log : List Entry) (durable : ℕ) (sub : Subscription) : Ty
   pub acknowledged : AreMessagesOf log sub.acknowledged
   pub visible : (p : Position) (h : Held) → map_of.get sub.pending p ≡ Some h → has_message (take durable log) p ≡ true
   pub live : (p : Position) (h : Held) → map_of.get sub.pending p ≡ Some h → IsLiveAt sub p
-  pub counted : (p : Position) → map_of.contains_key sub.counts p ≡ true → has_message log p ≡ true
+  pub counted : AreCountsOf log sub.acknowledged sub.dead sub.counts
   pub dead : AreDeadLettersOf log sub.dead
   pub safe : sub.safe ≤ length sub.dead
+
+-- each of the positions is pending
+abbrev pub ArePending : Subscription → List Position → Type 0
+ArePending sub positions = (p : Position) → is_one_of positions p ≡ true → (h : Held) × (map_of.get sub.pending p ≡ Some h)
 
 -- what is pending is in the log
 pub held_logged : (log : List Entry) (durable : ℕ) (sub : Subscription) → IsFormed log durable sub → (p : Position) (h : Held) → map_of.get sub.pending p ≡ Some h → has_message log p ≡ true
@@ -55,7 +59,7 @@ formed_in_more log more durable longer sub grows shows formed = record {
   acknowledged = λ p is. grows p (formed.acknowledged p is);
   visible = λ p h is. shows p (formed.visible p h is);
   live = formed.live;
-  counted = λ p is. grows p (formed.counted p is);
+  counted = λ p n is. let one = formed.counted p n is in record { message = grows p one.message; waits = one.waits; lives = one.lives; redelivered = one.redelivered; most = one.most };
   dead = dead_in_more log more sub.dead grows formed.dead;
   safe = formed.safe;
 }
@@ -117,9 +121,6 @@ module _ (log : List Entry) (durable : ℕ) where
 
   -- ---- acknowledged
 
-  kept_counted : (counts : map_of.FinMap position_cmp ℕ) (keeps : Position → Bool) (p : Position) → map_of.contains_key (map_of.retain_keys counts keeps) p ≡ true → map_of.contains_key counts p ≡ true
-  kept_counted counts keeps p is = and_first (map_of.contains_key counts p) (keeps p) (sym (held_retained counts keeps p) ∙ is)
-
   also_acknowledged : (sub : Subscription) (positions : List Position) (p : Position) → set.contains (acknowledging positions sub).acknowledged p ≡ (set.contains sub.acknowledged p || is_one_of positions p)
   also_acknowledged sub positions p =
       set.contains-union positions_total sub.acknowledged (set.from_list positions) p
@@ -132,8 +133,11 @@ module _ (log : List Entry) (durable : ℕ) where
     live = λ p h is.
         let was = got_retained sub.pending keeps p h is in
         let lives = formed.live p h was.1 in
-        (also_acknowledged sub positions p ∙ neither (set.contains sub.acknowledged p) (is_one_of positions p) lives.0 was.0, lives.1);
-    counted = λ p is. formed.counted p (kept_counted sub.counts keeps p is);
+        (still p lives.0 was.0, lives.1);
+    counted = λ p n is.
+        let was = got_retained sub.counts keeps p n is in
+        let one = formed.counted p n was.1 in
+        record { message = one.message; waits = still p one.waits was.0; lives = one.lives; redelivered = one.redelivered; most = one.most };
     dead = formed.dead;
     safe = formed.safe;
   }
@@ -148,27 +152,47 @@ module _ (log : List Entry) (durable : ℕ) where
       neither : (a b : Bool) → a ≡ false → not b ≡ true → (a || b) ≡ false
       neither a b e f = grind (arith, nat_tests)
 
+      still : (p : Position) → set.contains sub.acknowledged p ≡ false → keeps p ≡ true → set.contains (acknowledging positions sub).acknowledged p ≡ false
+      still p waits stays = also_acknowledged sub positions p ∙ neither (set.contains sub.acknowledged p) (is_one_of positions p) waits stays
+
   -- ---- redelivered
 
-  one_counted : (positions : List Position) (counts : map_of.FinMap position_cmp ℕ) (p : Position) → map_of.contains_key (recounted positions counts) p ≡ true → (is_one_of positions p ≡ true) ⊎ (map_of.contains_key counts p ≡ true)
-  one_counted [] counts p is = inr is
-  one_counted (q ∷ positions) counts p is = by _ (same_position p q) refl (sym (ap is_some (map_of.get-insert positions_total (recounted positions counts) q _ p)) ∙ is) (one_counted positions counts p)
+  -- a message that is counted is one of those, or was counted so before
+  one_counted : (positions : List Position) (counts : map_of.FinMap position_cmp ℕ) (p : Position) (n : ℕ) → map_of.get (recounted positions counts) p ≡ Some n
+      → ((is_one_of positions p ≡ true) × (0 < n) × (n ≤ most_count)) ⊎ (map_of.get counts p ≡ Some n)
+  one_counted [] counts p n is = inr is
+  one_counted (q ∷ positions) counts p n is =
+      elim (got_inserted (recounted positions counts) q (counted_again (unwrap_or (map_of.get counts q) 0)) p n is) [
+        | inl new ↦ inl (any_of p q positions new.0, risen _ n new.1, at_most _ n new.1)
+        | inr old ↦ elim (one_counted positions counts p n old) [
+          | inl one ↦ inl (or_second (same_position p q) (is_one_of positions p) one.0, one.1, one.2)
+          | inr before ↦ inr before
+        ]
+      ]
     where
-      by : (n : ℕ) (b : Bool) → same_position p q ≡ b → is_some (cond b (Some n) (map_of.get (recounted positions counts) p)) ≡ true → (map_of.contains_key (recounted positions counts) p ≡ true → (is_one_of positions p ≡ true) ⊎ (map_of.contains_key counts p ≡ true))
-          → ((b || is_one_of positions p) ≡ true) ⊎ (map_of.contains_key counts p ≡ true)
-      by n true same is rest = inl refl
-      by n false other is rest = rest is
+      any_of : (p q : Position) (positions : List Position) → p ≡ q → is_one_of (q ∷ positions) p ≡ true
+      any_of p q positions same = ap (λ b. b || is_one_of positions p) (ap (λ (r : Position). same_position p r) (sym same) ∙ position_itself p)
 
-  pub formed_redelivering : (positions : List Position) (sub : Subscription) → ((p : Position) → is_one_of positions p ≡ true → has_message log p ≡ true) → IsFormed log durable sub → IsFormed log durable (redelivering positions sub)
+      risen : (m n : ℕ) → n ≡ counted_again m → 0 < n
+      risen m n is = omega arith
+
+      at_most : (m n : ℕ) → n ≡ counted_again m → n ≤ most_count
+      at_most m n is = omega arith
+
+  -- what is redelivered is pending
+  pub formed_redelivering : (positions : List Position) (sub : Subscription) → ArePending sub positions → IsFormed log durable sub → IsFormed log durable (redelivering positions sub)
   formed_redelivering positions sub there formed =
       let fewer = fewer_pending sub (λ p. not (is_one_of positions p)) formed in
       record {
         acknowledged = fewer.acknowledged;
         visible = fewer.visible;
         live = fewer.live;
-        counted = λ p is. elim (one_counted positions sub.counts p is) [
-          | inl one ↦ there p one
-          | inr old ↦ formed.counted p old
+        counted = λ p n is. elim (one_counted positions sub.counts p n is) [
+          | inl one ↦
+              let held = there p one.0 in
+              let lives = formed.live p held.0 held.1 in
+              record { message = held_logged log durable sub formed p held.0 held.1; waits = lives.0; lives = lives.1; redelivered = one.1; most = one.2 }
+          | inr old ↦ formed.counted p n old
         ];
         dead = fewer.dead;
         safe = fewer.safe;
@@ -176,28 +200,32 @@ module _ (log : List Entry) (durable : ℕ) where
 
   -- ---- sought
 
-  -- where nothing is pending or counted
-  pub formed_begun : (name : List ℕ) (kind : Kind) (acknowledged : set.FinSet position_cmp) (shares : Shares) (dead : List DeadLetter) (safe : ℕ) → AreMessagesOf log acknowledged → AreDeadLettersOf log dead → safe ≤ length dead
-      → IsFormed log durable (record { name = name; kind = kind; acknowledged = acknowledged; pending = map_of.empty; counts = map_of.empty; shares = shares; dead = dead; safe = safe })
-  formed_begun name kind acknowledged shares dead safe there letters low = record {
+  -- where nothing is pending
+  pub formed_begun : (name : List ℕ) (kind : Kind) (acknowledged : set.FinSet position_cmp) (counts : map_of.FinMap position_cmp ℕ) (shares : Shares) (dead : List DeadLetter) (safe : ℕ)
+      → AreMessagesOf log acknowledged → AreCountsOf log acknowledged dead counts → AreDeadLettersOf log dead → safe ≤ length dead
+      → IsFormed log durable (record { name = name; kind = kind; acknowledged = acknowledged; pending = map_of.empty; counts = counts; shares = shares; dead = dead; safe = safe })
+  formed_begun name kind acknowledged counts shares dead safe there counted letters low = record {
     acknowledged = there;
     visible = λ p h is. absurd (none_pending p h is);
     live = λ p h is. absurd (none_pending p h is);
-    counted = λ p is. absurd (true≢false (sym is ∙ ap is_some (map_of.get-empty position_cmp p)));
+    counted = counted;
     dead = letters;
     safe = low;
   }
+
+  none_counted : (acknowledged : set.FinSet position_cmp) (dead : List DeadLetter) → AreCountsOf log acknowledged dead map_of.empty
+  none_counted acknowledged dead p n is = absurd (none_pending p n is)
 
   -- the positions of messages of the log are acknowledged
   acknowledged_first : (before : List Entry) → ((e : Entry) → Contains before e → Contains log e) → AreMessagesOf log (set.from_list (map (λ (e : Entry). e.position) before))
   acknowledged_first before among p is = one_listed before log p among (sym (set.contains-from_list positions_total (map (λ (e : Entry). e.position) before) p) ∙ is)
 
   pub formed_seeking : (before : List Entry) (sub : Subscription) → ((e : Entry) → Contains before e → Contains log e) → IsFormed log durable sub → IsFormed log durable (seeking before sub)
-  formed_seeking before sub among formed = formed_begun sub.name sub.kind _ sub.shares sub.dead sub.safe (acknowledged_first before among) formed.dead formed.safe
+  formed_seeking before sub among formed = formed_begun sub.name sub.kind _ map_of.empty sub.shares sub.dead sub.safe (acknowledged_first before among) (none_counted _ sub.dead) formed.dead formed.safe
 
   pub formed_new : (name : List ℕ) (kind : Kind) (ranges : Option (List HashRange)) (consumer : ℕ) (initial : Initial) → IsFormed log durable (new_subscription name kind ranges consumer initial log)
-  formed_new name kind ranges consumer Earliest = formed_begun name kind _ _ [] 0 (λ p is. absurd (true≢false (sym is ∙ set.contains-empty position_cmp p))) (none_dead log) (omega arith)
-  formed_new name kind ranges consumer Latest = formed_begun name kind _ _ [] 0 (acknowledged_first log (λ e at. at)) (none_dead log) (omega arith)
+  formed_new name kind ranges consumer Earliest = formed_begun name kind _ map_of.empty _ [] 0 (λ p is. absurd (true≢false (sym is ∙ set.contains-empty position_cmp p))) (none_counted _ []) (none_dead log) (omega arith)
+  formed_new name kind ranges consumer Latest = formed_begun name kind _ map_of.empty _ [] 0 (acknowledged_first log (λ e at. at)) (none_counted _ []) (none_dead log) (omega arith)
 
   -- ---- dead
 
@@ -209,7 +237,10 @@ module _ (log : List Entry) (durable : ℕ) where
         let was = got_retained sub.pending keeps p h is in
         let lives = formed.live p h was.1 in
         (lives.0, last sub.dead p lives.1 (other p was.0));
-    counted = λ p is. formed.counted p (kept_counted sub.counts keeps p is);
+    counted = λ p n is.
+        let was = got_retained sub.counts keeps p n is in
+        let one = formed.counted p n was.1 in
+        record { message = one.message; waits = one.waits; lives = last sub.dead p one.lives (other p was.0); redelivered = one.redelivered; most = one.most };
     dead = dead_pushed log sub.dead letter (held_logged log durable sub formed letter.position held there) (formed.live letter.position held there).1 below formed.dead;
     safe = let low = formed.safe in let longer = length-append sub.dead (letter ∷ []) in omega arith;
   }
@@ -233,7 +264,9 @@ module _ (log : List Entry) (durable : ℕ) where
         acknowledged = done.acknowledged;
         visible = done.visible;
         live = λ p h is. let lives = done.live p h is in (lives.0, later sub.dead p lives.1);
-        counted = done.counted;
+        counted = λ p n is.
+            let one = done.counted p n is in
+            record { message = one.message; waits = one.waits; lives = later sub.dead p one.lives; redelivered = one.redelivered; most = one.most };
         dead = dead_dropped log sub.dead formed.dead;
         safe = fewer sub.dead sub.safe formed.safe;
       }

@@ -19,7 +19,7 @@ use Rattle.delivery_machine.specs.Producing.{storing, storing_below, with_messag
 use Rattle.delivery_machine.specs.Joining.{releasing_all, all_released, is_taken_over, taken_over, leaving, permitted, without_member, with_member, Subscribes}
 use Rattle.delivery_machine.specs.Acknowledging.{forgetting, without, Acks, positions_up_to}
 use Rattle.delivery_machine.specs.Delivering.{holding, given, due_after, Dispatches}
-use Rattle.delivery_machine.specs.Ticking.{redelivering, Ticks, pending_positions}
+use Rattle.delivery_machine.specs.Ticking.{Ticks, pending_positions}
 use Rattle.delivery_machine.specs.Dying.{dying_at, first_safe, next_letter}
 use Rattle.delivery_machine.specs.Run.{Step, Takes}
 use Rattle.delivery_machine.specs.Snapshot.{KeptSubscription, Snapshot, kept_of, snapshot_of}
@@ -107,13 +107,13 @@ told_ticks : (s : State) (name : List ℕ) (now : ℕ) (sub : Subscription) (r :
 told_ticks s name now sub Quiet t h = told_as s (Tick name now) Quiet Quiet t s refl h.1 (record { snapshot = λ _. refl; producers = refl; consumers = refl })
 told_ticks s name now sub (Rewound count) t h =
     told_as s (Tick name now) (Rewound count) (Rewound count) t _ refl h.3 (record {
-      snapshot = λ _. ap (snapshot_over s) (kept_changed name (redelivering (pending_positions s sub)) (λ _. refl) s.subscriptions);
+      snapshot = λ stays. absurd (true≢false stays);
       producers = refl;
       consumers = numbers_forgotten name (pending_positions s sub) s.members;
     })
 told_ticks s name now sub (Released p) t h =
     told_as s (Tick name now) (Released p) (Released p) t _ refl h.3 (record {
-      snapshot = λ _. ap (snapshot_over s) (kept_changed name (redelivering (p ∷ [])) (λ _. refl) s.subscriptions);
+      snapshot = λ stays. absurd (true≢false stays);
       producers = refl;
       consumers = numbers_forgotten name (p ∷ []) s.members;
     })

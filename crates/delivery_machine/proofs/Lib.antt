@@ -21,6 +21,8 @@ pub mod Passes
 pub mod Firsts
 pub mod Behind
 pub mod Rising
+pub mod Entries
+pub mod CountsListed
 pub mod Among
 pub mod Tended
 pub mod Tending

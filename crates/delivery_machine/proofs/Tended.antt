@@ -118,8 +118,8 @@ beside_nobody log pending hash consumer y k none at same is =
     told a b m n e f = grind (arith, nat_tests)
 
 -- what is pending once a message more is
-pub got_inserted : (pending : map_of.FinMap position_cmp Held) (p : Position) (held : Held) (q : Position) (h : Held) → map_of.get (map_of.insert pending p held) q ≡ Some h → ((q ≡ p) × (h ≡ held)) ⊎ (map_of.get pending q ≡ Some h)
-got_inserted pending p held q h is = by (same_position q p) refl (sym (map_of.get-insert positions_total pending p held q) ∙ is)
+pub got_inserted : {X : Type 0} (pending : map_of.FinMap position_cmp X) (p : Position) (held : X) (q : Position) (h : X) → map_of.get (map_of.insert pending p held) q ≡ Some h → ((q ≡ p) × (h ≡ held)) ⊎ (map_of.get pending q ≡ Some h)
+got_inserted {X} pending p held q h is = by (same_position q p) refl (sym (map_of.get-insert positions_total pending p held q) ∙ is)
   where
     by : (b : Bool) → same_position q p ≡ b → cond b (Some held) (map_of.get pending q) ≡ Some h → ((q ≡ p) × (h ≡ held)) ⊎ (map_of.get pending q ≡ Some h)
     by true t e = let same : h ≡ held = cc in inl (position_is q p t, same)

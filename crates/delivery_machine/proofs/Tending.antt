@@ -20,8 +20,8 @@ use Rattle.delivery_machine.proofs.Deciding.{number_is}
 -- ---- parts of what is pending
 
 -- what is kept passes the test, and was pending
-pub got_retained : (pending : map_of.FinMap position_cmp Held) (keeps : Position → Bool) (p : Position) (h : Held) → map_of.get (map_of.retain_keys pending keeps) p ≡ Some h → (keeps p ≡ true) × (map_of.get pending p ≡ Some h)
-got_retained pending keeps p h is =
+pub got_retained : {X : Type 0} (pending : map_of.FinMap position_cmp X) (keeps : Position → Bool) (p : Position) (h : X) → map_of.get (map_of.retain_keys pending keeps) p ≡ Some h → (keeps p ≡ true) × (map_of.get pending p ≡ Some h)
+got_retained {X} pending keeps p h is =
     by (keeps p) refl (sym (map_of.get-retain_keys pending keeps p (λ x t. ap keeps (sym (exact_positions p x t)))) ∙ is)
   where
     by : (b : Bool) → keeps p ≡ b → cond b (map_of.get pending p) None ≡ Some h → (keeps p ≡ true) × (map_of.get pending p ≡ Some h)
@@ -31,8 +31,8 @@ got_retained pending keeps p h is =
 pub part_retained : (pending : map_of.FinMap position_cmp Held) (keeps : Position → Bool) → IsPartOf (map_of.retain_keys pending keeps) pending
 part_retained pending keeps p h is = (h, (got_retained pending keeps p h is).1, refl)
 
-pub none_pending : (p : Position) (h : Held) → map_of.get (map_of.empty {X = Held} {R = position_cmp}) p ≡ Some h → ⊥
-none_pending p h is = let none = map_of.get-empty {X = Held} position_cmp p in cc
+pub none_pending : {X : Type 0} (p : Position) (h : X) → map_of.get (map_of.empty {X = X} {R = position_cmp}) p ≡ Some h → ⊥
+none_pending {X} p h is = let none = map_of.get-empty {X = X} position_cmp p in cc
 
 pub part_empty : (pending : map_of.FinMap position_cmp Held) → IsPartOf map_of.empty pending
 part_empty pending p h is = absurd (none_pending p h is)

@@ -96,7 +96,7 @@ sound_snapshot t all = record {
   names = subst NamesRise (sym (keys_mapped (λ (kept : KeptSubscription). kept.name) kept_of (λ _. refl) t.subscriptions)) all.well.named;
   subscriptions = All-map (IsSoundSubscription t.log) kept_of t.subscriptions
       (all_from_each (λ sub. IsSoundSubscription t.log (kept_of sub)) t.subscriptions all.well.named
-      (λ name sub found. let formed = all.well.each name sub found in record { acknowledged = formed.acknowledged; dead = formed.dead }));
+      (λ name sub found. let formed = all.well.each name sub found in record { acknowledged = formed.acknowledged; counted = formed.counted; dead = formed.dead }));
   ordinals = subst (HaveOrdinals t.next_ordinal) (sym (letters_mapped (λ (kept : KeptSubscription). kept.dead) letters kept_of (λ _. refl) t.subscriptions)) (ordinals_once letters t.next_ordinal t.subscriptions all.well.ordinals);
 }
 

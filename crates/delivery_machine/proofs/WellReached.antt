@@ -1,6 +1,6 @@
 -- Each step keeps what is well kept, and so does each run.
 use Rattle.std.proofs.Common.{◌≡◌, ℕ, ◌+◌, ◌<◌, ◌≤◌, List, [], ◌∷◌, map, length, min, max, Some, None, Option, Bool, true, false, refl, ap, ◌∙◌, sym, subst, arith, inl, inr, true≢false}
-use Rattle.std.specs.Prelude.{◌^◌, ◌&&◌, nat_lt, nat_le, not, if◌then◌else◌}
+use Rattle.std.specs.Prelude.{◌^◌, ◌&&◌, nat_lt, nat_le, not, is_some, if◌then◌else◌}
 use Rattle.std.specs.List.{IsDistinct, find, filter, count_by, list_any}
 use Rattle.std.specs.List.Sorted.{IsStrictlySortedBy}
 use Rattle.std.specs.Option.{option_and_then}
@@ -8,13 +8,14 @@ use Rattle.std.specs.Ordering.{is_le}
 use Rattle.std.specs.FinMap as map_of
 use Rattle.std.proofs.lemmas.Bool.Decides.{nat_tests}
 use Rattle.std.proofs.lemmas.List.Elements.{All-nil, All-map, All-weaker}
+use Rattle.std.proofs.lemmas.List.Folds.{Any-from_list_any}
 use Rattle.std.proofs.lemmas.List.Sums.{count_by-le-length}
 use Rattle.position_core.specs.declared.position.Position.{Position}
 use Rattle.position_core.specs.declared.message.Entry.{Entry}
 use Rattle.position_core.specs.declared.topic_name.TopicName.{TopicName}
 use Rattle.position_core.specs.declared.held.Held.{Held}
 use Rattle.position_core.specs.declared.fault.Fault.TheVariants.{ProducerBusy, NoSession, NoSuchMessage, TopicFull}
-use Rattle.position_core.specs.Position.{position_cmp}
+use Rattle.position_core.specs.Position.{position_cmp, same_position}
 use Rattle.delivery_machine.specs.Shares.{no_shares}
 use Rattle.delivery_machine.specs.State.{State, Member, Subscription, DeadLetter, fresh}
 use Rattle.delivery_machine.specs.Words.{count_of, is_named, is_member, is_producer, is_connected, is_live, has_member, has_position, next_position, visible, emptied, active_at}
@@ -23,7 +24,7 @@ use Rattle.delivery_machine.specs.Producing.{IsGiven, auto_name, with_message, m
 use Rattle.delivery_machine.specs.Joining.{permitted, without_member}
 use Rattle.delivery_machine.specs.Acknowledging.{Acks, positions_up_to}
 use Rattle.delivery_machine.specs.Delivering.{Dispatches}
-use Rattle.delivery_machine.specs.Ticking.{Ticks, is_due, pending_positions}
+use Rattle.delivery_machine.specs.Ticking.{Ticks, is_due, pending_positions, pending_positions_in}
 use Rattle.delivery_machine.specs.Seeking.{length_before, length_before_time, first_live}
 use Rattle.delivery_machine.specs.Dying.{dying_at, is_to_die, first_safe}
 use Rattle.delivery_machine.specs.WellFormed.{has_message, HaveOrdinals, NamesRise, IsSound, IsSoundSubscription}
@@ -36,6 +37,9 @@ use Rattle.delivery_machine.specs.declared.reply.Reply.{Reply}
 use Rattle.delivery_machine.specs.declared.reply.Reply.TheVariants.{Sent, Idle, Quiet, Rewound, Released, Died}
 use Rattle.delivery_machine.proofs.RunSteps.{split, Run-keeps}
 use Rattle.delivery_machine.proofs.Deciding.{or_false}
+use Rattle.delivery_machine.proofs.Among.{contained_mapped}
+use Rattle.delivery_machine.proofs.Passes.{passes}
+use Rattle.delivery_machine.proofs.Tended.{position_is}
 use Rattle.delivery_machine.proofs.Firsts.{some_elim, filter_contained}
 use Rattle.delivery_machine.proofs.Sending.{taken_contained}
 use Rattle.delivery_machine.proofs.Kept.{not_refused, not_refused_next}
@@ -45,7 +49,7 @@ use Rattle.delivery_machine.proofs.Keyed.{keys_mapped}
 use Rattle.delivery_machine.proofs.Given.{none_given}
 use Rattle.delivery_machine.proofs.Named.{each_from_all}
 use Rattle.delivery_machine.proofs.Ordinals.{letters_mapped, once_ordinals}
-use Rattle.delivery_machine.proofs.Formed.{IsFormed, held_logged, formed_begun}
+use Rattle.delivery_machine.proofs.Formed.{IsFormed, ArePending, formed_begun}
 use Rattle.delivery_machine.proofs.Uncollected.{none_out}
 use Rattle.delivery_machine.proofs.WellKept.{IsWellKept, letters, well_stored, well_published, well_connected, well_disconnected}
 use Rattle.delivery_machine.proofs.WellTaken.{AreLogged, well_acknowledged, well_redelivered, well_died, well_moved, well_sought, well_taken_over}
@@ -80,12 +84,26 @@ live_logged s sub count p one =
     one_listed (filter (is_live sub) (visible s)) s.log p (λ e at. taken_contained s.durable s.log e (filter_contained (is_live sub) (visible s) e at))
     (one_of_first count (map (λ (e : Entry). e.position) (filter (is_live sub) (visible s))) p one)
 
-due_logged : (s : State) (sub : Subscription) (now : ℕ) (position : Position) → is_due now (map_of.get sub.pending position) ≡ true → IsFormed s.log s.durable sub → AreLogged s (position ∷ [])
-due_logged s sub now position due formed p one = subst (λ (q : Position). has_message s.log q ≡ true) (one_of_itself position p one) (by (map_of.get sub.pending position) refl due)
+-- what is released was pending
+due_pending : (sub : Subscription) (now : ℕ) (position : Position) → is_due now (map_of.get sub.pending position) ≡ true → ArePending sub (position ∷ [])
+due_pending sub now position due p one = by (map_of.get sub.pending position) refl due
   where
-    by : (o : Option Held) → map_of.get sub.pending position ≡ o → is_due now o ≡ true → has_message s.log position ≡ true
+    by : (o : Option Held) → map_of.get sub.pending position ≡ o → is_due now o ≡ true → (h : Held) × (map_of.get sub.pending p ≡ Some h)
     by None got due = absurd (true≢false (sym due))
-    by (Some h) got due = held_logged s.log s.durable sub formed position h got
+    by (Some h) got due = (h, ap (map_of.get sub.pending) (sym (one_of_itself position p one)) ∙ got)
+
+all_pending : (log : List Entry) (sub : Subscription) → ArePending sub (pending_positions_in log sub)
+all_pending log sub p one =
+    let at = Any-from_list_any (same_position p) (pending_positions_in log sub) one in
+    let from = contained_mapped (λ (e : Entry). e.position) (filter held log) at.1 (at.0, at.2, at.3) in
+    by (map_of.get sub.pending p) refl (ap (λ (q : Position). map_of.contains_key sub.pending q) (position_is p at.1 at.4 ∙ from.2) ∙ passes held log from.0 from.1)
+  where
+    held : Entry → Bool
+    held e = map_of.contains_key sub.pending e.position
+
+    by : (o : Option Held) → map_of.get sub.pending p ≡ o → map_of.contains_key sub.pending p ≡ true → (h : Held) × (map_of.get sub.pending p ≡ Some h)
+    by None got there = absurd (true≢false (sym there ∙ ap is_some got))
+    by (Some h) got there = (h, got)
 
 -- what dies is pending, and there is an ordinal for it
 dies : (s : State) (sub : Subscription) (position : Position) (m : Member) → dying_at s sub position ≡ Some m → (h : Held) × (map_of.get sub.pending position ≡ Some h) × (s.next_ordinal < 2 ^ 62)
@@ -119,8 +137,8 @@ acks_well s consumer positions reply t logged h well =
 
 tick_well : (s : State) (name : List ℕ) (now : ℕ) (sub : Subscription) (reply : Reply) (t : State) → find (is_named name) s.subscriptions ≡ Some sub → Ticks s name now sub reply t → IsWellKept s → IsWellKept t
 tick_well s name now sub Quiet t found h well = settled t s h.1 well
-tick_well s name now sub (Rewound count) t found h well = settled t _ h.3 (well_redelivered s name (pending_positions s sub) (filtered_logged s (λ e. map_of.contains_key sub.pending e.position)) well)
-tick_well s name now sub (Released position) t found h well = settled t _ h.3 (well_redelivered s name (position ∷ []) (due_logged s sub now position h.1 (well.each name sub found)) well)
+tick_well s name now sub (Rewound count) t found h well = settled t _ h.3 (well_redelivered s name sub (pending_positions s sub) found (all_pending s.log sub) well)
+tick_well s name now sub (Released position) t found h well = settled t _ h.3 (well_redelivered s name sub (position ∷ []) found (due_pending sub now position h.1) well)
 tick_well s name now sub (Died position ordinal) t found h well =
     some_elim (dying_at s sub position) _ (IsWellKept t) h.3 (λ m dying is.
     let at = dies s sub position m dying in
@@ -211,7 +229,7 @@ well_restarted kept sound = record {
   each = each_from_all (IsFormed kept.log (length kept.log)) (map subscription_from kept.subscriptions)
       (All-map (IsFormed kept.log (length kept.log)) subscription_from kept.subscriptions
       (All-weaker (IsSoundSubscription kept.log) (λ sub. IsFormed kept.log (length kept.log) (subscription_from sub))
-      (λ sub one. formed_begun kept.log (length kept.log) sub.name sub.kind sub.acknowledged no_shares sub.dead (length sub.dead) one.acknowledged one.dead (omega arith)) kept.subscriptions sound.subscriptions));
+      (λ sub one. formed_begun kept.log (length kept.log) sub.name sub.kind sub.acknowledged sub.counts no_shares sub.dead (length sub.dead) one.acknowledged one.counted one.dead (omega arith)) kept.subscriptions sound.subscriptions));
   uncollected = λ m at. absurd (none_out m at);
 }
 

@@ -1,5 +1,5 @@
 -- What is well kept stays so where messages are taken out of a subscription, and where one is sent.
-use Rattle.std.proofs.Common.{◌≡◌, ℕ, ◌+◌, ◌<◌, List, [], ◌∷◌, map, take, Some, Option, Bool, true, false, cond, refl, ap, ◌∙◌, arith}
+use Rattle.std.proofs.Common.{◌≡◌, ℕ, ◌+◌, ◌<◌, List, [], ◌∷◌, map, take, Some, Option, Bool, true, false, cond, refl, ap, ◌∙◌, subst, arith}
 use Rattle.std.specs.Prelude.{◌^◌, ◌==◌, if◌then◌else◌}
 use Rattle.std.specs.List.{find}
 use Rattle.std.specs.FinMap as map_of
@@ -19,7 +19,7 @@ use Rattle.delivery_machine.proofs.Sending.{taken_contained}
 use Rattle.delivery_machine.proofs.Tended.{some_is}
 use Rattle.delivery_machine.proofs.Keyed.{keys_mapped, kept_if}
 use Rattle.delivery_machine.proofs.Ordinals.{times_append, times_dropped, among_changed, once_more, below_next}
-use Rattle.delivery_machine.proofs.Formed.{formed_acknowledging, formed_redelivering, formed_burying, formed_moving, formed_seeking, formed_released}
+use Rattle.delivery_machine.proofs.Formed.{ArePending, formed_acknowledging, formed_redelivering, formed_burying, formed_moving, formed_seeking, formed_released}
 use Rattle.delivery_machine.proofs.Uncollected.{uncollected_taken, uncollected_emptied}
 use Rattle.delivery_machine.proofs.WellKept.{IsWellKept, well_changed, ordinals_stay, letters, numbers_of, names_of}
 
@@ -62,12 +62,13 @@ module _ (s : State) (n : List ℕ) where
         uncollected = uncollected_taken s.log s.members s.subscriptions n positions (acknowledging positions) (λ _. refl) (λ _. refl) well.uncollected;
       }) well
 
-  pub well_redelivered : (positions : List Position) → AreLogged s positions → IsWellKept s → IsWellKept (redelivered s n positions)
-  well_redelivered positions there well =
+  -- messages that are pending wait again
+  pub well_redelivered : (sub : Subscription) (positions : List Position) → find (is_named n) s.subscriptions ≡ Some sub → ArePending sub positions → IsWellKept s → IsWellKept (redelivered s n positions)
+  well_redelivered sub positions found pending well =
       well_changed s n (redelivering positions) (map (forgetting n positions) s.members) s.next_ordinal
       (record {
         name = λ _. refl;
-        formed = λ sub _. formed_redelivering s.log s.durable positions sub there;
+        formed = λ other there. formed_redelivering s.log s.durable positions other (subst (λ (z : Subscription). ArePending z positions) (some_is _ sub other found there) pending);
         numbers = forgotten_numbers positions;
         names = forgotten_names positions;
         ordinals = ordinals_stay s.next_ordinal n (redelivering positions) s.subscriptions (λ k sub. omega arith) well.ordinals;

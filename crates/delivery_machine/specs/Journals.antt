@@ -6,7 +6,7 @@ use Rattle.delivery_machine.specs.Words.{removed}
 use Rattle.delivery_machine.specs.declared.event.Event.{Event}
 use Rattle.delivery_machine.specs.declared.event.Event.TheVariants.{Stored, StoredTo, DropProducer, Leave, Ack, AckUpTo, Seek, SeekTime, Skip, DropSubscription, DeadDone}
 use Rattle.delivery_machine.specs.declared.reply.Reply.{Reply}
-use Rattle.delivery_machine.specs.declared.reply.Reply.TheVariants.{ProducerAdded, Published, Subscribed, Done, Died}
+use Rattle.delivery_machine.specs.declared.reply.Reply.TheVariants.{ProducerAdded, Published, Subscribed, Done, Released, Rewound, Died}
 
 -- ---- snapshots
 
@@ -25,6 +25,8 @@ is_kept_once_done event = false
 abbrev pub changes_snapshot : Event → Reply → Bool
 changes_snapshot event (Published position length) = true
 changes_snapshot event (Subscribed consumer) = true
+changes_snapshot event (Released position) = true
+changes_snapshot event (Rewound count) = true
 changes_snapshot event (Died position ordinal) = true
 changes_snapshot event Done = is_kept_once_done event
 changes_snapshot event reply = false

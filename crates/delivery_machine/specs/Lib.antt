@@ -13,6 +13,7 @@ pub mod Statistics
 pub mod Dying
 pub mod Ticking
 pub mod Run
+pub mod Counts
 pub mod Snapshot
 pub mod WellFormed
 pub mod Places

@@ -2,6 +2,7 @@
 use Rattle.std.specs.Prelude.{◌≡◌, ℕ, suc, ◌<◌, ◌≤◌, Bool, true, cond, List, [], ◌∷◌, length, map, All}
 use Rattle.std.specs.Ordering.{nat_cmp}
 use Rattle.std.specs.FinSet as set
+use Rattle.std.specs.FinMap as map_of
 use Rattle.position_core.specs.declared.position.Position.{Position}
 use Rattle.position_core.specs.declared.topic_name.TopicName.{TopicName}
 use Rattle.position_core.specs.declared.message.Entry.{Entry}
@@ -25,10 +26,11 @@ pub record KeptPlaces : Type 0 where
   pub name : List ℕ
   pub kind : Kind
   pub acknowledged : set.FinSet nat_cmp
+  pub counts : map_of.FinMap position_cmp ℕ
   pub dead : List DeadLetter
 
 abbrev pub kept_in : List Entry → KeptPlaces → KeptSubscription
-kept_in log kept = record { name = kept.name; kind = kept.kind; acknowledged = positions_at log kept.acknowledged; dead = kept.dead }
+kept_in log kept = record { name = kept.name; kind = kept.kind; acknowledged = positions_at log kept.acknowledged; counts = kept.counts; dead = kept.dead }
 
 -- what is kept of a topic, where `acknowledged` has places in the log
 pub record KeptTopic : Type 0 where

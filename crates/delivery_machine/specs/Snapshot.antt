@@ -14,6 +14,7 @@ pub record KeptSubscription : Type 0 where
   pub name : List ℕ
   pub kind : Kind
   pub acknowledged : set.FinSet position_cmp
+  pub counts : map_of.FinMap position_cmp ℕ
   pub dead : List DeadLetter
 
 pub record Snapshot : Type 0 where
@@ -25,7 +26,7 @@ pub record Snapshot : Type 0 where
   pub subscriptions : List KeptSubscription
 
 abbrev pub kept_of : Subscription → KeptSubscription
-kept_of sub = record { name = sub.name; kind = sub.kind; acknowledged = sub.acknowledged; dead = sub.dead }
+kept_of sub = record { name = sub.name; kind = sub.kind; acknowledged = sub.acknowledged; counts = sub.counts; dead = sub.dead }
 
 abbrev pub snapshot_of : State → Snapshot
 snapshot_of s = record {
@@ -44,7 +45,7 @@ subscription_from kept = record {
   kind = kept.kind;
   acknowledged = kept.acknowledged;
   pending = map_of.empty;
-  counts = map_of.empty;
+  counts = kept.counts;
   shares = no_shares;
   dead = kept.dead;
   safe = length kept.dead;

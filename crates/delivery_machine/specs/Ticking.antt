@@ -29,9 +29,13 @@ Nacks s consumer position now reply t =
 
 -- ---- redelivery
 
--- a count rises by one, and stays at 2^31-1
+-- a count goes no further: 2^31-1
+abbrev pub most_count : ℕ
+most_count = 2147483647
+
+-- a count rises by one, and stays at the last
 abbrev pub counted_again : ℕ → ℕ
-counted_again n = min (n + 1) 2147483647
+counted_again n = min (n + 1) most_count
 
 -- the counts of the messages, each risen by one
 abbrev pub recounted : List Position → map_of.FinMap position_cmp ℕ → map_of.FinMap position_cmp ℕ

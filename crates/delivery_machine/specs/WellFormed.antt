@@ -1,5 +1,5 @@
 -- Well-formed states and sound snapshots: what holds of every state that a run comes to, and of every snapshot of one.
-use Rattle.std.specs.Prelude.{◌≡◌, ℕ, ◌+◌, ◌^◌, ◌<◌, ◌≤◌, ◌==◌, ◌&&◌, List, map, length, Bool, Some, IsTrue}
+use Rattle.std.specs.Prelude.{◌≡◌, ℕ, ◌+◌, ◌^◌, ◌<◌, ◌≤◌, ◌==◌, ◌&&◌, List, map, length, Bool, false, Some, IsTrue}
 use Rattle.std.specs.List.{filter, list_any, flat_map, All, Contains, IsDistinct}
 use Rattle.std.specs.List.Sorted.{IsStrictlyIncreasing, IsStrictlySortedBy}
 use Rattle.std.specs.Str.{bytes_eq}
@@ -15,6 +15,7 @@ use Rattle.position_core.specs.Name.{name_order}
 use Rattle.delivery_machine.specs.State.{State, Member, DeadLetter, Subscription}
 use Rattle.delivery_machine.specs.Words.{has_position, has_subscription, is_member, is_live, is_held_at, members_of, visible}
 use Rattle.delivery_machine.specs.Shares.{is_share_of}
+use Rattle.delivery_machine.specs.Ticking.{most_count}
 use Rattle.delivery_machine.specs.ShareSets.{AreShares}
 use Rattle.delivery_machine.specs.Snapshot.{KeptSubscription, Snapshot}
 
@@ -39,6 +40,18 @@ pub record AreDeadLettersOf (log : List Entry) (dead : List DeadLetter) : Type 0
   pub messages : All (λ d. IsTrue (has_message log d.position)) dead
   pub once : IsDistinct same_position (map (λ d. d.position) dead)
   pub ordinals : IsStrictlyIncreasing (map (λ d. d.ordinal) dead)
+
+-- a message of the log that is neither acknowledged nor dead, and was redelivered: so often at most as is counted
+pub record IsCountedWell (log : List Entry) (acknowledged : set.FinSet position_cmp) (dead : List DeadLetter) (position : Position) (times : ℕ) : Type 0 where
+  pub message : IsTrue (has_message log position)
+  pub waits : set.contains acknowledged position ≡ false
+  pub lives : list_any (λ d. same_position d.position position) dead ≡ false
+  pub redelivered : 0 < times
+  pub most : times ≤ most_count
+
+-- each count is such a message's
+abbrev pub AreCountsOf : List Entry → set.FinSet position_cmp → List DeadLetter → map_of.FinMap position_cmp ℕ → Type 0
+AreCountsOf log acknowledged dead counts = (position : Position) (times : ℕ) → map_of.get counts position ≡ Some times → IsCountedWell log acknowledged dead position times
 
 -- no two dead letters of a topic have one ordinal, and the next ordinal is above them all; 2^62 is given to none
 pub record HaveOrdinals (next : ℕ) (dead : List DeadLetter) : Type 0 where
@@ -66,7 +79,7 @@ pub record IsPendingWell (s : State) (sub : Subscription) (position : Position) 
 pub record IsWellFormedIn (s : State) (sub : Subscription) : Type 0 where
   pub acknowledged : AreMessagesOf s.log sub.acknowledged
   pub pending : (position : Position) (held : Held) → map_of.get sub.pending position ≡ Some held → IsPendingWell s sub position held.consumer
-  pub counted : (position : Position) → IsTrue (map_of.contains_key sub.counts position) → IsTrue (has_message s.log position)
+  pub counted : AreCountsOf s.log sub.acknowledged sub.dead sub.counts
   pub dead : AreDeadLettersOf s.log sub.dead
   pub safe : sub.safe ≤ length sub.dead
   pub shares : AreShares sub.shares
@@ -92,6 +105,7 @@ pub record IsWellFormed (s : State) : Type 0 where
 
 pub record IsSoundSubscription (log : List Entry) (sub : KeptSubscription) : Type 0 where
   pub acknowledged : AreMessagesOf log sub.acknowledged
+  pub counted : AreCountsOf log sub.acknowledged sub.dead sub.counts
   pub dead : AreDeadLettersOf log sub.dead
 
 pub record IsSound (kept : Snapshot) : Type 0 where

@@ -1,6 +1,7 @@
 //! The delivery machine: what may be asked of a topic, what it answers, and the rules that tie them.
 #![tactic(auto)]
 
+mod counts;
 mod dead_letter;
 mod delivery;
 mod event;
@@ -12,6 +13,7 @@ mod saved;
 mod snapshot;
 mod topic;
 
+pub use counts::{Counted, Counts, Times};
 pub use dead_letter::DeadLetter;
 pub use delivery::{Deliveries, Delivery, is_one_of};
 pub use event::{Event, Initial, Target};

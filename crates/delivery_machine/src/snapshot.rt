@@ -10,8 +10,8 @@ use std::alloc::AllocError;
 use std::marker::Model;
 
 /// What is kept of a topic, from which a topic may go on. The messages are shared with the topic, and a
-/// clone shares them too: it takes a step for each segment of the log, each range of what is acknowledged
-/// and each dead letter.
+/// clone shares them too: it takes a step for each segment of the log, each range of what is acknowledged,
+/// each count and each dead letter.
 pub struct Snapshot {
     name: TopicName,
     ledger_size: LedgerSize,
@@ -37,12 +37,12 @@ impl Drop for Snapshot {
 impl Model for Snapshot {
     ghost use Rattle.log_pieces.specs.Pieces.{joined};
     ghost use Rattle.std.specs.Coded.{codes};
-    ghost use Rattle.delivery_machine.specs.Codes.{coded_places};
+    ghost use Rattle.delivery_machine.specs.Codes.{coded_places, coded_counts};
     ghost use Rattle.delivery_machine.specs.Places.{KeptTopic, MayRestart};
 
     ghost Value = { KeptTopic };
 
-    ghost coded = { Prim.hlevel (codes, coded_places) };
+    ghost coded = { Prim.hlevel (codes, coded_places, coded_counts) };
 
     ghost view = { λ k. record {
       name = k.name;

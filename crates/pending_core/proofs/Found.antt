@@ -2,6 +2,7 @@
 use Rattle.std.proofs.Common.{◌≡◌, ◌==◌, ℕ, ◌+◌, ◌<◌, min, List, [], ◌∷◌, Bool, true, false, cond, Option, Some, None, refl, sym, ap, subst, ◌∙◌, ◌↔◌, IsTrue, arith}
 use Rattle.std.proofs.lemmas.Bool.Decides.{nat_tests}
 use Rattle.std.specs.Option.{option_map, option_and_then, option_map_or, unwrap_or, is_some}
+use Rattle.std.specs.Prelude.{Result, Ok, Err, OnOk}
 use Rattle.std.specs.Ordering.{eq_by_cmp}
 use Rattle.std.specs.Cmp.{eq_by_cmp_equiv, Equal-is}
 use Rattle.std.specs.FinMap as map_of
@@ -9,10 +10,10 @@ use Rattle.position_core.specs.Position.{position_cmp, positions_total, exact_po
 use Rattle.position_core.specs.declared.position.Position.{Position}
 use Rattle.pending_core.specs.declared.kept.Kept.{Kept}
 use Rattle.position_core.specs.declared.held.Held.{Held}
-use Rattle.pending_core.specs.Pending.{Pending, count_at, most_count, holding, released, without, due_again, redelivered}
+use Rattle.pending_core.specs.Pending.{Pending, count_at, counted, most_count, holding, released, without, due_again, redelivered}
 use Rattle.pending_core.specs.Kept.{kept_at, with_value, found_in, count_in, pending_in, held_until, counted_once_more, ChangesAt}
 
-get-with_value : {X : Type 0} (m : map_of.FinMap position_cmp X) (p : Position) (o : Option X) (q : Position) → map_of.get (with_value m p o) q ≡ cond (eq_by_cmp position_cmp q p) o (map_of.get m q)
+pub get-with_value : {X : Type 0} (m : map_of.FinMap position_cmp X) (p : Position) (o : Option X) (q : Position) → map_of.get (with_value m p o) q ≡ cond (eq_by_cmp position_cmp q p) o (map_of.get m q)
 get-with_value m p None q = map_of.get-remove positions_total m p q
 get-with_value m p (Some x) q = map_of.get-insert positions_total m p x q
 
@@ -153,11 +154,35 @@ module _ (es fs : List (Position × Kept)) (p : Position) (k k' : Kept) (was : k
           let seen : pending_in fs ≡ pending_in es = λ i. record { pending = pending i; counts = counts i } in
           seen ∙ uncounted (pending_in es) p (is_pending false is)
 
--- of a new position
-pub added_anew : (es fs : List (Position × Kept)) (p : Position) (k : Kept) (held : Held) → kept_at es p ≡ None → k.held ≡ Some held → k.count ≡ 0 → ChangesAt p (Some k) es fs → pending_in fs ≡ holding p held (pending_in es)
-added_anew es fs p k held was is uncounted' change =
-    let pending = found_in-changed (λ kept. kept.held) es fs p (Some k) change ∙ ap (with_value (pending_in es).pending p) is in
-    let counts = found_in-changed count_in es fs p (Some k) change ∙ found_in-unchanged count_in es p (count_in k) (ap (option_and_then count_in) was ∙ sym (ap (λ n. cond (n == 0) None (Some n)) uncounted')) in
+-- a new position: who holds it, and how often it was redelivered
+module _ (es fs : List (Position × Kept)) (p : Position) (k : Kept) (change : ChangesAt p (Some k) es fs) where
+  pub held_added : (held : Option Held) → k.held ≡ held → (pending_in fs).pending ≡ with_value (pending_in es).pending p held
+  held_added held is = found_in-changed (λ kept. kept.held) es fs p (Some k) change ∙ ap (with_value (pending_in es).pending p) is
+
+  pub count_added : (count : ℕ) → k.count ≡ count → (pending_in fs).counts ≡ with_value (pending_in es).counts p (cond (count == 0) None (Some count))
+  count_added count is = found_in-changed count_in es fs p (Some k) change ∙ ap (λ n. with_value (pending_in es).counts p (cond (n == 0) None (Some n))) is
+
+-- where nothing was kept of it, it is held and not counted
+pub held_newly : (es fs : List (Position × Kept)) (p : Position) (held : Held) → kept_at es p ≡ None → (pending_in fs).pending ≡ with_value (pending_in es).pending p (Some held) → (pending_in fs).counts ≡ with_value (pending_in es).counts p None
+    → pending_in fs ≡ holding p held (pending_in es)
+held_newly es fs p held was pending counts =
+    let same = counts ∙ same_value (pending_in es).counts p None (count_unseen es p was) in
+    λ i. record { pending = pending i; counts = same i }
+
+-- or counted and not held
+pub counted_newly : (es fs : List (Position × Kept)) (p : Position) (count : ℕ) → 0 < count → kept_at es p ≡ None → (pending_in fs).pending ≡ with_value (pending_in es).pending p None
+    → (pending_in fs).counts ≡ with_value (pending_in es).counts p (cond (count == 0) None (Some count)) → pending_in fs ≡ counted p count (pending_in es)
+counted_newly es fs p count above was pending counts =
+    let same = pending ∙ same_value (pending_in es).pending p None (pending_at es p ∙ ap (option_and_then (λ kept. kept.held)) was) in
+    let some = counts ∙ ap (with_value (pending_in es).counts p) (not_none count above) in
+    λ i. record { pending = same i; counts = some i }
+
+-- another count of what was kept
+pub count_set : (es fs : List (Position × Kept)) (p : Position) (k : Kept) (count : ℕ) → 0 < count → kept_at es p ≡ Some k → ChangesAt p (Some (record k { count = count })) es fs → pending_in fs ≡ counted p count (pending_in es)
+count_set es fs p k count above was change =
+    let new : Kept = record k { count = count } in
+    let pending = found_in-changed (λ kept. kept.held) es fs p (Some new) change ∙ found_in-unchanged (λ kept. kept.held) es p k.held (ap (option_and_then (λ kept. kept.held)) was) in
+    let counts = found_in-changed count_in es fs p (Some new) change ∙ ap (with_value (pending_in es).counts p) (not_none count above) in
     λ i. record { pending = pending i; counts = counts i }
 
 -- of a position left out
@@ -174,3 +199,8 @@ moved_anew es fs p k slot was change =
     let pending = found_in-changed (λ kept. kept.held) es fs p (Some new) change ∙ found_in-unchanged (λ kept. kept.held) es p k.held (ap (option_and_then (λ kept. kept.held)) was) in
     let counts = found_in-changed count_in es fs p (Some new) change ∙ found_in-unchanged count_in es p (count_in k) (ap (option_and_then count_in) was) in
     λ i. record { pending = pending i; counts = counts i }
+
+-- what follows from two facts where there is a value
+pub on_ok_both : {T E : Type 0} {P Q R : Type 0} (r : Result T E) → (P → Q → R) → OnOk r P → OnOk r Q → OnOk r R
+on_ok_both (Ok x) f p q = f p q
+on_ok_both (Err e) f p q = tt

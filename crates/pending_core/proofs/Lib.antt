@@ -8,3 +8,4 @@ pub mod Seating
 pub mod Matching
 pub mod FirstSeats
 pub mod Empty
+pub mod Collected

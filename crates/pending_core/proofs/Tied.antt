@@ -105,6 +105,11 @@ tied_counted es fs slots p k k' tied was new change =
     capped x true e = subst (λ (y : Kept). y.count ≤ most_count) (sym e) (omega arith)
     capped x false e = subst (λ (y : Kept). y.count ≤ most_count) (sym e) (tied.within p k was)
 
+-- any count that goes no further
+pub tied_recounted : (es fs : List (Position × Kept)) (slots : List Slot) (p : Position) (k : Kept) (count : ℕ) → AreTied es slots → kept_at es p ≡ Some k → count ≤ most_count → ChangesAt p (Some (record k { count = count })) es fs → AreTied fs slots
+tied_recounted es fs slots p k count tied was capped change =
+    subst (AreTied fs) (set-slice_get slots k.slot (slot_of p k) (tied.placed p k was)) (tied_changed es fs slots p k (record k { count = count }) tied was refl capped change)
+
 -- a new position
 module _ (es fs : List (Position × Kept)) (slots : List Slot) (p : Position) (k : Kept) (tied : AreTied es slots) (was : kept_at es p ≡ None) (last : k.slot ≡ length slots) (capped : k.count ≤ most_count) (change : ChangesAt p (Some k) es fs) where
   added_placed : (q : Position) (kq : Kept) (b : Bool) → is_at (position_cmp p) q ≡ b → kept_at fs q ≡ Some kq → slice_get (slots ++ slot_of p k ∷ []) kq.slot ≡ Some (slot_of q kq)

@@ -1,5 +1,5 @@
 -- What the map keeps of each position, and what it is seen as.
-use Rattle.std.specs.Prelude.{◌≡◌, ℕ, ◌+◌, ◌≤◌, min, List, [], ◌∷◌, Option, Some, None, if◌then◌else◌, ◌==◌}
+use Rattle.std.specs.Prelude.{◌≡◌, ℕ, ◌+◌, ◌≤◌, min, Bool, false, List, [], ◌∷◌, Option, Some, None, if◌then◌else◌, ◌==◌}
 use Rattle.std.specs.List.{slice_get}
 use Rattle.std.specs.Option.{option_map, option_and_then, is_some}
 use Rattle.std.specs.Map.{lookup}
@@ -45,6 +45,10 @@ counted_once_more kept = if is_some kept.held then record kept { count = min (ke
 -- the same is kept, but for one position, of which now this is kept
 abbrev pub ChangesAt : Position → Option Kept → List (Position × Kept) → List (Position × Kept) → Type 0
 ChangesAt position kept old new = (other : Position) → kept_at new other ≡ (if is_at (position_cmp position) other then kept else kept_at old other)
+
+-- nothing is counted where nothing was
+abbrev pub MayCount : Bool → Pending → Type 0
+MayCount is_counted s = is_counted ≡ false → s.counts ≡ map_of.empty
 
 -- each position has its slot, each slot its position, and no count is beyond the last
 pub record AreTied (entries : List (Position × Kept)) (slots : List Slot) : Type 0 where

@@ -11,6 +11,7 @@ use Rattle.position_core.specs.declared.held.Held.{Held}
 use Rattle.delivery_machine.specs.State.{Subscription}
 use Rattle.delivery_machine.specs.Words.{is_held_by}
 use Rattle.delivery_machine.specs.Ticking.{redelivering}
+pub use Rattle.delivery_machine.specs.Ticking.{most_count}
 use Rattle.due_tree.specs.declared.due.Due.{Due}
 use Rattle.due_tree.specs.Due.{due_cmp}
 
@@ -25,9 +26,13 @@ nothing_pending = record { pending = map_of.empty; counts = map_of.empty }
 abbrev pub count_at : Pending → Position → ℕ
 count_at s position = unwrap_or (map_of.get s.counts position) 0
 
--- a count goes no further
-abbrev pub most_count : ℕ
-most_count = 2147483647
+-- these were redelivered, and nothing is pending
+abbrev pub counted_before : map_of.FinMap position_cmp ℕ → Pending
+counted_before counts = record { pending = map_of.empty; counts = counts }
+
+-- redelivered so often
+abbrev pub counted : Position → ℕ → Pending → Pending
+counted position times s = record s { counts = map_of.insert s.counts position times }
 
 -- pending at a consumer, with the count that it had
 abbrev pub holding : Position → Held → Pending → Pending

@@ -1,5 +1,5 @@
 // Who has which message, and which of them is due first.
-ghost use Rattle.std.specs.Prelude.{◌≡◌, ◌↔◌, ◌<◌, ◌≤◌, ℕ, true, List, [], ◌∷◌, Some, IsTrue, OnOk, OnErr};
+ghost use Rattle.std.specs.Prelude.{◌≡◌, ◌↔◌, ◌<◌, ◌≤◌, ℕ, true, List, [], ◌∷◌, Some, IsTrue, IfOk, OnOk, OnErr};
 ghost use Rattle.std.specs.Option.{option_map};
 ghost use Rattle.std.specs.FinMap as map_of;
 ghost use Rattle.position_core.specs.declared.message.Entry.{Entry};
@@ -9,11 +9,12 @@ ghost use Rattle.delivery_machine.specs.Acknowledging.{acknowledging};
 ghost use Rattle.delivery_machine.specs.Delivering as delivering;
 ghost use Rattle.delivery_machine.specs.Dying.{burying};
 ghost use Rattle.delivery_machine.specs.Seeking.{seeking};
-ghost use Rattle.pending_core.specs.Pending.{nothing_pending, holding, without, released, due_again, redelivered, count_at, most_count, pending_count_at, CountedAndReleased, IsFirstAt, IsFirstDue, IsFirstPending, IsPendingOf};
+ghost use Rattle.pending_core.specs.Pending.{nothing_pending, counted_before, holding, without, released, due_again, redelivered, count_at, most_count, pending_count_at, CountedAndReleased, IsFirstAt, IsFirstDue, IsFirstPending, IsPendingOf};
 
 use crate::kept::Kept;
 use crate::seats::Seats;
 use crate::{seated, table};
+use delivery_machine::Counts;
 use due_tree::{Due, DueTree};
 use position_core::{ConsumerNumber, DueMoment, Held, Position};
 use std::alloc::{AllocError, Global};
@@ -28,6 +29,8 @@ pub struct PendingMap {
     kept: BTreeMap<Position, Kept>,
     slots: DueTree,
     seats: Seats,
+    /// Whether a message was redelivered since the last `clear`: without one, nobody looks for counts.
+    is_counted: bool,
 }
 
 impl Drop for PendingMap {
@@ -36,6 +39,7 @@ impl Drop for PendingMap {
             kept: _,
             slots: _,
             seats: _,
+            is_counted: _,
         } = self;
     }
 }
@@ -43,7 +47,7 @@ impl Drop for PendingMap {
 impl Model for PendingMap {
     ghost use Rattle.pending_core.specs.Pending.{Pending};
     ghost use Rattle.pending_core.specs.Codes.{coded_pending};
-    ghost use Rattle.pending_core.specs.Kept.{pending_in, AreTied};
+    ghost use Rattle.pending_core.specs.Kept.{pending_in, AreTied, MayCount};
     ghost use Rattle.pending_core.specs.Seats.{AreSeatsOf};
 
     ghost Value = { Pending };
@@ -52,7 +56,7 @@ impl Model for PendingMap {
 
     ghost view = { λ m. pending_in m.kept.entries };
 
-    ghost invariant = { λ m. AreTied m.kept.entries m.slots × AreSeatsOf m.seats (pending_in m.kept.entries).pending };
+    ghost invariant = { λ m. AreTied m.kept.entries m.slots × AreSeatsOf m.seats (pending_in m.kept.entries).pending × MayCount m.is_counted (pending_in m.kept.entries) };
 }
 
 impl PendingMap {
@@ -64,7 +68,23 @@ impl PendingMap {
             kept: BTreeMap::new(alloc),
             slots: DueTree::new(alloc),
             seats: Seats::new(alloc),
+            is_counted: false,
         }
+    }
+
+    /// Nothing is pending, and these were redelivered.
+    pub fn counted(alloc: Global, counts: &Counts) -> Result<Self, AllocError>
+        ensures { IfOk result (λ map. map ≡ counted_before counts.now) }
+    {
+        let mut kept = BTreeMap::new(alloc);
+        let mut slots = DueTree::new(alloc);
+        table::set_counts(&mut kept, &mut slots, counts.as_slice())?;
+        Ok(PendingMap {
+            kept,
+            slots,
+            seats: Seats::new(alloc),
+            is_counted: true,
+        })
     }
 
     /// Makes a message pending, instead of what was pending at its position. Its count stays.
@@ -113,6 +133,7 @@ impl PendingMap {
         ensures { self.new ≡ redelivered position self.old }
     {
         table::count(&mut self.kept, position);
+        self.is_counted = true;
     }
 
     pub fn get(&self, position: Position) -> Option<Held>
@@ -137,6 +158,18 @@ impl PendingMap {
         match table::find(&self.kept, position) {
             Some(kept) => kept.count,
             None => 0,
+        }
+    }
+
+    /// How often each message was redelivered, where any was since the last `clear`: a step for each
+    /// position that has a slot.
+    pub fn counts(&self, alloc: Global) -> Result<Counts, AllocError>
+        ensures { IfOk result (λ counts. counts ≡ self.now.counts) }
+    {
+        if self.is_counted {
+            table::counts_of(alloc, &self.kept)
+        } else {
+            Ok(Counts::new(alloc))
         }
     }
 
@@ -194,6 +227,7 @@ impl PendingMap {
         self.kept.clear();
         self.slots.clear();
         self.seats.clear();
+        self.is_counted = false;
     }
 }
 

@@ -1,14 +1,18 @@
 // Changes of what is kept of a position, and of its slot.
-ghost use Rattle.std.specs.Prelude.{◌≡◌, ◌<◌, length, List, Some, None, IfSome, OnOk, OnErr, slice_set};
+ghost use Rattle.std.specs.Prelude.{◌≡◌, ◌==◌, ◌<◌, ◌≤◌, if◌then◌else◌, length, map, List, Some, None, IfOk, IfSome, OnOk, OnErr, slice_set};
+ghost use Rattle.delivery_machine.specs.Ticking.{most_count};
+ghost use Rattle.std.specs.List.Sorted.{IsStrictlySortedBy};
 ghost use Rattle.std.specs.FinMap as map_of;
+ghost use Rattle.position_core.specs.Position.{position_cmp};
 ghost use Rattle.due_tree.specs.declared.due.Slot.{Slot};
-ghost use Rattle.pending_core.specs.Pending.{holding, without, released, due_again, redelivered};
-ghost use Rattle.pending_core.specs.Kept.{kept_at, pending_in, slot_of, ChangesAt, AreTied};
+ghost use Rattle.pending_core.specs.Pending.{counted, counted_before, nothing_pending, holding, without, released, due_again, redelivered};
+ghost use Rattle.pending_core.specs.Kept.{kept_at, pending_in, slot_of, with_value, ChangesAt, AreTied};
 
 use crate::kept::Kept;
+use delivery_machine::{Counted, Counts, Times};
 use due_tree::DueTree;
 use position_core::{DueMoment, Held, Position};
-use std::alloc::AllocError;
+use std::alloc::{AllocError, Global};
 use std::collections::BTreeMap;
 
 pub(crate) type Table = BTreeMap<Position, Kept>;
@@ -38,23 +42,26 @@ fn set_held(kept: &mut Kept, slots: &mut DueTree, position: Position, held: Opti
     slots.set(kept.slot, kept.slot_of(position));
 }
 
-/// Keeps a position of which nothing is kept.
+/// Keeps a position of which nothing is kept, with a count, or at a holder.
 fn add(
     table: &mut Table,
     slots: &mut DueTree,
     position: Position,
-    held: Held,
+    held: Option<Held>,
+    count: u32,
 ) -> Result<(), AllocError>
     requires tied { AreTied table.old.entries slots.old }
     requires absent { kept_at table.old.entries position ≡ None }
+    requires within { count ≤ most_count }
     ensures tied { AreTied table.new.entries slots.new }
-    ensures ok { OnOk result (pending_in table.new.entries ≡ holding position held (pending_in table.old.entries)) }
+    ensures held { OnOk result ((pending_in table.new.entries).pending ≡ with_value (pending_in table.old.entries).pending position held) }
+    ensures counts { OnOk result ((pending_in table.new.entries).counts ≡ with_value (pending_in table.old.entries).counts position (if count == 0 then None else Some count)) }
     ensures err { OnErr result (pending_in table.new.entries ≡ pending_in table.old.entries) }
 {
     let kept = Kept {
         slot: slots.len(),
-        held: Some(held),
-        count: 0,
+        held,
+        count,
     };
     slots.push(kept.slot_of(position))?;
     match table.insert(position, kept) {
@@ -82,7 +89,7 @@ pub(crate) fn hold(
             set_held(kept, slots, position, Some(held));
             Ok(())
         }
-        None => add(table, slots, position, held),
+        None => add(table, slots, position, Some(held), 0),
     }
 }
 
@@ -146,4 +153,62 @@ pub(crate) fn remove(table: &mut Table, slots: &mut DueTree, position: Position)
         }
         None => (),
     }
+}
+
+/// Counts a message so often, whatever its count was.
+pub(crate) fn set_count(
+    table: &mut Table,
+    slots: &mut DueTree,
+    position: Position,
+    times: Times,
+) -> Result<(), AllocError>
+    requires { AreTied table.old.entries slots.old }
+    ensures tied { AreTied table.new.entries slots.new }
+    ensures ok { OnOk result (pending_in table.new.entries ≡ counted position times (pending_in table.old.entries)) }
+    ensures err { OnErr result (pending_in table.new.entries ≡ pending_in table.old.entries) }
+{
+    let count = times.get();
+    match table.get_mut(&position) {
+        Some(kept) => {
+            kept.count = count;
+            Ok(())
+        }
+        None => add(table, slots, position, None, count),
+    }
+}
+
+/// Counts each message as often as is said, where nothing was kept.
+pub(crate) fn set_counts(
+    table: &mut Table,
+    slots: &mut DueTree,
+    counts: &[Counted],
+) -> Result<(), AllocError>
+    requires tied { AreTied table.old.entries slots.old }
+    requires nothing { pending_in table.old.entries ≡ nothing_pending }
+    requires rising { IsStrictlySortedBy position_cmp (map (λ c. c.position) counts.now) }
+    ensures tied { OnOk result (AreTied table.new.entries slots.new) }
+    ensures ok { OnOk result (pending_in table.new.entries ≡ counted_before (map_of.from_entries (map (λ c. (c.position, c.times)) counts.now))) }
+{
+    for one in counts {
+        set_count(table, slots, one.position, one.times)?;
+    }
+    Ok(())
+}
+
+/// The counts, in the order of the positions.
+pub(crate) fn counts_of(alloc: Global, table: &Table) -> Result<Counts, AllocError>
+    requires { (position : Position) (kept : Kept) → kept_at table.now.entries position ≡ Some kept → kept.count ≤ most_count }
+    ensures { IfOk result (λ counts. counts ≡ (pending_in table.now.entries).counts) }
+{
+    let mut counts = Counts::new(alloc);
+    for (position, kept) in table.iter() {
+        match Times::new(kept.count) {
+            Some(times) => counts.push(Counted {
+                position: *position,
+                times,
+            })?,
+            None => (),
+        }
+    }
+    Ok(counts)
 }

@@ -1,8 +1,10 @@
 // A subscription as a store keeps it, and one that goes on from that.
-ghost use Rattle.std.specs.Prelude.{◌≡◌, IfOk, length};
+ghost use Rattle.std.specs.Prelude.{◌≡◌, IfOk, length, map};
+ghost use Rattle.std.specs.List.Sorted.{IsStrictlySortedBy};
+ghost use Rattle.position_core.specs.Position.{position_cmp};
 ghost use Rattle.delivery_machine.specs.Places.{AreBelow, kept_in};
 ghost use Rattle.delivery_machine.specs.Snapshot.{kept_of, subscription_from};
-ghost use Rattle.delivery_machine.specs.WellFormed.{AreMessagesOf};
+ghost use Rattle.delivery_machine.specs.WellFormed.{AreCountsOf, AreMessagesOf};
 
 use crate::subscription::Subscription;
 use delivery_machine::KeptSubscription;
@@ -14,16 +16,18 @@ use std::alloc::{AllocError, Global};
 impl Subscription {
     /// What a store keeps of it, where the log is its topic's.
     pub fn kept(&self, alloc: Global, log: &[Message]) -> Result<KeptSubscription, AllocError>
-        ensures same { AreMessagesOf log.now self.now.acknowledged → IfOk result (λ kept. kept_in log.now kept ≡ kept_of self.now) }
+        ensures same { IsStrictlySortedBy position_cmp (map (λ e. e.position) log.now) → AreMessagesOf log.now self.now.acknowledged → AreCountsOf log.now self.now.acknowledged self.now.dead self.now.counts → IfOk result (λ kept. kept_in log.now kept ≡ kept_of self.now) }
         ensures within { IfOk result (λ kept. AreBelow (length log.now) kept.acknowledged) }
     {
         let name = self.name.clone()?;
         let acknowledged = self.acknowledged.places(alloc, log)?;
+        let counts = self.counts.counts(alloc, log)?;
         let dead = self.dead.clone()?;
         Ok(KeptSubscription {
             name,
             kind: self.kind,
             acknowledged,
+            counts,
             dead,
         })
     }
@@ -38,6 +42,7 @@ impl Subscription {
     {
         let name = kept.name.clone()?;
         let acknowledged = PositionSet::at_places(alloc, log, &kept.acknowledged)?;
+        let counts = CountTable::of(alloc, &kept.counts)?;
         let dead = kept.dead.clone()?;
         let safe = dead.len();
         Ok(Subscription {
@@ -45,7 +50,7 @@ impl Subscription {
             kind: kept.kind,
             acknowledged,
             pending: PendingTable::new(alloc),
-            counts: CountTable::new(alloc),
+            counts,
             shares: SplitTable::new(alloc),
             last_served: 0,
             dead,

@@ -1,15 +1,20 @@
 // How often the messages of a subscription were redelivered.
-ghost use Rattle.std.specs.Prelude.{◌≡◌, ◌+◌, ◌++◌, not, map, OnOk, OnErr, IfOk};
+ghost use Rattle.std.specs.Prelude.{◌≡◌, List, ◌+◌, ◌++◌, not, map, OnOk, OnErr, IfOk};
 ghost use Rattle.std.specs.List.{filter};
+ghost use Rattle.std.specs.List.Sorted.{IsStrictlySortedBy};
 ghost use Rattle.std.specs.Option.{unwrap_or};
+ghost use Rattle.std.specs.FinSet as set;
 ghost use Rattle.std.specs.FinMap as map_of;
+ghost use Rattle.position_core.specs.Position.{position_cmp};
+ghost use Rattle.delivery_machine.specs.State.{DeadLetter};
 ghost use Rattle.delivery_machine.specs.Acknowledging.{is_one_of};
 ghost use Rattle.delivery_machine.specs.Ticking.{counted_again, recounted};
+ghost use Rattle.delivery_machine.specs.WellFormed.{AreCountsOf};
 ghost use Rattle.plain_tables.specs.Counted.{count_in, raised_entries};
 
 use crate::table::{find_at, leave_out};
-use delivery_machine::is_one_of;
-use position_core::Position;
+use delivery_machine::{Counted, Counts, Times, is_one_of};
+use position_core::{Message, Position};
 use std::alloc::{AllocError, Global};
 use std::marker::Model;
 
@@ -44,6 +49,28 @@ impl CountTable {
         }
     }
 
+    /// The counts that a store kept.
+    pub fn of(alloc: Global, counts: &Counts) -> Result<Self, AllocError>
+        ensures { IfOk result (λ table. table ≡ counts.now) }
+    {
+        let entries = entries_of(alloc, counts.as_slice())?;
+        Ok(CountTable { entries })
+    }
+
+    /// The counts as a store keeps them, where the log is the topic's.
+    pub fn counts(&self, alloc: Global, log: &[Message]) -> Result<Counts, AllocError>
+        ensures { (acknowledged : set.FinSet position_cmp) (dead : List DeadLetter) → IsStrictlySortedBy position_cmp (map (λ e. e.position) log.now) → AreCountsOf log.now acknowledged dead self.now → IfOk result (λ counts. counts ≡ self.now) }
+    {
+        let mut counts = Counts::new(alloc);
+        for message in log {
+            let position = message.position();
+            if let Some(times) = Times::new(self.get(position)) {
+                counts.push(Counted { position, times })?;
+            }
+        }
+        Ok(counts)
+    }
+
     pub fn get(&self, position: Position) -> u32
         ensures { result ≡ unwrap_or (map_of.get self.now position) 0 }
     {
@@ -72,6 +99,15 @@ impl CountTable {
         self.entries = entries;
         Ok(())
     }
+}
+
+fn entries_of(alloc: Global, counts: &[Counted]) -> Result<Vec<(Position, u32)>, AllocError>
+    ensures { IfOk result (λ entries. entries.items ≡ map (λ c. (c.position, c.times)) counts.now) }
+{
+    counts
+        .iter()
+        .map(|c| (c.position, c.times.get()))
+        .collect(alloc)
 }
 
 fn count_in(entries: &[(Position, u32)], position: Position) -> u32

@@ -1,16 +1,18 @@
 -- Snapshots of a topic's lists, and the lists that go on from one.
-use Rattle.std.proofs.Common.{◌≡◌, ℕ, ◌+◌, ◌≤◌, ◌^◌, List, [], ◌∷◌, ◌++◌, Some, length, map, get_or, take, refl, sym, ap, ◌∙◌, subst}
+use Rattle.std.proofs.Common.{◌≡◌, ℕ, ◌+◌, ◌<◌, ◌^◌, List, [], ◌∷◌, ◌++◌, Some, length, map, get_or, take, refl, sym, ap, ap₂, ◌∙◌, subst}
 use Rattle.std.specs.Prelude.{min, slice_get}
 use Rattle.std.specs.List.{All}
-use Rattle.std.proofs.lemmas.List.{take_more}
+use Rattle.std.specs.List.Sorted.{IsStrictlySortedBy}
+use Rattle.std.proofs.lemmas.List.{take_more, map-append}
 use Rattle.std.proofs.lemmas.List.Elements.{All-nil, All-cons, All-head, All-tail}
 use Rattle.std.proofs.lemmas.Option.{slice_get_within, slice_get-get_or}
+use Rattle.position_core.specs.Position.{position_cmp}
 use Rattle.position_core.specs.declared.topic_name.TopicName.{TopicName}
 use Rattle.position_core.specs.declared.message.Entry.{Entry}
 use Rattle.delivery_machine.specs.State.{State, Subscription, Producer, Member}
-use Rattle.delivery_machine.specs.Snapshot.{kept_of, snapshot_of, subscription_from, restarted}
-use Rattle.delivery_machine.specs.Places.{KeptTopic, kept_in, snapshot_in}
-use Rattle.delivery_machine.specs.WellFormed.{AreMessagesOf, IsSound, IsSoundSubscription}
+use Rattle.delivery_machine.specs.Snapshot.{KeptSubscription, kept_of, snapshot_of, subscription_from, restarted}
+use Rattle.delivery_machine.specs.Places.{KeptPlaces, KeptTopic, kept_in, snapshot_in}
+use Rattle.delivery_machine.specs.WellFormed.{IsSound, IsSoundSubscription}
 
 -- ---- the log
 
@@ -23,18 +25,31 @@ one_more xs ys zs i x at before more =
 
 -- ---- snapshots
 
-acknowledged_of : (log : List Entry) (subs : List Subscription) → All (IsSoundSubscription log) (map kept_of subs) → All (λ (sub : Subscription). AreMessagesOf log sub.acknowledged) subs
-acknowledged_of log [] sound = All-nil (λ (sub : Subscription). AreMessagesOf log sub.acknowledged)
-acknowledged_of log (sub ∷ subs) sound =
-    All-cons (λ (sub : Subscription). AreMessagesOf log sub.acknowledged) sub subs
-    (All-head (IsSoundSubscription log) (kept_of sub) (map kept_of subs) sound).acknowledged
-    (acknowledged_of log subs (All-tail (IsSoundSubscription log) (kept_of sub) (map kept_of subs) sound))
+each_sound : (log : List Entry) (subs : List Subscription) → All (IsSoundSubscription log) (map kept_of subs) → All (λ (sub : Subscription). IsSoundSubscription log (kept_of sub)) subs
+each_sound log [] sound = All-nil (λ (sub : Subscription). IsSoundSubscription log (kept_of sub))
+each_sound log (sub ∷ subs) sound =
+    All-cons (λ (sub : Subscription). IsSoundSubscription log (kept_of sub)) sub subs
+    (All-head (IsSoundSubscription log) (kept_of sub) (map kept_of subs) sound)
+    (each_sound log subs (All-tail (IsSoundSubscription log) (kept_of sub) (map kept_of subs) sound))
 
--- what is acknowledged are messages of the log
-pub acknowledged_here : (s : State) (subs : List Subscription) (log : List Entry) → IsSound (snapshot_of s) → subs ≡ s.subscriptions → log ≡ s.log → All (λ (sub : Subscription). AreMessagesOf log sub.acknowledged) subs
-acknowledged_here s subs log sound same_subs same_log =
-    subst (λ (ls : List Entry). All (λ (sub : Subscription). AreMessagesOf ls sub.acknowledged) subs) (sym same_log)
-    (subst (λ (ss : List Subscription). All (λ (sub : Subscription). AreMessagesOf s.log sub.acknowledged) ss) (sym same_subs) (acknowledged_of s.log s.subscriptions sound.subscriptions))
+-- the lists as the code has them
+pub sound_here : (s : State) (subs : List Subscription) (log : List Entry) → IsSound (snapshot_of s) → subs ≡ s.subscriptions → log ≡ s.log → All (λ (sub : Subscription). IsSoundSubscription log (kept_of sub)) subs
+sound_here s subs log sound same_subs same_log =
+    subst (λ (ls : List Entry). All (λ (sub : Subscription). IsSoundSubscription ls (kept_of sub)) subs) (sym same_log)
+    (subst (λ (ss : List Subscription). All (λ (sub : Subscription). IsSoundSubscription s.log (kept_of sub)) ss) (sym same_subs) (each_sound s.log s.subscriptions sound.subscriptions))
+
+pub rising_here : (s : State) (log : List Entry) → IsSound (snapshot_of s) → log ≡ s.log → IsStrictlySortedBy position_cmp (map (λ e. e.position) log)
+rising_here s log sound same = subst (λ (ls : List Entry). IsStrictlySortedBy position_cmp (map (λ e. e.position) ls)) (sym same) sound.log.positions
+
+-- one subscription more is kept
+pub one_kept : (log : List Entry) (xs ys : List KeptPlaces) (subs : List Subscription) (i : ℕ) (kept : KeptPlaces) (sub : Subscription) → i < length subs → sub ≡ get_or subs i sub → kept_in log kept ≡ kept_of sub
+    → map (kept_in log) xs ≡ map kept_of (take i subs) → ys ≡ xs ++ kept ∷ [] → map (kept_in log) ys ≡ map kept_of (take (i + 1) subs)
+one_kept log xs ys subs i kept sub low is same before more =
+    ap (map (kept_in log)) more
+    ∙ map-append (kept_in log) xs (kept ∷ [])
+    ∙ ap₂ (λ (ks : List KeptSubscription) (k : KeptSubscription). ks ++ k ∷ []) before (same ∙ ap kept_of is)
+    ∙ sym (map-append kept_of (take i subs) (get_or subs i sub ∷ []))
+    ∙ ap (map kept_of) (sym (take_more subs i sub low))
 
 -- ---- going on
 

@@ -1,10 +1,12 @@
 // A topic's snapshots, and the lists that go on from one.
 ghost use Rattle.std.specs.Prelude.{◌≡◌, ◌≤◌, IfOk, length, map, All};
+ghost use Rattle.std.specs.List.Sorted.{IsStrictlySortedBy};
 ghost use Rattle.log_pieces.specs.Pieces.{joined};
+ghost use Rattle.position_core.specs.Position.{position_cmp};
 ghost use Rattle.delivery_machine.specs.Places.{AreBelow, KeptPlaces, kept_in};
 ghost use Rattle.delivery_machine.specs.Snapshot.{kept_of, subscription_from};
 ghost use Rattle.delivery_machine.specs.State.{Subscription};
-ghost use Rattle.delivery_machine.specs.WellFormed.{AreMessagesOf};
+ghost use Rattle.delivery_machine.specs.WellFormed.{IsSoundSubscription};
 
 use crate::lists::Lists;
 use delivery_machine::{KeptSubscription, Snapshot};
@@ -44,7 +46,8 @@ fn kept_of_all(
     subscriptions: &[Subscription],
     log: &[Message],
 ) -> Result<Vec<KeptSubscription>, AllocError>
-    requires { All (λ (sub : Subscription). AreMessagesOf log.now sub.acknowledged) subscriptions.now }
+    requires rising { IsStrictlySortedBy position_cmp (map (λ e. e.position) log.now) }
+    requires sound { All (λ (sub : Subscription). IsSoundSubscription log.now (kept_of sub)) subscriptions.now }
     ensures same { IfOk result (λ kept. map (kept_in log.now) kept.items ≡ map kept_of subscriptions.now) }
     ensures within { IfOk result (λ kept. All (λ (sub : KeptPlaces). AreBelow (length log.now) sub.acknowledged) kept.items) }
 {

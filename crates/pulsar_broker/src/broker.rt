@@ -2,7 +2,6 @@
 ghost use Rattle.std.specs.Prelude.{◌≡◌, IsTrue};
 ghost use Rattle.sqlite.specs.State.{HasCleanDisk};
 ghost use Rattle.sqlite.specs.Held.{state};
-ghost use Rattle.row_forms.specs.Schema.{schema_6};
 ghost use Rattle.row_tables.specs.Ready.{AreKeyed};
 
 use crate::arguments::Asked;
@@ -91,7 +90,7 @@ fn serve_named<
     J: Naming + Send + Sync + 'static,
 >(rt: &R, asked: &Asked<'_>, conn: Connection<S>, history: Unnamed<Note>) -> Fate
     requires book { history ≡ J.book }
-    requires keyed { HasCleanDisk (state S.Store conn) → IsTrue (state S.Store conn).is_open → (state S.Store conn).now.schema ≡ schema_6 → AreKeyed (state S.Store conn).now.trees }
+    requires keyed { HasCleanDisk (state S.Store conn) → IsTrue (state S.Store conn).is_open → AreKeyed (state S.Store conn).now }
 {
     let alloc = rt.alloc();
     let notes: Notes<J> = Notes::new(history);
@@ -143,7 +142,7 @@ pub fn serve_over<
         + 'static,
     S: Alter + Send + Drop + 'static,
 >(rt: &R, asked: &Asked<'_>, conn: Connection<S>) -> Fate
-    requires keyed { HasCleanDisk (state S.Store conn) → IsTrue (state S.Store conn).is_open → (state S.Store conn).now.schema ≡ schema_6 → AreKeyed (state S.Store conn).now.trees }
+    requires keyed { HasCleanDisk (state S.Store conn) → IsTrue (state S.Store conn).is_open → AreKeyed (state S.Store conn).now }
 {
     serve_named::<R, S, Brand>(rt, asked, conn, Unnamed::new())
 }

@@ -1,14 +1,8 @@
 -- Rows of dead letters.
-use Rattle.std.proofs.Common.{◌≡◌, ℕ, ◌+◌, ◌≤◌, suc, Bool, true, false, not, cond, List, [], ◌∷◌, ◌++◌, map, length, Some, None, refl, ap, sym, ◌∙◌, append-nil, arith}
-use Rattle.std.specs.Prelude.{nat_lt, if◌then◌else◌}
-use Rattle.std.specs.List.{position_or_len}
-use Rattle.std.proofs.lemmas.Bool.Decides.{nat_tests}
+use Rattle.std.proofs.Common.{◌≡◌, ℕ, List, [], ◌∷◌, ◌++◌, map, refl, append-nil}
 use Rattle.std.proofs.lemmas.Grind.{flat_map-append}
 use Rattle.std.proofs.lemmas.List.{map-append}
-use Rattle.position_core.specs.declared.position.Position.{Position}
 use Rattle.position_core.specs.declared.message.Entry.{Entry}
-use Rattle.position_core.specs.Position.{same_position}
-use Rattle.log_pieces.specs.Pieces.{index_of, stands_at}
 use Rattle.delivery_machine.specs.State.{DeadLetter}
 use Rattle.delivery_machine.specs.Places.{KeptPlaces}
 use Rattle.std.specs.Prelude.{string_bytes}
@@ -19,45 +13,6 @@ use Rattle.row_forms.specs.Changes.{IsDifference, dead_cells}
 use Rattle.row_forms.specs.Forms.{dead_row, dead_rows, place_in}
 use Rattle.row_forms.specs.Parts.{ExtendsByDeads, ExtendsByLetters, IsSameLetter}
 use Rattle.row_forms.proofs.Differences.{IsJoined, extends-append, extends_in_all, nothing_more}
-
--- ---- places
-
-place_step : (same : Bool) (n : ℕ) → (if same then 0 else n + 1) ≡ cond (not same) (1 + n) 0
-place_step true n = refl
-place_step false n = omega arith
-
-place_is : (log : List Entry) (at : Position) → place_in log at ≡ position_or_len (stands_at at) log
-place_is [] at = refl
-place_is (e ∷ log) at = ap (λ n. if same_position e.position at then 0 else n + 1) (place_is log at) ∙ place_step (same_position e.position at) _
-
-chosen : (b : Bool) (n m : ℕ) → cond b (Some n) None ≡ Some m → m ≡ n
-chosen true n m e = cc
-chosen false n m e = absurd (cc)
-
-unchosen : (b : Bool) (n : ℕ) → cond b (Some n) None ≡ None → b ≡ false
-unchosen true n e = absurd (cc)
-unchosen false n e = refl
-
-pub found_place : (log : List Entry) (at : Position) (i : ℕ) → index_of at log ≡ Some i → i ≡ place_in log at
-found_place log at i is = chosen _ _ i is ∙ sym (place_is log at)
-
-one_longer : (b : Bool) (n m : ℕ) → n ≤ m → cond b (1 + n) 0 ≤ suc m
-one_longer true n m h = omega arith
-one_longer false n m h = omega arith
-
-up_to_length : (p : Entry → Bool) (log : List Entry) → position_or_len p log ≤ length log
-up_to_length p [] = omega arith
-up_to_length p (e ∷ log) = one_longer (not (p e)) _ _ (up_to_length p log)
-
-pub no_place : (log : List Entry) (at : Position) → index_of at log ≡ None → length log ≡ place_in log at
-no_place log at is =
-    let past : nat_lt (position_or_len (stands_at at) log) (length log) ≡ false = unchosen _ _ is in
-    let over : length log ≤ position_or_len (stands_at at) log = grind (arith, nat_tests) in
-    let up = up_to_length (stands_at at) log in
-    let same : length log ≡ position_or_len (stands_at at) log = omega arith in
-    same ∙ sym (place_is log at)
-
--- ---- rows
 
 pub letter_is : (row : DeadRow) (sub : List ℕ) (log : List Entry) (d : DeadLetter) → row.sub ≡ sub → row.ordinal ≡ d.ordinal → row.place ≡ place_in log d.position → string_bytes row.target ≡ topic_text d.target
     → (topic : List ℕ) → dead_cells topic row ≡ dead_row topic sub log d

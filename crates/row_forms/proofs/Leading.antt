@@ -7,8 +7,8 @@ use Rattle.sqlite.specs.Order.{Row}
 use Rattle.delivery_machine.specs.Places.{KeptTopic}
 use Rattle.row_forms.specs.declared.change.Change.{Change}
 use Rattle.row_forms.specs.Changes.{Leads}
-use Rattle.row_forms.specs.Forms.{AreRowsOf, TopicRows, dead_rows, entry_row, entry_rows, no_rows, sub_rows, topic_row}
-use Rattle.row_forms.specs.Parts.{AcksDiffer, DeadsDiffer, SubsDiffer}
+use Rattle.row_forms.specs.Forms.{AreRowsOf, TopicRows, count_rows, dead_rows, entry_row, entry_rows, no_rows, sub_rows, topic_row}
+use Rattle.row_forms.specs.Parts.{AcksDiffer, CountsDiffer, DeadsDiffer, SubsDiffer}
 
 pub rows_from : (topic : List ℕ) (from : ℕ) (first second : List Entry) → entry_rows topic from (first ++ second) ≡ entry_rows topic from first ++ entry_rows topic (from + length first) second
 rows_from topic from [] second = ap (λ n. entry_rows topic n second) (omega arith)
@@ -20,8 +20,8 @@ after_first [] second = refl
 after_first (e ∷ first) second = after_first first second
 
 pub whole_leads : (kept : KeptTopic) (c : Change) → c.topic ≡ true → c.from ≡ 0 → SubsDiffer [] kept.subscriptions c.subs → AcksDiffer [] kept.subscriptions c.acks → DeadsDiffer kept.log kept.log [] kept.subscriptions c.deads
-    → (rows : TopicRows) × AreRowsOf kept rows × Leads kept c no_rows rows
-whole_leads kept c own from subs acks deads =
+    → CountsDiffer kept.log kept.log [] kept.subscriptions c.counts → (rows : TopicRows) × AreRowsOf kept rows × Leads kept c no_rows rows
+whole_leads kept c own from subs acks deads counts =
     let topic = topic_text kept.name in
     let runs = acks topic [] refl in (
       record {
@@ -30,8 +30,9 @@ whole_leads kept c own from subs acks deads =
         subs = sub_rows topic kept.subscriptions;
         acks = runs.0;
         deads = dead_rows topic kept.log kept.subscriptions;
+        counts = count_rows topic kept.log kept.subscriptions;
       },
-      record { topics = refl; entries = refl; subs = refl; acks = runs.1; deads = refl },
+      record { topics = refl; entries = refl; subs = refl; acks = runs.1; deads = refl; counts = refl },
       record {
         topics = rw own refl;
         from = rw from (omega arith);
@@ -39,6 +40,7 @@ whole_leads kept c own from subs acks deads =
         subs = subs topic;
         acks = runs.2;
         deads = deads topic;
+        counts = counts topic;
       },
     )
 
@@ -53,8 +55,8 @@ own_row base kept false rows name same is =
 pub between_leads : (base kept : KeptTopic) (c : Change) (more : List Entry) → kept.name ≡ base.name → kept.log ≡ base.log ++ more
     → (c.topic ≡ false → (base.ledger_size ≡ kept.ledger_size) × (base.ledger ≡ kept.ledger) × (base.next_ordinal ≡ kept.next_ordinal)) → c.from ≡ length base.log
     → SubsDiffer base.subscriptions kept.subscriptions c.subs → AcksDiffer base.subscriptions kept.subscriptions c.acks → DeadsDiffer base.log kept.log base.subscriptions kept.subscriptions c.deads
-    → (olds : TopicRows) → AreRowsOf base olds → (news : TopicRows) × AreRowsOf kept news × Leads kept c olds news
-between_leads base kept c more name log own from subs acks deads olds are =
+    → CountsDiffer base.log kept.log base.subscriptions kept.subscriptions c.counts → (olds : TopicRows) → AreRowsOf base olds → (news : TopicRows) × AreRowsOf kept news × Leads kept c olds news
+between_leads base kept c more name log own from subs acks deads counts olds are =
     let topic = topic_text kept.name in
     let same : topic_text base.name ≡ topic = ap topic_text (sym name) in
     let runs = acks topic olds.acks (rw same at are.acks) in (
@@ -64,8 +66,9 @@ between_leads base kept c more name log own from subs acks deads olds are =
         subs = sub_rows topic kept.subscriptions;
         acks = runs.0;
         deads = dead_rows topic kept.log kept.subscriptions;
+        counts = count_rows topic kept.log kept.subscriptions;
       },
-      record { topics = refl; entries = refl; subs = refl; acks = runs.1; deads = refl },
+      record { topics = refl; entries = refl; subs = refl; acks = runs.1; deads = refl; counts = refl },
       record {
         topics = own_row base kept c.topic olds.topics name own are.topics;
         from = rw (from, log) (omega (arith, length-append base.log more));
@@ -73,6 +76,7 @@ between_leads base kept c more name log own from subs acks deads olds are =
         subs = rw (are.subs, same) (subs topic);
         acks = runs.2;
         deads = rw (are.deads, same) (deads topic);
+        counts = rw (are.counts, same) (counts topic);
       },
     )
 

@@ -24,10 +24,13 @@ ACK = 7
 abbrev pub DEAD : ℕ
 DEAD = 9
 
+abbrev pub REDELIVERY : ℕ
+REDELIVERY = 11
+
 -- how many columns the table in this tree has
 abbrev pub width : ℕ → ℕ
 width tree =
-    if tree == META then 2 else if tree == TOPIC then 4 else if tree == ENTRY then 11 else if tree == SUB then 3 else if tree == ACK then 4 else 5
+    if tree == META then 2 else if tree == TOPIC then 4 else if tree == ENTRY then 11 else if tree == SUB then 3 else if tree == ACK then 4 else if tree == DEAD then 5 else 4
 
 -- what is read in the columns of a row: a row may lack its last ones
 abbrev pub cells : ℕ → Row → Row

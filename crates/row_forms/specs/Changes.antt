@@ -7,8 +7,8 @@ use Rattle.delivery_machine.specs.Places.{KeptTopic}
 use Rattle.row_forms.specs.declared.change.SubRow.{SubRow}
 use Rattle.row_forms.specs.declared.change.AckRow.{AckRow}
 use Rattle.row_forms.specs.declared.change.DeadRow.{DeadRow}
+use Rattle.row_forms.specs.declared.change.CountRow.{CountRow}
 use Rattle.row_forms.specs.declared.change.Change.{Change}
-use Rattle.row_forms.specs.declared.raw_rows.RawRows.{RawRows}
 use Rattle.row_forms.specs.Forms.{TopicRows, entry_rows, kind_number, topic_row}
 
 -- ---- the cells of a row that goes or comes
@@ -22,6 +22,9 @@ ack_cells topic ack = Words topic ∷ Words ack.sub ∷ Int (pos ack.first) ∷ 
 abbrev pub dead_cells : List ℕ → DeadRow → Row
 dead_cells topic dead =
     Words topic ∷ Words dead.sub ∷ Int (pos dead.ordinal) ∷ Int (pos dead.place) ∷ Words (string_bytes dead.target) ∷ []
+
+abbrev pub count_cells : List ℕ → CountRow → Row
+count_cells topic count = Words topic ∷ Words count.sub ∷ Int (pos count.place) ∷ Int (pos count.times) ∷ []
 
 -- ---- from the old rows to the new ones
 
@@ -37,17 +40,4 @@ pub record Leads (kept : KeptTopic) (change : Change) (old new : TopicRows) : Ty
   pub subs : IsDifference old.subs new.subs (map (sub_cells (topic_text kept.name)) change.subs.gone.items) (map (sub_cells (topic_text kept.name)) change.subs.news.items)
   pub acks : IsDifference old.acks new.acks (map (ack_cells (topic_text kept.name)) change.acks.gone.items) (map (ack_cells (topic_text kept.name)) change.acks.news.items)
   pub deads : IsDifference old.deads new.deads (map (dead_cells (topic_text kept.name)) change.deads.gone.items) (map (dead_cells (topic_text kept.name)) change.deads.news.items)
-
--- ---- rows as they are read
-
--- the topic's text before each row
-abbrev pub with_topic : List ℕ → RawRows → TopicRows
-with_topic topic raw =
-    let put = λ (r : Row). Words topic ∷ r in
-    record {
-      topics = map put raw.topics.items;
-      entries = map put raw.entries.items;
-      subs = map put raw.subs.items;
-      acks = map put raw.acks.items;
-      deads = map put raw.deads.items;
-    }
+  pub counts : IsDifference old.counts new.counts (map (count_cells (topic_text kept.name)) change.counts.gone.items) (map (count_cells (topic_text kept.name)) change.counts.news.items)

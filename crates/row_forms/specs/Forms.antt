@@ -1,7 +1,8 @@
 -- The rows of a topic: one for the topic, one for each message of its log, for each subscription, for each run of
--- acknowledged messages and for each dead letter.
+-- acknowledged messages, for each dead letter and for each message that was redelivered.
 use Rattle.std.specs.Prelude.{ℕ, ◌+◌, ◌-◌, ◌≡◌, pos, List, [], ◌∷◌, ◌++◌, map, Option, Some, None, if◌then◌else◌}
 use Rattle.std.specs.List.{flat_map}
+use Rattle.std.specs.FinMap as map_of
 use Rattle.sqlite.specs.declared.types.Value.TheVariants.{Int, Text as Words, Blob as Octets}
 use Rattle.sqlite.specs.Order.{Row}
 use Rattle.position_core.specs.declared.position.Position.{Position}
@@ -53,6 +54,10 @@ abbrev pub dead_row : List ℕ → List ℕ → List Entry → DeadLetter → Ro
 dead_row topic sub log d =
     Words topic ∷ Words sub ∷ Int (pos d.ordinal) ∷ Int (pos (place_in log d.position)) ∷ Words (topic_text d.target) ∷ []
 
+-- a message that was redelivered, and how often
+abbrev pub count_row : List ℕ → List ℕ → List Entry → Position × ℕ → Row
+count_row topic sub log counted = Words topic ∷ Words sub ∷ Int (pos (place_in log counted.0)) ∷ Int (pos counted.1) ∷ []
+
 -- ---- all rows of a topic
 
 -- the messages from this place on
@@ -72,6 +77,9 @@ AreAckRows topic (sub ∷ subs) rows =
 abbrev pub dead_rows : List ℕ → List Entry → List KeptPlaces → List Row
 dead_rows topic log subs = flat_map (λ (sub : KeptPlaces). map (dead_row topic sub.name log) sub.dead) subs
 
+abbrev pub count_rows : List ℕ → List Entry → List KeptPlaces → List Row
+count_rows topic log subs = flat_map (λ (sub : KeptPlaces). map (count_row topic sub.name log) (map_of.entries sub.counts)) subs
+
 -- the rows of one topic, table by table
 pub record TopicRows : Type 0 where
   pub topics : List Row
@@ -79,10 +87,11 @@ pub record TopicRows : Type 0 where
   pub subs : List Row
   pub acks : List Row
   pub deads : List Row
+  pub counts : List Row
 
 -- no rows at all
 abbrev pub no_rows : TopicRows
-no_rows = record { topics = []; entries = []; subs = []; acks = []; deads = [] }
+no_rows = record { topics = []; entries = []; subs = []; acks = []; deads = []; counts = [] }
 
 pub record AreRowsOf (kept : KeptTopic) (rows : TopicRows) : Type 0 where
   pub topics : rows.topics ≡ topic_row kept ∷ []
@@ -90,3 +99,4 @@ pub record AreRowsOf (kept : KeptTopic) (rows : TopicRows) : Type 0 where
   pub subs : rows.subs ≡ sub_rows (topic_text kept.name) kept.subscriptions
   pub acks : AreAckRows (topic_text kept.name) kept.subscriptions rows.acks
   pub deads : rows.deads ≡ dead_rows (topic_text kept.name) kept.log kept.subscriptions
+  pub counts : rows.counts ≡ count_rows (topic_text kept.name) kept.log kept.subscriptions

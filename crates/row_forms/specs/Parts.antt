@@ -1,17 +1,21 @@
 -- Changes table by table: what goes and what comes makes the old subscriptions' rows those of the new ones.
-use Rattle.std.specs.Prelude.{◌≡◌, ℕ, List, [], ◌∷◌, ◌++◌, Option, Some, None, map}
+use Rattle.std.specs.Prelude.{◌≡◌, ℕ, List, [], ◌∷◌, ◌++◌, Option, Some, None, map, All, IsTrue}
+use Rattle.std.specs.FinMap as map_of
 use Rattle.std.specs.List.Sorted.{IsStrictlySortedBy}
 use Rattle.sqlite.specs.Order.{Row}
 use Rattle.position_core.specs.declared.message.Entry.{Entry}
+use Rattle.position_core.specs.declared.position.Position.{Position}
 use Rattle.position_core.specs.Position.{position_cmp}
 use Rattle.delivery_machine.specs.State.{DeadLetter}
 use Rattle.delivery_machine.specs.Places.{KeptPlaces}
+use Rattle.delivery_machine.specs.WellFormed.{has_message}
 use Rattle.row_forms.specs.declared.change.SubRow.{SubRow}
 use Rattle.row_forms.specs.declared.change.AckRow.{AckRow}
 use Rattle.row_forms.specs.declared.change.DeadRow.{DeadRow}
+use Rattle.row_forms.specs.declared.change.CountRow.{CountRow}
 use Rattle.row_forms.specs.declared.change.Difference.{Difference}
-use Rattle.row_forms.specs.Forms.{AreAckRows, ack_row, dead_row, dead_rows, place_in, sub_rows}
-use Rattle.row_forms.specs.Changes.{IsDifference, ack_cells, dead_cells, sub_cells}
+use Rattle.row_forms.specs.Forms.{AreAckRows, ack_row, count_row, count_rows, dead_row, dead_rows, place_in, sub_rows}
+use Rattle.row_forms.specs.Changes.{IsDifference, ack_cells, count_cells, dead_cells, sub_cells}
 
 -- the change that was `d` has become `e`: after the rows that it was for come those of the old things, and of the new ones
 abbrev pub Extends : {A B : Type 0} → (List ℕ → A → Row) → (List ℕ → List B → List Row) → (List ℕ → List B → List Row) → List B → List B → Difference A → Difference A → Type 0
@@ -35,6 +39,14 @@ ExtendsByLetters sub was log = Extends dead_cells (λ topic. map (dead_row topic
 abbrev pub ExtendsByDeads : List Entry → List Entry → List KeptPlaces → List KeptPlaces → Difference DeadRow → Difference DeadRow → Type 0
 ExtendsByDeads was log = Extends dead_cells (λ topic. dead_rows topic was) (λ topic. dead_rows topic log)
 
+-- by counts of one subscription, of which the old ones are of the log as it was
+abbrev pub ExtendsByEntries : List ℕ → List Entry → List Entry → List (Position × ℕ) → List (Position × ℕ) → Difference CountRow → Difference CountRow → Type 0
+ExtendsByEntries sub was log = Extends count_cells (λ topic. map (count_row topic sub was)) (λ topic. map (count_row topic sub log))
+
+-- by the counts of subscriptions
+abbrev pub ExtendsByCounts : List Entry → List Entry → List KeptPlaces → List KeptPlaces → Difference CountRow → Difference CountRow → Type 0
+ExtendsByCounts was log = Extends count_cells (λ topic. count_rows topic was) (λ topic. count_rows topic log)
+
 -- the runs of subscriptions: whatever rows they had, there are rows of the new subscriptions that these become
 abbrev pub AcksDiffer : List KeptPlaces → List KeptPlaces → Difference AckRow → Type 0
 AcksDiffer olds news d =
@@ -48,6 +60,11 @@ SubsDiffer olds news d = (topic : List ℕ) → IsDifference (sub_rows topic old
 abbrev pub DeadsDiffer : List Entry → List Entry → List KeptPlaces → List KeptPlaces → Difference DeadRow → Type 0
 DeadsDiffer was log olds news d =
     (topic : List ℕ) → IsDifference (dead_rows topic was olds) (dead_rows topic log news) (map (dead_cells topic) d.gone.items) (map (dead_cells topic) d.news.items)
+
+-- the counts of subscriptions
+abbrev pub CountsDiffer : List Entry → List Entry → List KeptPlaces → List KeptPlaces → Difference CountRow → Type 0
+CountsDiffer was log olds news d =
+    (topic : List ℕ) → IsDifference (count_rows topic was olds) (count_rows topic log news) (map (count_cells topic) d.gone.items) (map (count_cells topic) d.news.items)
 
 -- what is left to see of ranges of which the first was taken out
 abbrev pub waiting : Option (ℕ × ℕ) → List (ℕ × ℕ) → List (ℕ × ℕ)
@@ -63,3 +80,15 @@ pub record IsSameLetter (was log : List Entry) (old new : DeadLetter) : Type 0 w
   pub ordinal : old.ordinal ≡ new.ordinal
   pub place : place_in was old.position ≡ place_in log new.position
   pub target : old.target ≡ new.target
+
+-- the message that is counted is one of the log
+abbrev pub IsCountedIn : List Entry → Position × ℕ → Type 0
+IsCountedIn log counted = IsTrue (has_message log counted.0)
+
+-- each message that is counted in the subscription is
+abbrev pub AreCountedIn : List Entry → KeptPlaces → Type 0
+AreCountedIn log sub = All (IsCountedIn log) (map_of.entries sub.counts)
+
+-- messages came to the log
+abbrev pub IsLonger : List Entry → List Entry → Type 0
+IsLonger was log = (more : List Entry) × (log ≡ was ++ more)

@@ -1,4 +1,4 @@
--- The six tables of version 1, as a database lists them: each table but the first has an index of its key behind it.
+-- The tables of each version, as a database lists them: each table but the first has an index of its key behind it.
 use Rattle.sqlite.specs.Collation.TheVariants.{Binary}
 use Rattle.std.specs.Prelude.{true, false, [], ◌∷◌, None, Some, codes, List, ℕ}
 use Rattle.sqlite.specs.declared.types.Value.TheVariants.{Null}
@@ -50,6 +50,9 @@ ack_table tree = table_of (codes "ack") tree (required (codes "topic") Text ∷ 
 abbrev pub dead_table : ℕ → Table
 dead_table tree = table_of (codes "dead") tree (required (codes "topic") Text ∷ required (codes "sub") Text ∷ required (codes "ordinal") Integer ∷ required (codes "idx") Integer ∷ required (codes "target") Text ∷ []) (1 ∷ 2 ∷ 3 ∷ [])
 
+abbrev pub redelivery_table : ℕ → Table
+redelivery_table tree = table_of (codes "redelivery") tree (required (codes "topic") Text ∷ required (codes "sub") Text ∷ required (codes "idx") Integer ∷ required (codes "times") Integer ∷ []) (1 ∷ 2 ∷ 3 ∷ [])
+
 abbrev pub schema_0 : Schema
 schema_0 = record { tables = []; indexes = []; views = [] }
 
@@ -68,5 +71,10 @@ schema_4 = record { tables = meta_table 0 ∷ topic_table 1 ∷ entry_table 3 �
 abbrev pub schema_5 : Schema
 schema_5 = record { tables = meta_table 0 ∷ topic_table 1 ∷ entry_table 3 ∷ sub_table 5 ∷ ack_table 7 ∷ []; indexes = index_of (codes "sqlite_autoindex_topic_1") 2 1 (1 ∷ []) ∷ index_of (codes "sqlite_autoindex_entry_1") 4 3 (1 ∷ 2 ∷ []) ∷ index_of (codes "sqlite_autoindex_sub_1") 6 5 (1 ∷ 2 ∷ []) ∷ index_of (codes "sqlite_autoindex_ack_1") 8 7 (1 ∷ 2 ∷ 3 ∷ []) ∷ []; views = [] }
 
+-- the six tables of version 1
 abbrev pub schema_6 : Schema
 schema_6 = record { tables = meta_table 0 ∷ topic_table 1 ∷ entry_table 3 ∷ sub_table 5 ∷ ack_table 7 ∷ dead_table 9 ∷ []; indexes = index_of (codes "sqlite_autoindex_topic_1") 2 1 (1 ∷ []) ∷ index_of (codes "sqlite_autoindex_entry_1") 4 3 (1 ∷ 2 ∷ []) ∷ index_of (codes "sqlite_autoindex_sub_1") 6 5 (1 ∷ 2 ∷ []) ∷ index_of (codes "sqlite_autoindex_ack_1") 8 7 (1 ∷ 2 ∷ 3 ∷ []) ∷ index_of (codes "sqlite_autoindex_dead_1") 10 9 (1 ∷ 2 ∷ 3 ∷ []) ∷ []; views = [] }
+
+-- and the seven of version 2
+abbrev pub schema_7 : Schema
+schema_7 = record { tables = meta_table 0 ∷ topic_table 1 ∷ entry_table 3 ∷ sub_table 5 ∷ ack_table 7 ∷ dead_table 9 ∷ redelivery_table 11 ∷ []; indexes = index_of (codes "sqlite_autoindex_topic_1") 2 1 (1 ∷ []) ∷ index_of (codes "sqlite_autoindex_entry_1") 4 3 (1 ∷ 2 ∷ []) ∷ index_of (codes "sqlite_autoindex_sub_1") 6 5 (1 ∷ 2 ∷ []) ∷ index_of (codes "sqlite_autoindex_ack_1") 8 7 (1 ∷ 2 ∷ 3 ∷ []) ∷ index_of (codes "sqlite_autoindex_dead_1") 10 9 (1 ∷ 2 ∷ 3 ∷ []) ∷ index_of (codes "sqlite_autoindex_redelivery_1") 12 11 (1 ∷ 2 ∷ 3 ∷ []) ∷ []; views = [] }

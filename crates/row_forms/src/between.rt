@@ -4,7 +4,9 @@ ghost use Rattle.position_core.specs.declared.message.Entry.{Entry};
 
 use crate::ack_difference::ack_difference;
 use crate::change::Change;
-use crate::dead_difference::{Logs, dead_difference};
+use crate::count_difference::count_difference;
+use crate::dead_difference::dead_difference;
+use crate::places::Logs;
 use crate::sub_difference::sub_difference;
 use delivery_machine::Snapshot;
 use std::alloc::{AllocError, Global};
@@ -40,10 +42,11 @@ impl Change {
             subs: sub_difference(alloc, &[], kept.subscriptions())?,
             acks: ack_difference(alloc, &[], kept.subscriptions())?,
             deads: dead_difference(alloc, logs, &[], kept.subscriptions())?,
+            counts: count_difference(alloc, logs, &[], kept.subscriptions())?,
         })
     }
 
-    /// From the rows of a snapshot to those of a later one. Goes over ranges, dead letters and
+    /// From the rows of a snapshot to those of a later one. Goes over ranges, dead letters, counts and
     /// subscriptions, and not over the log; takes memory for rows that differ alone.
     pub fn between(alloc: Global, base: &Snapshot, kept: &Snapshot) -> Result<Change, AllocError>
         requires name { kept.now.name ≡ base.now.name }
@@ -62,6 +65,7 @@ impl Change {
             subs: sub_difference(alloc, base.subscriptions(), kept.subscriptions())?,
             acks: ack_difference(alloc, base.subscriptions(), kept.subscriptions())?,
             deads: dead_difference(alloc, logs, base.subscriptions(), kept.subscriptions())?,
+            counts: count_difference(alloc, logs, base.subscriptions(), kept.subscriptions())?,
         })
     }
 }

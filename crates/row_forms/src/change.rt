@@ -29,6 +29,14 @@ pub struct DeadRow {
     pub target: String,
 }
 
+/// The row of a message that was redelivered.
+#[derive(Drop)]
+pub struct CountRow {
+    pub sub: SubscriptionName,
+    pub place: u64,
+    pub times: u32,
+}
+
 /// Which rows of a table go, and which come.
 #[derive(Drop)]
 pub struct Difference<R: Drop> {
@@ -45,6 +53,7 @@ pub struct Change {
     pub subs: Difference<SubRow>,
     pub acks: Difference<AckRow>,
     pub deads: Difference<DeadRow>,
+    pub counts: Difference<CountRow>,
 }
 
 impl<R: Drop> Difference<R> {

@@ -7,29 +7,13 @@ ghost use Rattle.row_forms.specs.Parts.{DeadsDiffer, ExtendsByDeads, ExtendsByLe
 ghost use Rattle.row_forms.specs.Sides.{IsOfOneKey, new_of, old_of};
 
 use crate::change::{DeadRow, Difference};
+use crate::places::{Logs, place_in};
 use crate::side::{Side, Walk};
 use crate::texts::topic_text;
 use delivery_machine::{DeadLetter, KeptSubscription};
 use log_pieces::Pieces;
-use position_core::{Position, SubscriptionName};
+use position_core::SubscriptionName;
 use std::alloc::{AllocError, Global};
-
-/// The log as it was, and as it is.
-#[derive(Clone, Copy)]
-pub(crate) struct Logs<'a> {
-    pub(crate) was: &'a Pieces,
-    pub(crate) now: &'a Pieces,
-}
-
-fn place_in(log: &Pieces, at: Position) -> u64
-    requires { IsRising (joined log.now) }
-    ensures { result ≡ place_in (joined log.now) at }
-{
-    match log.index_of(at) {
-        Some(index) => index as u64,
-        None => log.count() as u64,
-    }
-}
 
 fn row_of(
     alloc: Global,

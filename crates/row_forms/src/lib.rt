@@ -4,12 +4,12 @@
 pub mod ack_difference;
 mod between;
 mod change;
+mod count_difference;
 mod dead_difference;
-mod raw_rows;
+mod places;
 mod side;
 pub mod sub_difference;
 mod texts;
 
-pub use change::{AckRow, Change, DeadRow, Difference, SubRow};
-pub use raw_rows::RawRows;
+pub use change::{AckRow, Change, CountRow, DeadRow, Difference, SubRow};
 pub use texts::topic_text;

@@ -2,7 +2,7 @@
 ghost use Rattle.std.specs.Prelude.{◌≡◌, ◌++◌, [], IfSome, IfNone};
 ghost use Rattle.row_forms.specs.Sides.{IsOfOneKey, new_of, old_of};
 
-use delivery_machine::{DeadLetter, KeptSubscription};
+use delivery_machine::{Counted, DeadLetter, KeptSubscription};
 use std::cmp::Ordering;
 
 /// What comes first in two lists: it stands in one of them alone, or one of its key stands in each.
@@ -38,6 +38,16 @@ impl Keyed for DeadLetter {
 
     fn order(&self, other: &Self) -> Ordering {
         self.ordinal.cmp(&other.ordinal)
+    }
+}
+
+impl Keyed for Counted {
+    ghost use Rattle.std.specs.Prelude.{◌≡◌};
+
+    ghost same_key = { λ old new. old.position ≡ new.position };
+
+    fn order(&self, other: &Self) -> Ordering {
+        self.position.cmp(&other.position)
     }
 }
 

@@ -2,6 +2,10 @@
 use Rattle.std.proofs.Common.{◌≡◌, [], ◌∷◌, length, refl, arith}
 use Rattle.sqlite.specs.Order.{Row, column}
 
+pub three : (r : Row) → length r ≡ 3 → r ≡ column r 0 ∷ column r 1 ∷ column r 2 ∷ []
+three (a ∷ b ∷ c ∷ []) is = refl
+three r is = absurd (omega arith)
+
 pub four : (r : Row) → length r ≡ 4 → r ≡ column r 0 ∷ column r 1 ∷ column r 2 ∷ column r 3 ∷ []
 four (a ∷ b ∷ c ∷ d ∷ []) is = refl
 four r is = absurd (omega arith)

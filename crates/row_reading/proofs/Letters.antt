@@ -1,46 +1,31 @@
 -- Dead letters and their rows.
-use Rattle.std.proofs.Common.{◌≡◌, ℕ, ◌+◌, ◌<◌, ◌≤◌, Bool, true, false, cond, List, [], ◌∷◌, ◌++◌, map, length, pos, Some, refl, ap, sym, ◌∙◌, arith}
-use Rattle.std.specs.Prelude.{◌==◌, ◌||◌, if◌then◌else◌}
-use Rattle.std.specs.List.{All, AllByRecursion, count_by, list_any, slice_get, IsDistinct}
+use Rattle.std.proofs.Common.{◌≡◌, ℕ, ◌+◌, ◌<◌, ◌≤◌, Bool, true, false, cond, inl, inr, List, [], ◌∷◌, ◌++◌, map, length, pos, refl, ap, sym, ◌∙◌, arith}
+use Rattle.std.specs.Prelude.{◌==◌, ◌||◌, IsTrue}
+use Rattle.std.specs.List.{All, AllByRecursion, count_by, list_any, IsDistinct}
 use Rattle.std.specs.FinSet as set
 use Rattle.std.specs.Ordering.{nat_cmp}
-use Rattle.std.specs.Cmp.{nat_cmp_total, tied_itself, unsigned_tied}
+use Rattle.std.specs.Cmp.{nat_cmp_total, unsigned_tied}
 use Rattle.std.proofs.lemmas.Bool.Decides.{nat_tests}
 use Rattle.std.proofs.lemmas.List.Elements.{All-push, All-weaker, recursion_from_All}
 use Rattle.std.proofs.lemmas.List.Sums.{sum_by-append, sum_by-cons, sum_by_push}
-use Rattle.std.proofs.lemmas.Option.{get_or_from_slice_get, slice_get_within}
 use Rattle.sqlite.specs.declared.types.Value.TheVariants.{Int, Text as Words}
 use Rattle.sqlite.specs.Order.{Row, column}
-use Rattle.sqlite.specs.declared.types.Value.{Value}
 use Rattle.position_core.specs.declared.message.Entry.{Entry}
 use Rattle.position_core.specs.declared.position.Position.{Position}
 use Rattle.position_core.specs.declared.topic_name.TopicName.{TopicName}
 use Rattle.position_core.specs.TopicName.{topic_text}
-use Rattle.position_core.specs.Position.{positions_total, same_position}
-use Rattle.log_pieces.proofs.Searching.{found}
-use Rattle.ack_ranges.proofs.Covers.{or_first, or_second}
+use Rattle.position_core.specs.Position.{same_position}
+use Rattle.ack_ranges.proofs.Covers.{either, or_first, or_second}
 use Rattle.delivery_machine.specs.State.{DeadLetter}
 use Rattle.delivery_machine.specs.WellFormed.{AreDeadLettersOf, has_message}
 use Rattle.delivery_machine.proofs.Letters.{dead_pushed}
-use Rattle.delivery_machine.proofs.Messages.{has_there}
 use Rattle.delivery_machine.proofs.Ordinals.{distinct_once, times}
 use Rattle.delivery_machine.proofs.Tended.{position_is}
 use Rattle.row_forms.specs.Forms.{dead_row, place_in}
-use Rattle.row_forms.specs.Parts.{IsRising}
-use Rattle.row_forms.proofs.Deads.{found_place}
-use Rattle.row_reading.specs.Reading.{BeginsWithLetters, IsLetterAt, OrdinalsCame, times_in}
+use Rattle.row_reading.specs.Reading.{AreDeadAt, BeginsWithLetters, IsLetterAt, OrdinalsCame, times_in}
 use Rattle.row_reading.proofs.Beginnings.{one_more}
 use Rattle.row_reading.proofs.Columns.{four}
-
--- ---- the message at a place
-
-pub place_there : (log : List Entry) (place : ℕ) (m : Entry) → IsRising log → slice_get log place ≡ Some m → place ≡ place_in log m.position
-place_there log place m rising at =
-    found_place log m.position place (sym (found log m.position place m rising at (tied_itself positions_total m.position)))
-
-pub message_there : (log : List Entry) (place : ℕ) (m : Entry) → slice_get log place ≡ Some m → has_message log m.position ≡ true
-message_there log place m at =
-    has_there log m.position (m, (place, slice_get_within log place m at, get_or_from_slice_get log place m m at), refl)
+use Rattle.row_reading.proofs.PlacesRead.{apart_places}
 
 -- ---- one more letter
 
@@ -146,19 +131,6 @@ same_cells sub log row d e one other =
     let b = letter_row sub log row e other in
     (cc (a, b), cc (a, b))
 
--- a message of the log stands below its end
-pub place_below : (log : List Entry) (p : Position) → has_message log p ≡ true → place_in log p < length log
-place_below [] p there = absurd (cc)
-place_below (e ∷ log) p there = by (same_position e.position p) there (place_below log p)
-  where
-    by : (b : Bool) → (b || has_message log p) ≡ true → (has_message log p ≡ true → place_in log p < length log) → (if b then 0 else place_in log p + 1) < length (e ∷ log)
-    by true there later = omega arith
-    by false there later = let below = later there in omega arith
-
--- the place that was read is that of the letter, and so below the log's end
-pub place_told : (log : List Entry) (p : Position) (place : ℕ) (v : Value) → v ≡ Int (pos (place_in log p)) → v ≡ Int (pos place) → place_in log p < length log → length log ≤ place → ⊥
-place_told log p place v at found below past = let same : place ≡ place_in log p = cc in absurd (omega (arith, same, below, past))
-
 pub letter_shown : (sub : List ℕ) (log : List Entry) (row : Row) (p : Position) (target : TopicName) (ordinal place : ℕ) → length row ≡ 4 → column row 0 ≡ Words sub → column row 1 ≡ Int (pos ordinal) → column row 2 ≡ Int (pos place)
     → column row 3 ≡ Words (topic_text target) → place ≡ place_in log p → IsLetterAt sub log row (record { position = p; target = target; ordinal = ordinal })
 letter_shown sub log row p target ordinal place long named at stands goes is topic =
@@ -198,3 +170,31 @@ no_others_more log s t ds d others is n all =
 
     neither : (a b : Bool) → a ≡ false → b ≡ false → (a || b) ≡ false
     neither a b x y = rw (x, y) refl
+
+-- ---- the places of those that died
+
+neither_of : (a b : Bool) → (a || b) ≡ false → (a ≡ false) × (b ≡ false)
+neither_of true b e = absurd (cc)
+neither_of false b e = (refl, e)
+
+-- a set that has their messages' places and no others has the place of a message where it died
+pub dead_at : (log : List Entry) (ds : List DeadLetter) (places : set.FinSet nat_cmp) → AreDeadLettersOf log ds → HavePlaces log places ds → HasNoOthers log places ds → AreDeadAt log ds places
+dead_at log ds places dead have others p there =
+    by (list_any (λ d. same_position d.position p) ds) refl
+  where
+    one : (xs : List DeadLetter) → AllByRecursion (λ d. set.contains places (place_in log d.position) ≡ true) xs → list_any (λ d. same_position d.position p) xs ≡ true → set.contains places (place_in log p) ≡ true
+    one [] all any = absurd (cc)
+    one (x ∷ xs) all any = elim (either (same_position x.position p) (list_any (λ d. same_position d.position p) xs) any) [
+      | inl same ↦ ap (λ q. set.contains places (place_in log q)) (sym (position_is x.position p same)) ∙ all.0
+      | inr later ↦ one xs all.1 later
+    ]
+
+    none : (xs : List DeadLetter) → AllByRecursion (λ d. IsTrue (has_message log d.position)) xs → list_any (λ d. same_position d.position p) xs ≡ false → AllByRecursion (λ d. place_in log d.position ≡ place_in log p → ⊥) xs
+    none [] all e = tt
+    none (x ∷ xs) all e =
+        let parts = neither_of (same_position x.position p) (list_any (λ d. same_position d.position p) xs) e in
+        (apart_places log x.position p all.0 there parts.0, none xs all.1 parts.1)
+
+    by : (b : Bool) → list_any (λ d. same_position d.position p) ds ≡ b → set.contains places (place_in log p) ≡ b
+    by true any = one ds (recursion_from_All (λ d. set.contains places (place_in log d.position) ≡ true) ds have) any
+    by false e = others (place_in log p) (none ds (recursion_from_All (λ d. IsTrue (has_message log d.position)) ds dead.messages) e)

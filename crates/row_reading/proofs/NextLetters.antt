@@ -15,9 +15,7 @@ use Rattle.sqlite.specs.declared.types.Value.TheVariants.{Text as Words}
 use Rattle.sqlite.specs.Order.{Row, column}
 use Rattle.position_core.specs.declared.topic_name.TopicName.{TopicName}
 use Rattle.position_core.specs.declared.message.Entry.{Entry}
-use Rattle.position_core.specs.Position.{positions_total, same_position}
-use Rattle.std.specs.Cmp.{tied_itself}
-use Rattle.std.specs.Ordering.{is_eq}
+use Rattle.position_core.specs.Position.{same_position}
 use Rattle.delivery_machine.specs.State.{DeadLetter}
 use Rattle.delivery_machine.specs.WellFormed.{AreDeadLettersOf, has_message}
 use Rattle.row_forms.specs.Forms.{dead_row, place_in}
@@ -25,7 +23,8 @@ use Rattle.row_reading.specs.Reading.{ArePast, AreReadable, BeginsWithLetters, I
 use Rattle.row_reading.proofs.Letters.{HasLeast, HasNoOthers}
 use Rattle.row_reading.proofs.Nexts.{all_at, next_is, past_first}
 use Rattle.row_reading.proofs.Orders.{all_both, all_weaker}
-use Rattle.row_reading.proofs.Told.{IsOneOf, one_letter, one_place}
+use Rattle.row_reading.proofs.PlacesRead.{apart_places}
+use Rattle.row_reading.proofs.Told.{IsOneOf, one_letter}
 
 -- ---- those before one of the letters
 
@@ -46,12 +45,6 @@ apart_before (x ∷ xs) d more distinct = (unlike xs distinct.0, apart_before xs
     unlike : (ys : List DeadLetter) → AllByRecursion (λ p. same_position x.position p ≡ false) (map (λ (y : DeadLetter). y.position) (ys ++ d ∷ more)) → same_position x.position d.position ≡ false
     unlike [] all = all.0
     unlike (y ∷ ys) all = unlike ys all.1
-
-other_place : (log : List Entry) (d x : DeadLetter) → has_message log d.position ≡ true → has_message log x.position ≡ true → same_position x.position d.position ≡ false → place_in log x.position ≡ place_in log d.position → ⊥
-other_place log d x there here apart same =
-    let one : x.position ≡ d.position = one_place log x.position d.position here there same in
-    let tied : same_position x.position d.position ≡ true = ap (same_position x.position) (sym one) ∙ ap is_eq (tied_itself positions_total x.position) in
-    absurd (cc)
 
 none_of : (n : ℕ) (xs : List DeadLetter) → AllByRecursion (λ (x : DeadLetter). x.ordinal < n) xs → count_by (λ (x : DeadLetter). x.ordinal == n) xs ≡ 0
 none_of n [] all = refl
@@ -108,7 +101,7 @@ next_letter own sub log next least places old ordinals ds all rows rest after ot
         above = has_least d.ordinal lower;
         new_place = no_others (place_in log d.position)
             (all_weaker (λ (x : DeadLetter). (has_message log x.position ≡ true) × (same_position x.position d.position ≡ false)) (λ (x : DeadLetter). place_in log x.position ≡ place_in log d.position → ⊥)
-            (λ x both. other_place log d x readable.message both.0 both.1) ds (all_both (λ (x : DeadLetter). has_message log x.position ≡ true) (λ (x : DeadLetter). same_position x.position d.position ≡ false) ds messages apart));
+            (λ x both. apart_places log x.position d.position both.0 readable.message both.1) ds (all_both (λ (x : DeadLetter). has_message log x.position ≡ true) (λ (x : DeadLetter). same_position x.position d.position ≡ false) ds messages apart));
         new_ordinal = never_came old ordinals d.ordinal (count_by (λ (x : DeadLetter). x.ordinal == d.ordinal) ds) (came d.ordinal) (none_of d.ordinal ds lower) fresh;
       },
     )

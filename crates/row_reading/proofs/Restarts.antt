@@ -1,43 +1,27 @@
 -- What is read is a snapshot that a topic may go on from.
-use Rattle.std.proofs.Common.{◌≡◌, ℕ, ◌≤◌, suc, Bool, true, false, cond, inl, inr, List, [], ◌∷◌, map, length, refl, ap, sym, subst, ◌∙◌}
-use Rattle.std.specs.Prelude.{◌||◌}
-use Rattle.std.specs.List.{All, list_any}
+use Rattle.std.proofs.Common.{◌≡◌, ℕ, ◌≤◌, false, List, [], ◌∷◌, map, length, refl, ap, sym, subst, ◌∙◌}
+use Rattle.std.specs.List.{All}
 use Rattle.std.specs.FinSet as set
 use Rattle.std.specs.Ordering.{nat_cmp}
 use Rattle.std.proofs.lemmas.List.Elements.{All-map, All-weaker}
 use Rattle.sqlite.specs.declared.types.Value.TheVariants.{Text as Words}
 use Rattle.sqlite.specs.Order.{Row}
-use Rattle.position_core.specs.declared.position.Position.{Position}
 use Rattle.position_core.specs.declared.message.Entry.{Entry}
 use Rattle.position_core.specs.declared.topic_name.TopicName.{TopicName}
-use Rattle.position_core.specs.Position.{positions_total, same_position}
+use Rattle.position_core.specs.Position.{positions_total}
 use Rattle.position_core.specs.TopicName.{same_topic, topic_text}
-use Rattle.ack_ranges.proofs.Covers.{either, or_first, or_second}
 use Rattle.delivery_machine.specs.State.{DeadLetter}
 use Rattle.delivery_machine.specs.Snapshot.{KeptSubscription}
 use Rattle.delivery_machine.specs.Places.{AreBelow, KeptPlaces, KeptTopic, MayRestart, kept_in, positions_at, positions_from}
-use Rattle.delivery_machine.specs.WellFormed.{AreMessagesOf, HaveOrdinals, IsSoundSubscription, IsWellFormedLog, NamesRise, has_message}
-use Rattle.delivery_machine.proofs.Messages.{either_way}
+use Rattle.delivery_machine.specs.WellFormed.{AreMessagesOf, HaveOrdinals, IsSoundSubscription, IsWellFormedLog, NamesRise}
 use Rattle.delivery_machine.proofs.Ordinals.{letters_mapped}
 use Rattle.row_tables.specs.declared.side_rows.SideRows.{SideRows}
-use Rattle.row_forms.specs.Forms.{AreAckRows, AreRowsOf, dead_rows, sub_rows}
+use Rattle.row_forms.specs.Forms.{AreAckRows, AreRowsOf, count_rows, dead_rows, sub_rows}
 use Rattle.row_reading.specs.declared.topic_row.Head.{Head}
 use Rattle.row_reading.specs.Reading.{AreSubsOf, IsHeadIn, IsLetterOf, IsNamed, IsSubOf, put, rows_with}
+use Rattle.row_reading.proofs.PlacesRead.{among}
 
 -- ---- what is acknowledged
-
--- each position at a place of the log is of one of its messages
-among : (place : ℕ) (p : ℕ → Bool) (log : List Entry) (q : Position) → list_any (same_position q) (positions_from place p log) ≡ true → has_message log q ≡ true
-among place p [] q there = cc
-among place p (e ∷ log) q there = by (p place) there (among (suc place) p log q)
-  where
-    by : (b : Bool) → list_any (same_position q) (cond b (e.position ∷ positions_from (suc place) p log) (positions_from (suc place) p log)) ≡ true
-        → (list_any (same_position q) (positions_from (suc place) p log) ≡ true → has_message log q ≡ true) → (same_position e.position q || has_message log q) ≡ true
-    by false there later = or_second _ _ (later there)
-    by true there later = elim (either _ _ there) [
-      | inl here ↦ or_first _ _ (either_way e.position q ∙ here)
-      | inr rest ↦ or_second _ _ (later rest)
-    ]
 
 acknowledged_are : (log : List Entry) (places : set.FinSet nat_cmp) → AreMessagesOf log (positions_at log places)
 acknowledged_are log places q there =
@@ -56,7 +40,7 @@ may_restart own kept log short subs = record {
     names = subst NamesRise (sym (same_names kept.log kept.subscriptions)) subs.names;
     subscriptions = All-map (IsSoundSubscription kept.log) (kept_in kept.log) kept.subscriptions
         (All-weaker (IsSubOf own kept.log kept.next_ordinal) (λ sub. IsSoundSubscription kept.log (kept_in kept.log sub))
-        (λ sub is. record { acknowledged = acknowledged_are kept.log sub.acknowledged; dead = is.dead }) kept.subscriptions subs.each);
+        (λ sub is. record { acknowledged = acknowledged_are kept.log sub.acknowledged; counted = is.counted; dead = is.dead }) kept.subscriptions subs.each);
     ordinals = subst (λ ds. HaveOrdinals kept.next_ordinal ds)
         (sym (letters_mapped (λ (sub : KeptSubscription). sub.dead) (λ (sub : KeptPlaces). sub.dead) (kept_in kept.log) (λ _. refl) kept.subscriptions)) subs.ordinals;
   };
@@ -69,13 +53,14 @@ of_parts name head log subs = record { name = name; ledger_size = head.ledger_si
 
 pub rows_shown : (name : TopicName) (head : Head) (log : List Entry) (subs : List KeptPlaces) (sides : SideRows) → IsHeadIn sides.topics.items head → ((topic : List ℕ) → put topic sides.subs.items ≡ sub_rows topic subs)
     → ((topic : List ℕ) → AreAckRows topic subs (put topic sides.acks.items)) → ((topic : List ℕ) → put topic sides.deads.items ≡ dead_rows topic log subs)
-    → AreRowsOf (of_parts name head log subs) (rows_with (topic_text name) log sides)
-rows_shown name head log subs sides (row, one, is) own acks deads = record {
+    → ((topic : List ℕ) → put topic sides.counts.items ≡ count_rows topic log subs) → AreRowsOf (of_parts name head log subs) (rows_with (topic_text name) log sides)
+rows_shown name head log subs sides (row, one, is) own acks deads counts = record {
   topics = ap (put (topic_text name)) one ∙ ap (λ (r : Row). (Words (topic_text name) ∷ r) ∷ []) is.shown;
   entries = refl;
   subs = own (topic_text name);
   acks = acks (topic_text name);
   deads = deads (topic_text name);
+  counts = counts (topic_text name);
 }
 
 -- every dead letter goes to another topic

@@ -9,28 +9,31 @@ use Rattle.std.proofs.lemmas.Bool.{cases_lt}
 use Rattle.std.proofs.lemmas.Bool.Decides.{nat_tests}
 use Rattle.std.proofs.lemmas.Cmp.{nat_list_cmp_total, on_total}
 use Rattle.std.proofs.lemmas.List.Sorted.{IsPermutation-sym, IsPermutation-trans, list_any-IsPermutation}
-use Rattle.sqlite_trees.proofs.ListLemmas.{IsPermutation-filter}
+use Rattle.std.specs.FinMap as map_of
 use Rattle.sqlite.specs.declared.types.Value.TheVariants.{Int, Text as Words}
 use Rattle.sqlite.specs.Order.{Row, row_cmp, value_cmp}
+use Rattle.sqlite.specs.Tree.{Trees}
 use Rattle.sqlite_value.proofs.OrderLemmas.{row_cmp_total, value_cmp-Int, value_cmp-Text}
+use Rattle.sqlite_trees.proofs.ListLemmas.{IsPermutation-filter}
+use Rattle.position_core.specs.declared.position.Position.{Position}
 use Rattle.position_core.specs.declared.message.Entry.{Entry}
 use Rattle.position_core.specs.Name.{name_order}
 use Rattle.position_core.specs.TopicName.{topic_text}
 use Rattle.delivery_machine.specs.State.{DeadLetter}
 use Rattle.delivery_machine.specs.Places.{KeptPlaces}
-use Rattle.row_forms.specs.Cells.{ENTRY}
-use Rattle.row_forms.specs.Standing.{HasIn}
-use Rattle.sqlite.specs.Tree.{Trees}
-use Rattle.row_forms.specs.Forms.{AreAckRows, ack_row, dead_row, dead_rows, entry_row, entry_rows, sub_rows}
 use Rattle.row_tables.specs.Ordered.{AreSortedBy}
 use Rattle.row_tables.specs.Pieces.{ShowsWithin, has_others, is_below, is_within, messages_of}
 use Rattle.row_tables.proofs.TableLemmas.{filter_twice}
+use Rattle.row_forms.specs.Cells.{ENTRY}
+use Rattle.row_forms.specs.Standing.{HasIn}
+use Rattle.row_forms.specs.Forms.{AreAckRows, ack_row, count_row, count_rows, dead_row, dead_rows, entry_row, entry_rows, place_in, sub_rows}
 use Rattle.row_reading.specs.Reading.{put, rows_with}
 use Rattle.row_reading.specs.KeyOrder.{BelowByName, BelowByNumber, BelowByPlace, InOrder}
 use Rattle.row_reading.specs.ReadRows.{WhatStandsIsRead}
-use Rattle.row_reading.proofs.Orders.{all_append, all_weaker}
+use Rattle.row_reading.proofs.Orders.{all_append}
 use Rattle.row_reading.proofs.SortedLists.{order_weaker, same_sorted, sorted_through}
-use Rattle.row_reading.proofs.Told.{IsTellable, acks_in_order, are_tellable, deads_in_order, entries_in_order, in_order_are_its, subs_in_order}
+use Rattle.row_reading.proofs.OneSnapshot.{are_tellable, in_order_are_its, tellable_counts, tellable_deads}
+use Rattle.row_reading.proofs.Told.{acks_in_order, entries_in_order, subs_in_order}
 
 -- by the first columns after the topic's text
 abbrev key_order : ℕ → Row → Row → Ordering
@@ -117,6 +120,15 @@ deads_numbered topic log [] = tt
 deads_numbered topic log (sub ∷ subs) =
     all_append HasNumber (map (dead_row topic sub.name log) sub.dead) (dead_rows topic log subs) (letters_numbered topic sub.name log sub.dead) (deads_numbered topic log subs)
 
+counted_numbered : (topic name : List ℕ) (log : List Entry) (counts : List (Position × ℕ)) → AllByRecursion HasNumber (map (count_row topic name log) counts)
+counted_numbered topic name log [] = tt
+counted_numbered topic name log (c ∷ counts) = ((topic, name, place_in log c.0, _, refl), counted_numbered topic name log counts)
+
+counts_numbered : (topic : List ℕ) (log : List Entry) (subs : List KeptPlaces) → AllByRecursion HasNumber (count_rows topic log subs)
+counts_numbered topic log [] = tt
+counts_numbered topic log (sub ∷ subs) =
+    all_append HasNumber (map (count_row topic sub.name log) (map_of.entries sub.counts)) (count_rows topic log subs) (counted_numbered topic sub.name log (map_of.entries sub.counts)) (counts_numbered topic log subs)
+
 -- ---- messages in pieces
 
 place_below : (topic : List ℕ) (place end : ℕ) (e : Entry) → place < end → is_below end (entry_row topic place e) ≡ true
@@ -192,15 +204,17 @@ what_stands_is_read kept db told (mine, are, has) =
     let messages : HasIn ENTRY topic (entry_rows topic 0 kept.log) db = subst (λ l. HasIn ENTRY topic l db) are.entries has.entries in
     let subs = subs_in_order topic kept.subscriptions tell.names in
     let acks = acks_in_order topic kept.subscriptions mine.acks tell.names are.acks in
-    let deads = deads_in_order topic kept.log kept.subscriptions tell.names (all_weaker (IsTellable kept.log) _ (λ sub t. t.dead) kept.subscriptions tell.each) in
+    let deads = tellable_deads topic kept.log kept.subscriptions tell in
+    let counts = tellable_counts topic kept.log kept.subscriptions tell in
     record {
       pieces = λ from end rows within shows sorted. piece_read topic kept.log db from end rows messages shows sorted;
       others = λ end short. none_others topic kept.log db end messages short;
-      sides = λ sides these sorted. in_order_are_its kept (rows_with topic kept.log sides) db told (mine, are, has) (record { topics = these.topics; entries = messages; subs = these.subs; acks = these.acks; deads = these.deads }) record {
+      sides = λ sides these sorted. in_order_are_its kept (rows_with topic kept.log sides) db told (mine, are, has) (record { topics = these.topics; entries = messages; subs = these.subs; acks = these.acks; deads = these.deads; counts = these.counts }) record {
         entries = entries_in_order topic 0 kept.log;
         subs = subst (InOrder BelowByName) (read_are topic 1 _ sides.subs.items (order_weaker BelowByName (BelowBy 1) HasName by_name _ (subs_named topic kept.subscriptions) subs) sorted.subs (same _ _ _ _ are.subs has.subs these.subs)) subs;
         acks = subst (InOrder BelowByNumber) (read_are topic 2 _ sides.acks.items (order_weaker BelowByNumber (BelowBy 2) HasNumber by_number _ (acks_numbered topic kept.subscriptions mine.acks are.acks) acks) sorted.acks (same _ _ _ _ refl has.acks these.acks)) acks;
         deads = subst (InOrder BelowByNumber) (read_are topic 2 _ sides.deads.items (order_weaker BelowByNumber (BelowBy 2) HasNumber by_number _ (deads_numbered topic kept.log kept.subscriptions) deads) sorted.deads (same _ _ _ _ are.deads has.deads these.deads)) deads;
+        counts = subst (InOrder BelowByNumber) (read_are topic 2 _ sides.counts.items (order_weaker BelowByNumber (BelowBy 2) HasNumber by_number _ (counts_numbered topic kept.log kept.subscriptions) counts) sorted.counts (same _ _ _ _ are.counts has.counts these.counts)) counts;
       };
     }
   where

@@ -3,6 +3,7 @@ use Rattle.std.proofs.Common.{◌≡◌, ℕ, zero, suc, ◌+◌, ◌-◌, ◌<�
 use Rattle.std.specs.Prelude.{◌==◌}
 use Rattle.std.specs.List.{All, AllByRecursion, flat_map, slice_get}
 use Rattle.std.specs.List.Sorted.{IsStrictlySortedBy}
+use Rattle.std.specs.FinMap as map_of
 use Rattle.std.specs.FinSet as set
 use Rattle.std.specs.Ordering.{nat_cmp}
 use Rattle.std.specs.declared.cmp.Ordering.TheVariants.{Less}
@@ -20,10 +21,11 @@ use Rattle.position_core.specs.Name.{name_order}
 use Rattle.delivery_machine.specs.State.{DeadLetter}
 use Rattle.delivery_machine.specs.Places.{KeptPlaces}
 use Rattle.delivery_machine.specs.WellFormed.{NamesRise}
-use Rattle.row_forms.specs.Forms.{AreAckRows, ack_row, dead_row, dead_rows, kind_number, sub_row, sub_rows}
+use Rattle.row_forms.specs.Forms.{AreAckRows, ack_row, count_row, count_rows, dead_row, dead_rows, kind_number, sub_row, sub_rows}
 use Rattle.row_forms.proofs.Acks.{join_rows, one_sub}
+use Rattle.row_forms.proofs.Counts.{counts_joined}
 use Rattle.row_forms.proofs.Deads.{rows-append}
-use Rattle.row_reading.specs.Reading.{AreSubsOf, BeginsWithAcks, BeginsWithDeads, BeginsWithLetters, BeginsWithRuns, IsLetterOf, IsSubOf, OrdinalsCame, put}
+use Rattle.row_reading.specs.Reading.{AreSubsOf, BeginWithCounts, BeginsWithAcks, BeginsWithCounts, BeginsWithDeads, BeginsWithLetters, BeginsWithRuns, IsLetterOf, IsSubOf, OrdinalsCame, put}
 use Rattle.row_reading.proofs.Letters.{came_once}
 
 -- ---- the rows of subscriptions
@@ -80,6 +82,20 @@ deads_then log first second rows middle rest h k topic =
 
 pub all_deads : (log : List Entry) (subs : List KeptPlaces) (rows rest : List Row) → BeginsWithDeads log subs rows rest → rest ≡ [] → (topic : List ℕ) → put topic rows ≡ dead_rows topic log subs
 all_deads log subs rows rest h none topic = h topic ∙ ap (λ l. dead_rows topic log subs ++ put topic l) none ∙ append-nil (dead_rows topic log subs)
+
+-- ---- the rows of counts
+
+pub counts_of_one : (log : List Entry) (sub : KeptPlaces) (rows rest : List Row) → BeginsWithCounts sub.name log sub.counts rows rest → BeginWithCounts log (sub ∷ []) rows rest
+counts_of_one log sub rows rest h topic = h topic ∙ ap (λ l. l ++ put topic rest) (sym (append-nil (map (count_row topic sub.name log) (map_of.entries sub.counts))))
+
+pub counts_then : (log : List Entry) (first second : List KeptPlaces) (rows middle rest : List Row) → BeginWithCounts log first rows middle → BeginWithCounts log second middle rest → BeginWithCounts log (first ++ second) rows rest
+counts_then log first second rows middle rest h k topic =
+    h topic
+    ∙ ap (λ l. count_rows topic log first ++ l) (k topic)
+    ∙ sym (ap (λ l. l ++ put topic rest) (counts_joined log topic first second) ∙ append_assoc (count_rows topic log first) (count_rows topic log second) (put topic rest))
+
+pub all_counts : (log : List Entry) (subs : List KeptPlaces) (rows rest : List Row) → BeginWithCounts log subs rows rest → rest ≡ [] → (topic : List ℕ) → put topic rows ≡ count_rows topic log subs
+all_counts log subs rows rest h none topic = h topic ∙ ap (λ l. count_rows topic log subs ++ put topic l) none ∙ append-nil (count_rows topic log subs)
 
 -- ---- names
 

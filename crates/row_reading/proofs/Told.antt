@@ -1,15 +1,12 @@
--- Rows tell one snapshot: what stands in each of them, and in which order they come.
-use Rattle.std.proofs.Common.{◌≡◌, ℕ, zero, suc, ◌+◌, ◌-◌, ◌<◌, inl, inr, Bool, true, false, Option, Some, None, List, [], ◌∷◌, ◌++◌, map, length, ℤ, refl, ap, sym, ◌∙◌, subst, arith}
-use Rattle.std.specs.Prelude.{if◌then◌else◌, IsPermutation, ◌||◌}
-use Rattle.std.specs.FinSet as set
+-- What stands in the rows of each table, and in which order they come.
+use Rattle.std.proofs.Common.{◌≡◌, ℕ, zero, suc, ◌+◌, ◌-◌, ◌<◌, inr, true, Option, Some, None, List, [], ◌∷◌, ◌++◌, map, ℤ, refl, ap, sym, ◌∙◌, subst, arith}
+use Rattle.std.specs.Prelude.{IsPermutation}
 use Rattle.std.specs.List.{All, AllByRecursion}
 use Rattle.std.specs.List.Sorted.{IsStrictlySortedBy}
 use Rattle.std.specs.Ordering.{nat_cmp}
-use Rattle.std.specs.declared.cmp.Ordering.TheVariants.{Less, Equal}
-use Rattle.std.specs.Cmp.{ranked, tied_itself}
-use Rattle.std.proofs.lemmas.Cmp.{nat_list_cmp_total}
-use Rattle.std.proofs.lemmas.List.Elements.{All-from_recursion, recursion_from_All}
-use Rattle.std.proofs.lemmas.List.Sorted.{All-permutation, IsPermutation-sym, IsPermutation-trans, length_permutation}
+use Rattle.std.specs.declared.cmp.Ordering.TheVariants.{Less}
+use Rattle.std.specs.Cmp.{ranked}
+use Rattle.std.proofs.lemmas.List.Elements.{recursion_from_All}
 use Rattle.std.proofs.lemmas.Map.Keys.{sorted_from_strictly_increasing}
 use Rattle.json.specs.Json.{document}
 use Rattle.sqlite.specs.declared.types.Value.TheVariants.{Text as Words, Blob as Octets}
@@ -22,23 +19,20 @@ use Rattle.position_core.specs.declared.topic_name.TopicName.{TopicName}
 use Rattle.position_core.specs.declared.message.Entry.{Entry}
 use Rattle.position_core.specs.declared.kind.Kind.{Kind}
 use Rattle.position_core.specs.declared.kind.Kind.TheVariants.{Exclusive, Failover, Shared, KeyShared}
-use Rattle.position_core.specs.Position.{same_position}
 use Rattle.position_core.specs.TopicName.{topic_text}
 use Rattle.position_core.specs.Name.{name_order}
 use Rattle.position_core.proofs.TopicNames.{one_topic}
-use Rattle.ack_ranges.specs.Ranges.{Rise, RiseAbove, spread}
+use Rattle.ack_ranges.specs.Ranges.{Rise, RiseAbove}
 use Rattle.delivery_machine.specs.State.{DeadLetter}
-use Rattle.delivery_machine.specs.Places.{KeptPlaces, KeptTopic, kept_in}
-use Rattle.delivery_machine.specs.WellFormed.{AreDeadLettersOf, IsSoundSubscription, NamesRise, has_message}
-use Rattle.delivery_machine.proofs.Tended.{position_is}
-use Rattle.row_forms.specs.Forms.{AreAckRows, AreRowsOf, TopicRows, ack_row, dead_row, dead_rows, entry_row, entry_rows, key_cells, kind_number, place_in, sub_rows, topic_row}
-use Rattle.row_forms.specs.Standing.{Has}
+use Rattle.delivery_machine.specs.Places.{KeptPlaces}
+use Rattle.delivery_machine.specs.WellFormed.{AreDeadLettersOf, NamesRise, has_message}
+use Rattle.row_forms.specs.Forms.{AreAckRows, ack_row, dead_row, dead_rows, entry_row, entry_rows, key_cells, kind_number, place_in, sub_rows}
 use Rattle.row_forms.specs.Properties.{properties_text}
 use Rattle.row_reading.specs.Reading.{IsNamed}
-use Rattle.row_reading.specs.Telling.{IsTold, OneStands, RowsTellOne, SameRows}
-use Rattle.row_reading.specs.KeyOrder.{BelowByName, BelowByNumber, BelowByPlace, InOrder, InOrderAreIts, name_in, whole_of}
-use Rattle.row_reading.proofs.Restarts.{same_names}
-use Rattle.row_reading.proofs.Orders.{IsOneWay, all_append, all_both, all_weaker, cons_is, order_append, pair_is, same_in_order, same_mapped, same_parts}
+use Rattle.row_reading.specs.KeyOrder.{BelowByName, BelowByNumber, BelowByPlace, InOrder, name_in, whole_of}
+use Rattle.row_reading.proofs.PlacesRead.{one_place}
+use Rattle.row_reading.proofs.RowOrders.{apart_by_name, by_place_one_way}
+use Rattle.row_reading.proofs.Orders.{all_append, all_both, all_weaker, cons_is, order_append, pair_is, same_in_order, same_mapped}
 
 abbrev Pairs : Type 0
 Pairs = List (List ℕ × List ℕ)
@@ -97,31 +91,6 @@ same_log topic from (x ∷ xs) (y ∷ ys) e =
     let row : entry_row topic from x ≡ entry_row topic from y = cc in
     let others : entry_rows topic (from + 1) xs ≡ entry_rows topic (from + 1) ys = cc in
     cons_is x y xs ys (same_entry topic from x y row) (same_log topic (from + 1) xs ys others)
-
--- ---- orders of rows
-
-never_both : (a b : List ℕ) → name_order a b ≡ Less → name_order b a ≡ Less → ⊥
-never_both a b below above =
-    let less : name_order a a ≡ Less = nat_list_cmp_total.trans a b a below above in
-    let tied : name_order a a ≡ Equal = tied_itself nat_list_cmp_total a in
-    absurd (cc)
-
-pub never_itself : (a b : List ℕ) → a ≡ b → name_order a b ≡ Less → ⊥
-never_itself a b same below =
-    let tied : name_order a b ≡ Equal = ap (name_order a) (sym same) ∙ tied_itself nat_list_cmp_total a in
-    absurd (cc)
-
-by_place_one_way : IsOneWay BelowByPlace
-by_place_one_way r s below above = omega arith
-
-by_name_one_way : IsOneWay BelowByName
-by_name_one_way r s below above = never_both (name_in r) (name_in s) below above
-
-by_number_one_way : IsOneWay BelowByNumber
-by_number_one_way r s (inl below) (inl above) = never_both (name_in r) (name_in s) below above
-by_number_one_way r s (inl below) (inr above) = never_itself (name_in r) (name_in s) (sym above.0) below
-by_number_one_way r s (inr below) (inl above) = never_itself (name_in s) (name_in r) (sym below.0) above
-by_number_one_way r s (inr below) (inr above) = omega (arith, below.1, above.1)
 
 -- ---- the rows of messages stand in the order of their places
 
@@ -192,17 +161,9 @@ runs_in_order topic name (run ∷ runs) rise = (
 )
 
 -- each row of runs is of that name
-runs_named : (topic name : List ℕ) (runs : List (ℕ × ℕ)) → AllByRecursion (λ (r : Row). name_in r ≡ name) (map (ack_row topic name) runs)
+pub runs_named : (topic name : List ℕ) (runs : List (ℕ × ℕ)) → AllByRecursion (λ (r : Row). name_in r ≡ name) (map (ack_row topic name) runs)
 runs_named topic name [] = tt
 runs_named topic name (run ∷ runs) = (refl, runs_named topic name runs)
-
--- rows of a name stand before rows of names after it
-apart_by_name : (name : List ℕ) (xs ys : List Row) → AllByRecursion (λ (r : Row). name_in r ≡ name) xs → AllByRecursion (λ (r : Row). name_order name (name_in r) ≡ Less) ys → AllByRecursion (λ (x : Row). AllByRecursion (BelowByNumber x) ys) xs
-apart_by_name name [] ys named after = tt
-apart_by_name name (x ∷ xs) ys named after = (
-  all_weaker (λ (r : Row). name_order name (name_in r) ≡ Less) (BelowByNumber x) (λ r less. inl (ap (λ n. name_order n (name_in r)) named.0 ∙ less)) ys after,
-  apart_by_name name xs ys named.1 after,
-)
 
 named_after : (topic name other : List ℕ) (runs : List (ℕ × ℕ)) → name_order name other ≡ Less → AllByRecursion (λ (r : Row). name_order name (name_in r) ≡ Less) (map (ack_row topic other) runs)
 named_after topic name other [] less = tt
@@ -237,23 +198,10 @@ one_run topic name x y a b e =
     let end : x.1 ≡ y.1 = omega (arith, a, b) in
     pair_is x y first end
 
-same_runs : (topic name : List ℕ) (xs ys : List (ℕ × ℕ)) → AllByRecursion (λ (run : ℕ × ℕ). run.0 < run.1) xs → AllByRecursion (λ (run : ℕ × ℕ). run.0 < run.1) ys → map (ack_row topic name) xs ≡ map (ack_row topic name) ys → xs ≡ ys
+pub same_runs : (topic name : List ℕ) (xs ys : List (ℕ × ℕ)) → AllByRecursion (λ (run : ℕ × ℕ). run.0 < run.1) xs → AllByRecursion (λ (run : ℕ × ℕ). run.0 < run.1) ys → map (ack_row topic name) xs ≡ map (ack_row topic name) ys → xs ≡ ys
 same_runs topic name xs ys a b e = same_mapped (ack_row topic name) (λ (run : ℕ × ℕ). run.0 < run.1) (one_run topic name) xs ys a b e
 
 -- ---- dead letters
-
--- messages that stand at one place are one
-pub one_place : (log : List Entry) (p q : Position) → has_message log p ≡ true → has_message log q ≡ true → place_in log p ≡ place_in log q → p ≡ q
-one_place [] p q here there same = absurd (cc)
-one_place (e ∷ log) p q here there same = by (same_position e.position p) (same_position e.position q) refl refl here there same (one_place log p q)
-  where
-    by : (b c : Bool) → same_position e.position p ≡ b → same_position e.position q ≡ c → (b || has_message log p) ≡ true → (c || has_message log q) ≡ true
-        → (if b then 0 else place_in log p + 1) ≡ (if c then 0 else place_in log q + 1)
-        → (has_message log p ≡ true → has_message log q ≡ true → place_in log p ≡ place_in log q → p ≡ q) → p ≡ q
-    by true true is_p is_q here there same later = sym (position_is e.position p is_p) ∙ position_is e.position q is_q
-    by true false is_p is_q here there same later = absurd (omega (arith, same))
-    by false true is_p is_q here there same later = absurd (omega (arith, same))
-    by false false is_p is_q here there same later = let places : place_in log p ≡ place_in log q = omega (arith, same) in later here there places
 
 below_is : (a b : ℕ) → nat_cmp a b ≡ Less → a < b
 below_is a b less = ranked a b Less (sym less)
@@ -272,7 +220,7 @@ letters_in_order topic name log (d ∷ ds) rise = (
   letters_in_order topic name log ds rise.1,
 )
 
-letters_named : (topic name : List ℕ) (log : List Entry) (ds : List DeadLetter) → AllByRecursion (λ (r : Row). name_in r ≡ name) (map (dead_row topic name log) ds)
+pub letters_named : (topic name : List ℕ) (log : List Entry) (ds : List DeadLetter) → AllByRecursion (λ (r : Row). name_in r ≡ name) (map (dead_row topic name log) ds)
 letters_named topic name log [] = tt
 letters_named topic name log (d ∷ ds) = (refl, letters_named topic name log ds)
 
@@ -312,147 +260,3 @@ one_letter topic name log x y a b e =
 
 pub all_of : (log : List Entry) (ds : List DeadLetter) → AreDeadLettersOf log ds → All (λ (d : DeadLetter). IsNamed d.target) ds → AllByRecursion (IsOneOf log) ds
 all_of log ds dead named = all_both (λ (d : DeadLetter). has_message log d.position ≡ true) (λ (d : DeadLetter). IsNamed d.target) ds (recursion_from_All _ ds dead.messages) (recursion_from_All _ ds named)
-
--- ---- the subscriptions
-
--- what of a subscription makes its rows tell it
-pub record IsTellable (log : List Entry) (sub : KeptPlaces) : Type 0 where
-  pub dead : AreDeadLettersOf log sub.dead
-  pub targets : All (λ (d : DeadLetter). IsNamed d.target) sub.dead
-
-pub sub_is : (n n' : List ℕ) (k k' : Kind) (p p' : set.FinSet nat_cmp) (d d' : List DeadLetter) → n ≡ n' → k ≡ k' → p ≡ p' → d ≡ d'
-    → (let a : KeptPlaces = record { name = n; kind = k; acknowledged = p; dead = d } in let b : KeptPlaces = record { name = n'; kind = k'; acknowledged = p'; dead = d' } in a ≡ b)
-sub_is n n' k k' p p' d d' a b c e = rw (a, b, c, e) refl
-
-apart : (name : List ℕ) (r : Row) → name_in r ≡ name → name_order name (name_in r) ≡ Less → ⊥
-apart name r named less = never_itself name (name_in r) (sym named) less
-
-same_subs : (topic : List ℕ) (log : List Entry) (xs ys : List KeptPlaces) (acks : List Row) (others : List Row) → NamesRise (map (λ (sub : KeptPlaces). sub.name) xs) → NamesRise (map (λ (sub : KeptPlaces). sub.name) ys)
-    → AllByRecursion (IsTellable log) xs → AllByRecursion (IsTellable log) ys → AreAckRows topic xs acks → AreAckRows topic ys others → acks ≡ others
-    → sub_rows topic xs ≡ sub_rows topic ys → dead_rows topic log xs ≡ dead_rows topic log ys → xs ≡ ys
-unfolding IsStrictlySortedBy
-same_subs topic log [] [] acks others rise rise' a b runs runs' same own deads = refl
-same_subs topic log [] (y ∷ ys) acks others rise rise' a b runs runs' same own deads = absurd (cc)
-same_subs topic log (x ∷ xs) [] acks others rise rise' a b runs runs' same own deads = absurd (cc)
-same_subs topic log (x ∷ xs) (y ∷ ys) acks others rise rise' a b (runs, more, are, rest, is) (runs', more', are', rest', is') same own deads =
-    let name : x.name ≡ y.name = cc in
-    let kind : x.kind ≡ y.kind = one_kind x.kind y.kind (cc) in
-    let own_rest : sub_rows topic xs ≡ sub_rows topic ys = cc in
-    let Named : Row → Type 0 = λ (r : Row). name_in r ≡ x.name in
-    let After : Row → Type 0 = λ (r : Row). name_order x.name (name_in r) ≡ Less in
-    let rise_y : AllByRecursion (λ n. name_order x.name n ≡ Less) (map (λ (sub : KeptPlaces). sub.name) ys) = subst (λ n. AllByRecursion (λ k. name_order n k ≡ Less) (map (λ (sub : KeptPlaces). sub.name) ys)) (sym name) rise'.0 in
-    let acks_split = same_parts Named After (apart x.name) (map (ack_row topic x.name) runs) more (map (ack_row topic x.name) runs') more' (runs_named topic x.name runs) (acks_after topic x.name xs more rest rise.0) (runs_named topic x.name runs')
-    (acks_after topic x.name ys more' rest' rise_y) (sym is ∙ same ∙ is' ∙ ap (λ n. map (ack_row topic n) runs' ++ more') (sym name)) in
-    let deads_split = same_parts Named After (apart x.name) (map (dead_row topic x.name log) x.dead) (dead_rows topic log xs) (map (dead_row topic x.name log) y.dead) (dead_rows topic log ys) (letters_named topic x.name log x.dead)
-    (deads_after topic x.name log xs rise.0) (letters_named topic x.name log y.dead) (deads_after topic x.name log ys rise_y) (deads ∙ ap (λ n. map (dead_row topic n log) y.dead ++ dead_rows topic log ys) (sym name)) in
-    let one_runs : runs ≡ runs' = same_runs topic x.name runs runs' (none_empty runs are.rise) (none_empty runs' are'.rise) acks_split.0 in
-    let places : x.acknowledged ≡ y.acknowledged = are.numbers ∙ ap (λ rs. set.from_list {R = nat_cmp} (spread rs)) one_runs ∙ sym are'.numbers in
-    let dead : x.dead ≡ y.dead = same_mapped (dead_row topic x.name log) (IsOneOf log) (one_letter topic x.name log) x.dead y.dead (all_of log x.dead a.0.dead a.0.targets) (all_of log y.dead b.0.dead b.0.targets) deads_split.0 in
-    cons_is x y xs ys (sub_is x.name y.name x.kind y.kind x.acknowledged y.acknowledged x.dead y.dead name kind places dead)
-    (same_subs topic log xs ys more more' rise.1 rise'.1 a.1 b.1 rest rest' acks_split.1 own_rest deads_split.1)
-
--- ---- the snapshot
-
--- what of a snapshot makes its rows tell it
-pub record AreTellable (log : List Entry) (subs : List KeptPlaces) : Type 0 where
-  pub names : NamesRise (map (λ (sub : KeptPlaces). sub.name) subs)
-  pub each : AllByRecursion (IsTellable log) subs
-
-pub one_snapshot : (a b : KeptTopic) (rows others : TopicRows) → AreTellable a.log a.subscriptions → AreTellable b.log b.subscriptions → a.name ≡ b.name → AreRowsOf a rows → AreRowsOf b others → SameRows rows others → a ≡ b
-one_snapshot a b rows others tell_a tell_b name ra rb same =
-    let topic : List ℕ = topic_text a.name in
-    let texts : topic_text b.name ≡ topic = ap topic_text (sym name) in
-    let entries_b : others.entries ≡ entry_rows topic 0 b.log = rb.entries ∙ ap (λ t. entry_rows t 0 b.log) texts in
-    let subs_b : others.subs ≡ sub_rows topic b.subscriptions = rb.subs ∙ ap (λ t. sub_rows t b.subscriptions) texts in
-    let acks_b : AreAckRows topic b.subscriptions others.acks = subst (λ t. AreAckRows t b.subscriptions others.acks) texts rb.acks in
-    let log : a.log ≡ b.log = one_log topic a.log b.log (both_are rows.entries others.entries _ _ ra.entries entries_b same.entries) in
-    let told_b : AreTellable a.log b.subscriptions = subst (λ l. AreTellable l b.subscriptions) (sym log) tell_b in
-    let deads_b : others.deads ≡ dead_rows topic a.log b.subscriptions = rb.deads ∙ ap (λ t. dead_rows t b.log b.subscriptions) texts ∙ ap (λ l. dead_rows topic l b.subscriptions) (sym log) in
-    let own : sub_rows topic a.subscriptions ≡ sub_rows topic b.subscriptions =
-    same_in_order BelowByName by_name_one_way _ _ (subs_in_order topic a.subscriptions tell_a.names) (subs_in_order topic b.subscriptions tell_b.names) (both_are rows.subs others.subs _ _ ra.subs subs_b same.subs) in
-    let acks : rows.acks ≡ others.acks =
-    same_in_order BelowByNumber by_number_one_way rows.acks others.acks (acks_in_order topic a.subscriptions rows.acks tell_a.names ra.acks) (acks_in_order topic b.subscriptions others.acks tell_b.names acks_b) same.acks in
-    let deads : dead_rows topic a.log a.subscriptions ≡ dead_rows topic a.log b.subscriptions =
-    same_in_order BelowByNumber by_number_one_way _ _ (deads_in_order topic a.log a.subscriptions tell_a.names (dead_of a.log a.subscriptions tell_a.each)) (deads_in_order topic a.log b.subscriptions told_b.names (dead_of a.log b.subscriptions told_b.each))
-    (both_are rows.deads others.deads _ _ ra.deads deads_b same.deads) in
-    let subs : a.subscriptions ≡ b.subscriptions = same_subs topic a.log a.subscriptions b.subscriptions rows.acks others.acks tell_a.names told_b.names tell_a.each told_b.each ra.acks acks_b acks own deads in
-    let one : topic_row a ∷ [] ≡ topic_row b ∷ [] = one_row (topic_row a) (topic_row b) (both_are rows.topics others.topics _ _ ra.topics rb.topics same.topics) in
-    kept_is a.name b.name a.ledger_size b.ledger_size a.ledger b.ledger a.next_ordinal b.next_ordinal a.log b.log a.subscriptions b.subscriptions name (cc) (cc) (cc) log subs
-  where
-    both_are : (xs ys us vs : List Row) → xs ≡ us → ys ≡ vs → IsPermutation xs ys → IsPermutation us vs
-    both_are xs ys us vs p q same = subst (λ l. IsPermutation l vs) p (subst (IsPermutation xs) q same)
-
-    one_row : (r s : Row) → IsPermutation (r ∷ []) (s ∷ []) → r ∷ [] ≡ s ∷ []
-    one_row r s same = same_in_order (λ (x y : Row). ⊥) (λ x y below above. below) (r ∷ []) (s ∷ []) (tt, tt) (tt, tt) same
-
-    dead_of : (log : List Entry) (subs : List KeptPlaces) → AllByRecursion (IsTellable log) subs → AllByRecursion (λ (sub : KeptPlaces). AreDeadLettersOf log sub.dead) subs
-    dead_of log subs each = all_weaker (IsTellable log) (λ (sub : KeptPlaces). AreDeadLettersOf log sub.dead) (λ sub t. t.dead) subs each
-
-    kept_is : (t t' : TopicName) (s s' l l' n n' : ℕ) (log log' : List Entry) (subs subs' : List KeptPlaces) → t ≡ t' → s ≡ s' → l ≡ l' → n ≡ n' → log ≡ log' → subs ≡ subs'
-        → (let a : KeptTopic = record { name = t; ledger_size = s; ledger = l; next_ordinal = n; log = log; subscriptions = subs } in let b : KeptTopic = record { name = t'; ledger_size = s'; ledger = l'; next_ordinal = n'; log = log'; subscriptions = subs' } in a ≡ b)
-    kept_is t t' s s' l l' n n' log log' subs subs' a b c d e f = rw (a, b, c, d, e, f) refl
-
-tellable : (log : List Entry) (subs : List KeptPlaces) → AllByRecursion (λ (sub : KeptPlaces). IsSoundSubscription log (kept_in log sub)) subs → AllByRecursion (λ (sub : KeptPlaces). All (λ (d : DeadLetter). IsNamed d.target) sub.dead) subs → AllByRecursion (IsTellable log) subs
-tellable log [] sound named = tt
-tellable log (sub ∷ subs) sound named = (record { dead = sound.0.dead; targets = named.0 }, tellable log subs sound.1 named.1)
-
-pub are_tellable : (kept : KeptTopic) → IsTold kept → AreTellable kept.log kept.subscriptions
-are_tellable kept told = record {
-  names = subst NamesRise (same_names kept.log kept.subscriptions) told.may.sound.names;
-  each = tellable kept.log kept.subscriptions (unmapped kept.subscriptions (recursion_from_All (IsSoundSubscription kept.log) (map (kept_in kept.log) kept.subscriptions) told.may.sound.subscriptions))
-      (recursion_from_All (λ (sub : KeptPlaces). All (λ (d : DeadLetter). IsNamed d.target) sub.dead) kept.subscriptions told.targets);
-}
-  where
-    unmapped : (subs : List KeptPlaces) → AllByRecursion (IsSoundSubscription kept.log) (map (kept_in kept.log) subs) → AllByRecursion (λ (sub : KeptPlaces). IsSoundSubscription kept.log (kept_in kept.log sub)) subs
-    unmapped [] all = tt
-    unmapped (sub ∷ subs) all = (all.0, unmapped subs all.1)
-
-pub rows_tell_one : RowsTellOne
-rows_tell_one a b rows others told_a told_b name ra rb same = one_snapshot a b rows others (are_tellable a told_a) (are_tellable b told_b) name ra rb same
-
-pub one_stands : OneStands
-one_stands a b db told_a told_b name (rows, ra, ha) (others, rb, hb) =
-    let hb' : Has (topic_text a.name) others db = subst (λ t. Has t others db) (ap topic_text (sym name)) hb in
-    rows_tell_one a b rows others told_a told_b name ra rb record {
-      topics = both _ _ _ ha.topics hb'.topics;
-      entries = both _ _ _ ha.entries hb'.entries;
-      subs = both _ _ _ ha.subs hb'.subs;
-      acks = both _ _ _ ha.acks hb'.acks;
-      deads = both _ _ _ ha.deads hb'.deads;
-    }
-  where
-    both : (xs ys zs : List Row) → IsPermutation xs zs → IsPermutation ys zs → IsPermutation xs ys
-    both xs ys zs a b = IsPermutation-trans xs zs ys a (IsPermutation-sym ys zs b)
-
--- ---- what stands in the order of its keys
-
-only_one : (row : Row) (rows : List Row) → length rows ≡ 1 → AllByRecursion (λ (r : Row). r ≡ row) rows → rows ≡ row ∷ []
-only_one row [] one all = absurd (omega (arith, one))
-only_one row (r ∷ []) one all = ap (λ (x : Row). x ∷ []) all.0
-only_one row (r ∷ s ∷ rows) one all = absurd (omega (arith, one))
-
-pub in_order_are_its : InOrderAreIts
-in_order_are_its kept rows db told (mine, are, has) there ordered =
-    let topic : List ℕ = topic_text kept.name in
-    let tell : AreTellable kept.log kept.subscriptions = are_tellable kept told in
-    let both : (xs ys zs : List Row) → IsPermutation xs zs → IsPermutation ys zs → IsPermutation xs ys = λ xs ys zs a b. IsPermutation-trans xs zs ys a (IsPermutation-sym ys zs b) in
-    let topics : IsPermutation (topic_row kept ∷ []) rows.topics = subst (λ l. IsPermutation l rows.topics) are.topics (both _ _ _ has.topics there.topics) in
-    let one : rows.topics ≡ topic_row kept ∷ [] =
-    only_one (topic_row kept) rows.topics (length_permutation (topic_row kept ∷ []) rows.topics topics)
-    (recursion_from_All (λ (r : Row). r ≡ topic_row kept) rows.topics (All-permutation (λ (r : Row). r ≡ topic_row kept) (topic_row kept ∷ []) rows.topics topics (All-from_recursion (λ (r : Row). r ≡ topic_row kept) (topic_row kept ∷ []) (refl, tt)))) in
-    let entries : mine.entries ≡ rows.entries =
-    same_in_order BelowByPlace by_place_one_way mine.entries rows.entries (subst (InOrder BelowByPlace) (sym are.entries) (entries_in_order topic 0 kept.log)) ordered.entries (both _ _ _ has.entries there.entries) in
-    let subs : mine.subs ≡ rows.subs =
-    same_in_order BelowByName by_name_one_way mine.subs rows.subs (subst (InOrder BelowByName) (sym are.subs) (subs_in_order topic kept.subscriptions tell.names)) ordered.subs (both _ _ _ has.subs there.subs) in
-    let acks : mine.acks ≡ rows.acks =
-    same_in_order BelowByNumber by_number_one_way mine.acks rows.acks (acks_in_order topic kept.subscriptions mine.acks tell.names are.acks) ordered.acks (both _ _ _ has.acks there.acks) in
-    let dead : AllByRecursion (λ (sub : KeptPlaces). AreDeadLettersOf kept.log sub.dead) kept.subscriptions = all_weaker (IsTellable kept.log) (λ (sub : KeptPlaces). AreDeadLettersOf kept.log sub.dead) (λ sub t. t.dead) kept.subscriptions tell.each in
-    let deads : mine.deads ≡ rows.deads =
-    same_in_order BelowByNumber by_number_one_way mine.deads rows.deads (subst (InOrder BelowByNumber) (sym are.deads) (deads_in_order topic kept.log kept.subscriptions tell.names dead)) ordered.deads (both _ _ _ has.deads there.deads) in
-    record {
-      topics = one;
-      entries = sym entries ∙ are.entries;
-      subs = sym subs ∙ are.subs;
-      acks = subst (AreAckRows topic kept.subscriptions) acks are.acks;
-      deads = sym deads ∙ are.deads;
-    }

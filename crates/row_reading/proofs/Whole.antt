@@ -17,7 +17,7 @@ use Rattle.delivery_machine.specs.Places.{AreBelow, KeptPlaces, KeptTopic, kept_
 use Rattle.delivery_machine.specs.WellFormed.{AreDeadLettersOf, HaveOrdinals, IsSoundSubscription, NamesRise, has_message}
 use Rattle.delivery_machine.proofs.Ordinals.{letters_mapped}
 use Rattle.row_tables.specs.declared.side_rows.SideRows.{SideRows}
-use Rattle.row_forms.specs.Forms.{AreAckRows, AreRowsOf, dead_rows, entry_rows, sub_rows, topic_row}
+use Rattle.row_forms.specs.Forms.{AreAckRows, AreRowsOf, count_rows, dead_rows, entry_rows, sub_rows, topic_row}
 use Rattle.row_reading.specs.declared.topic_row.Head.{Head}
 use Rattle.row_reading.specs.Reading.{IsHead, IsNamed, IsReadBack, IsReadable, IsReadableLog, IsReadableSub, ShowSubs, put, rows_with}
 use Rattle.row_reading.proofs.Restarts.{same_names}
@@ -102,6 +102,7 @@ subs_readable own log next (sub ∷ subs) a b c d e f =
         name = a.0.0;
         text = a.0.1;
         within = b.0;
+        counted = c.0.counted;
         letters = record {
           each = All-from_recursion (IsReadable own log next) sub.dead (letters_readable own log next sub.dead (recursion_from_All _ sub.dead dead.messages) (recursion_from_All _ sub.dead d.0) (recursion_from_All _ sub.dead e.0) parts.0);
           dead = dead;
@@ -119,7 +120,7 @@ pub its_log : (kept : KeptTopic) (own : TopicName) (log : List Entry) (sides : S
 its_log kept own log sides name rows = same_log (topic_text own) 0 log kept.log (rows.entries ∙ ap (λ t. entry_rows (topic_text t) 0 kept.log) name)
 
 pub show_subs : (kept : KeptTopic) (own : TopicName) (log : List Entry) (sides : SideRows) → IsReadBack kept → kept.name ≡ own → AreRowsOf kept (rows_with (topic_text own) log sides)
-    → ShowSubs own kept.log kept.next_ordinal (topic_text own) kept.subscriptions sides.subs.items sides.acks.items sides.deads.items
+    → ShowSubs own kept.log kept.next_ordinal (topic_text own) kept.subscriptions sides.subs.items sides.acks.items sides.deads.items sides.counts.items
 show_subs kept own log sides back name rows =
     let subs : List KeptPlaces = kept.subscriptions in
     let targets : All (λ (sub : KeptPlaces). All (λ (d : DeadLetter). IsNamed d.target × (same_topic d.target own ≡ false)) sub.dead) subs =
@@ -135,4 +136,5 @@ show_subs kept own log sides back name rows =
       shown = rows.subs ∙ ap (λ t. sub_rows (topic_text t) subs) name;
       runs = subst (λ t. AreAckRows (topic_text t) subs (put (topic_text own) sides.acks.items)) name rows.acks;
       letters = rows.deads ∙ ap (λ t. dead_rows (topic_text t) kept.log subs) name;
+      counted = rows.counts ∙ ap (λ t. count_rows (topic_text t) kept.log subs) name;
     }

@@ -1,11 +1,12 @@
 -- Rows as they are read: each without the topic's text, which is put before it.
 use Rattle.std.specs.Prelude.{◌≡◌, ◌==◌, ℕ, ◌+◌, ◌^◌, ◌<◌, ◌≤◌, ◌≤ℤ◌, false, cond, ◌-◌, Option, option_map, slice_get, IfSome, IsTrue, IsUtf8, List, [], ◌∷◌, ◌++◌, map, length, pos}
-use Rattle.std.specs.List.{All, count_by, flat_map}
+use Rattle.std.specs.List.{All, count_by, flat_map, list_any}
 use Rattle.std.specs.FinSet as set
+use Rattle.std.specs.FinMap as map_of
 use Rattle.std.specs.Ordering.{nat_cmp}
 use Rattle.std.specs.declared.cmp.Ordering.TheVariants.{Less}
 use Rattle.position_core.specs.declared.position.Position.{Position}
-use Rattle.position_core.specs.Position.{position_cmp}
+use Rattle.position_core.specs.Position.{position_cmp, same_position}
 use Rattle.sqlite.specs.declared.types.Value.TheVariants.{Int, Text as Words}
 use Rattle.sqlite.specs.Order.{Row, column}
 use Rattle.position_core.specs.declared.topic_name.TopicName.{TopicName}
@@ -14,12 +15,13 @@ use Rattle.position_core.specs.TopicName.{same_topic, topic_text}
 use Rattle.position_core.specs.declared.body.Content.{Content}
 use Rattle.position_core.specs.declared.message.Entry.{Entry}
 use Rattle.delivery_machine.specs.State.{DeadLetter}
-use Rattle.delivery_machine.specs.Places.{AreBelow, KeptPlaces, KeptTopic, MayRestart}
-use Rattle.delivery_machine.specs.WellFormed.{AreDeadLettersOf, HaveOrdinals, IsWellFormedLog, NamesRise, has_message}
+use Rattle.delivery_machine.specs.Ticking.{most_count}
+use Rattle.delivery_machine.specs.Places.{AreBelow, KeptPlaces, KeptTopic, MayRestart, positions_at}
+use Rattle.delivery_machine.specs.WellFormed.{AreCountsOf, AreDeadLettersOf, HaveOrdinals, IsWellFormedLog, NamesRise, has_message}
 use Rattle.ack_ranges.specs.Ranges.{AreRangesOf}
 use Rattle.json_values.specs.Written.{AreProperties}
 use Rattle.row_tables.specs.declared.side_rows.SideRows.{SideRows}
-use Rattle.row_forms.specs.Forms.{TopicRows, AreAckRows, ack_row, dead_row, dead_rows, entry_row, entry_rows, sub_rows}
+use Rattle.row_forms.specs.Forms.{TopicRows, AreAckRows, ack_row, count_row, count_rows, dead_row, dead_rows, entry_row, entry_rows, place_in, sub_rows}
 use Rattle.row_reading.specs.declared.topic_row.Head.{Head}
 
 -- the rows of the topic
@@ -144,6 +146,28 @@ pub record AreReadable (own : TopicName) (log : List Entry) (next : ℕ) (ordina
   pub dead : AreDeadLettersOf log ds
   pub fresh : All (λ d. set.contains ordinals d.ordinal ≡ false) ds
 
+-- ---- counts
+
+-- the set has the place of a message of the log where the message died
+abbrev pub AreDeadAt : List Entry → List DeadLetter → set.FinSet nat_cmp → Type 0
+AreDeadAt log dead places = (p : Position) → IsTrue (has_message log p) → set.contains places (place_in log p) ≡ list_any (λ d. same_position d.position p) dead
+
+-- a message of the log that is neither acknowledged nor dead, by its place, and was redelivered: so often as may be counted
+pub record MayCount (log : List Entry) (acknowledged dead : set.FinSet nat_cmp) (counted : Position × ℕ) : Type 0 where
+  pub message : IsTrue (has_message log counted.0)
+  pub waits : set.contains acknowledged (place_in log counted.0) ≡ false
+  pub lives : set.contains dead (place_in log counted.0) ≡ false
+  pub redelivered : 0 < counted.1
+  pub most : counted.1 ≤ most_count
+
+-- the row of a message of the subscription that was redelivered, where this is the log
+abbrev pub IsCountAt : List ℕ → List Entry → Row → Position × ℕ → Type 0
+IsCountAt sub log row counted = (topic : List ℕ) → Words topic ∷ row ≡ count_row topic sub log counted
+
+-- the first rows are those of the subscription's counts, and others follow
+abbrev pub BeginsWithCounts : List ℕ → List Entry → map_of.FinMap position_cmp ℕ → List Row → List Row → Type 0
+BeginsWithCounts sub log counts rows rest = (topic : List ℕ) → put topic rows ≡ map (count_row topic sub log) (map_of.entries counts) ++ put topic rest
+
 -- ---- subscriptions
 
 -- the first rows are those of the subscriptions' runs, and others follow
@@ -154,9 +178,14 @@ BeginsWithAcks subs rows rest = (topic : List ℕ) → (first : List Row) × Are
 abbrev pub BeginsWithDeads : List Entry → List KeptPlaces → List Row → List Row → Type 0
 BeginsWithDeads log subs rows rest = (topic : List ℕ) → put topic rows ≡ dead_rows topic log subs ++ put topic rest
 
--- a subscription that the topic may go on with: it acknowledged messages of the log, and its dead letters are sound
+-- the first rows are those of the subscriptions' counts, and others follow
+abbrev pub BeginWithCounts : List Entry → List KeptPlaces → List Row → List Row → Type 0
+BeginWithCounts log subs rows rest = (topic : List ℕ) → put topic rows ≡ count_rows topic log subs ++ put topic rest
+
+-- a subscription that the topic may go on with: it acknowledged messages of the log, and its dead letters and counts are sound
 pub record IsSubOf (own : TopicName) (log : List Entry) (next : ℕ) (sub : KeptPlaces) : Type 0 where
   pub within : AreBelow (length log) sub.acknowledged
+  pub counted : AreCountsOf log (positions_at log sub.acknowledged) sub.dead sub.counts
   pub dead : AreDeadLettersOf log sub.dead
   pub letters : All (IsLetterOf own next) sub.dead
 
@@ -171,16 +200,18 @@ pub record IsReadableSub (own : TopicName) (log : List Entry) (next : ℕ) (ordi
   pub name : IsTrue (is_name sub.name)
   pub text : IsUtf8 sub.name
   pub within : AreBelow (length log) sub.acknowledged
+  pub counted : AreCountsOf log (positions_at log sub.acknowledged) sub.dead sub.counts
   pub letters : AreReadable own log next ordinals sub.dead
 
--- rows of subscriptions that are read: their own, those of their runs and those of their dead letters
-pub record ShowSubs (own : TopicName) (log : List Entry) (next : ℕ) (topic : List ℕ) (subs : List KeptPlaces) (rows acks deads : List Row) : Type 0 where
+-- rows of subscriptions that are read: their own, and those of their runs, of their dead letters and of their counts
+pub record ShowSubs (own : TopicName) (log : List Entry) (next : ℕ) (topic : List ℕ) (subs : List KeptPlaces) (rows acks deads counts : List Row) : Type 0 where
   pub names : NamesRise (map (λ sub. sub.name) subs)
   pub each : All (IsReadableSub own log next set.empty) subs
   pub ordinals : HaveOrdinals next (flat_map (λ sub. sub.dead) subs)
   pub shown : put topic rows ≡ sub_rows topic subs
   pub runs : AreAckRows topic subs (put topic acks)
   pub letters : put topic deads ≡ dead_rows topic log subs
+  pub counted : put topic counts ≡ count_rows topic log subs
 
 -- ---- the whole
 
@@ -208,6 +239,7 @@ rows_with topic log sides = record {
   subs = put topic sides.subs.items;
   acks = put topic sides.acks.items;
   deads = put topic sides.deads.items;
+  counts = put topic sides.counts.items;
 }
 
 -- sequence numbers are 0 or more, subscriptions are at most 64, and dead letters go to other topics, which have names

@@ -19,6 +19,7 @@ pub record SameRows (rows others : TopicRows) : Type 0 where
   pub subs : IsPermutation rows.subs others.subs
   pub acks : IsPermutation rows.acks others.acks
   pub deads : IsPermutation rows.deads others.deads
+  pub counts : IsPermutation rows.counts others.counts
 
 -- a topic may go on from the snapshot, and the topics that its dead letters go to have names, so that rows tell them
 pub record IsTold (kept : KeptTopic) : Type 0 where

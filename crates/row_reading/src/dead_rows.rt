@@ -11,13 +11,14 @@ ghost use Rattle.delivery_machine.specs.State.{DeadLetter};
 ghost use Rattle.delivery_machine.specs.WellFormed.{AreDeadLettersOf, has_message};
 ghost use Rattle.row_forms.specs.Forms.{place_in};
 ghost use Rattle.row_forms.specs.Parts.{IsRising};
-ghost use Rattle.row_reading.specs.Reading.{ArePast, AreReadable, BeginsWithLetters, IsLetterAt, IsLetterOf, IsNamed, IsReadable, OrdinalsCame};
+ghost use Rattle.row_reading.specs.Reading.{AreDeadAt, ArePast, AreReadable, BeginsWithLetters, IsLetterAt, IsLetterOf, IsNamed, IsReadable, OrdinalsCame};
 
 use crate::cells::{is_text, text_at, whole_at};
+use crate::places::position_of;
 use ack_ranges::AckSet;
 use delivery_machine::DeadLetter;
 use log_pieces::Pieces;
-use position_core::{Ordinal, Position, SubscriptionName, TopicName};
+use position_core::{Ordinal, SubscriptionName, TopicName};
 use sqlite::Row;
 use std::alloc::{AllocError, Global};
 
@@ -70,18 +71,6 @@ fn target_at(
         },
         None => Ok(None),
     }
-}
-
-/// The position of the message at the place.
-fn position_of(log: &Pieces, place: u64) -> Option<Position>
-    requires { IsRising (joined log.now) }
-    ensures place { IfSome result (λ p. place ≡ place_in (joined log.now) p) }
-    ensures message { IfSome result (λ p. IsTrue (has_message (joined log.now) p)) }
-    ensures within { IfSome result (λ _. place < length (joined log.now)) }
-    ensures all_read { IfNone result (length (joined log.now) ≤ place) }
-{
-    let message = log.get(usize::try_from(place).ok()?)?;
-    Some(message.position())
 }
 
 /// An ordinal below the next one.
@@ -237,6 +226,7 @@ fn put_letters<'a>(
     requires no_places { places.old ≡ set.empty }
     ensures rows { IfOk result (λ found. IfSome found (λ rest. BeginsWithLetters name.now (joined deaths.entry.log.now) letters.new.items rows.now rest.now)) }
     ensures dead { IfOk result (λ found. IfSome found (λ _. AreDeadLettersOf (joined deaths.entry.log.now) letters.new.items)) }
+    ensures places { IfOk result (λ found. IfSome found (λ _. AreDeadAt (joined deaths.entry.log.now) letters.new.items places.new)) }
     ensures letters { IfOk result (λ found. IfSome found (λ _. All (IsLetterOf deaths.entry.topic.now deaths.entry.next_ordinal) letters.new.items)) }
     ensures ordinals { IfOk result (λ found. IfSome found (λ _. OrdinalsCame letters.new.items ordinals.old ordinals.new)) }
     ensures past { IfOk result (λ found. IfSome found (λ rest. ArePast name.now rest.now)) }
@@ -261,24 +251,25 @@ fn put_letters<'a>(
     Ok(Some(rest))
 }
 
-/// Those of the subscription, whose rows are the first ones, and the rows that follow. `ordinals` has those
-/// of the topic's letters so far, and takes these in. None where a message is dead twice, or an ordinal
-/// does not rise or stands in the topic already.
+/// Those of the subscription, whose rows are the first ones, the places of their messages, and the rows that follow.
+/// `ordinals` has those of the topic's letters so far, and takes these in. None where a message is dead twice, or an
+/// ordinal does not rise or stands in the topic already.
 pub(crate) fn letters_in<'a>(
     alloc: Global,
     name: &SubscriptionName,
     rows: &'a [Row],
     deaths: Deaths<'_>,
     ordinals: &mut AckSet,
-) -> Result<Option<(Vec<DeadLetter>, &'a [Row])>, AllocError>
+) -> Result<Option<(Vec<DeadLetter>, AckSet, &'a [Row])>, AllocError>
     requires rising { IsRising (joined deaths.log.now) }
     requires short { length (joined deaths.log.now) ≤ 1048576 }
     requires last { deaths.next_ordinal ≤ 2 ^ 62 }
-    ensures rows { IfOk result (λ found. IfSome found (λ r. BeginsWithLetters name.now (joined deaths.entry.log.now) r.0.items rows.now r.1.now)) }
+    ensures rows { IfOk result (λ found. IfSome found (λ r. BeginsWithLetters name.now (joined deaths.entry.log.now) r.0.items rows.now r.2.now)) }
     ensures dead { IfOk result (λ found. IfSome found (λ r. AreDeadLettersOf (joined deaths.entry.log.now) r.0.items)) }
+    ensures places { IfOk result (λ found. IfSome found (λ r. AreDeadAt (joined deaths.entry.log.now) r.0.items r.1)) }
     ensures letters { IfOk result (λ found. IfSome found (λ r. All (IsLetterOf deaths.entry.topic.now deaths.entry.next_ordinal) r.0.items)) }
     ensures ordinals { IfOk result (λ found. IfSome found (λ r. OrdinalsCame r.0.items ordinals.old ordinals.new)) }
-    ensures past { IfOk result (λ found. IfSome found (λ r. ArePast name.now r.1.now)) }
+    ensures past { IfOk result (λ found. IfSome found (λ r. ArePast name.now r.2.now)) }
     ensures all_read { IfOk result (λ found. IfNone found ((ds : List DeadLetter) (rest : List Row) → AreReadable deaths.entry.topic.now (joined deaths.entry.log.now) deaths.entry.next_ordinal ordinals.old ds
         → BeginsWithLetters name.now (joined deaths.entry.log.now) ds rows.now rest → ArePast name.now rest → ⊥)) }
 {
@@ -293,15 +284,16 @@ pub(crate) fn letters_in<'a>(
         ordinals,
         &mut letters,
     );
-    drop(places);
     match put {
-        Ok(Some(rest)) => Ok(Some((letters, rest))),
+        Ok(Some(rest)) => Ok(Some((letters, places, rest))),
         Ok(None) => {
             drop(letters);
+            drop(places);
             Ok(None)
         }
         Err(e) => {
             drop(letters);
+            drop(places);
             Err(e)
         }
     }

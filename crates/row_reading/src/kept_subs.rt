@@ -1,4 +1,4 @@
-// What is kept of subscriptions, from their rows, those of their runs and those of their dead letters.
+// What is kept of subscriptions, from their rows, those of their runs, of their dead letters and of their counts.
 ghost use Rattle.std.specs.Prelude.{◌≡◌, ◌≤◌, ◌∷◌, ◌++◌, ◌^◌, [], ℕ, List, length, map, IfNone, IfOk, IfSome, IsTrue};
 ghost use Rattle.std.specs.FinSet as set;
 ghost use Rattle.sqlite.specs.declared.types.Value.TheVariants.{Text as Words};
@@ -6,11 +6,12 @@ ghost use Rattle.log_pieces.specs.Pieces.{joined};
 ghost use Rattle.sqlite.specs.Order.{Row};
 ghost use Rattle.delivery_machine.specs.Places.{KeptPlaces};
 ghost use Rattle.delivery_machine.specs.WellFormed.{NamesRise};
-ghost use Rattle.row_forms.specs.Forms.{AreAckRows, dead_rows, sub_row, sub_rows};
+ghost use Rattle.row_forms.specs.Forms.{AreAckRows, count_rows, dead_rows, sub_row, sub_rows};
 ghost use Rattle.row_forms.specs.Parts.{IsRising};
-ghost use Rattle.row_reading.specs.Reading.{ArePast, AreSubsOf, BeginsWithAcks, BeginsWithDeads, BeginsWithLetters, BeginsWithRuns, IsReadableSub, IsSubOf, OrdinalsCame, ShowSubs, put};
+ghost use Rattle.row_reading.specs.Reading.{ArePast, AreSubsOf, BeginWithCounts, BeginsWithAcks, BeginsWithCounts, BeginsWithDeads, BeginsWithLetters, BeginsWithRuns, IsReadableSub, IsSubOf, OrdinalsCame, ShowSubs, put};
 
 use crate::ack_rows::runs_in;
+use crate::count_rows::{Done, counts_in};
 use crate::dead_rows::{Deaths, letters_in};
 use crate::sub_rows::sub_in;
 use ack_ranges::AckSet;
@@ -23,15 +24,16 @@ use std::cmp::Ordering;
 /// How many subscriptions a topic may have.
 const MOST: usize = 64;
 
-/// The rows of runs and of dead letters that are left to read.
+/// The rows of runs, of dead letters and of counts that are left to read.
 #[derive(Clone, Copy)]
 pub(crate) struct Left<'a> {
     pub(crate) acks: &'a [Row],
     pub(crate) deads: &'a [Row],
+    pub(crate) counts: &'a [Row],
 }
 
-/// The subscription that the row shows, with its runs and dead letters, whose rows are the first ones, and
-/// the rows that follow.
+/// The subscription that the row shows, with its runs, dead letters and counts, whose rows are the first ones,
+/// and the rows that follow.
 fn kept_in<'a>(
     alloc: Global,
     row: &Row,
@@ -45,12 +47,15 @@ fn kept_in<'a>(
     ensures row { IfOk result (λ found. IfSome found (λ r. (topic : List ℕ) → Words topic ∷ row.now ≡ sub_row topic r.0)) }
     ensures acks { IfOk result (λ found. IfSome found (λ r. BeginsWithAcks (r.0 ∷ []) left.entry.acks.now r.1.acks.now)) }
     ensures deads { IfOk result (λ found. IfSome found (λ r. BeginsWithDeads (joined deaths.entry.log.now) (r.0 ∷ []) left.entry.deads.now r.1.deads.now)) }
+    ensures counts { IfOk result (λ found. IfSome found (λ r. BeginWithCounts (joined deaths.entry.log.now) (r.0 ∷ []) left.entry.counts.now r.1.counts.now)) }
     ensures sound { IfOk result (λ found. IfSome found (λ r. IsSubOf deaths.entry.topic.now (joined deaths.entry.log.now) deaths.entry.next_ordinal r.0)) }
     ensures ordinals { IfOk result (λ found. IfSome found (λ r. OrdinalsCame r.0.dead ordinals.old ordinals.new)) }
     ensures past_acks { IfOk result (λ found. IfSome found (λ r. ArePast r.0.name r.1.acks.now)) }
     ensures past_deads { IfOk result (λ found. IfSome found (λ r. ArePast r.0.name r.1.deads.now)) }
-    ensures all_read { IfOk result (λ found. IfNone found ((sub : KeptPlaces) (acks deads : List Row) → IsReadableSub deaths.entry.topic.now (joined deaths.entry.log.now) deaths.entry.next_ordinal ordinals.old sub → ((topic : List ℕ) → Words topic ∷ row.now ≡ sub_row topic sub)
-        → BeginsWithRuns sub.name sub.acknowledged left.entry.acks.now acks → ArePast sub.name acks → BeginsWithLetters sub.name (joined deaths.entry.log.now) sub.dead left.entry.deads.now deads → ArePast sub.name deads → ⊥)) }
+    ensures past_counts { IfOk result (λ found. IfSome found (λ r. ArePast r.0.name r.1.counts.now)) }
+    ensures all_read { IfOk result (λ found. IfNone found ((sub : KeptPlaces) (acks deads counts : List Row) → IsReadableSub deaths.entry.topic.now (joined deaths.entry.log.now) deaths.entry.next_ordinal ordinals.old sub → ((topic : List ℕ) → Words topic ∷ row.now ≡ sub_row topic sub)
+        → BeginsWithRuns sub.name sub.acknowledged left.entry.acks.now acks → ArePast sub.name acks → BeginsWithLetters sub.name (joined deaths.entry.log.now) sub.dead left.entry.deads.now deads → ArePast sub.name deads
+        → BeginsWithCounts sub.name (joined deaths.entry.log.now) sub.counts left.entry.counts.now counts → ArePast sub.name counts → ⊥)) }
 {
     let Some(sub) = sub_in(alloc, row)? else {
         return Ok(None);
@@ -59,16 +64,31 @@ fn kept_in<'a>(
     let Some((acknowledged, acks)) = runs_in(alloc, &sub.name, left.acks, count)? else {
         return Ok(None);
     };
-    let Some((dead, deads)) = letters_in(alloc, &sub.name, left.deads, deaths, ordinals)? else {
+    let Some((dead, places, deads)) = letters_in(alloc, &sub.name, left.deads, deaths, ordinals)?
+    else {
+        return Ok(None);
+    };
+    let done = Done {
+        log: deaths.log,
+        acknowledged: &acknowledged,
+        dead: &places,
+    };
+    let Some((counted, counts)) = counts_in(alloc, &sub.name, left.counts, done)? else {
         return Ok(None);
     };
     let kept = KeptSubscription {
         name: sub.name,
         kind: sub.kind,
         acknowledged,
+        counts: counted,
         dead,
     };
-    Ok(Some((kept, Left { acks, deads })))
+    let after = Left {
+        acks,
+        deads,
+        counts,
+    };
+    Ok(Some((kept, after)))
 }
 
 /// Whether the name is above those of the subscriptions.
@@ -103,9 +123,10 @@ fn put_sub(subs: &mut Vec<KeptSubscription>, sub: KeptSubscription) -> Result<bo
 fn is_empty(left: Left<'_>) -> bool
     ensures acks { IsTrue result → left.entry.acks.now ≡ [] }
     ensures deads { IsTrue result → left.entry.deads.now ≡ [] }
-    ensures all_empty { left.entry.acks.now ≡ [] → left.entry.deads.now ≡ [] → IsTrue result }
+    ensures counts { IsTrue result → left.entry.counts.now ≡ [] }
+    ensures all_empty { left.entry.acks.now ≡ [] → left.entry.deads.now ≡ [] → left.entry.counts.now ≡ [] → IsTrue result }
 {
-    left.acks.is_empty() && left.deads.is_empty()
+    left.acks.is_empty() && left.deads.is_empty() && left.counts.is_empty()
 }
 
 /// Puts the subscriptions that the rows show into the empty list, and says whether nothing is left of the
@@ -126,8 +147,9 @@ fn put_subs(
     ensures rows { IfOk result (λ whole. IsTrue whole → (topic : List ℕ) → put topic rows.now ≡ sub_rows topic subs.new.items) }
     ensures acks { IfOk result (λ whole. IsTrue whole → (topic : List ℕ) → AreAckRows topic subs.new.items (put topic others.entry.acks.now)) }
     ensures deads { IfOk result (λ whole. IsTrue whole → (topic : List ℕ) → put topic others.entry.deads.now ≡ dead_rows topic (joined deaths.entry.log.now) subs.new.items) }
+    ensures counts { IfOk result (λ whole. IsTrue whole → (topic : List ℕ) → put topic others.entry.counts.now ≡ count_rows topic (joined deaths.entry.log.now) subs.new.items) }
     ensures sound { IfOk result (λ whole. IsTrue whole → AreSubsOf deaths.entry.topic.now (joined deaths.entry.log.now) deaths.entry.next_ordinal subs.new.items) }
-    ensures all_read { IfOk result (λ whole. (topic : List ℕ) (all : List KeptPlaces) → ShowSubs deaths.entry.topic.now (joined deaths.entry.log.now) deaths.entry.next_ordinal topic all rows.now others.entry.acks.now others.entry.deads.now → IsTrue whole × (subs.new.items ≡ all)) }
+    ensures all_read { IfOk result (λ whole. (topic : List ℕ) (all : List KeptPlaces) → ShowSubs deaths.entry.topic.now (joined deaths.entry.log.now) deaths.entry.next_ordinal topic all rows.now others.entry.acks.now others.entry.deads.now others.entry.counts.now → IsTrue whole × (subs.new.items ≡ all)) }
 {
     let mut left = others;
     'subs: for row in rows {
@@ -144,7 +166,7 @@ fn put_subs(
     Ok(is_empty(left))
 }
 
-/// The subscriptions that the rows show, at most 64, if nothing is left of the rows of runs and dead letters.
+/// The subscriptions that the rows show, at most 64, if nothing is left of the rows of runs, dead letters and counts.
 pub(crate) fn subs_in(
     alloc: Global,
     rows: &[Row],
@@ -157,9 +179,10 @@ pub(crate) fn subs_in(
     ensures rows { IfOk result (λ found. IfSome found (λ subs. (topic : List ℕ) → put topic rows.now ≡ sub_rows topic subs.items)) }
     ensures acks { IfOk result (λ found. IfSome found (λ subs. (topic : List ℕ) → AreAckRows topic subs.items (put topic others.entry.acks.now))) }
     ensures deads { IfOk result (λ found. IfSome found (λ subs. (topic : List ℕ) → put topic others.entry.deads.now ≡ dead_rows topic (joined deaths.entry.log.now) subs.items)) }
+    ensures counts { IfOk result (λ found. IfSome found (λ subs. (topic : List ℕ) → put topic others.entry.counts.now ≡ count_rows topic (joined deaths.entry.log.now) subs.items)) }
     ensures sound { IfOk result (λ found. IfSome found (λ subs. AreSubsOf deaths.entry.topic.now (joined deaths.entry.log.now) deaths.entry.next_ordinal subs.items)) }
     ensures few { IfOk result (λ found. IfSome found (λ subs. length subs.items ≤ 64)) }
-    ensures all_read { IfOk result (λ found. IfNone found ((topic : List ℕ) (all : List KeptPlaces) → length all ≤ 64 → ShowSubs deaths.entry.topic.now (joined deaths.entry.log.now) deaths.entry.next_ordinal topic all rows.now others.entry.acks.now others.entry.deads.now → ⊥)) }
+    ensures all_read { IfOk result (λ found. IfNone found ((topic : List ℕ) (all : List KeptPlaces) → length all ≤ 64 → ShowSubs deaths.entry.topic.now (joined deaths.entry.log.now) deaths.entry.next_ordinal topic all rows.now others.entry.acks.now others.entry.deads.now others.entry.counts.now → ⊥)) }
 {
     let mut subs = Vec::new(alloc);
     let mut ordinals = AckSet::new(alloc);

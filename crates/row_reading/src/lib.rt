@@ -3,11 +3,13 @@
 
 mod ack_rows;
 mod cells;
+mod count_rows;
 mod dead_rows;
 mod entry_rows;
 mod kept_subs;
 pub mod laws;
 mod log_reader;
+mod places;
 mod snapshot;
 mod sub_rows;
 mod topic_row;

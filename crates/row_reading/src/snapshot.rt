@@ -6,7 +6,7 @@ ghost use Rattle.position_core.specs.TopicName.{topic_text};
 ghost use Rattle.log_pieces.specs.Pieces.{joined};
 ghost use Rattle.delivery_machine.specs.Places.{KeptPlaces, KeptTopic, MayRestart};
 ghost use Rattle.delivery_machine.specs.WellFormed.{IsWellFormedLog};
-ghost use Rattle.row_forms.specs.Forms.{AreAckRows, AreRowsOf, dead_rows, entry_rows, sub_rows};
+ghost use Rattle.row_forms.specs.Forms.{AreAckRows, AreRowsOf, count_rows, dead_rows, entry_rows, sub_rows};
 ghost use Rattle.row_forms.specs.Parts.{IsRising};
 ghost use Rattle.row_reading.specs.declared.topic_row.Head.{Head};
 ghost use Rattle.row_reading.specs.Reading.{AreSubsOf, IsHeadIn, IsReadBack, MayBeTold, ShowSubs, put, rows_with};
@@ -35,13 +35,15 @@ fn subs_with(
     ensures rows { IfOk result (λ found. IfSome found (λ subs. (topic : List ℕ) → put topic sides.now.subs.items ≡ sub_rows topic subs.items)) }
     ensures acks { IfOk result (λ found. IfSome found (λ subs. (topic : List ℕ) → AreAckRows topic subs.items (put topic sides.now.acks.items))) }
     ensures deads { IfOk result (λ found. IfSome found (λ subs. (topic : List ℕ) → put topic sides.now.deads.items ≡ dead_rows topic (joined log.now) subs.items)) }
+    ensures counts { IfOk result (λ found. IfSome found (λ subs. (topic : List ℕ) → put topic sides.now.counts.items ≡ count_rows topic (joined log.now) subs.items)) }
     ensures sound { IfOk result (λ found. IfSome found (λ subs. AreSubsOf name.now (joined log.now) next_ordinal subs.items)) }
     ensures few { IfOk result (λ found. IfSome found (λ subs. length subs.items ≤ 64)) }
-    ensures all_read { IfOk result (λ found. IfNone found ((topic : List ℕ) (all : List KeptPlaces) → length all ≤ 64 → ShowSubs name.now (joined log.now) next_ordinal topic all sides.now.subs.items sides.now.acks.items sides.now.deads.items → ⊥)) }
+    ensures all_read { IfOk result (λ found. IfNone found ((topic : List ℕ) (all : List KeptPlaces) → length all ≤ 64 → ShowSubs name.now (joined log.now) next_ordinal topic all sides.now.subs.items sides.now.acks.items sides.now.deads.items sides.now.counts.items → ⊥)) }
 {
     let others = Left {
         acks: &sides.acks,
         deads: &sides.deads,
+        counts: &sides.counts,
     };
     let deaths = Deaths {
         topic: name,

@@ -13,7 +13,7 @@ use Rattle.sqlite.specs.Held.{Held, state}
 use Rattle.sqlite.proofs.StateLemmas.{survives_then}
 use Rattle.sqlite.proofs.Callers.{survives_begin}
 use Rattle.sqlite_trees.specs.declared.store.Store.{Ghosts}
-use Rattle.row_forms.specs.Schema.{schema_6}
+use Rattle.row_forms.specs.Schema.{schema_7}
 use Rattle.position_core.specs.declared.message.Entry.{Entry}
 use Rattle.row_forms.specs.Cells.{ENTRY, bodies}
 use Rattle.row_forms.specs.Forms.{entry_row, entry_rows}
@@ -41,10 +41,10 @@ goes_weaker (Err e) P R f a c p = tt
 -- ---- one table
 
 pub spares_none : (tree : ℕ) (x : Trees) → SpareOthers tree x x
-spares_none tree x = all_of (λ t. t.tree ≢ tree → x t.tree ≡ x t.tree) (λ t _. refl) schema_6.tables
+spares_none tree x = all_of (λ t. t.tree ≢ tree → x t.tree ≡ x t.tree) (λ t _. refl) schema_7.tables
 
 pub spares_then : (tree : ℕ) (x y z : Trees) → SpareOthers tree x y → SpareOthers tree y z → SpareOthers tree x z
-spares_then tree x y z p q = all_both (λ t. t.tree ≢ tree → y t.tree ≡ x t.tree) (λ t. t.tree ≢ tree → z t.tree ≡ y t.tree) (λ t. t.tree ≢ tree → z t.tree ≡ x t.tree) (λ t f g ne. g ne ∙ f ne) schema_6.tables p q
+spares_then tree x y z p q = all_both (λ t. t.tree ≢ tree → y t.tree ≡ x t.tree) (λ t. t.tree ≢ tree → z t.tree ≡ y t.tree) (λ t. t.tree ≢ tree → z t.tree ≡ x t.tree) (λ t f g ne. g ne ∙ f ne) schema_7.tables p q
 
 pub adds_then : (tree : ℕ) (first later : List Row) (x y z : Trees) → Adds tree first x y → Adds tree later y z → Adds tree (first ++ later) x z
 adds_then tree first later x y z p q = record {

@@ -21,6 +21,7 @@ same_then name a b c p q = record {
   subs = IsPermutation-trans _ _ _ p.subs q.subs;
   acks = IsPermutation-trans _ _ _ p.acks q.acks;
   deads = IsPermutation-trans _ _ _ p.deads q.deads;
+  counts = IsPermutation-trans _ _ _ p.counts q.counts;
 }
 
 has_still : (name : List ℕ) (rows : TopicRows) (a b : Trees) → Same name a b → Has name rows a → Has name rows b
@@ -30,6 +31,7 @@ has_still name rows a b same h = record {
   subs = IsPermutation-trans _ _ _ h.subs same.subs;
   acks = IsPermutation-trans _ _ _ h.acks same.acks;
   deads = IsPermutation-trans _ _ _ h.deads same.deads;
+  counts = IsPermutation-trans _ _ _ h.counts same.counts;
 }
 
 stands_still : (kept : KeptTopic) (a b : Trees) → Same (topic_text kept.name) a b → Stands kept a → Stands kept b

@@ -2,11 +2,11 @@
 ghost use Rattle.std.specs.Prelude.{◌≡◌, OnOk};
 ghost use Rattle.sqlite.specs.State.{HasCleanDisk, Survives};
 ghost use Rattle.sqlite.specs.Held.{state};
-ghost use Rattle.row_forms.specs.Cells.{TOPIC, ENTRY, SUB, ACK, DEAD};
+ghost use Rattle.row_forms.specs.Cells.{TOPIC, ENTRY, SUB, ACK, DEAD, REDELIVERY};
 ghost use Rattle.row_tables.specs.Goes.{Goes, Clears};
 ghost use Rattle.row_rounds.specs.Rounds.{Via, Empties};
 
-use row_tables::{acks, deads, entries, subs, topics};
+use row_tables::{acks, counts, deads, entries, subs, topics};
 use sqlite::{Alter, Error, Transaction};
 
 fn clear_log<S: Alter>(tx: &mut Transaction<'_, S>, topic: &str) -> Result<(), Error>
@@ -21,11 +21,12 @@ fn clear_log<S: Alter>(tx: &mut Transaction<'_, S>, topic: &str) -> Result<(), E
 fn clear_subscriptions<S: Alter>(tx: &mut Transaction<'_, S>, topic: &str) -> Result<(), Error>
     ensures same_reference { tx.new.conn.ghost_name ≡ tx.old.conn.ghost_name }
     ensures survives { Survives (state S.Store tx.old.conn.now) (state S.Store tx.new.conn.now) (λ _. ⊥) }
-    ensures done { HasCleanDisk (state S.Store tx.new.conn.now) → OnOk result (Goes (Via (Clears SUB topic.now) (Via (Clears ACK topic.now) (Clears DEAD topic.now))) (state S.Store tx.old.conn.now) (state S.Store tx.new.conn.now)) }
+    ensures done { HasCleanDisk (state S.Store tx.new.conn.now) → OnOk result (Goes (Via (Clears SUB topic.now) (Via (Clears ACK topic.now) (Via (Clears DEAD topic.now) (Clears REDELIVERY topic.now)))) (state S.Store tx.old.conn.now) (state S.Store tx.new.conn.now)) }
 {
     subs::clear(tx, topic)?;
     acks::clear(tx, topic)?;
-    deads::clear(tx, topic)
+    deads::clear(tx, topic)?;
+    counts::clear(tx, topic)
 }
 
 /// All rows of the topic go.

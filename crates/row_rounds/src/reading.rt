@@ -6,11 +6,11 @@ ghost use Rattle.row_tables.specs.Ready.{IsReady};
 ghost use Rattle.row_tables.specs.Goes.{Goes, Stays};
 ghost use Rattle.row_tables.specs.Sides.{AreSidesOf, AreSorted};
 
-use row_tables::{SideRows, acks, deads, subs, topics};
+use row_tables::{SideRows, acks, counts, deads, subs, topics};
 use sqlite::{Alter, Error, Transaction};
 
 /// The rows of a topic in all tables but that of its messages: the subscriptions by their names, and what belongs to
-/// them by their names and then by first places or ordinals.
+/// them by their names and then by first places, ordinals or places.
 pub fn read_sides<S: Alter>(tx: &mut Transaction<'_, S>, topic: &str) -> Result<SideRows, Error>
     ensures same_reference { tx.new.conn.ghost_name ≡ tx.old.conn.ghost_name }
     ensures survives { Survives (state S.Store tx.old.conn.now) (state S.Store tx.new.conn.now) (λ _. ⊥) }
@@ -24,10 +24,12 @@ pub fn read_sides<S: Alter>(tx: &mut Transaction<'_, S>, topic: &str) -> Result<
     let subs = subs::read(tx, topic)?;
     let acks = acks::read(tx, topic)?;
     let deads = deads::read(tx, topic)?;
+    let counts = counts::read(tx, topic)?;
     Ok(SideRows {
         topics,
         subs,
         acks,
         deads,
+        counts,
     })
 }

@@ -2,3 +2,4 @@ pub mod TextLemmas
 pub mod MakingLemmas
 pub mod ReadingLemmas
 pub mod VersionLemmas
+pub mod UpgradeLemmas

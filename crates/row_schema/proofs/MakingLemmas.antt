@@ -24,18 +24,18 @@ use Rattle.sqlite_trees.proofs.TreeLemmas.{IsShaped-put_row}
 use Rattle.sqlite_schema.specs.declared.schema.Column.{Column}
 use Rattle.sqlite_tied.specs.Compute.{everything}
 use Rattle.sqlite.proofs.Callers.{IsPlain, command_of, statement_of, runs_as}
-use Rattle.row_forms.specs.Schema.{schema_6, required}
+use Rattle.row_forms.specs.Schema.{schema_7, required}
 use Rattle.row_forms.specs.Cells.{META}
-use Rattle.row_tables.specs.Ready.{IsVersion1}
-use Rattle.row_tables.proofs.Texts.{insert_meta}
+use Rattle.row_tables.specs.Ready.{IsMarked}
+use Rattle.row_tables.proofs.PartLemmas.{keyed_from}
 use Rattle.row_tables.proofs.StatementLemmas.{went, same_value, cast_int, cast_null, inserts}
-use Rattle.row_schema.specs.Making.{IsEmpty, Leads, Makes, Fills}
+use Rattle.row_schema.specs.Making.{KeepsTables, Leads, Makes, Extends, Fills}
 
-pub makes : (sql : List ℕ) (before after : Schema) → Leads sql before after → (old new : State) (count : ℕ) → ExecutesInside 0 sql [] old new (Ok count) → Makes before after old new
-makes sql before after l old new count h = record {
+pub extends : (sql : List ℕ) (before after : Schema) → Leads sql before after → (old new : State) (count : ℕ) → ExecutesInside 0 sql [] old new (Ok count) → Extends before after old new
+extends sql before after l old new count h = record {
   running = λ _. subst IsTrue (sym h.1.mode) refl;
-  does = λ was.
-      let has = was.listed in
+  was_open = h.1.was_open;
+  does = λ has.
       let w = subst (λ t. Writes old new None CreateTable t [] count) l.text (runs_as sql [] old new before has CreateTable l.command l.plain count h.0) in
       let all = went w.changed in
       let first = went all.1 in
@@ -45,10 +45,24 @@ makes sql before after l old new count h = record {
       let plain_is : lacks_sequence first.0.schema ≡ false = ap lacks_sequence schema ∙ l.uncounted in
       let now : new.now ≡ first.0 = ap (λ (p : Tally × Database). p.1) (same_value all.2) ∙ same_value (rw plain_is at first.2) in
       let fresh : first.0.trees (next_tree before) ≡ [] = subst (λ s. first.0.trees (next_tree s) ≡ []) has made.empty in
-      let others = subst (λ s. AllByRecursion (λ t. first.0.trees t.tree ≡ old.now.trees t.tree) s.tables) has made.others in
-      let kept = all_both (λ (t : Table). first.0.trees t.tree ≡ old.now.trees t.tree) (λ t. old.now.trees t.tree ≡ []) (λ t. first.0.trees t.tree ≡ []) (λ t stays was. stays ∙ was) before.tables others was.rows in
-      let every = all-append (λ (t : Table). first.0.trees t.tree ≡ []) before.tables (record l.table { tree = next_tree before } ∷ []) kept (fresh, tt) in
-      subst (IsEmpty after) (sym now) (record { listed = schema; rows = subst (λ s. AllByRecursion (λ t. first.0.trees t.tree ≡ []) s.tables) l.is every });
+      let others = subst (λ s. KeepsTables s old.now.trees first.0.trees) has made.others in
+      record {
+        listed = ap (λ (d : Database). d.schema) now ∙ schema;
+        sound = w.sound;
+        empty = ap (λ (d : Database). d.trees (next_tree before)) now ∙ fresh;
+        others = subst (λ (d : Database). KeepsTables before old.now.trees d.trees) (sym now) others;
+      };
+}
+
+-- with no row before it has none after
+pub makes : {sql : List ℕ} {before after : Schema} → Leads sql before after → (old new : State) → Extends before after old new → Makes before after old new
+makes {sql} {before} {after} l old new e = record {
+  running = e.running;
+  does = λ was.
+      let it = e.does was.listed in
+      let kept = all_both (λ (t : Table). new.now.trees t.tree ≡ old.now.trees t.tree) (λ t. old.now.trees t.tree ≡ []) (λ t. new.now.trees t.tree ≡ []) (λ t stays was. stays ∙ was) before.tables it.others was.rows in
+      let every = all-append (λ (t : Table). new.now.trees t.tree ≡ []) before.tables (record l.table { tree = next_tree before } ∷ []) kept (it.empty, tt) in
+      record { listed = it.listed; rows = subst (λ s. AllByRecursion (λ t. new.now.trees t.tree ≡ []) s.tables) l.is every };
 }
 
 pub makes_then : {a b c : Schema} (x y z : State) → Makes a b x y → Makes b c y z → Makes a c x z
@@ -56,42 +70,46 @@ makes_then x y z p q = record { running = λ run. q.running (p.running run); doe
 
 -- ---- the row of the version
 
-abbrev one_one : List Term
-one_one = lit (Int (pos 1)) ∷ lit Null ∷ lit (Int (pos 1)) ∷ []
+abbrev one_two : List Term
+one_two = lit (Int (pos 1)) ∷ lit Null ∷ lit (Int (pos 2)) ∷ []
 
 abbrev row : Row
-row = Int (pos 1) ∷ Null ∷ Int (pos 1) ∷ []
+row = Int (pos 1) ∷ Null ∷ Int (pos 2) ∷ []
 
-insert_meta_is : (command_of (understood schema_6 insert_meta) ≡ Insert 0 (Values one_one 3)) × IsPlain (understood schema_6 insert_meta)
+abbrev insert_meta : List ℕ
+insert_meta = codes "INSERT INTO meta (id, version) VALUES (1, 2)"
+
+insert_meta_is : (command_of (understood schema_7 insert_meta) ≡ Insert 0 (Values one_two 3)) × IsPlain (understood schema_7 insert_meta)
 unfolding understood everything
 insert_meta_is = (refl, (refl, refl))
 
-abbrev meta_columns : List Column
+abbrev pub meta_columns : List Column
 meta_columns = required (codes "id") Integer ∷ required (codes "version") Integer ∷ []
 
 shaped : (rows : List Row) → rows ≡ [] → IsShaped shape.Table rows
 shaped rows e = subst (IsShaped shape.Table) (sym e) (tt, tt)
 
-pub fills : (old new : State) (count : ℕ) → ExecutesInside 0 insert_meta [] old new (Ok count) → Fills schema_6 old new
+pub fills : (old new : State) (count : ℕ) → ExecutesInside 0 insert_meta [] old new (Ok count) → Fills schema_7 old new
 fills old new count h = record {
   running = λ _. subst IsTrue (sym h.1.mode) refl;
   does = λ was.
-      let command = Insert 0 (Values one_one 3) in
-      let w = runs_as insert_meta [] old new schema_6 was.listed command insert_meta_is.0 insert_meta_is.1 count h.0 in
-      let text = statement_of insert_meta (understood schema_6 insert_meta) in
+      let command = Insert 0 (Values one_two 3) in
+      let w = runs_as insert_meta [] old new schema_7 was.listed command insert_meta_is.0 insert_meta_is.1 count h.0 in
+      let text = statement_of insert_meta (understood schema_7 insert_meta) in
       let does = subst (λ s. Does old.step_limit (mode_of old) [] (record old.now { schema = s }) text None command (Ok (w.tally, new.now))) was.listed w.changed in
-      let d = inserts schema_6 0 (codes "meta") META meta_columns (Some 0) (0 ∷ []) [] [] refl (λ _ _ _. refl) old.step_limit (mode_of old) [] old.now.trees text w.tally new.now one_one 3 row row refl (rw (cast_null, cast_int (pos 1)) refl) does in
+      let d = inserts schema_7 0 (codes "meta") META meta_columns (Some 0) (0 ∷ []) [] [] refl (λ _ _ _. refl) old.step_limit (mode_of old) [] old.now.trees text w.tally new.now one_two 3 row row refl (rw (cast_null, cast_int (pos 1), cast_int (pos 2)) refl) does in
       let meta : new.now.trees META ≡ row ∷ [] = d.0 ∙ ap (put_row row) was.rows.0 in
       let topics = d.2.1.0 (λ e. omega (arith, e)) ∙ was.rows.1.0 in
       let entries = d.2.1.1.0 (λ e. omega (arith, e)) ∙ was.rows.1.1.0 in
       let subs = d.2.1.1.1.0 (λ e. omega (arith, e)) ∙ was.rows.1.1.1.0 in
       let acks = d.2.1.1.1.1.0 (λ e. omega (arith, e)) ∙ was.rows.1.1.1.1.0 in
       let deads = d.2.1.1.1.1.1.0 (λ e. omega (arith, e)) ∙ was.rows.1.1.1.1.1.0 in
+      let counts = d.2.1.1.1.1.1.1.0 (λ e. omega (arith, e)) ∙ was.rows.1.1.1.1.1.1.0 in
       record {
         ready = record {
-          schema = d.3;
-          keyed = (subst (IsShaped shape.Table) (sym d.0) (IsShaped-put_row _ _ refl (shaped _ was.rows.0)), (shaped _ topics, (shaped _ entries, (shaped _ subs, (shaped _ acks, (shaped _ deads, tt))))));
-          version = subst (λ rows. IsVersion1 (λ t. rows)) (sym meta) refl;
+          schema_is = d.3;
+          keyed = keyed_from schema_7 new.now d.3 (subst (IsShaped shape.Table) (sym d.0) (IsShaped-put_row _ _ refl (shaped _ was.rows.0)), (shaped _ topics, (shaped _ entries, (shaped _ subs, (shaped _ acks, (shaped _ deads, (shaped _ counts, tt)))))));
+          version_is = subst (λ rows. IsMarked 2 (λ t. rows)) (sym meta) refl;
         };
         sound = w.sound;
         topics = topics;
@@ -99,6 +117,7 @@ fills old new count h = record {
         subs = subs;
         acks = acks;
         deads = deads;
+        counts = counts;
       };
 }
 

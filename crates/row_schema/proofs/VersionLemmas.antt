@@ -1,5 +1,5 @@
 -- What the query of the versions shows.
-use Rattle.std.proofs.Common.{◌≡◌, codes, List, [], ◌∷◌, map, filter, true, false, pos, refl, sym, ap, subst, ◌∙◌}
+use Rattle.std.proofs.Common.{◌≡◌, ◌<◌, ◌^◌, lit<, ℕ, codes, List, [], ◌∷◌, map, filter, true, false, pos, refl, sym, ap, subst, ◌∙◌}
 use Rattle.std.specs.List.Sorted.{IsPermutation}
 use Rattle.std.proofs.lemmas.List.Sorted.{IsPermutation-map, IsPermutation-sym}
 use Rattle.sqlite.specs.declared.types.Value.TheVariants.{Null, Int}
@@ -13,31 +13,43 @@ use Rattle.sqlite_tied.specs.Compute.{everything}
 use Rattle.sqlite.specs.State.{State, Shown}
 use Rattle.sqlite.specs.Listing.{understood, reads_listing}
 use Rattle.sqlite.proofs.Callers.{IsPlain, command_of, reads_as, one_permutation}
-use Rattle.row_forms.specs.Schema.{schema_6}
 use Rattle.row_forms.specs.Cells.{META}
-use Rattle.row_tables.specs.Ready.{IsVersion1, versions}
-use Rattle.row_tables.proofs.Texts.{alone, matching, select_meta}
+use Rattle.row_tables.specs.Ready.{IsMarked, versions}
+use Rattle.row_tables.proofs.Texts.{alone, matching}
 use Rattle.row_tables.proofs.StatementLemmas.{finds, shows}
+use Rattle.row_schema.specs.declared.version.Version.{Version}
+use Rattle.row_schema.specs.declared.version.Version.TheVariants.{One, Two}
+use Rattle.row_schema.specs.Versions.{schema_of, number_of}
 
 abbrev marks : Query
 marks = matching META [] (col 1 0 ∷ col 1 2 ∷ []) []
 
-select_meta_is : (command_of (understood schema_6 select_meta) ≡ Select (alone marks) (codes "id" ∷ codes "version" ∷ [])) × (reads_listing schema_6 select_meta ≡ false) × IsPlain (understood schema_6 select_meta)
+abbrev select_meta : List ℕ
+select_meta = codes "SELECT id, version FROM meta"
+
+select_meta_is : (v : Version) → (command_of (understood (schema_of v) select_meta) ≡ Select (alone marks) (codes "id" ∷ codes "version" ∷ [])) × (reads_listing (schema_of v) select_meta ≡ false) × IsPlain (understood (schema_of v) select_meta)
 unfolding understood everything
-select_meta_is = (refl, refl, (refl, refl))
+select_meta_is One = (refl, refl, (refl, refl))
+select_meta_is Two = (refl, refl, (refl, refl))
+
+pub is_small : (v : Version) → number_of v < 2 ^ 63
+is_small One = lit< tt
+is_small Two = lit< tt
 
 all_pass : {A : Type 0} (xs : List A) → filter (λ _. true) xs ≡ xs
 all_pass [] = refl
 all_pass (x ∷ xs) = ap (λ more. x ∷ more) (all_pass xs)
 
-pub marked : (old new : State) (rows : List Row) → Shown select_meta [] old new rows → rows ≡ (Int (pos 1) ∷ Int (pos 1) ∷ []) ∷ [] → old.now.schema ≡ schema_6 → IsVersion1 old.now.trees
-marked old new rows h one has =
-    let read = reads_as select_meta [] old new schema_6 has (Select (alone marks) (codes "id" ∷ codes "version" ∷ [])) select_meta_is.0 select_meta_is.2 select_meta_is.1 rows h in
+pub marked : (v : Version) (old new : State) (rows : List Row) → Shown select_meta [] old new rows → rows ≡ (Int (pos 1) ∷ Int (pos (number_of v)) ∷ []) ∷ [] → old.now.schema ≡ schema_of v → IsMarked (number_of v) old.now.trees
+marked v old new rows h one has =
+    let mark = Int (pos 1) ∷ Int (pos (number_of v)) ∷ [] in
+    let is = select_meta_is v in
+    let read = reads_as select_meta [] old new (schema_of v) has (Select (alone marks) (codes "id" ∷ codes "version" ∷ [])) is.0 is.2 is.1 rows h in
     let found = finds META [] (col 1 0 ∷ col 1 2 ∷ []) [] [] (λ _. true) (overlay old.now.trees []) rows (λ _. refl) (read.answer Null) in
     let stored = old.now.trees META in
     let show = shows (col 1 0 ∷ col 1 2 ∷ []) [] [] in
     let second = λ (o : Output). o.1 in
     let here : IsPermutation (map show stored) found.0 = subst (λ xs. IsPermutation (map show xs) found.0) (all_pass stored) found.1 in
     let left : map second (map show stored) ≡ versions stored = map-map second show stored in
-    let right : map second found.0 ≡ (Int (pos 1) ∷ Int (pos 1) ∷ []) ∷ [] = sym found.2 ∙ one in
-    one_permutation _ _ (IsPermutation-sym _ _ (subst (λ l. IsPermutation l ((Int (pos 1) ∷ Int (pos 1) ∷ []) ∷ [])) left (subst (IsPermutation _) right (IsPermutation-map second _ _ here))))
+    let right : map second found.0 ≡ mark ∷ [] = sym found.2 ∙ one in
+    one_permutation _ _ (IsPermutation-sym _ _ (subst (λ l. IsPermutation l (mark ∷ [])) left (subst (IsPermutation _) right (IsPermutation-map second _ _ here))))

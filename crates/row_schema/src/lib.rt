@@ -1,11 +1,16 @@
-//! The six tables of version 1: how a database gets them, and how it is known to have them.
+//! The tables of each version: how a database gets them, how it is known which it has, and how it comes to the last version.
 #![tactic(auto)]
 
-mod comparing;
+mod indexes;
+mod looking;
 mod making;
 mod reopening;
+mod tables;
+mod upgrading;
 mod version;
 
+pub use looking::{has_no_schema, version_of};
 pub use making::create;
 pub use reopening::{reopen, settle};
-pub use version::{has_no_schema, is_version_1};
+pub use upgrading::upgrade;
+pub use version::Version;

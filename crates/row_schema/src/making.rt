@@ -3,16 +3,16 @@ ghost use Rattle.std.specs.Prelude.{◌≡◌, false, OnOk};
 ghost use Rattle.sqlite.specs.Schema.{Schema};
 ghost use Rattle.sqlite.specs.State.{HasCleanDisk, Survives};
 ghost use Rattle.sqlite.specs.Held.{state};
-ghost use Rattle.row_forms.specs.Schema.{schema_0, schema_3, schema_6};
+ghost use Rattle.row_forms.specs.Schema.{schema_0, schema_3, schema_7};
 ghost use Rattle.row_tables.specs.Ready.{IsBlank};
-ghost use Rattle.row_schema.specs.Making.{Leads, Makes, Fills};
+ghost use Rattle.row_schema.specs.Making.{Leads, Extends, Makes, Fills};
 
 use sqlite::{Alter, Connection, Error, Transaction};
 
-fn define<S: Alter>(tx: &mut Transaction<'_, S>, sql: &str) -> Result<(), Error>
+pub(crate) fn define<S: Alter>(tx: &mut Transaction<'_, S>, sql: &str) -> Result<(), Error>
     ensures same_reference { tx.new.conn.ghost_name ≡ tx.old.conn.ghost_name }
     ensures survives { Survives (state S.Store tx.old.conn.now) (state S.Store tx.new.conn.now) (λ _. ⊥) }
-    ensures done { HasCleanDisk (state S.Store tx.new.conn.now) → OnOk result ((before after : Schema) → Leads sql.now before after → Makes before after (state S.Store tx.old.conn.now) (state S.Store tx.new.conn.now)) }
+    ensures done { HasCleanDisk (state S.Store tx.new.conn.now) → OnOk result ((before after : Schema) → Leads sql.now before after → Extends before after (state S.Store tx.old.conn.now) (state S.Store tx.new.conn.now)) }
 {
     tx.execute(sql, &[])?;
     Ok(())
@@ -40,7 +40,7 @@ fn define_topics<S: Alter>(tx: &mut Transaction<'_, S>) -> Result<(), Error>
 fn define_subscriptions<S: Alter>(tx: &mut Transaction<'_, S>) -> Result<(), Error>
     ensures same_reference { tx.new.conn.ghost_name ≡ tx.old.conn.ghost_name }
     ensures survives { Survives (state S.Store tx.old.conn.now) (state S.Store tx.new.conn.now) (λ _. ⊥) }
-    ensures done { HasCleanDisk (state S.Store tx.new.conn.now) → OnOk result (Makes schema_3 schema_6 (state S.Store tx.old.conn.now) (state S.Store tx.new.conn.now)) }
+    ensures done { HasCleanDisk (state S.Store tx.new.conn.now) → OnOk result (Makes schema_3 schema_7 (state S.Store tx.old.conn.now) (state S.Store tx.new.conn.now)) }
 {
     define(
         tx,
@@ -53,13 +53,17 @@ fn define_subscriptions<S: Alter>(tx: &mut Transaction<'_, S>) -> Result<(), Err
     define(
         tx,
         "CREATE TABLE dead (topic TEXT NOT NULL, sub TEXT NOT NULL, ordinal INTEGER NOT NULL, idx INTEGER NOT NULL, target TEXT NOT NULL, PRIMARY KEY (topic, sub, ordinal)) STRICT",
+    )?;
+    define(
+        tx,
+        "CREATE TABLE redelivery (topic TEXT NOT NULL, sub TEXT NOT NULL, idx INTEGER NOT NULL, times INTEGER NOT NULL, PRIMARY KEY (topic, sub, idx)) STRICT",
     )
 }
 
 fn define_tables<S: Alter>(tx: &mut Transaction<'_, S>) -> Result<(), Error>
     ensures same_reference { tx.new.conn.ghost_name ≡ tx.old.conn.ghost_name }
     ensures survives { Survives (state S.Store tx.old.conn.now) (state S.Store tx.new.conn.now) (λ _. ⊥) }
-    ensures done { HasCleanDisk (state S.Store tx.new.conn.now) → OnOk result (Makes schema_0 schema_6 (state S.Store tx.old.conn.now) (state S.Store tx.new.conn.now)) }
+    ensures done { HasCleanDisk (state S.Store tx.new.conn.now) → OnOk result (Makes schema_0 schema_7 (state S.Store tx.old.conn.now) (state S.Store tx.new.conn.now)) }
 {
     define_topics(tx)?;
     define_subscriptions(tx)
@@ -68,9 +72,9 @@ fn define_tables<S: Alter>(tx: &mut Transaction<'_, S>) -> Result<(), Error>
 fn mark<S: Alter>(tx: &mut Transaction<'_, S>) -> Result<(), Error>
     ensures same_reference { tx.new.conn.ghost_name ≡ tx.old.conn.ghost_name }
     ensures survives { Survives (state S.Store tx.old.conn.now) (state S.Store tx.new.conn.now) (λ _. ⊥) }
-    ensures done { HasCleanDisk (state S.Store tx.new.conn.now) → OnOk result (Fills schema_6 (state S.Store tx.old.conn.now) (state S.Store tx.new.conn.now)) }
+    ensures done { HasCleanDisk (state S.Store tx.new.conn.now) → OnOk result (Fills schema_7 (state S.Store tx.old.conn.now) (state S.Store tx.new.conn.now)) }
 {
-    tx.execute("INSERT INTO meta (id, version) VALUES (1, 1)", &[])?;
+    tx.execute("INSERT INTO meta (id, version) VALUES (1, 2)", &[])?;
     Ok(())
 }
 
@@ -83,13 +87,13 @@ fn fill<S: Alter>(tx: &mut Transaction<'_, S>) -> Result<(), Error>
     mark(tx)
 }
 
-/// Makes the six tables and marks them as version 1, in one transaction: all or none.
+/// Makes the seven tables and marks them as version 2, in one transaction: all or none.
 pub fn create<S: Alter>(conn: &mut Connection<S>) -> Result<(), Error>
     requires { conn.old.in_transaction ≡ false }
     ensures autocommit { conn.new.in_transaction ≡ false }
     ensures created { HasCleanDisk (state S.Store conn.new) → OnOk result ((state S.Store conn.old).now.schema ≡ schema_0 → IsBlank (state S.Store conn.new).now × ((state S.Store conn.new).committed ≡ (state S.Store conn.new).now)) }
     ensures durable { HasCleanDisk (state S.Store conn.new) → OnOk result ((db : _) → (state S.Store conn.new).may_leave db → db ≡ (state S.Store conn.new).now.trees) }
-    ensures crash { Survives (state S.Store conn.old) (state S.Store conn.new) (λ db. (state S.Store conn.old).now.schema ≡ schema_0 → IsBlank (record { schema = schema_6; trees = db })) }
+    ensures crash { Survives (state S.Store conn.old) (state S.Store conn.new) (λ db. (state S.Store conn.old).now.schema ≡ schema_0 → IsBlank (record { schema = schema_7; trees = db })) }
 {
     let mut tx = conn.transaction();
     fill(&mut tx)?;

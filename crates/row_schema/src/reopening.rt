@@ -4,19 +4,18 @@ ghost use Rattle.sqlite.specs.State.{HasCleanDisk};
 ghost use Rattle.sqlite.specs.Held.{state};
 ghost use Rattle.sqlite.specs.Tree.{Trees};
 ghost use Rattle.sqlite_trees.specs.View.{IsClean, doubt};
-ghost use Rattle.row_forms.specs.Schema.{schema_6};
 ghost use Rattle.row_tables.specs.Ready.{AreKeyed};
 
 use sqlite::{Alter, Connection, Error};
 use std::alloc::Global;
 
-/// Reads the database again: then no rowid of the six tables comes twice. What was not committed is undone.
+/// Reads the database again: then no rowid of a table comes twice. What was not committed is undone.
 /// It fails with no error where an earlier failure has closed the store, and gives the store back.
 pub fn reopen<S: Alter + Drop>(
     alloc: Global,
     conn: Connection<S>,
 ) -> Result<Connection<S>, (Option<Error>, S)>
-    ensures keyed { IfOk result (λ c. HasCleanDisk (state S.Store c) → (state S.Store c).now.schema ≡ schema_6 → AreKeyed (state S.Store c).now.trees) }
+    ensures keyed { IfOk result (λ c. HasCleanDisk (state S.Store c) → AreKeyed (state S.Store c).now) }
     ensures autocommit { IfOk result (λ c. c.in_transaction ≡ false) }
     ensures same { IfOk result (λ c. HasCleanDisk (state S.Store c) → (state S.Store c).now.trees ≡ (state S.Store conn).committed.trees) }
     ensures crash { IfOk result (λ c. HasCleanDisk (state S.Store c) → (db : Trees) → (state S.Store c).may_leave db → db ≡ (state S.Store c).now.trees) }
@@ -38,8 +37,8 @@ pub fn settle<S: Alter + Drop>(
     alloc: Global,
     conn: Connection<S>,
 ) -> Result<Connection<S>, (Option<Error>, S)>
-    requires keyed { HasCleanDisk (state S.Store conn) → IsTrue (state S.Store conn).is_open → (state S.Store conn).now.schema ≡ schema_6 → AreKeyed (state S.Store conn).now.trees }
-    ensures keyed { IfOk result (λ c. HasCleanDisk (state S.Store c) → IsTrue (state S.Store c).is_open → (state S.Store c).now.schema ≡ schema_6 → AreKeyed (state S.Store c).now.trees) }
+    requires keyed { HasCleanDisk (state S.Store conn) → IsTrue (state S.Store conn).is_open → AreKeyed (state S.Store conn).now }
+    ensures keyed { IfOk result (λ c. HasCleanDisk (state S.Store c) → IsTrue (state S.Store c).is_open → AreKeyed (state S.Store c).now) }
     ensures autocommit { IfOk result (λ c. c.in_transaction ≡ false) }
     ensures same { IfOk result (λ c. HasCleanDisk (state S.Store c) → IsTrue (state S.Store c).is_open → (state S.Store c).now.trees ≡ (state S.Store conn).committed.trees) }
     ensures crash { IfOk result (λ c. HasCleanDisk (state S.Store c) → IsTrue (state S.Store c).is_open → (db : Trees) → (state S.Store c).may_leave db → db ≡ (state S.Store c).now.trees) }

@@ -6,3 +6,5 @@ pub mod Deletions
 pub mod Living
 pub mod Unfound
 pub mod Messages
+pub mod Upgrading
+pub mod Taking

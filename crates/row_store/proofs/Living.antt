@@ -20,6 +20,7 @@ same_here text db = record {
   subs = IsPermutation-refl _;
   acks = IsPermutation-refl _;
   deads = IsPermutation-refl _;
+  counts = IsPermutation-refl _;
 }
 
 same_on : (text : List ℕ) (old mid new : Trees) → Same text old mid → Same text mid new → Same text old new
@@ -29,6 +30,7 @@ same_on text old mid new first second = record {
   subs = IsPermutation-trans _ _ _ first.subs second.subs;
   acks = IsPermutation-trans _ _ _ first.acks second.acks;
   deads = IsPermutation-trans _ _ _ first.deads second.deads;
+  counts = IsPermutation-trans _ _ _ first.counts second.counts;
 }
 
 same_none : (text : List ℕ) (mid new : Trees) → HasNone text mid → Same text mid new → HasNone text new
@@ -38,6 +40,7 @@ same_none text mid new none same = record {
   subs = IsPermutation-trans _ _ _ none.subs same.subs;
   acks = IsPermutation-trans _ _ _ none.acks same.acks;
   deads = IsPermutation-trans _ _ _ none.deads same.deads;
+  counts = IsPermutation-trans _ _ _ none.counts same.counts;
 }
 
 abbrev is_of : List ℕ → KeptTopic → Bool

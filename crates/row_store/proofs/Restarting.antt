@@ -9,14 +9,14 @@ use Rattle.sqlite.specs.State.{State}
 use Rattle.delivery_machine.specs.State.{fresh}
 use Rattle.delivery_machine.specs.Snapshot.{restarted}
 use Rattle.delivery_machine.specs.Places.{KeptTopic, snapshot_in}
-use Rattle.row_forms.specs.Cells.{TOPIC, ENTRY, SUB, ACK, DEAD, bodies, of_topic}
+use Rattle.row_forms.specs.Cells.{TOPIC, ENTRY, SUB, ACK, DEAD, REDELIVERY, bodies, of_topic}
 use Rattle.row_forms.specs.Standing.{Stands, HasNone}
 use Rattle.stored_cell.specs.Noted.{Noted, all_rows}
 use Rattle.stored_cell.specs.Held.{Held}
 use Rattle.stored_cell.specs.declared.opening.Loaded.{Loaded}
 use Rattle.stored_cell.specs.declared.opening.Terms.{Terms}
 use Rattle.stored_cell.specs.Opening.{GoesOn, Opens, opened}
-use Rattle.row_store.specs.Keeping.{MayLeave, stored_in}
+use Rattle.row_store.specs.Keeping.{IsTakenFrom, MayLeave, stored_in}
 use Rattle.row_store.specs.Opened.{IsOpenedFrom, Loading, OpenedFrom, StandsIn, count_of, has_origin}
 
 going_on : (name : TopicName) (terms : Terms) (db : Trees) (cell : Held) (kept : KeptTopic) (stored : Noted) → stored.kept ≡ kept → kept.name ≡ name → Stands kept db → cell ≡ opened (restarted (snapshot_in kept)) terms (Some stored) → GoesOn name terms db cell
@@ -38,7 +38,7 @@ opens_found name terms db s (Some l) (Ok cell) stands kept e = inl (going_on nam
 opens_found name terms db s found (Err fault) stands kept e = tt
 
 -- what a database may leave that is opened again is among what a start may leave
-pub left_again : (s : State) (db : Trees) → s.may_leave db ⊎ (db ≡ s.committed.trees) → MayLeave s db
+pub left_again : (s : State) (db : Trees) → s.may_leave db ⊎ IsTakenFrom s.committed.trees db → MayLeave s db
 left_again s db (inl left) = inl left
 left_again s db (inr done) = inr (inl done)
 
@@ -69,7 +69,8 @@ count_none topic db none =
     let subs : length (of_topic topic (bodies SUB (db SUB))) ≡ 0 = length_permutation [] (of_topic topic (bodies SUB (db SUB))) none.subs in
     let acks : length (of_topic topic (bodies ACK (db ACK))) ≡ 0 = length_permutation [] (of_topic topic (bodies ACK (db ACK))) none.acks in
     let deads : length (of_topic topic (bodies DEAD (db DEAD))) ≡ 0 = length_permutation [] (of_topic topic (bodies DEAD (db DEAD))) none.deads in
-    omega (arith, topics, entries, subs, acks, deads)
+    let counts : length (of_topic topic (bodies REDELIVERY (db REDELIVERY))) ≡ 0 = length_permutation [] (of_topic topic (bodies REDELIVERY (db REDELIVERY))) none.counts in
+    omega (arith, topics, entries, subs, acks, deads, counts)
 
 first : (a b c : Bool) → a ≡ true → (a || b || c) ≡ true
 first a b c is = ap (λ x. x || b || c) is

@@ -33,6 +33,7 @@ same_stands kept old new same stands = (
     subs = IsPermutation-trans _ _ _ stands.2.subs same.subs;
     acks = IsPermutation-trans _ _ _ stands.2.acks same.acks;
     deads = IsPermutation-trans _ _ _ stands.2.deads same.deads;
+    counts = IsPermutation-trans _ _ _ stands.2.counts same.counts;
   },
 )
 
@@ -99,6 +100,7 @@ read_stands_on r old new same stands = record {
     subs = IsPermutation-trans _ _ _ stands.sides.subs same.subs;
     acks = IsPermutation-trans _ _ _ stands.sides.acks same.acks;
     deads = IsPermutation-trans _ _ _ stands.sides.deads same.deads;
+    counts = IsPermutation-trans _ _ _ stands.sides.counts same.counts;
   };
   sorted = stands.sorted;
   below = IsPermutation-trans _ _ _ stands.below (IsPermutation-filter (is_within 0 (length r.log)) (messages_of (topic_text r.name) old) (messages_of (topic_text r.name) new) same.entries);

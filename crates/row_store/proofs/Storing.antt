@@ -15,7 +15,7 @@ use Rattle.sqlite.specs.Held.{Held, state}
 use Rattle.sqlite.proofs.StateLemmas.{survives_weaker}
 use Rattle.delivery_machine.specs.Places.{KeptTopic}
 use Rattle.position_core.specs.declared.message.Entry.{Entry}
-use Rattle.row_forms.specs.Cells.{TOPIC, SUB, ACK, DEAD}
+use Rattle.row_forms.specs.Cells.{TOPIC, SUB, ACK, DEAD, REDELIVERY}
 use Rattle.row_forms.specs.Forms.{TopicRows, AreRowsOf, no_rows}
 use Rattle.row_forms.specs.Standing.{Has, HasIn, HasNone, Stands}
 use Rattle.row_tables.specs.declared.side_rows.SideRows.{SideRows}
@@ -58,7 +58,7 @@ pub among : (kept : KeptTopic) (db : Trees) → Stands kept db → StandsAmong k
 among kept db stands = (
   stands.0,
   stands.1,
-  record { topics = stands.2.topics; entries = stands.2.entries; subs = stands.2.subs; acks = stands.2.acks; deads = stands.2.deads },
+  record { topics = stands.2.topics; entries = stands.2.entries; subs = stands.2.subs; acks = stands.2.acks; deads = stands.2.deads; counts = stands.2.counts },
 )
 
 all_among : (kepts : List KeptTopic) (db : Trees) → All (λ (k : KeptTopic). Stands k db) kepts → All (λ (k : KeptTopic). StandsAmong k (all_rows db)) kepts
@@ -146,11 +146,11 @@ read_stands kept name text log sides db is same are these messages = (
   rows_with (topic_text name) log sides,
   are,
   subst (λ (n : TopicName). Has (topic_text n) (rows_with (topic_text name) log sides) db) (sym same)
-      (subst (λ t. Has t (rows_with t log sides) db) is (record { topics = these.topics; entries = messages; subs = these.subs; acks = these.acks; deads = these.deads })),
+      (subst (λ t. Has t (rows_with t log sides) db) is (record { topics = these.topics; entries = messages; subs = these.subs; acks = these.acks; deads = these.deads; counts = these.counts })),
 )
 
 -- where none was read there is none
-pub none_read : (name : TopicName) (text : List ℕ) (sides : SideRows) (db : Trees) → text ≡ topic_text name → (sides.topics.items ≡ []) × (sides.subs.items ≡ []) × (sides.acks.items ≡ []) × (sides.deads.items ≡ [])
+pub none_read : (name : TopicName) (text : List ℕ) (sides : SideRows) (db : Trees) → text ≡ topic_text name → (sides.topics.items ≡ []) × (sides.subs.items ≡ []) × (sides.acks.items ≡ []) × (sides.deads.items ≡ []) × (sides.counts.items ≡ [])
     → AreSidesOf text db sides → has_others text 0 db ≡ false → HasNone (topic_text name) db
 none_read name text sides db is none these no_others =
     let put : List Row → List Row = map (λ (r : Row). Words text ∷ r) in
@@ -160,6 +160,7 @@ none_read name text sides db is none these no_others =
       subs = subst (λ l. HasIn SUB text (put l) db) none.1 these.subs;
       acks = subst (λ l. HasIn ACK text (put l) db) none.2 these.acks;
       deads = subst (λ l. HasIn DEAD text (put l) db) none.3 these.deads;
+      counts = subst (λ l. HasIn REDELIVERY text (put l) db) none.4 these.counts;
     } in
     subst (λ t. Has t no_rows db) is here
 

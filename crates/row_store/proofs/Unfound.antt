@@ -23,7 +23,8 @@ use Rattle.row_reading.proofs.Whole.{has_head, one_head, readable_log}
 use Rattle.row_store.specs.Found.{HasLog}
 use Rattle.row_reading.specs.Telling.{IsTold}
 use Rattle.row_reading.proofs.SortedRows.{what_stands_is_read}
-use Rattle.row_reading.proofs.Told.{one_log, one_stands}
+use Rattle.row_reading.proofs.OneSnapshot.{one_stands}
+use Rattle.row_reading.proofs.Told.{one_log}
 use Rattle.stored_cell.specs.Held.{HasNothing}
 use Rattle.stored_cell.specs.Noted.{IsOfNow, Noted}
 use Rattle.row_store.specs.Opened.{GoesOnFrom, WhatRestsIsFound}

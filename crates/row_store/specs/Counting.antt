@@ -29,13 +29,13 @@ abbrev pub messages_of : Write → ℕ
 messages_of w = length w.snapshot.log - w.change.from
 
 abbrev pub inserted_by : Write → ℕ
-inserted_by w = messages_of w + own_coming w + coming w.change.subs + coming w.change.acks + coming w.change.deads
+inserted_by w = messages_of w + own_coming w + coming w.change.subs + coming w.change.acks + coming w.change.deads + coming w.change.counts
 
 abbrev pub updated_by : Write → ℕ
-updated_by w = own_changing w + changing w.change.subs + changing w.change.acks + changing w.change.deads
+updated_by w = own_changing w + changing w.change.subs + changing w.change.acks + changing w.change.deads + changing w.change.counts
 
 abbrev pub deleted_by : Write → ℕ
-deleted_by w = going w.change.subs + going w.change.acks + going w.change.deads
+deleted_by w = going w.change.subs + going w.change.acks + going w.change.deads + going w.change.counts
 
 -- as far as a counter goes
 abbrev pub counted : ℕ → ℕ

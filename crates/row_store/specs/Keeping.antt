@@ -1,19 +1,22 @@
 -- What a keeper holds true, and what a store of several snapshots and a deletion do.
-use Rattle.std.specs.Prelude.{ℕ, ◌≡◌, ◌⊎◌, ◌++◌, Bool, false, not, List, [], ◌∷◌, All, Contains, filter, map, reverse, IsTrue, Option, IfSome}
+use Rattle.std.specs.Prelude.{ℕ, ◌≡◌, ◌⊎◌, ◌↔◌, ◌++◌, Bool, false, not, List, [], ◌∷◌, All, Contains, filter, map, reverse, IsTrue, Option, IfSome}
 use Rattle.std.specs.List.{list_any}
 use Rattle.std.specs.Str.{bytes_eq}
 use Rattle.position_core.specs.declared.topic_name.TopicName.{TopicName}
 use Rattle.position_core.specs.TopicName.{same_topic, topic_text}
 use Rattle.sqlite_trees.specs.declared.store.Store.{Ghosts}
 use Rattle.sqlite.specs.Tree.{Trees}
+use Rattle.sqlite.specs.Effect.{Database}
 use Rattle.sqlite.specs.State.{State, HasCleanDisk}
 use Rattle.sqlite.specs.Held.{Held, state}
 use Rattle.delivery_machine.specs.State.{State as MachineState}
 use Rattle.delivery_machine.specs.Snapshot.{snapshot_of}
 use Rattle.delivery_machine.specs.Places.{KeptTopic, snapshot_in}
-use Rattle.row_forms.specs.Standing.{HasNone, Stands, KeepsOthers}
-use Rattle.row_forms.specs.Schema.{schema_0, schema_6}
-use Rattle.row_tables.specs.Ready.{IsReady, IsBlank}
+use Rattle.row_forms.specs.Cells.{TOPIC, ENTRY, SUB, ACK, DEAD}
+use Rattle.row_forms.specs.Forms.{AreRowsOf, TopicRows}
+use Rattle.row_forms.specs.Standing.{HasIn, HasNone, Stands, KeepsOthers}
+use Rattle.row_forms.specs.Schema.{schema_0, schema_6, schema_7}
+use Rattle.row_tables.specs.Ready.{BecomesVersion2, IsReady, IsBlank, IsVersion1}
 use Rattle.row_reading.specs.Reading.{IsReadBack}
 use Rattle.stored_cell.specs.Noted.{Noted, ToStore, GoesOn, all_rows, is_shown}
 use Rattle.row_store.specs.declared.written.Written.{Written}
@@ -27,6 +30,15 @@ pub record Keeping (S : Type 0) : Type 0 where
   pub known : List KeptTopic
   pub written : Written
   pub reading : Option Begun
+
+-- the topic's rows in a database of version 1 are these; there is no table of counts
+pub record HasInVersion1 (topic : List ℕ) (rows : TopicRows) (db : Trees) : Type 0 where
+  pub topics : HasIn TOPIC topic rows.topics db
+  pub entries : HasIn ENTRY topic rows.entries db
+  pub subs : HasIn SUB topic rows.subs db
+  pub acks : HasIn ACK topic rows.acks db
+  pub deads : HasIn DEAD topic rows.deads db
+  pub counts : rows.counts ≡ []
 
 -- what a crash leaves now is exactly what stands
 abbrev pub IsSettled : State → Type 0
@@ -70,9 +82,27 @@ stored_in s kept = record { kept = kept; rows = all_rows s.committed.trees; clea
 abbrev pub StoresState : MachineState → Trees → Trees → Type 0
 StoresState s old new = (kept : KeptTopic) × (snapshot_in kept ≡ snapshot_of s) × StoresAll (kept ∷ []) old new
 
--- what a start may leave: what there was before, what was committed, or, where there was no table, the tables with no rows
+-- of a database of version 1, this is what it became as version 2
+abbrev pub IsVersion2Of : Trees → Trees → Type 0
+IsVersion2Of was db =
+    let before : Database = record { schema = schema_6; trees = was } in IsVersion1 before × BecomesVersion2 before (record { schema = schema_7; trees = db })
+
+-- it is what it was, or was of version 1 and became one of version 2
+abbrev pub IsTakenFrom : Trees → Trees → Type 0
+IsTakenFrom was db = (db ≡ was) ⊎ IsVersion2Of was db
+
+-- what a start may leave: what there was before, what was committed, as it was or become version 2, or, where there was no table, the
+-- tables with no rows
 abbrev pub MayLeave : State → Trees → Type 0
-MayLeave old db = old.may_leave db ⊎ ((db ≡ old.committed.trees) ⊎ ((old.now.schema ≡ schema_0) × IsBlank (record { schema = schema_6; trees = db })))
+MayLeave old db = old.may_leave db ⊎ (IsTakenFrom old.committed.trees db ⊎ ((old.now.schema ≡ schema_0) × IsBlank (record { schema = schema_7; trees = db })))
+
+-- the topic's rows in a database of version 1 are those of what is kept of it, which counts nothing
+abbrev pub StandsInVersion1 : KeptTopic → Trees → Type 0
+StandsInVersion1 kept db = (rows : TopicRows) × AreRowsOf kept rows × HasInVersion1 (topic_text kept.name) rows db
+
+-- every topic that stood stands still, and no other
+abbrev pub UpgradesKeepTopics : Type 0
+UpgradesKeepTopics = (kept : KeptTopic) (was db : Trees) → IsVersion2Of was db → StandsInVersion1 kept was ↔ Stands kept db
 
 -- what is known of all topics but this one
 abbrev pub known_without : TopicName → List KeptTopic → List KeptTopic

@@ -65,13 +65,13 @@ impl<S: Alter, J: Naming> Model for Keeper<S, J> {
     ghost use Rattle.std.specs.Prelude.{◌≡◌, is_some, option_map};
     ghost use Rattle.sqlite.specs.Held.{held_code};
     ghost use Rattle.std.specs.Coded.{codes};
-    ghost use Rattle.delivery_machine.specs.Codes.{coded_places};
+    ghost use Rattle.delivery_machine.specs.Codes.{coded_places, coded_counts};
     ghost use Rattle.row_store.specs.Begun.{begun_of};
     ghost use Rattle.row_store.specs.Keeping.{Keeping, IsKept, IsReadOn};
 
     ghost Value = { Keeping S };
 
-    ghost coded = { Prim.hlevel (codes, coded_places, held_code S.code) };
+    ghost coded = { Prim.hlevel (codes, coded_places, coded_counts, held_code S.code) };
 
     ghost view = { λ k. record { conn = k.conn; failed = k.failed; known = k.known.items; written = k.written; reading = option_map begun_of k.reading } };
 

@@ -31,12 +31,12 @@ impl<J: Naming> Model for Known<J> {
     ghost use Rattle.std.specs.Prelude.{◌≡◌, string_bytes};
     ghost use Rattle.std.specs.Coded.{codes};
     ghost use Rattle.position_core.specs.TopicName.{topic_text};
-    ghost use Rattle.delivery_machine.specs.Codes.{coded_places};
+    ghost use Rattle.delivery_machine.specs.Codes.{coded_places, coded_counts};
     ghost use Rattle.delivery_machine.specs.Places.{KeptTopic};
 
     ghost Value = { KeptTopic };
 
-    ghost coded = { Prim.hlevel (codes, coded_places) };
+    ghost coded = { Prim.hlevel (codes, coded_places, coded_counts) };
 
     ghost view = { λ k. k.snapshot };
 

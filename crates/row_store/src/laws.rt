@@ -1,4 +1,5 @@
-// A law over a keeper's whole life.
+// Laws over a keeper's whole life.
+ghost use Rattle.row_store.specs.Keeping.{UpgradesKeepTopics};
 ghost use Rattle.row_store.specs.Opened.{WhatRestsIsFound};
 ghost use Rattle.row_store.specs.Lives.{CrashesCompose};
 
@@ -12,4 +13,9 @@ pub fn crashes_compose()
 /// A topic at rest may be let go of: whatever is opened again of its name, from what stands, goes on from it.
 pub fn what_rests_is_found()
     ensures { WhatRestsIsFound }
+{}
+
+/// A database that became one of the last version has every topic that it had, and no other.
+pub fn upgrades_keep_topics()
+    ensures { UpgradesKeepTopics }
 {}

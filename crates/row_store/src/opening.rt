@@ -5,17 +5,17 @@ ghost use Rattle.sqlite.specs.Tree.{Trees};
 ghost use Rattle.sqlite.specs.State.{HasCleanDisk};
 ghost use Rattle.sqlite.specs.Held.{state};
 ghost use Rattle.sqlite_trees.specs.View.{IsClean};
-ghost use Rattle.row_forms.specs.Schema.{schema_0, schema_6};
+ghost use Rattle.row_forms.specs.Schema.{schema_0};
 ghost use Rattle.row_tables.specs.Ready.{AreKeyed, IsReady, IsBlank};
 ghost use Rattle.row_store.specs.declared.cause.Cause.TheVariants.{NotOurs, UnderWay};
-ghost use Rattle.row_store.specs.Keeping.{IsSettled, LeavesOne, MayLeave};
+ghost use Rattle.row_store.specs.Keeping.{IsSettled, IsTakenFrom, LeavesOne, MayLeave};
 
 use crate::cause::Cause;
 use crate::keeper::Keeper;
 use crate::written::Written;
 use delivery_machine::Fault;
 use marks::Naming;
-use row_schema::{create, has_no_schema, is_version_1, settle};
+use row_schema::{create, has_no_schema, settle, upgrade};
 use sqlite::{Alter, Connection, Error, ErrorCode};
 use std::alloc::Global;
 use stored_cell::Notes;
@@ -56,7 +56,7 @@ fn given_back<S: Alter + Drop, J: Naming>(
     }
 }
 
-/// Over a database whose tables are those of version 1.
+/// Over a database whose tables are there.
 fn keeper_over<S: Alter, J: Naming>(
     alloc: Global,
     conn: Connection<S>,
@@ -111,15 +111,15 @@ impl<S: Alter + Drop, J: Naming> Keeper<S, J> {
         }
     }
 
-    /// Takes a database of version 1 as it is; what was not committed is undone. Refused (F16) where it has
-    /// other tables or another version, or where the store answers an error. That in each table no rowid comes twice
+    /// Takes a database of the last version as it is, and makes one of an earlier version one of the last, a version in a
+    /// transaction; what was not committed is undone. Refused (F16) where it has other tables or another version, or where the store answers an error. That in each table no rowid comes twice
     /// is known of a connection that `row_found` opened, or that `row_schema::reopen` read again.
     pub fn adopt(alloc: Global, conn: Connection<S>, notes: Notes<J>) -> Result<Self, Refused<S, J>>
-        requires keyed { HasCleanDisk (state S.Store conn) → IsTrue (state S.Store conn).is_open → (state S.Store conn).now.schema ≡ schema_6 → AreKeyed (state S.Store conn).now.trees }
+        requires keyed { HasCleanDisk (state S.Store conn) → IsTrue (state S.Store conn).is_open → AreKeyed (state S.Store conn).now }
         ensures adopted { IfOk result (λ k. (k.failed ≡ false) × (HasCleanDisk (state S.Store k.conn) → IsTrue (state S.Store k.conn).is_open → IsReady (state S.Store k.conn).now)) }
-        ensures rows { IfOk result (λ k. HasCleanDisk (state S.Store k.conn) → IsTrue (state S.Store k.conn).is_open → (state S.Store k.conn).now.trees ≡ (state S.Store conn).committed.trees) }
-        ensures crash { IfOk result (λ k. HasCleanDisk (state S.Store k.conn) → (db : Trees) → (state S.Store k.conn).may_leave db → db ≡ (state S.Store conn).committed.trees) }
-        ensures given_back { IfErr result (λ e. IsClean (S.Store.view e.store) → (db : Trees) → S.Store.recovers e.store db → (state S.Store conn).may_leave db ⊎ (db ≡ (state S.Store conn).committed.trees)) }
+        ensures rows { IfOk result (λ k. HasCleanDisk (state S.Store k.conn) → IsTrue (state S.Store k.conn).is_open → IsTakenFrom (state S.Store conn).committed.trees (state S.Store k.conn).now.trees) }
+        ensures crash { IfOk result (λ k. HasCleanDisk (state S.Store k.conn) → (db : Trees) → (state S.Store k.conn).may_leave db → IsTakenFrom (state S.Store conn).committed.trees db) }
+        ensures given_back { IfErr result (λ e. IsClean (S.Store.view e.store) → (db : Trees) → S.Store.recovers e.store db → (state S.Store conn).may_leave db ⊎ IsTakenFrom (state S.Store conn).committed.trees db) }
         ensures fault { IfErr result (λ e. e.fault ≡ StoreFailed) }
     {
         let mut conn = match settle(alloc, conn) {
@@ -134,19 +134,19 @@ impl<S: Alter + Drop, J: Naming> Keeper<S, J> {
                 });
             }
         };
-        match is_version_1(&mut conn) {
+        match upgrade(&mut conn) {
             Ok(true) => Ok(keeper_over(alloc, conn, notes)),
             Ok(false) => Err(given_back(conn, notes, Cause::NotOurs)),
             Err(error) => Err(given_back(conn, notes, Cause::Store(error))),
         }
     }
 
-    /// Makes the tables in a database that has none, and takes any other as it is.
+    /// Makes the tables in a database that has none, and takes any other.
     pub fn start(alloc: Global, conn: Connection<S>, notes: Notes<J>) -> Result<Self, Refused<S, J>>
-        requires keyed { HasCleanDisk (state S.Store conn) → IsTrue (state S.Store conn).is_open → (state S.Store conn).now.schema ≡ schema_6 → AreKeyed (state S.Store conn).now.trees }
+        requires keyed { HasCleanDisk (state S.Store conn) → IsTrue (state S.Store conn).is_open → AreKeyed (state S.Store conn).now }
         ensures started { IfOk result (λ k. (k.failed ≡ false) × (HasCleanDisk (state S.Store k.conn) → IsTrue (state S.Store k.conn).is_open → IsReady (state S.Store k.conn).now)) }
         ensures made { conn.in_transaction ≡ false → (state S.Store conn).now.schema ≡ schema_0 → IfOk result (λ k. HasCleanDisk (state S.Store k.conn) → IsBlank (state S.Store k.conn).now) }
-        ensures taken { (state S.Store conn).now.schema ≢ schema_0 → IfOk result (λ k. HasCleanDisk (state S.Store k.conn) → IsTrue (state S.Store k.conn).is_open → (state S.Store k.conn).now.trees ≡ (state S.Store conn).committed.trees) }
+        ensures taken { (state S.Store conn).now.schema ≢ schema_0 → IfOk result (λ k. HasCleanDisk (state S.Store k.conn) → IsTrue (state S.Store k.conn).is_open → IsTakenFrom (state S.Store conn).committed.trees (state S.Store k.conn).now.trees) }
         ensures crash { IfOk result (λ k. HasCleanDisk (state S.Store k.conn) → (db : Trees) → (state S.Store k.conn).may_leave db → MayLeave (state S.Store conn) db) }
         ensures given_back { IfErr result (λ e. IsClean (S.Store.view e.store) → (db : Trees) → S.Store.recovers e.store db → MayLeave (state S.Store conn) db) }
         ensures fault { IfErr result (λ e. e.fault ≡ StoreFailed) }

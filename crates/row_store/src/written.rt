@@ -88,5 +88,6 @@ impl Written {
         self.count_table(&change.subs);
         self.count_table(&change.acks);
         self.count_table(&change.deads);
+        self.count_table(&change.counts);
     }
 }

@@ -1,4 +1,4 @@
--- The statements on each of the five tables of topics.
+-- The statements on each of the six tables of topics.
 use Rattle.std.proofs.Common.{◌≡◌, ℕ, ℤ, pos, List, [], ◌∷◌, codes, Ok, refl, subst, arith}
 use Rattle.sqlite.specs.declared.types.Value.TheVariants.{Null, Int, Text, Blob as Octets}
 use Rattle.sqlite.specs.Order.{Row}
@@ -7,9 +7,9 @@ use Rattle.sqlite.specs.State.{State, ExecutesInside}
 use Rattle.sqlite_schema.specs.declared.schema.Column.{Column}
 use Rattle.sqlite.specs.Kind.TheVariants.{Integer, Text as TextKind, Blob}
 use Rattle.row_forms.specs.Schema.{required}
-use Rattle.row_forms.specs.Cells.{TOPIC, ENTRY, SUB, ACK, DEAD}
+use Rattle.row_forms.specs.Cells.{TOPIC, ENTRY, SUB, ACK, DEAD, REDELIVERY}
 use Rattle.row_tables.specs.Goes.{Goes, Clears, Adds, Takes}
-use Rattle.row_tables.proofs.Texts.{equals, clear_topic, clear_topic_is, insert_topic, insert_topic_is, clear_entry, clear_entry_is, insert_entry, insert_entry_is, clear_sub, clear_sub_is, insert_sub, insert_sub_is, clear_ack, clear_ack_is, insert_ack, insert_ack_is, clear_dead, clear_dead_is, insert_dead, insert_dead_is, remove_sub, remove_sub_is, remove_ack, remove_ack_is, remove_dead, remove_dead_is}
+use Rattle.row_tables.proofs.Texts.{equals, clear_topic, clear_topic_is, insert_topic, insert_topic_is, clear_entry, clear_entry_is, insert_entry, insert_entry_is, clear_sub, clear_sub_is, insert_sub, insert_sub_is, clear_ack, clear_ack_is, insert_ack, insert_ack_is, clear_dead, clear_dead_is, insert_dead, insert_dead_is, remove_sub, remove_sub_is, remove_ack, remove_ack_is, remove_dead, remove_dead_is, clear_count, clear_count_is, insert_count, insert_count_is, remove_count, remove_count_is}
 use Rattle.row_tables.proofs.TableLemmas.{same_text, same_int}
 use Rattle.row_tables.proofs.StatementLemmas.{cast_int}
 use Rattle.row_tables.proofs.PartLemmas.{clears_rows, takes_row, adds_row}
@@ -90,3 +90,19 @@ pub takes_dead : (topic sub : List ℕ) (ordinal place : ℕ) (target : List ℕ
     → Goes (Takes DEAD ((Text topic ∷ Text sub ∷ Int (pos ordinal) ∷ Int (pos place) ∷ Text target ∷ []) ∷ [])) old new
 takes_dead topic sub ordinal place target = takes_row 5 (codes "dead") DEAD dead_columns (1 ∷ 2 ∷ 3 ∷ []) refl (λ _ _ _. refl) (λ _ all. all.1.1.1.1.1.0) (λ _ _ all. all.0 (λ e. omega (arith, e))) (λ _. refl) remove_dead (equals 0 ∷ equals 1 ∷ equals 2 ∷ equals 3 ∷ equals 4 ∷ []) remove_dead_is.0 remove_dead_is.1
     (Text topic ∷ Text sub ∷ Int (pos ordinal) ∷ Int (pos place) ∷ Text target ∷ []) (λ _. refl) (rw (same_text topic, same_text sub, same_int (pos ordinal), same_int (pos place), same_text target) refl)
+
+abbrev count_columns : List Column
+count_columns = required (codes "topic") TextKind ∷ required (codes "sub") TextKind ∷ required (codes "idx") Integer ∷ required (codes "times") Integer ∷ []
+
+pub clears_count : (topic : List ℕ) (old new : State) (count : ℕ) → ExecutesInside 0 clear_count (Text topic ∷ []) old new (Ok count) → Goes (Clears REDELIVERY topic) old new
+clears_count = clears_rows 6 (codes "redelivery") REDELIVERY count_columns (1 ∷ 2 ∷ 3 ∷ []) refl (λ _ _ _. refl) (λ _ all. all.1.1.1.1.1.1.0) (λ _ _ all. all.0 (λ e. omega (arith, e))) (λ _. refl) clear_count clear_count_is.0 clear_count_is.1 (λ _ _. refl)
+
+pub adds_count : (topic sub : List ℕ) (place times : ℕ) (old new : State) (count : ℕ) → ExecutesInside 0 insert_count (Text topic ∷ Text sub ∷ Int (pos place) ∷ Int (pos times) ∷ []) old new (Ok count)
+    → Goes (Adds REDELIVERY ((Text topic ∷ Text sub ∷ Int (pos place) ∷ Int (pos times) ∷ []) ∷ [])) old new
+adds_count topic sub place times = adds_row 6 (codes "redelivery") REDELIVERY count_columns (1 ∷ 2 ∷ 3 ∷ []) refl (λ _ _ _. refl) (λ _ all. all.1.1.1.1.1.1.0) (λ _ _ all. all.0 (λ e. omega (arith, e))) (λ _. refl) insert_count (lit Null ∷ col 0 0 ∷ col 0 1 ∷ col 0 2 ∷ col 0 3 ∷ []) 5 insert_count_is.0 insert_count_is.1
+    (Text topic ∷ Text sub ∷ Int (pos place) ∷ Int (pos times) ∷ []) refl (rw (cast_int (pos place), cast_int (pos times)) refl) (λ _. refl)
+
+pub takes_count : (topic sub : List ℕ) (place times : ℕ) (old new : State) (count : ℕ) → count ≡ 1 → ExecutesInside 0 remove_count (Text topic ∷ Text sub ∷ Int (pos place) ∷ Int (pos times) ∷ []) old new (Ok count)
+    → Goes (Takes REDELIVERY ((Text topic ∷ Text sub ∷ Int (pos place) ∷ Int (pos times) ∷ []) ∷ [])) old new
+takes_count topic sub place times = takes_row 6 (codes "redelivery") REDELIVERY count_columns (1 ∷ 2 ∷ 3 ∷ []) refl (λ _ _ _. refl) (λ _ all. all.1.1.1.1.1.1.0) (λ _ _ all. all.0 (λ e. omega (arith, e))) (λ _. refl) remove_count (equals 0 ∷ equals 1 ∷ equals 2 ∷ equals 3 ∷ []) remove_count_is.0 remove_count_is.1
+    (Text topic ∷ Text sub ∷ Int (pos place) ∷ Int (pos times) ∷ []) (λ _. refl) (rw (same_text topic, same_text sub, same_int (pos place), same_int (pos times)) refl)

@@ -32,7 +32,7 @@ use Rattle.row_tables.proofs.Texts.{alone, matching_most, equals, place_from, pl
 use Rattle.row_tables.proofs.TableLemmas.{text_is, text_test, filter_twice}
 use Rattle.row_tables.proofs.StatementLemmas.{IsTestBy, finds_most, shows}
 use Rattle.row_tables.proofs.ReadLemmas.{reads_those, sorted_shown}
-use Rattle.row_forms.specs.Schema.{schema_6}
+use Rattle.row_forms.specs.Schema.{schema_7}
 use Rattle.sqlite.specs.Program.{overlay}
 use Rattle.sqlite.specs.Command.TheVariants.{Select}
 use Rattle.sqlite.specs.Query.{Query, Output, output_cmp}
@@ -147,7 +147,7 @@ pub reads_from : (topic : List ℕ) (end : ℕ) (old new : State) (rows : List R
 reads_from topic end old new rows h ready count many =
     let values : Row = Text topic ∷ Int (pos end) ∷ [] in
     let q = matching_most ENTRY (equals 0 ∷ place_from ∷ []) (col 1 2 ∷ []) [] (lit (Int (pos 1))) in
-    let read = reads_as select_from values old new schema_6 ready.schema (Select (alone q) (codes "idx" ∷ [])) select_from_is.0 select_from_is.2 select_from_is.1 rows h in
+    let read = reads_as select_from values old new schema_7 ready.schema_is (Select (alone q) (codes "idx" ∷ [])) select_from_is.0 select_from_is.2 select_from_is.1 rows h in
     let found = finds_most ENTRY (equals 0 ∷ place_from ∷ []) (col 1 2 ∷ []) [] values (of_from topic end) (overlay old.now.trees []) rows (from_test topic end) (lit (Int (pos 1))) (read.answer Null) in
     let stored = old.now.trees ENTRY in
     let outs : List Output = found.0 in
@@ -230,7 +230,7 @@ module _ (topic : List ℕ) where
   pub reads_first : (old new : State) (rows : List Row) → Shown select_first (Text topic ∷ []) old new rows → IsReady old.now → first_is_negative rows ≡ has_below topic 0 old.now.trees
   reads_first old new rows h ready =
       let values : Row = Text topic ∷ [] in
-      let read = reads_as select_first values old new schema_6 ready.schema (Select (alone firsts) (codes "idx" ∷ [])) select_first_is.0 select_first_is.2 select_first_is.1 rows h in
+      let read = reads_as select_first values old new schema_7 ready.schema_is (Select (alone firsts) (codes "idx" ∷ [])) select_first_is.0 select_first_is.2 select_first_is.1 rows h in
       let found = finds_most ENTRY (equals 0 ∷ []) (col 1 2 ∷ []) ((col 1 2, ascending Binary) ∷ []) values (is_of topic) (overlay old.now.trees []) rows (topic_test topic) (lit (Int (pos 1))) (read.answer Null) in
       let stored = old.now.trees ENTRY in
       let those = filter (λ r. is_of topic (cells (width ENTRY) r)) stored in

@@ -1,5 +1,5 @@
--- What INSERT of one row and DELETE do to a table with no foreign key, and what SELECT shows of it.
-use Rattle.std.proofs.Common.{◌≡◌, ◌≢◌, ◌⊎◌, inl, inr, negsuc, ℕ, ◌+◌, ◌/◌, ℤ, List, [], ◌∷◌, ◌++◌, length, map, filter, flat_map, cond, slice_get, Bool, true, false, not, Option, Some, None, Ok, Err, Result, refl, sym, ap, subst, ◌∙◌}
+-- What INSERT of one row, DELETE and UPDATE do to a table with no foreign key, and what SELECT shows of it.
+use Rattle.std.proofs.Common.{◌≡◌, ◌≢◌, ◌⊎◌, inl, inr, negsuc, ℕ, suc, ◌+◌, ◌/◌, ℤ, List, [], ◌∷◌, ◌++◌, length, drop, map, filter, flat_map, cond, slice_get, Bool, true, false, not, Option, Some, None, Ok, Err, Result, refl, sym, ap, subst, ◌∙◌}
 use Rattle.std.specs.Prelude.{◌&&◌}
 use Rattle.std.specs.List.{AllByRecursion, list_all}
 use Rattle.std.specs.List.Sorted.{IsPermutation, IsSorted}
@@ -28,8 +28,10 @@ use Rattle.sqlite_schema.specs.declared.schema.Column.{Column}
 use Rattle.sqlite_value.specs.declared.keys.Order.{Order}
 use Rattle.sqlite.specs.Source.TheVariants.{Values}
 use Rattle.sqlite.specs.Command.{Command}
-use Rattle.sqlite.specs.Command.TheVariants.{Insert, Delete}
-use Rattle.sqlite.specs.Edit.{taken_by, are_fresh, put_all, edit_of, row_at, is_taken, without_all}
+use Rattle.sqlite.specs.Command.TheVariants.{Insert, Delete, Update}
+use Rattle.sqlite.specs.Edit.{taken_by, are_fresh, put_all, edit_of, numbered, row_at, is_taken, without_all}
+use Rattle.sqlite.specs.Cast.{cast_row}
+use Rattle.sqlite.specs.Rowids.{Rowids}
 use Rattle.sqlite.specs.Rowids.TheVariants.{Given, Chosen}
 use Rattle.sqlite_rules.specs.Action.{works}
 use Rattle.sqlite_rules.specs.Calls.{ids_of}
@@ -66,6 +68,10 @@ cast_int n = either _ (Int n)
 fresh_one : (b : Bool) → (not b && true) ≡ true → b ≡ false
 fresh_one true h = cc
 fresh_one false h = refl
+
+as_many : (rowids : Rowids) (news rows : List Row) → length (numbered rowids rows news) ≡ length news
+as_many rowids [] rows = refl
+as_many rowids (r ∷ more) rows = ap suc (as_many rowids more _)
 
 -- a table with no foreign key, no check and no default that reads the time
 abbrev pub plain_table : List ℕ → ℕ → List Column → Option ℕ → List ℕ → List (List ℕ) → List Order → Table
@@ -105,6 +111,30 @@ module _ (schema : Schema) (at : ℕ) (name : List ℕ) (tree : ℕ) (columns : 
       let count : length w.0.rows ≡ length given.0 = ap (λ (it : Written). length it.rows) it ∙ length-map (ids_of given.0) (row_at (db tree)) ∙ length-map given.0 (λ r. id_in (rowid r)) in (
         given.0,
         given.1.answer,
+        ap (λ (t : Trees). t tree) trees ∙ step.rows,
+        subst (λ t. AllByRecursion (λ u. u.tree ≢ tree → t u.tree ≡ db u.tree) schema.tables) (sym trees) step.tables,
+        ap (λ (d : Database). d.schema) w.2,
+        w.3 ∙ ap Some count,
+      )
+
+  -- the rows that the query shows are put in the place of those with their rowids, and counted
+  pub updates : (q : Query) → Does limit mode params was text None (Update at (alone q)) (Ok (tally, after))
+      → (rows : List Row) × IsSureAnswer q (overlay db []) params rows
+      × (are_fresh (without_all (db tree) (ids_of rows)) (edit_of db task.table (ids_of rows) Given 1 rows).news ≡ true)
+      × (after.trees tree ≡ put_all (without_all (db tree) (ids_of rows)) (edit_of db task.table (ids_of rows) Given 1 rows).news)
+      × AllByRecursion (λ t. t.tree ≢ tree → after.trees t.tree ≡ db t.tree) schema.tables × (after.schema ≡ schema) × (tally.rows ≡ Some (length rows))
+  updates q h =
+      let w = on_rows (Update at (alone q)) h in
+      let given = went w.1 in
+      let edit = edit_of db task.table (ids_of given.0) Given 1 given.0 in
+      let written = went given.2 in
+      let step = one_step schema mode.keys db written.0 edit (none (taken_by db edit) edit.news mode) written.1 in
+      let it = same_value written.2 in
+      let trees : after.trees ≡ written.0 = ap (λ (d : Database). d.trees) w.2 ∙ ap (λ (it : Written). it.trees) it in
+      let count : length w.0.rows ≡ length given.0 = ap (λ (it : Written). length it.rows) it ∙ as_many Given _ _ ∙ length-map given.0 (λ s. cast_row task.table (drop 1 s)) in (
+        given.0,
+        given.1.answer,
+        step.fresh,
         ap (λ (t : Trees). t tree) trees ∙ step.rows,
         subst (λ t. AllByRecursion (λ u. u.tree ≢ tree → t u.tree ≡ db u.tree) schema.tables) (sym trees) step.tables,
         ap (λ (d : Database). d.schema) w.2,
@@ -162,19 +192,25 @@ IsTestBy tree tests values passes = (r : Row) → list_all (holds (values ∷ r 
 abbrev pub IsTest : ℕ → List Term → Row → Type 0
 IsTest tree tests values = IsTestBy tree tests values (agrees values)
 
-module _ (tree : ℕ) (tests project : List Term) (order : List (Term × Key)) (values : Row) (passes : Row → Bool) (db : Trees) (rows : List Row) (test : IsTestBy tree tests values passes) where
-  pub finds_most : (limit : Term) → IsAnswerAs Null (matching_most tree tests project order limit) db values rows
-      → (outs : List Output) × IsPermutation (map (shows project order values) (filter (λ r. passes (cells (width tree) r)) (db tree))) outs
+module _ (tree : ℕ) (tests project : List Term) (order : List (Term × Key)) (values : Row) (p : Row → Bool) (db : Trees) (rows : List Row) (test : (r : Row) → list_all (holds (values ∷ r ∷ [])) tests ≡ p r) where
+  -- the rows that pass a test, which may be of the rowid too
+  pub finds_by : (limit : Term) → IsAnswerAs Null (matching_most tree tests project order limit) db values rows
+      → (outs : List Output) × IsPermutation (map (shows project order values) (filter p (db tree))) outs
       × (rows ≡ page (matching_most tree tests project order limit) values (map (λ o. o.1) outs)) × IsSorted (output_cmp (matching_most tree tests project order limit)) outs
-  finds_most limit a =
+  finds_by limit a =
       let q = matching_most tree tests project order limit in
       let env = λ (r : Row). values ∷ r ∷ [] in
-      let p = λ (r : Row). passes (cells (width tree) r) in
       let matched : a.staged ≡ map env (filter (λ r. list_all (holds (env r)) tests) (db tree)) = a.grouped ∙ flat_passed (λ r. list_all (holds (env r)) tests) env (db tree) in
       let kept : a.kept ≡ map (output q) (map env (filter (λ r. list_all (holds (env r)) tests) (db tree))) = a.distinct ∙ ap (map (output q)) matched in
       let picked : filter (λ r. list_all (holds (env r)) tests) (db tree) ≡ filter p (db tree) = filter_same _ p (db tree) (all_of _ test (db tree)) in
       let is : a.kept ≡ map (shows project order values) (filter p (db tree)) = kept ∙ map-map (output q) env _ ∙ ap (map (shows project order values)) picked in
       (a.ordered, subst (λ xs. IsPermutation xs a.ordered) is a.same, a.shown, a.sorted)
+
+module _ (tree : ℕ) (tests project : List Term) (order : List (Term × Key)) (values : Row) (passes : Row → Bool) (db : Trees) (rows : List Row) (test : IsTestBy tree tests values passes) where
+  pub finds_most : (limit : Term) → IsAnswerAs Null (matching_most tree tests project order limit) db values rows
+      → (outs : List Output) × IsPermutation (map (shows project order values) (filter (λ r. passes (cells (width tree) r)) (db tree))) outs
+      × (rows ≡ page (matching_most tree tests project order limit) values (map (λ o. o.1) outs)) × IsSorted (output_cmp (matching_most tree tests project order limit)) outs
+  finds_most = finds_by tree tests project order values (λ r. passes (cells (width tree) r)) db rows test
 
   pub finds : IsAnswerAs Null (matching tree tests project order) db values rows
       → (outs : List Output) × IsPermutation (map (shows project order values) (filter (λ r. passes (cells (width tree) r)) (db tree))) outs

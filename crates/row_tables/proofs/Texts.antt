@@ -1,5 +1,5 @@
--- What the statements mean, where the six tables are there.
-use Rattle.std.proofs.Common.{◌≡◌, ℕ, ◌+◌, pos, negsuc, List, [], ◌∷◌, codes, false, None, Ok, refl}
+-- What the statements on the rows of topics mean, where the seven tables are there.
+use Rattle.std.proofs.Common.{◌≡◌, ℕ, ◌+◌, pos, negsuc, List, [], ◌∷◌, codes, false, None, refl}
 use Rattle.sqlite.specs.declared.types.Value.TheVariants.{Null, Int}
 use Rattle.sqlite.specs.Term.{Term, lit, col, op2}
 use Rattle.sqlite_sql.specs.declared.ops.BinaryOp.TheVariants.{Compare}
@@ -10,12 +10,11 @@ use Rattle.sqlite_value.specs.Keys.{ascending}
 use Rattle.sqlite_schema.specs.declared.program.Program.{Program}
 use Rattle.sqlite.specs.Query.{Query, inner, end}
 use Rattle.sqlite.specs.Source.TheVariants.{Values}
-use Rattle.sqlite.specs.Command.TheVariants.{Insert, Delete, Select, CreateTable}
-use Rattle.sqlite.specs.Compile.{table_defined_by}
+use Rattle.sqlite.specs.Command.TheVariants.{Insert, Delete, Select}
 use Rattle.sqlite_tied.specs.Compute.{everything}
 use Rattle.sqlite.specs.Listing.{understood, reads_listing}
-use Rattle.sqlite.proofs.Callers.{IsPlain, command_of, statement_of}
-use Rattle.row_forms.specs.Schema.{schema_0, schema_1, schema_2, schema_3, schema_4, schema_5, schema_6, meta_table, topic_table, entry_table, sub_table, ack_table, dead_table}
+use Rattle.sqlite.proofs.Callers.{IsPlain, command_of}
+use Rattle.row_forms.specs.Schema.{schema_7}
 
 -- that the column of the row is the parameter with the same number
 abbrev pub equals : ℕ → Term
@@ -36,80 +35,38 @@ of_topic tree = matching tree (equals 0 ∷ [])
 abbrev pub alone : Query → Program
 alone q = record { lets = []; body = q }
 
-abbrev pub create_meta : List ℕ
-create_meta = codes "CREATE TABLE meta (id INTEGER NOT NULL PRIMARY KEY, version INTEGER NOT NULL) STRICT"
-
-pub create_meta_is : (command_of (understood schema_0 create_meta) ≡ CreateTable) × (statement_of create_meta (understood schema_0 create_meta) ≡ create_meta) × (table_defined_by create_meta ≡ Ok (meta_table 0))
-unfolding understood everything
-create_meta_is = (refl, refl, refl)
-
-abbrev pub create_topic : List ℕ
-create_topic = codes "CREATE TABLE topic (name TEXT NOT NULL, ledger_size INTEGER NOT NULL, ledger INTEGER NOT NULL, ordinal INTEGER NOT NULL, PRIMARY KEY (name)) STRICT"
-
-pub create_topic_is : (command_of (understood schema_1 create_topic) ≡ CreateTable) × (statement_of create_topic (understood schema_1 create_topic) ≡ create_topic) × (table_defined_by create_topic ≡ Ok (topic_table 0))
-unfolding understood everything
-create_topic_is = (refl, refl, refl)
-
-abbrev pub create_entry : List ℕ
-create_entry = codes "CREATE TABLE entry (topic TEXT NOT NULL, idx INTEGER NOT NULL, ledger INTEGER NOT NULL, entry INTEGER NOT NULL, producer TEXT NOT NULL, sequence INTEGER NOT NULL, time INTEGER NOT NULL, has_key INTEGER NOT NULL, key TEXT NOT NULL, properties TEXT NOT NULL, payload BLOB NOT NULL, PRIMARY KEY (topic, idx)) STRICT"
-
-pub create_entry_is : (command_of (understood schema_2 create_entry) ≡ CreateTable) × (statement_of create_entry (understood schema_2 create_entry) ≡ create_entry) × (table_defined_by create_entry ≡ Ok (entry_table 0))
-unfolding understood everything
-create_entry_is = (refl, refl, refl)
-
-abbrev pub create_sub : List ℕ
-create_sub = codes "CREATE TABLE sub (topic TEXT NOT NULL, name TEXT NOT NULL, kind INTEGER NOT NULL, PRIMARY KEY (topic, name)) STRICT"
-
-pub create_sub_is : (command_of (understood schema_3 create_sub) ≡ CreateTable) × (statement_of create_sub (understood schema_3 create_sub) ≡ create_sub) × (table_defined_by create_sub ≡ Ok (sub_table 0))
-unfolding understood everything
-create_sub_is = (refl, refl, refl)
-
-abbrev pub create_ack : List ℕ
-create_ack = codes "CREATE TABLE ack (topic TEXT NOT NULL, sub TEXT NOT NULL, first INTEGER NOT NULL, last INTEGER NOT NULL, PRIMARY KEY (topic, sub, first)) STRICT"
-
-pub create_ack_is : (command_of (understood schema_4 create_ack) ≡ CreateTable) × (statement_of create_ack (understood schema_4 create_ack) ≡ create_ack) × (table_defined_by create_ack ≡ Ok (ack_table 0))
-unfolding understood everything
-create_ack_is = (refl, refl, refl)
-
-abbrev pub create_dead : List ℕ
-create_dead = codes "CREATE TABLE dead (topic TEXT NOT NULL, sub TEXT NOT NULL, ordinal INTEGER NOT NULL, idx INTEGER NOT NULL, target TEXT NOT NULL, PRIMARY KEY (topic, sub, ordinal)) STRICT"
-
-pub create_dead_is : (command_of (understood schema_5 create_dead) ≡ CreateTable) × (statement_of create_dead (understood schema_5 create_dead) ≡ create_dead) × (table_defined_by create_dead ≡ Ok (dead_table 0))
-unfolding understood everything
-create_dead_is = (refl, refl, refl)
-
 abbrev pub insert_topic : List ℕ
 insert_topic = codes "INSERT INTO topic (name, ledger_size, ledger, ordinal) VALUES (?1, ?2, ?3, ?4)"
 
-pub insert_topic_is : (command_of (understood schema_6 insert_topic) ≡ Insert 1 (Values (lit Null ∷ col 0 0 ∷ col 0 1 ∷ col 0 2 ∷ col 0 3 ∷ []) 5)) × IsPlain (understood schema_6 insert_topic)
+pub insert_topic_is : (command_of (understood schema_7 insert_topic) ≡ Insert 1 (Values (lit Null ∷ col 0 0 ∷ col 0 1 ∷ col 0 2 ∷ col 0 3 ∷ []) 5)) × IsPlain (understood schema_7 insert_topic)
 unfolding understood everything
 insert_topic_is = (refl, (refl, refl))
 
 abbrev pub clear_topic : List ℕ
 clear_topic = codes "DELETE FROM topic WHERE name = ?1"
 
-pub clear_topic_is : (command_of (understood schema_6 clear_topic) ≡ Delete 1 (alone (of_topic 1 (col 1 0 ∷ []) []))) × IsPlain (understood schema_6 clear_topic)
+pub clear_topic_is : (command_of (understood schema_7 clear_topic) ≡ Delete 1 (alone (of_topic 1 (col 1 0 ∷ []) []))) × IsPlain (understood schema_7 clear_topic)
 unfolding understood everything
 clear_topic_is = (refl, (refl, refl))
 
 abbrev pub select_topic : List ℕ
 select_topic = codes "SELECT ledger_size, ledger, ordinal FROM topic WHERE name = ?1"
 
-pub select_topic_is : (command_of (understood schema_6 select_topic) ≡ Select (alone (of_topic 1 (col 1 2 ∷ col 1 3 ∷ col 1 4 ∷ []) ([]))) (codes "ledger_size" ∷ codes "ledger" ∷ codes "ordinal" ∷ [])) × (reads_listing schema_6 select_topic ≡ false) × IsPlain (understood schema_6 select_topic)
+pub select_topic_is : (command_of (understood schema_7 select_topic) ≡ Select (alone (of_topic 1 (col 1 2 ∷ col 1 3 ∷ col 1 4 ∷ []) ([]))) (codes "ledger_size" ∷ codes "ledger" ∷ codes "ordinal" ∷ [])) × (reads_listing schema_7 select_topic ≡ false) × IsPlain (understood schema_7 select_topic)
 unfolding understood everything
 select_topic_is = (refl, refl, (refl, refl))
 
 abbrev pub insert_entry : List ℕ
 insert_entry = codes "INSERT INTO entry (topic, idx, ledger, entry, producer, sequence, time, has_key, key, properties, payload) VALUES (?1, ?2, ?3, ?4, ?5, ?6, ?7, ?8, ?9, ?10, ?11)"
 
-pub insert_entry_is : (command_of (understood schema_6 insert_entry) ≡ Insert 2 (Values (lit Null ∷ col 0 0 ∷ col 0 1 ∷ col 0 2 ∷ col 0 3 ∷ col 0 4 ∷ col 0 5 ∷ col 0 6 ∷ col 0 7 ∷ col 0 8 ∷ col 0 9 ∷ col 0 10 ∷ []) 12)) × IsPlain (understood schema_6 insert_entry)
+pub insert_entry_is : (command_of (understood schema_7 insert_entry) ≡ Insert 2 (Values (lit Null ∷ col 0 0 ∷ col 0 1 ∷ col 0 2 ∷ col 0 3 ∷ col 0 4 ∷ col 0 5 ∷ col 0 6 ∷ col 0 7 ∷ col 0 8 ∷ col 0 9 ∷ col 0 10 ∷ []) 12)) × IsPlain (understood schema_7 insert_entry)
 unfolding understood everything
 insert_entry_is = (refl, (refl, refl))
 
 abbrev pub clear_entry : List ℕ
 clear_entry = codes "DELETE FROM entry WHERE topic = ?1"
 
-pub clear_entry_is : (command_of (understood schema_6 clear_entry) ≡ Delete 2 (alone (of_topic 3 (col 1 0 ∷ []) []))) × IsPlain (understood schema_6 clear_entry)
+pub clear_entry_is : (command_of (understood schema_7 clear_entry) ≡ Delete 2 (alone (of_topic 3 (col 1 0 ∷ []) []))) × IsPlain (understood schema_7 clear_entry)
 unfolding understood everything
 clear_entry_is = (refl, (refl, refl))
 
@@ -123,134 +80,132 @@ place_below = op2 (Compare Lt Binary) (col 1 2) (col 0 2)
 abbrev pub select_piece : List ℕ
 select_piece = codes "SELECT idx, ledger, entry, producer, sequence, time, has_key, key, properties, payload FROM entry WHERE topic = ?1 AND idx >= ?2 AND idx < ?3 ORDER BY idx"
 
-pub select_piece_is : (command_of (understood schema_6 select_piece) ≡ Select (alone (matching 3 (equals 0 ∷ place_from ∷ place_below ∷ []) (col 1 2 ∷ col 1 3 ∷ col 1 4 ∷ col 1 5 ∷ col 1 6 ∷ col 1 7 ∷ col 1 8 ∷ col 1 9 ∷ col 1 10 ∷ col 1 11 ∷ []) ((col 1 2, ascending Binary) ∷ []))) (codes "idx" ∷ codes "ledger" ∷ codes "entry" ∷ codes "producer" ∷ codes "sequence" ∷ codes "time" ∷ codes "has_key" ∷ codes "key" ∷ codes "properties" ∷ codes "payload" ∷ [])) × (reads_listing schema_6 select_piece ≡ false) × IsPlain (understood schema_6 select_piece)
+pub select_piece_is : (command_of (understood schema_7 select_piece) ≡ Select (alone (matching 3 (equals 0 ∷ place_from ∷ place_below ∷ []) (col 1 2 ∷ col 1 3 ∷ col 1 4 ∷ col 1 5 ∷ col 1 6 ∷ col 1 7 ∷ col 1 8 ∷ col 1 9 ∷ col 1 10 ∷ col 1 11 ∷ []) ((col 1 2, ascending Binary) ∷ []))) (codes "idx" ∷ codes "ledger" ∷ codes "entry" ∷ codes "producer" ∷ codes "sequence" ∷ codes "time" ∷ codes "has_key" ∷ codes "key" ∷ codes "properties" ∷ codes "payload" ∷ [])) × (reads_listing schema_7 select_piece ≡ false) × IsPlain (understood schema_7 select_piece)
 unfolding understood everything
 select_piece_is = (refl, refl, (refl, refl))
 
 abbrev pub select_first : List ℕ
 select_first = codes "SELECT idx FROM entry WHERE topic = ?1 ORDER BY idx LIMIT 1"
 
-pub select_first_is : (command_of (understood schema_6 select_first) ≡ Select (alone (matching_most 3 (equals 0 ∷ []) (col 1 2 ∷ []) ((col 1 2, ascending Binary) ∷ []) (lit (Int (pos 1))))) (codes "idx" ∷ [])) × (reads_listing schema_6 select_first ≡ false) × IsPlain (understood schema_6 select_first)
+pub select_first_is : (command_of (understood schema_7 select_first) ≡ Select (alone (matching_most 3 (equals 0 ∷ []) (col 1 2 ∷ []) ((col 1 2, ascending Binary) ∷ []) (lit (Int (pos 1))))) (codes "idx" ∷ [])) × (reads_listing schema_7 select_first ≡ false) × IsPlain (understood schema_7 select_first)
 unfolding understood everything
 select_first_is = (refl, refl, (refl, refl))
 
 abbrev pub select_from : List ℕ
 select_from = codes "SELECT idx FROM entry WHERE topic = ?1 AND idx >= ?2 LIMIT 1"
 
-pub select_from_is : (command_of (understood schema_6 select_from) ≡ Select (alone (matching_most 3 (equals 0 ∷ place_from ∷ []) (col 1 2 ∷ []) [] (lit (Int (pos 1))))) (codes "idx" ∷ [])) × (reads_listing schema_6 select_from ≡ false) × IsPlain (understood schema_6 select_from)
+pub select_from_is : (command_of (understood schema_7 select_from) ≡ Select (alone (matching_most 3 (equals 0 ∷ place_from ∷ []) (col 1 2 ∷ []) [] (lit (Int (pos 1))))) (codes "idx" ∷ [])) × (reads_listing schema_7 select_from ≡ false) × IsPlain (understood schema_7 select_from)
 unfolding understood everything
 select_from_is = (refl, refl, (refl, refl))
 
 abbrev pub insert_sub : List ℕ
 insert_sub = codes "INSERT INTO sub (topic, name, kind) VALUES (?1, ?2, ?3)"
 
-pub insert_sub_is : (command_of (understood schema_6 insert_sub) ≡ Insert 3 (Values (lit Null ∷ col 0 0 ∷ col 0 1 ∷ col 0 2 ∷ []) 4)) × IsPlain (understood schema_6 insert_sub)
+pub insert_sub_is : (command_of (understood schema_7 insert_sub) ≡ Insert 3 (Values (lit Null ∷ col 0 0 ∷ col 0 1 ∷ col 0 2 ∷ []) 4)) × IsPlain (understood schema_7 insert_sub)
 unfolding understood everything
 insert_sub_is = (refl, (refl, refl))
 
 abbrev pub clear_sub : List ℕ
 clear_sub = codes "DELETE FROM sub WHERE topic = ?1"
 
-pub clear_sub_is : (command_of (understood schema_6 clear_sub) ≡ Delete 3 (alone (of_topic 5 (col 1 0 ∷ []) []))) × IsPlain (understood schema_6 clear_sub)
+pub clear_sub_is : (command_of (understood schema_7 clear_sub) ≡ Delete 3 (alone (of_topic 5 (col 1 0 ∷ []) []))) × IsPlain (understood schema_7 clear_sub)
 unfolding understood everything
 clear_sub_is = (refl, (refl, refl))
 
 abbrev pub select_sub : List ℕ
 select_sub = codes "SELECT name, kind FROM sub WHERE topic = ?1 ORDER BY name"
 
-pub select_sub_is : (command_of (understood schema_6 select_sub) ≡ Select (alone (of_topic 5 (col 1 2 ∷ col 1 3 ∷ []) ((col 1 2, ascending Binary) ∷ []))) (codes "name" ∷ codes "kind" ∷ [])) × (reads_listing schema_6 select_sub ≡ false) × IsPlain (understood schema_6 select_sub)
+pub select_sub_is : (command_of (understood schema_7 select_sub) ≡ Select (alone (of_topic 5 (col 1 2 ∷ col 1 3 ∷ []) ((col 1 2, ascending Binary) ∷ []))) (codes "name" ∷ codes "kind" ∷ [])) × (reads_listing schema_7 select_sub ≡ false) × IsPlain (understood schema_7 select_sub)
 unfolding understood everything
 select_sub_is = (refl, refl, (refl, refl))
 
 abbrev pub insert_ack : List ℕ
 insert_ack = codes "INSERT INTO ack (topic, sub, first, last) VALUES (?1, ?2, ?3, ?4)"
 
-pub insert_ack_is : (command_of (understood schema_6 insert_ack) ≡ Insert 4 (Values (lit Null ∷ col 0 0 ∷ col 0 1 ∷ col 0 2 ∷ col 0 3 ∷ []) 5)) × IsPlain (understood schema_6 insert_ack)
+pub insert_ack_is : (command_of (understood schema_7 insert_ack) ≡ Insert 4 (Values (lit Null ∷ col 0 0 ∷ col 0 1 ∷ col 0 2 ∷ col 0 3 ∷ []) 5)) × IsPlain (understood schema_7 insert_ack)
 unfolding understood everything
 insert_ack_is = (refl, (refl, refl))
 
 abbrev pub clear_ack : List ℕ
 clear_ack = codes "DELETE FROM ack WHERE topic = ?1"
 
-pub clear_ack_is : (command_of (understood schema_6 clear_ack) ≡ Delete 4 (alone (of_topic 7 (col 1 0 ∷ []) []))) × IsPlain (understood schema_6 clear_ack)
+pub clear_ack_is : (command_of (understood schema_7 clear_ack) ≡ Delete 4 (alone (of_topic 7 (col 1 0 ∷ []) []))) × IsPlain (understood schema_7 clear_ack)
 unfolding understood everything
 clear_ack_is = (refl, (refl, refl))
 
 abbrev pub select_ack : List ℕ
 select_ack = codes "SELECT sub, first, last FROM ack WHERE topic = ?1 ORDER BY sub, first"
 
-pub select_ack_is : (command_of (understood schema_6 select_ack) ≡ Select (alone (of_topic 7 (col 1 2 ∷ col 1 3 ∷ col 1 4 ∷ []) ((col 1 2, ascending Binary) ∷ (col 1 3, ascending Binary) ∷ []))) (codes "sub" ∷ codes "first" ∷ codes "last" ∷ [])) × (reads_listing schema_6 select_ack ≡ false) × IsPlain (understood schema_6 select_ack)
+pub select_ack_is : (command_of (understood schema_7 select_ack) ≡ Select (alone (of_topic 7 (col 1 2 ∷ col 1 3 ∷ col 1 4 ∷ []) ((col 1 2, ascending Binary) ∷ (col 1 3, ascending Binary) ∷ []))) (codes "sub" ∷ codes "first" ∷ codes "last" ∷ [])) × (reads_listing schema_7 select_ack ≡ false) × IsPlain (understood schema_7 select_ack)
 unfolding understood everything
 select_ack_is = (refl, refl, (refl, refl))
 
 abbrev pub insert_dead : List ℕ
 insert_dead = codes "INSERT INTO dead (topic, sub, ordinal, idx, target) VALUES (?1, ?2, ?3, ?4, ?5)"
 
-pub insert_dead_is : (command_of (understood schema_6 insert_dead) ≡ Insert 5 (Values (lit Null ∷ col 0 0 ∷ col 0 1 ∷ col 0 2 ∷ col 0 3 ∷ col 0 4 ∷ []) 6)) × IsPlain (understood schema_6 insert_dead)
+pub insert_dead_is : (command_of (understood schema_7 insert_dead) ≡ Insert 5 (Values (lit Null ∷ col 0 0 ∷ col 0 1 ∷ col 0 2 ∷ col 0 3 ∷ col 0 4 ∷ []) 6)) × IsPlain (understood schema_7 insert_dead)
 unfolding understood everything
 insert_dead_is = (refl, (refl, refl))
 
 abbrev pub clear_dead : List ℕ
 clear_dead = codes "DELETE FROM dead WHERE topic = ?1"
 
-pub clear_dead_is : (command_of (understood schema_6 clear_dead) ≡ Delete 5 (alone (of_topic 9 (col 1 0 ∷ []) []))) × IsPlain (understood schema_6 clear_dead)
+pub clear_dead_is : (command_of (understood schema_7 clear_dead) ≡ Delete 5 (alone (of_topic 9 (col 1 0 ∷ []) []))) × IsPlain (understood schema_7 clear_dead)
 unfolding understood everything
 clear_dead_is = (refl, (refl, refl))
 
 abbrev pub select_dead : List ℕ
 select_dead = codes "SELECT sub, ordinal, idx, target FROM dead WHERE topic = ?1 ORDER BY sub, ordinal"
 
-pub select_dead_is : (command_of (understood schema_6 select_dead) ≡ Select (alone (of_topic 9 (col 1 2 ∷ col 1 3 ∷ col 1 4 ∷ col 1 5 ∷ []) ((col 1 2, ascending Binary) ∷ (col 1 3, ascending Binary) ∷ []))) (codes "sub" ∷ codes "ordinal" ∷ codes "idx" ∷ codes "target" ∷ [])) × (reads_listing schema_6 select_dead ≡ false) × IsPlain (understood schema_6 select_dead)
+pub select_dead_is : (command_of (understood schema_7 select_dead) ≡ Select (alone (of_topic 9 (col 1 2 ∷ col 1 3 ∷ col 1 4 ∷ col 1 5 ∷ []) ((col 1 2, ascending Binary) ∷ (col 1 3, ascending Binary) ∷ []))) (codes "sub" ∷ codes "ordinal" ∷ codes "idx" ∷ codes "target" ∷ [])) × (reads_listing schema_7 select_dead ≡ false) × IsPlain (understood schema_7 select_dead)
 unfolding understood everything
 select_dead_is = (refl, refl, (refl, refl))
 
 abbrev pub remove_sub : List ℕ
 remove_sub = codes "DELETE FROM sub WHERE topic = ?1 AND name = ?2 AND kind = ?3"
 
-pub remove_sub_is : (command_of (understood schema_6 remove_sub) ≡ Delete 3 (alone (matching 5 (equals 0 ∷ equals 1 ∷ equals 2 ∷ []) (col 1 0 ∷ []) []))) × IsPlain (understood schema_6 remove_sub)
+pub remove_sub_is : (command_of (understood schema_7 remove_sub) ≡ Delete 3 (alone (matching 5 (equals 0 ∷ equals 1 ∷ equals 2 ∷ []) (col 1 0 ∷ []) []))) × IsPlain (understood schema_7 remove_sub)
 unfolding understood everything
 remove_sub_is = (refl, (refl, refl))
 
 abbrev pub remove_ack : List ℕ
 remove_ack = codes "DELETE FROM ack WHERE topic = ?1 AND sub = ?2 AND first = ?3 AND last = ?4"
 
-pub remove_ack_is : (command_of (understood schema_6 remove_ack) ≡ Delete 4 (alone (matching 7 (equals 0 ∷ equals 1 ∷ equals 2 ∷ equals 3 ∷ []) (col 1 0 ∷ []) []))) × IsPlain (understood schema_6 remove_ack)
+pub remove_ack_is : (command_of (understood schema_7 remove_ack) ≡ Delete 4 (alone (matching 7 (equals 0 ∷ equals 1 ∷ equals 2 ∷ equals 3 ∷ []) (col 1 0 ∷ []) []))) × IsPlain (understood schema_7 remove_ack)
 unfolding understood everything
 remove_ack_is = (refl, (refl, refl))
 
 abbrev pub remove_dead : List ℕ
 remove_dead = codes "DELETE FROM dead WHERE topic = ?1 AND sub = ?2 AND ordinal = ?3 AND idx = ?4 AND target = ?5"
 
-pub remove_dead_is : (command_of (understood schema_6 remove_dead) ≡ Delete 5 (alone (matching 9 (equals 0 ∷ equals 1 ∷ equals 2 ∷ equals 3 ∷ equals 4 ∷ []) (col 1 0 ∷ []) []))) × IsPlain (understood schema_6 remove_dead)
+pub remove_dead_is : (command_of (understood schema_7 remove_dead) ≡ Delete 5 (alone (matching 9 (equals 0 ∷ equals 1 ∷ equals 2 ∷ equals 3 ∷ equals 4 ∷ []) (col 1 0 ∷ []) []))) × IsPlain (understood schema_7 remove_dead)
 unfolding understood everything
 remove_dead_is = (refl, (refl, refl))
 
-abbrev pub insert_meta : List ℕ
-insert_meta = codes "INSERT INTO meta (id, version) VALUES (1, 1)"
+abbrev pub insert_count : List ℕ
+insert_count = codes "INSERT INTO redelivery (topic, sub, idx, times) VALUES (?1, ?2, ?3, ?4)"
 
-abbrev pub select_meta : List ℕ
-select_meta = codes "SELECT id, version FROM meta"
-
-pub create_meta_plain : IsPlain (understood schema_0 create_meta)
+pub insert_count_is : (command_of (understood schema_7 insert_count) ≡ Insert 6 (Values (lit Null ∷ col 0 0 ∷ col 0 1 ∷ col 0 2 ∷ col 0 3 ∷ []) 5)) × IsPlain (understood schema_7 insert_count)
 unfolding understood everything
-create_meta_plain = (refl, refl)
+insert_count_is = (refl, (refl, refl))
 
-pub create_topic_plain : IsPlain (understood schema_1 create_topic)
-unfolding understood everything
-create_topic_plain = (refl, refl)
+abbrev pub clear_count : List ℕ
+clear_count = codes "DELETE FROM redelivery WHERE topic = ?1"
 
-pub create_entry_plain : IsPlain (understood schema_2 create_entry)
+pub clear_count_is : (command_of (understood schema_7 clear_count) ≡ Delete 6 (alone (of_topic 11 (col 1 0 ∷ []) []))) × IsPlain (understood schema_7 clear_count)
 unfolding understood everything
-create_entry_plain = (refl, refl)
+clear_count_is = (refl, (refl, refl))
 
-pub create_sub_plain : IsPlain (understood schema_3 create_sub)
-unfolding understood everything
-create_sub_plain = (refl, refl)
+abbrev pub select_count : List ℕ
+select_count = codes "SELECT sub, idx, times FROM redelivery WHERE topic = ?1 ORDER BY sub, idx"
 
-pub create_ack_plain : IsPlain (understood schema_4 create_ack)
+pub select_count_is : (command_of (understood schema_7 select_count) ≡ Select (alone (of_topic 11 (col 1 2 ∷ col 1 3 ∷ col 1 4 ∷ []) ((col 1 2, ascending Binary) ∷ (col 1 3, ascending Binary) ∷ []))) (codes "sub" ∷ codes "idx" ∷ codes "times" ∷ [])) × (reads_listing schema_7 select_count ≡ false) × IsPlain (understood schema_7 select_count)
 unfolding understood everything
-create_ack_plain = (refl, refl)
+select_count_is = (refl, refl, (refl, refl))
 
-pub create_dead_plain : IsPlain (understood schema_5 create_dead)
+abbrev pub remove_count : List ℕ
+remove_count = codes "DELETE FROM redelivery WHERE topic = ?1 AND sub = ?2 AND idx = ?3 AND times = ?4"
+
+pub remove_count_is : (command_of (understood schema_7 remove_count) ≡ Delete 6 (alone (matching 11 (equals 0 ∷ equals 1 ∷ equals 2 ∷ equals 3 ∷ []) (col 1 0 ∷ []) []))) × IsPlain (understood schema_7 remove_count)
 unfolding understood everything
-create_dead_plain = (refl, refl)
+remove_count_is = (refl, (refl, refl))

@@ -5,7 +5,7 @@ use Rattle.sqlite.specs.declared.types.Value.TheVariants.{Text as Words}
 use Rattle.sqlite.specs.Order.{Row}
 use Rattle.sqlite.specs.Tree.{Trees}
 use Rattle.sqlite.specs.State.{State}
-use Rattle.row_forms.specs.Schema.{schema_6}
+use Rattle.row_forms.specs.Schema.{schema_7}
 use Rattle.row_forms.specs.Cells.{bodies, but_topic}
 use Rattle.row_forms.specs.Standing.{HasIn, SameIn}
 use Rattle.row_tables.specs.Ready.{IsReady}
@@ -20,7 +20,7 @@ pub record Goes (P : Trees → Trees → Type 0) (old new : State) : Type 0 wher
 
 -- all tables but the one in this tree are as they were
 abbrev pub SpareOthers : ℕ → Trees → Trees → Type 0
-SpareOthers tree old new = AllByRecursion (λ t. t.tree ≢ tree → new t.tree ≡ old t.tree) schema_6.tables
+SpareOthers tree old new = AllByRecursion (λ t. t.tree ≢ tree → new t.tree ≡ old t.tree) schema_7.tables
 
 -- the rows of a topic leave one table
 pub record Clears (tree : ℕ) (topic : List ℕ) (old new : Trees) : Type 0 where

@@ -1,8 +1,9 @@
-//! The six tables of topics: how they are made, and the calls that write and read the rows of one topic.
+//! The tables of topics: how they are made, and the calls that write and read the rows of one topic.
 //! Each call on a transaction says what it makes of the tables where the disk returned what was written.
 #![tactic(auto)]
 
 pub mod acks;
+pub mod counts;
 pub mod deads;
 pub mod entries;
 mod numbers;

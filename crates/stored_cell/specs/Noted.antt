@@ -8,7 +8,7 @@ use Rattle.delivery_machine.specs.State.{State as Machine}
 use Rattle.delivery_machine.specs.Snapshot.{snapshot_of, restarted}
 use Rattle.delivery_machine.specs.Places.{KeptTopic, snapshot_in}
 use Rattle.journal_lines.specs.Lines.{Line, Legal}
-use Rattle.row_forms.specs.Cells.{TOPIC, ENTRY, SUB, ACK, DEAD, bodies, of_topic}
+use Rattle.row_forms.specs.Cells.{TOPIC, ENTRY, SUB, ACK, DEAD, REDELIVERY, bodies, of_topic}
 use Rattle.row_forms.specs.Forms.{TopicRows, AreRowsOf}
 
 -- the rows of all topics, table by table
@@ -19,6 +19,7 @@ all_rows db = record {
   subs = bodies SUB (db SUB);
   acks = bodies ACK (db ACK);
   deads = bodies DEAD (db DEAD);
+  counts = bodies REDELIVERY (db REDELIVERY);
 }
 
 -- among the rows of all topics, those of this topic are these, in any order
@@ -28,6 +29,7 @@ pub record HasAmong (topic : List ℕ) (rows all : TopicRows) : Type 0 where
   pub subs : IsPermutation rows.subs (of_topic topic all.subs)
   pub acks : IsPermutation rows.acks (of_topic topic all.acks)
   pub deads : IsPermutation rows.deads (of_topic topic all.deads)
+  pub counts : IsPermutation rows.counts (of_topic topic all.counts)
 
 -- the topic's rows among these are those of what is kept of it
 abbrev pub StandsAmong : KeptTopic → TopicRows → Type 0

@@ -25,13 +25,13 @@ impl<J: Naming> Drop for Bases<J> {
 impl<J: Naming> Model for Bases<J> {
     ghost use Rattle.std.specs.Prelude.{◌++◌, List};
     ghost use Rattle.std.specs.Coded.{codes};
-    ghost use Rattle.delivery_machine.specs.Codes.{coded_places};
+    ghost use Rattle.delivery_machine.specs.Codes.{coded_places, coded_counts};
     ghost use Rattle.delivery_machine.specs.Places.{KeptTopic};
     ghost use Rattle.stored_cell.specs.Noted.{marked};
 
     ghost Value = { List KeptTopic };
 
-    ghost coded = { Prim.hlevel (codes, coded_places) };
+    ghost coded = { Prim.hlevel (codes, coded_places, coded_counts) };
 
     ghost view = { λ b. marked b.stored ++ marked b.viewed };
 }

@@ -21,12 +21,12 @@ impl<J: Naming> Drop for Kept<J> {
 
 impl<J: Naming> Model for Kept<J> {
     ghost use Rattle.std.specs.Coded.{codes};
-    ghost use Rattle.delivery_machine.specs.Codes.{coded_places};
+    ghost use Rattle.delivery_machine.specs.Codes.{coded_places, coded_counts};
     ghost use Rattle.stored_cell.specs.Noted.{Noted, IsStored};
 
     ghost Value = { Noted };
 
-    ghost coded = { Prim.hlevel (codes, coded_places) };
+    ghost coded = { Prim.hlevel (codes, coded_places, coded_counts) };
 
     ghost view = { λ k. record { kept = k.mark.kept; rows = k.rows.rows; clean = k.rows.clean } };
 

@@ -17,14 +17,14 @@ pub struct Note {
 
 impl Model for Note {
     ghost use Rattle.std.specs.Coded.{codes};
-    ghost use Rattle.delivery_machine.specs.Codes.{coded_places};
+    ghost use Rattle.delivery_machine.specs.Codes.{coded_places, coded_counts};
     ghost use Rattle.stored_cell.specs.Noted.{Noted, nothing_kept};
     ghost use Rattle.row_forms.specs.Forms.{no_rows};
     ghost use Rattle.std.specs.Prelude.{false};
 
     ghost Value = { Noted };
 
-    ghost coded = { Prim.hlevel (codes, coded_places) };
+    ghost coded = { Prim.hlevel (codes, coded_places, coded_counts) };
 
     ghost view = { λ n. record { kept = nothing_kept; rows = no_rows; clean = false } };
 }

@@ -28,12 +28,12 @@ impl<J: Naming> Drop for Part<J> {
 impl<J: Naming> Model for Part<J> {
     ghost use Rattle.std.specs.Prelude.{◌≡◌, All};
     ghost use Rattle.std.specs.Coded.{codes};
-    ghost use Rattle.delivery_machine.specs.Codes.{coded_places};
+    ghost use Rattle.delivery_machine.specs.Codes.{coded_places, coded_counts};
     ghost use Rattle.stored_cell.specs.Noted.{ToStore, GoesOn};
 
     ghost Value = { ToStore };
 
-    ghost coded = { Prim.hlevel (codes, coded_places) };
+    ghost coded = { Prim.hlevel (codes, coded_places, coded_counts) };
 
     ghost view = { λ p. record { kept = p.snapshot; bases = p.bases } };
 

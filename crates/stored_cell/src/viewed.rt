@@ -29,12 +29,12 @@ impl<J: Naming> Drop for Viewed<J> {
 impl<J: Naming> Model for Viewed<J> {
     ghost use Rattle.std.specs.Prelude.{◌≡◌, length};
     ghost use Rattle.std.specs.Coded.{codes};
-    ghost use Rattle.delivery_machine.specs.Codes.{coded_places};
+    ghost use Rattle.delivery_machine.specs.Codes.{coded_places, coded_counts};
     ghost use Rattle.delivery_machine.specs.Places.{KeptTopic};
 
     ghost Value = { KeptTopic };
 
-    ghost coded = { Prim.hlevel (codes, coded_places) };
+    ghost coded = { Prim.hlevel (codes, coded_places, coded_counts) };
 
     ghost view = { λ v. v.mark.kept };
 
@@ -89,12 +89,12 @@ impl<J: Naming> Drop for Stored<J> {
 impl<J: Naming> Model for Stored<J> {
     ghost use Rattle.std.specs.Prelude.{◌≡◌, length};
     ghost use Rattle.std.specs.Coded.{codes};
-    ghost use Rattle.delivery_machine.specs.Codes.{coded_places};
+    ghost use Rattle.delivery_machine.specs.Codes.{coded_places, coded_counts};
     ghost use Rattle.stored_cell.specs.Noted.{Noted, IsStored};
 
     ghost Value = { Noted };
 
-    ghost coded = { Prim.hlevel (codes, coded_places) };
+    ghost coded = { Prim.hlevel (codes, coded_places, coded_counts) };
 
     ghost view = { λ s. s.kept };
 

@@ -150,7 +150,11 @@ fn changes_snapshot(event: &Event, reply: &Reply) -> bool
     ensures { result ≡ changes_snapshot event.now reply.now }
 {
     match reply {
-        Reply::Published { .. } | Reply::Subscribed { .. } | Reply::Died { .. } => true,
+        Reply::Published { .. }
+        | Reply::Subscribed { .. }
+        | Reply::Released { .. }
+        | Reply::Rewound { .. }
+        | Reply::Died { .. } => true,
         Reply::Done => is_kept_once_done(event),
         _ => false,
     }

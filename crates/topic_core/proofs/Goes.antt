@@ -38,7 +38,8 @@ sound_each : (log : List Entry) (subs : List KeptPlaces) → All (IsSoundSubscri
 sound_each log [] sound within = All-nil (IsSoundOver log)
 sound_each log (k ∷ subs) sound within =
     All-cons (IsSoundOver log) k subs
-    (record { within = All-head (λ (k : KeptPlaces). AreBelow (length log) k.acknowledged) k subs within; dead = (All-head (IsSoundSubscription log) (kept_in log k) (map (kept_in log) subs) sound).dead })
+    (let one = All-head (IsSoundSubscription log) (kept_in log k) (map (kept_in log) subs) sound in
+    record { within = All-head (λ (k : KeptPlaces). AreBelow (length log) k.acknowledged) k subs within; counted = one.counted; dead = one.dead })
     (sound_each log subs (All-tail (IsSoundSubscription log) (kept_in log k) (map (kept_in log) subs) sound) (All-tail (λ (k : KeptPlaces). AreBelow (length log) k.acknowledged) k subs within))
 
 pub sound_over : (kept : KeptTopic) (log : List Entry) (subs : List KeptPlaces) → MayRestart kept → log ≡ kept.log → subs ≡ kept.subscriptions → All (IsSoundOver log) subs

@@ -144,7 +144,7 @@ fn dispatchers_of(parts: &Parts) -> Result<Vec<Dispatch>, Fault>
 }
 
 /// With what the snapshot has, and nobody there. Takes a step for each message, each range of acknowledged
-/// messages and each dead letter.
+/// messages, each count and each dead letter.
 pub(crate) fn restored(alloc: Global, snapshot: &Snapshot) -> Result<Served, Fault>
     ensures state { IfOk result (λ served. state_in served ≡ restarted (snapshot_in snapshot.now)) }
     ensures settled { IfOk result IsSettled }

@@ -25,7 +25,8 @@ fn kept_of_all(
 }
 
 /// The snapshot of the state, which shares the messages. Takes a step for each segment of the log, each range
-/// of acknowledged messages and each dead letter.
+/// of acknowledged messages and each dead letter, and of a subscription in which a message was redelivered one for
+/// each message that is pending or counted.
 pub(crate) fn snapshot(served: &Served) -> Result<Snapshot, AllocError>
     requires { IsSettled served.now }
     ensures { IfOk result (λ kept. snapshot_in kept ≡ snapshot_of (state_in served.now)) }

@@ -90,7 +90,7 @@ pub record IsNextLive (p : Placed) (from place : ℕ) : Type 0 where
 -- ---- snapshots
 
 abbrev pub kept_of : Placed → KeptPlaces
-kept_of p = record { name = p.name; kind = p.kind; acknowledged = p.places; dead = p.letters.dead }
+kept_of p = record { name = p.name; kind = p.kind; acknowledged = p.places; counts = p.pending.counts; dead = p.letters.dead }
 
 -- without members, and with nothing pending, where the dead letters stand at the places
 abbrev pub restored_from : KeptPlaces → List ℕ → Placed
@@ -100,7 +100,7 @@ restored_from kept dead = record {
   places = kept.acknowledged;
   buried = set.from_list (filter (λ place. not (set.contains kept.acknowledged place)) dead);
   line = [];
-  pending = pending.nothing_pending;
+  pending = pending.counted_before kept.counts;
   shares = no_shares;
   letters = record { dead = kept.dead; safe = length kept.dead };
 }

@@ -28,28 +28,32 @@ impl Subscription {
         let acknowledged = kept.acknowledged.clone()?;
         let closed = Closed::restored(alloc, acknowledged, dead)?;
         let letters = DeadQueue::restored(alloc, &kept.dead)?;
+        let pending = PendingMap::counted(alloc, &kept.counts)?;
         Ok(Subscription {
             name,
             kind: kept.kind,
             closed,
             line: Vec::new(alloc),
-            pending: PendingMap::new(alloc),
+            pending,
             shares: SplitTable::new(alloc),
             dead: letters,
         })
     }
 
-    /// What a snapshot keeps of it. Takes a step for each range of acknowledged messages and each dead letter.
+    /// What a snapshot keeps of it. Takes a step for each range of acknowledged messages, each dead letter and, where a
+    /// message was redelivered since the last seek, each message that is pending or counted.
     pub fn kept(&self, alloc: Global) -> Result<KeptSubscription, AllocError>
         ensures { IfOk result (λ kept. kept ≡ kept_of self.now) }
     {
         let name = self.name.clone()?;
         let acknowledged = self.closed.acknowledged(alloc)?;
+        let counts = self.pending.counts(alloc)?;
         let dead = self.dead.letters(alloc)?;
         Ok(KeptSubscription {
             name,
             kind: self.kind,
             acknowledged,
+            counts,
             dead,
         })
     }

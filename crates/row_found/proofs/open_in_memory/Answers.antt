@@ -4,4 +4,4 @@ use Rattle.row_found.proofs.FoundLemmas.{empty_keyed}
 use Rattle.row_found.proofs.open_in_memory.Goals as goal
 
 pub returns-in-Ok-clause-keyed : goal.returns-in-Ok-clause-keyed
-returns-in-Ok-clause-keyed c has = empty_keyed (state over_memory c.in-Ok.conn).now c.in-Ok.ensures.empty.2 has
+returns-in-Ok-clause-keyed c = empty_keyed (state over_memory c.in-Ok.conn).now c.in-Ok.ensures.empty.2

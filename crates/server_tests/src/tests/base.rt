@@ -3,7 +3,6 @@ ghost use Rattle.std.specs.Prelude.{◌≡◌};
 ghost use Rattle.sqlite.specs.State.{HasCleanDisk};
 ghost use Rattle.sqlite.specs.Held.{state};
 ghost use Rattle.sqlite.specs.Steps.{over_memory};
-ghost use Rattle.row_forms.specs.Schema.{schema_6};
 ghost use Rattle.row_tables.specs.Ready.{AreKeyed};
 
 use broker_dir::Terms;
@@ -19,7 +18,7 @@ use topic_shared::{LineLimit, SeatCount};
 
 /// A database in memory, with no table.
 fn in_memory<R: Abort + AllocGlobal>(rt: &R) -> Connection<MemStore>
-    ensures keyed { (state over_memory result).now.schema ≡ schema_6 → AreKeyed (state over_memory result).now.trees }
+    ensures keyed { AreKeyed (state over_memory result).now }
 {
     match open_in_memory(rt.alloc()) {
         Ok(conn) => conn,
@@ -32,7 +31,7 @@ pub(super) fn read_again<S: Alter + Drop, R: Abort + AllocGlobal>(
     rt: &R,
     conn: Connection<S>,
 ) -> Connection<S>
-    ensures keyed { HasCleanDisk (state S.Store result) → (state S.Store result).now.schema ≡ schema_6 → AreKeyed (state S.Store result).now.trees }
+    ensures keyed { HasCleanDisk (state S.Store result) → AreKeyed (state S.Store result).now }
 {
     match reopen(rt.alloc(), conn) {
         Ok(conn) => conn,

@@ -223,3 +223,43 @@ pub(super) const LETTERS: [(&str, &str); 9] = [
         "UPDATE dead SET target = 'persistent://public/default/t-s-DLQ'",
     ),
 ];
+
+/// Counts of what cannot be counted, and counts that are none.
+pub(super) const COUNTS: [(&str, &str); 9] = [
+    (
+        "UPDATE redelivery SET times = 0",
+        "UPDATE redelivery SET times = 1",
+    ),
+    (
+        "UPDATE redelivery SET times = 2147483648",
+        "UPDATE redelivery SET times = 1",
+    ),
+    (
+        "UPDATE redelivery SET times = -1",
+        "UPDATE redelivery SET times = 1",
+    ),
+    (
+        "UPDATE redelivery SET idx = 1",
+        "UPDATE redelivery SET idx = 0",
+    ),
+    (
+        "UPDATE redelivery SET idx = 4",
+        "UPDATE redelivery SET idx = 0",
+    ),
+    (
+        "UPDATE redelivery SET idx = -1",
+        "UPDATE redelivery SET idx = 0",
+    ),
+    (
+        "UPDATE redelivery SET sub = 'x'",
+        "UPDATE redelivery SET sub = 'e'",
+    ),
+    (
+        "UPDATE redelivery SET sub = 's'",
+        "UPDATE redelivery SET sub = 'e'",
+    ),
+    (
+        "UPDATE redelivery SET sub = 's', idx = 1",
+        "UPDATE redelivery SET sub = 'e', idx = 0",
+    ),
+];

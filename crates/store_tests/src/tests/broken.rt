@@ -1,5 +1,5 @@
 // Rows that are no snapshot's: each breaks one rule, is refused and stays, and once mended is loaded again.
-use super::breaks::{CONTENTS, LETTERS, PLACES, RUNS, SUBSCRIPTIONS, TOPICS};
+use super::breaks::{CONTENTS, COUNTS, LETTERS, PLACES, RUNS, SUBSCRIPTIONS, TOPICS};
 use super::keepers::in_memory;
 use super::keeps::{Keeps, Scene};
 use super::plays::{FOUR, T, play_rounds};
@@ -7,7 +7,7 @@ use position_core::Fault;
 use std::process::Abort;
 
 /// Two deaths, of which the first was moved, and two runs of what is acknowledged; beside them a
-/// subscription with one run.
+/// subscription with one run, and one message that was redelivered.
 const PLAYED: &str = "subscribe s Shared 0 push:10 0 100 1 - Earliest
 dispatch s 1000
 dispatch s 1000
@@ -31,6 +31,8 @@ const STORED: &str = "deaddone s 0
 dispatch s 1400
 dispatch s 1400
 ack 1 CAAQAw==
+nack 2 CAAQAA== 1400
+tick e 61400
 ";
 
 /// The keeper over its database after the statement.
@@ -132,4 +134,9 @@ fn runs(rt: HostRuntime) {
 #[test]
 fn letters(rt: HostRuntime) {
     in_memory(&rt, &Broken { breaks: &LETTERS });
+}
+
+#[test]
+fn counts(rt: HostRuntime) {
+    in_memory(&rt, &Broken { breaks: &COUNTS });
 }

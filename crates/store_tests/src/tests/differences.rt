@@ -1,6 +1,6 @@
 // That a change lists what differs and nothing else.
 use ack_ranges::AckSet;
-use delivery_machine::KeptSubscription;
+use delivery_machine::{Counts, KeptSubscription};
 use position_core::{Kind, Name};
 use row_forms::ack_difference::ack_difference;
 use row_forms::sub_difference::sub_difference;
@@ -26,6 +26,7 @@ fn kept<R: Abort + AllocGlobal>(
         name: name.expect(rt, "no name"),
         kind,
         acknowledged,
+        counts: Counts::new(rt.alloc()),
         dead: Vec::new(rt.alloc()),
     }
 }

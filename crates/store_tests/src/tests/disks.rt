@@ -3,7 +3,6 @@ ghost use Rattle.std.specs.Prelude.{◌≡◌, IfOk, IsTrue};
 ghost use Rattle.sqlite.specs.State.{HasCleanDisk};
 ghost use Rattle.sqlite.specs.Held.{state};
 ghost use Rattle.sqlite.specs.Files.{file_state};
-ghost use Rattle.row_forms.specs.Schema.{schema_6};
 ghost use Rattle.row_tables.specs.Ready.{AreKeyed};
 
 use super::keepers::{started, store_of};
@@ -11,7 +10,7 @@ use super::keeps::{Keeps, Scene};
 use super::plays::{T, U};
 use super::same::same;
 use super::stops::{Machine, NEVER, Outcome, Stop};
-use super::works::{Work, is_done};
+use super::works::{Work, is_done, statements};
 use delivery_machine::Snapshot;
 use marks::{Naming, Unnamed};
 use row_found::open_files;
@@ -83,7 +82,7 @@ fn open<R: Abort + AllocGlobal>(
     image: &Image,
     stop: Stop,
 ) -> Result<Connection<Store>, Outcome<Image>>
-    ensures keyed { IfOk result (λ c. HasCleanDisk (file_state c) → (file_state c).now.schema ≡ schema_6 → AreKeyed (file_state c).now.trees) }
+    ensures keyed { IfOk result (λ c. HasCleanDisk (file_state c) → AreKeyed (file_state c).now) }
 {
     let files = Files {
         log: disk(rt, &image.log, stop.log),
@@ -130,7 +129,7 @@ fn run<S: Alter + Drop, J: Naming, X: Errand, R: Abort + AllocGlobal>(
     history: Unnamed<Note>,
 ) -> (Option<S>, Option<X::Gain>)
     requires book { history ≡ J.book }
-    requires keyed { HasCleanDisk (state S.Store conn) → IsTrue (state S.Store conn).is_open → (state S.Store conn).now.schema ≡ schema_6 → AreKeyed (state S.Store conn).now.trees }
+    requires keyed { HasCleanDisk (state S.Store conn) → IsTrue (state S.Store conn).is_open → AreKeyed (state S.Store conn).now }
 {
     match started::<S, J, R>(rt, conn, history) {
         Ok(keeper) => {
@@ -147,7 +146,7 @@ fn send<X: Errand, R: Abort + AllocGlobal>(
     conn: Connection<Store>,
     errand: &X,
 ) -> (Option<Files<File>>, Option<X::Gain>)
-    requires keyed { HasCleanDisk (file_state conn) → (file_state conn).now.schema ≡ schema_6 → AreKeyed (file_state conn).now.trees }
+    requires keyed { HasCleanDisk (file_state conn) → AreKeyed (file_state conn).now }
 {
     let (store, gain) = run::<Store, Brand, X, R>(rt, conn, errand, Unnamed::new());
     match store {
@@ -171,12 +170,14 @@ impl Errand for Working {
         mut keeper: K,
     ) -> (Option<K::Database>, bool) {
         let done = is_done(rt, &mut keeper, self.work);
-        (Some(keeper.into_database()), done)
+        let mut database = keeper.into_database();
+        let changed = K::execute(&mut database, statements(self.work));
+        (Some(database), done && changed)
     }
 }
 
 fn work_over<R: Abort + AllocGlobal>(rt: &R, conn: Connection<Store>, work: Work) -> Outcome<Image>
-    requires keyed { HasCleanDisk (file_state conn) → (file_state conn).now.schema ≡ schema_6 → AreKeyed (file_state conn).now.trees }
+    requires keyed { HasCleanDisk (file_state conn) → AreKeyed (file_state conn).now }
 {
     let (files, done) = send(rt, conn, &Working { work });
     left_in(rt, files.expect(rt, "no files"), done.unwrap_or(false))
@@ -209,14 +210,14 @@ impl Errand for Looking {
 }
 
 fn look_over<R: Abort + AllocGlobal>(rt: &R, conn: Connection<Store>) -> Seen
-    requires keyed { HasCleanDisk (file_state conn) → (file_state conn).now.schema ≡ schema_6 → AreKeyed (file_state conn).now.trees }
+    requires keyed { HasCleanDisk (file_state conn) → AreKeyed (file_state conn).now }
 {
     let (_, seen) = send(rt, conn, &Looking);
     seen.expect(rt, "not taken")
 }
 
 fn whole<R: Abort + AllocGlobal>(rt: &R, image: &Image) -> Connection<Store>
-    ensures keyed { HasCleanDisk (file_state result) → (file_state result).now.schema ≡ schema_6 → AreKeyed (file_state result).now.trees }
+    ensures keyed { HasCleanDisk (file_state result) → AreKeyed (file_state result).now }
 {
     match open(rt, image, NEVER) {
         Ok(conn) => conn,

@@ -6,7 +6,7 @@ use position_core::Fault;
 use std::process::Abort;
 
 const NO_TABLES: &str =
-    "DROP TABLE meta; DROP TABLE topic; DROP TABLE entry; DROP TABLE sub; DROP TABLE ack; DROP TABLE dead";
+    "DROP TABLE meta; DROP TABLE topic; DROP TABLE entry; DROP TABLE sub; DROP TABLE ack; DROP TABLE dead; DROP TABLE redelivery";
 
 /// A keeper over the database without tables, whose statements may visit three rows each.
 fn with_limit<K: Keeps, R: Abort + AllocGlobal>(rt: &R, keeper: K) -> K {
@@ -156,8 +156,11 @@ impl Scene for Others {
 #[test]
 fn other_databases(rt: HostRuntime) {
     for wrong in [
-        "UPDATE meta SET version = 2",
+        "UPDATE meta SET version = 3",
+        "UPDATE meta SET version = 1",
         "UPDATE meta SET version = 0",
+        "DROP TABLE redelivery",
+        "DROP TABLE redelivery; UPDATE meta SET version = 0",
         "UPDATE meta SET id = 2",
         "INSERT INTO meta VALUES (2, 1)",
         "DELETE FROM meta",
@@ -169,4 +172,28 @@ fn other_databases(rt: HostRuntime) {
     ] {
         in_memory(&rt, &Others { wrong });
     }
+}
+
+const EARLIER: &str = "DROP TABLE redelivery; UPDATE meta SET version = 1";
+
+/// A database of version 1 is taken with its topics, and is one of the last version then.
+#[derive(Drop)]
+struct Earlier;
+
+impl Scene for Earlier {
+    fn play<K: Keeps, R: Abort + AllocGlobal>(&self, rt: &R, mut keeper: K) {
+        let mut cell = K::fresh(rt, T);
+        play::<K, R>(rt, &mut cell, FOUR);
+        round(rt, &mut keeper, &mut cell);
+        let mut database = keeper.into_database();
+        assert!(rt; K::execute(&mut database, EARLIER));
+        let mut again = K::adopt(rt, database).expect(rt, "not adopted");
+        check_stands(rt, &mut again, &cell);
+        assert!(rt; is_no_longer_taken(rt, again, "UPDATE meta SET version = 1"));
+    }
+}
+
+#[test]
+fn an_earlier_version(rt: HostRuntime) {
+    in_memory(&rt, &Earlier);
 }

@@ -3,7 +3,6 @@ ghost use Rattle.std.specs.Prelude.{◌≡◌, IfOk, IfSome, IsTrue};
 ghost use Rattle.sqlite.specs.State.{HasCleanDisk};
 ghost use Rattle.sqlite.specs.Held.{state};
 ghost use Rattle.sqlite.specs.Steps.{over_memory};
-ghost use Rattle.row_forms.specs.Schema.{schema_6};
 ghost use Rattle.row_tables.specs.Ready.{AreKeyed};
 
 use super::answers::{Answer, topic_name};
@@ -226,7 +225,7 @@ pub(super) fn started<S: Alter + Drop, J: Naming, R: AllocGlobal>(
     history: Unnamed<Note>,
 ) -> Result<Keeper<S, J>, Refused<S, J>>
     requires book { history ≡ J.book }
-    requires keyed { HasCleanDisk (state S.Store conn) → IsTrue (state S.Store conn).is_open → (state S.Store conn).now.schema ≡ schema_6 → AreKeyed (state S.Store conn).now.trees }
+    requires keyed { HasCleanDisk (state S.Store conn) → IsTrue (state S.Store conn).is_open → AreKeyed (state S.Store conn).now }
 {
     Keeper::start(rt.alloc(), conn, Notes::new(history))
 }
@@ -244,7 +243,7 @@ fn run<S: Alter + Drop, J: Naming, X: Scene, R: Abort + AllocGlobal>(
     scene: &X,
 )
     requires book { history ≡ J.book }
-    requires keyed { HasCleanDisk (state S.Store conn) → IsTrue (state S.Store conn).is_open → (state S.Store conn).now.schema ≡ schema_6 → AreKeyed (state S.Store conn).now.trees }
+    requires keyed { HasCleanDisk (state S.Store conn) → IsTrue (state S.Store conn).is_open → AreKeyed (state S.Store conn).now }
 {
     let keeper = taken(started::<S, J, R>(rt, conn, history));
     scene.play::<Keeper<S, J>, R>(rt, keeper.expect(rt, "no memory"));
@@ -256,14 +255,14 @@ pub(super) fn over<S: Alter + Drop, X: Scene, R: Abort + AllocGlobal>(
     conn: Connection<S>,
     scene: &X,
 )
-    requires keyed { HasCleanDisk (state S.Store conn) → IsTrue (state S.Store conn).is_open → (state S.Store conn).now.schema ≡ schema_6 → AreKeyed (state S.Store conn).now.trees }
+    requires keyed { HasCleanDisk (state S.Store conn) → IsTrue (state S.Store conn).is_open → AreKeyed (state S.Store conn).now }
 {
     run::<S, Brand, X, R>(rt, conn, Unnamed::new(), scene);
 }
 
 /// A database in memory, with no table.
 fn empty_database<R: Abort + AllocGlobal>(rt: &R) -> Connection<MemStore>
-    ensures keyed { (state over_memory result).now.schema ≡ schema_6 → AreKeyed (state over_memory result).now.trees }
+    ensures keyed { AreKeyed (state over_memory result).now }
 {
     match open_in_memory(rt.alloc()) {
         Ok(conn) => conn,

@@ -17,33 +17,43 @@ const NAME: &str = "persistent://t/n/x";
 const NONE: &str = "SELECT 1 LIMIT 0";
 
 /// The rows of a topic of four messages and two subscriptions, table by table.
-const TABLES: [&str; 5] = [
+const TABLES: [&str; 6] = [
     "SELECT 1000, 5, 4",
     "SELECT 0, 0, 0, 'p', 0, 10, 1, 'k', '{}', x'01' UNION ALL SELECT 1, 0, 1, 'p', 1, 11, 0, '', '{\"a\":\"b\"}', x'' UNION ALL SELECT 2, 4, 0, 'q', 0, 12, 0, '', '{}', x'02' UNION ALL SELECT 3, 5, 999, 'q', 7, 13, 0, '', '{}', x'03'",
     "SELECT 'a', 2 UNION ALL SELECT 'b', 3",
     "SELECT 'a', 0, 0 UNION ALL SELECT 'a', 2, 3 UNION ALL SELECT 'b', 1, 1",
     "SELECT 'a', 1, 2, 'persistent://t/n/x-DLQ' UNION ALL SELECT 'a', 3, 1, 'persistent://t/n/x-DLQ' UNION ALL SELECT 'b', 0, 2, 'persistent://t/n/y'",
+    "SELECT 'b', 0, 1 UNION ALL SELECT 'b', 3, 2147483647",
 ];
 
 /// The rows of a topic that has no message yet.
-const EMPTY: [&str; 5] = ["SELECT 1, 0, 0", NONE, NONE, NONE, NONE];
+const EMPTY: [&str; 6] = ["SELECT 1, 0, 0", NONE, NONE, NONE, NONE, NONE];
 
 /// Each number is the greatest that may stand there.
-const GREATEST: [&str; 5] = [
+const GREATEST: [&str; 6] = [
     "SELECT 50000, 4611686018427387905, 4611686018427387904",
     "SELECT 0, 4611686018427387904, 49999, 'p', 9223372036854775807, 253402300799999, 0, '', '{}', x''",
     "SELECT 'a', 3",
     "SELECT 'a', 0, 0",
     "SELECT 'a', 4611686018427387903, 0, 'persistent://t/n/y'",
+    NONE,
 ];
 
 /// Rows of a table that those of the others in `TABLES` refuse: no topic, a subscription without its row,
-/// and the topic itself as a target.
-const REFUSED: [(usize, &str); 4] = [
+/// the topic itself as a target, and counts of what is acknowledged, dead or beyond the log, of none, too many, of no
+/// subscription, and in another order.
+const REFUSED: [(usize, &str); 11] = [
     (0, NONE),
     (2, "SELECT 'a', 2"),
     (4, "SELECT 'c', 0, 2, 'persistent://t/n/y'"),
     (4, "SELECT 'a', 0, 2, 'persistent://t/n/x'"),
+    (5, "SELECT 'b', 1, 1"),
+    (5, "SELECT 'b', 2, 1"),
+    (5, "SELECT 'b', 4, 1"),
+    (5, "SELECT 'b', 0, 0"),
+    (5, "SELECT 'b', 0, 2147483648"),
+    (5, "SELECT 'c', 0, 1"),
+    (5, "SELECT 'b', 3, 1 UNION ALL SELECT 'b', 0, 1"),
 ];
 
 fn rows<R: Abort>(rt: &R, conn: &mut Connection<MemStore>, text: &str) -> Vec<Row> {
@@ -54,14 +64,15 @@ fn rows<R: Abort>(rt: &R, conn: &mut Connection<MemStore>, text: &str) -> Vec<Ro
 fn rows_of<R: Abort>(
     rt: &R,
     conn: &mut Connection<MemStore>,
-    texts: [&str; 5],
+    texts: [&str; 6],
 ) -> (Vec<Row>, SideRows) {
-    let [topics, messages, subs, acks, deads] = texts;
+    let [topics, messages, subs, acks, deads, counts] = texts;
     let sides = SideRows {
         topics: rows(rt, conn, topics),
         subs: rows(rt, conn, subs),
         acks: rows(rt, conn, acks),
         deads: rows(rt, conn, deads),
+        counts: rows(rt, conn, counts),
     };
     (rows(rt, conn, messages), sides)
 }
@@ -90,13 +101,13 @@ fn snapshot_in<R: Abort + AllocGlobal>(
 }
 
 /// The snapshot that the rows of these queries show.
-fn loaded<R: Abort + AllocGlobal>(rt: &R, texts: [&str; 5]) -> Option<Snapshot> {
+fn loaded<R: Abort + AllocGlobal>(rt: &R, texts: [&str; 6]) -> Option<Snapshot> {
     let mut conn = Connection::open_in_memory(rt.alloc()).expect(rt, "no memory");
     let (messages, sides) = rows_of(rt, &mut conn, texts);
     snapshot_in(rt, &messages, &sides)
 }
 
-fn kept<R: Abort + AllocGlobal>(rt: &R, texts: [&str; 5]) -> Snapshot {
+fn kept<R: Abort + AllocGlobal>(rt: &R, texts: [&str; 6]) -> Snapshot {
     loaded(rt, texts).expect(rt, "refused")
 }
 
@@ -139,14 +150,33 @@ const THIRD: Position = Position {
     entry: 0,
 };
 
+fn has_counts(sub: &KeptSubscription, want: &[(Position, u32)]) -> bool {
+    let counts = sub.counts.as_slice();
+    counts.len() == want.len()
+        && counts.iter().zip(want).all(|(one, (position, times))| one.position == *position
+            && one.times.get() == *times)
+}
+
+const FIRST: Position = Position {
+    ledger: 0,
+    entry: 0,
+};
+
+const LAST: Position = Position {
+    ledger: 5,
+    entry: 999,
+};
+
 fn check_a<R: Abort>(rt: &R, sub: &KeptSubscription) {
     assert!(rt; is_sub(sub, "a", Kind::Shared, &[0, 2, 3]));
     assert!(rt; has_letters(sub, &[(1, THIRD, "x-DLQ"), (3, SECOND, "x-DLQ")]));
+    assert!(rt; has_counts(sub, &[]));
 }
 
 fn check_b<R: Abort>(rt: &R, sub: &KeptSubscription) {
     assert!(rt; is_sub(sub, "b", Kind::KeyShared, &[1]));
     assert!(rt; has_letters(sub, &[(0, THIRD, "y")]));
+    assert!(rt; has_counts(sub, &[(FIRST, 1), (LAST, 2_147_483_647)]));
 }
 
 fn check_subs<R: Abort>(rt: &R, subs: &[KeptSubscription]) {
@@ -169,7 +199,7 @@ fn a_snapshot_is_read_back(rt: HostRuntime) {
 }
 
 /// So many messages, and the ordinal after the last.
-fn check_limits<R: Abort + AllocGlobal>(rt: &R, texts: [&str; 5], count: usize, next: u64) {
+fn check_limits<R: Abort + AllocGlobal>(rt: &R, texts: [&str; 6], count: usize, next: u64) {
     let kept = kept(rt, texts);
     assert!(rt; kept.log().count() == count && kept.next_ordinal() == next);
 }
@@ -197,16 +227,17 @@ fn other_rows_are_refused(rt: HostRuntime) {
 }
 
 /// The topic's two messages are live, and one ordinal is left.
-const LAST_ORDINAL: [&str; 5] = [
+const LAST_ORDINAL: [&str; 6] = [
     "SELECT 1000, 0, 4611686018427387903",
     "SELECT 0, 0, 0, 'p', 0, 10, 0, '', '{}', x'' UNION ALL SELECT 1, 0, 1, 'p', 1, 11, 0, '', '{}', x''",
+    NONE,
     NONE,
     NONE,
     NONE,
 ];
 
 /// A topic that goes on from what these queries show.
-fn restarted<R: Abort + AllocGlobal>(rt: &R, texts: [&str; 5]) -> PlainTopic {
+fn restarted<R: Abort + AllocGlobal>(rt: &R, texts: [&str; 6]) -> PlainTopic {
     PlainTopic::restart(rt.alloc(), &kept(rt, texts)).expect(rt, "no memory")
 }
 

@@ -1,5 +1,5 @@
 // Whether two snapshots are the same, field by field, and which subscriptions changed their kind.
-use delivery_machine::{DeadLetter, KeptSubscription, Snapshot};
+use delivery_machine::{Counted, DeadLetter, KeptSubscription, Snapshot};
 use log_pieces::Pieces;
 
 fn same_message(one: &Pieces, other: &Pieces, place: usize) -> bool {
@@ -31,10 +31,20 @@ fn same_letters(one: &[DeadLetter], other: &[DeadLetter]) -> bool {
     one.len() == other.len()
 }
 
+fn same_counts(one: &[Counted], other: &[Counted]) -> bool {
+    for (one, other) in one.iter().zip(other.iter()) {
+        if one.position != other.position || one.times.get() != other.times.get() {
+            return false;
+        }
+    }
+    one.len() == other.len()
+}
+
 fn same_subscription(one: &KeptSubscription, other: &KeptSubscription) -> bool {
     one.name.is(&other.name)
         && one.kind == other.kind
         && one.acknowledged.is(&other.acknowledged)
+        && same_counts(one.counts.as_slice(), other.counts.as_slice())
         && same_letters(&one.dead, &other.dead)
 }
 

@@ -1,4 +1,5 @@
-// A disk stops at each of its calls, while tables are made, while one or two topics are stored, and while one is deleted.
+// A disk stops at each of its calls, while tables are made, while one or two topics are stored, while one is deleted, and
+// while a database of version 1 becomes one of the last version.
 use super::disks::Disks;
 use super::works::Work;
 use std::process::Abort;
@@ -74,10 +75,11 @@ impl<'a, M: Machine> Trial<'a, M> {
         }
     }
 
-    /// The rows tell whether a store or a deletion was made; that tables were made they do not tell.
+    /// The rows tell whether a store or a deletion was made; that tables were made, or their version raised, they do not
+    /// tell.
     fn check_tells<R: Abort>(&self, rt: &R) {
         let is_told = !M::is_seen(&self.before, &self.after);
-        assert!(rt; is_told == !matches!(self.work, Work::Create));
+        assert!(rt; is_told == !matches!(self.work, Work::Create | Work::Upgrade));
     }
 
     /// Whether the files show what the work leaves, or where it was not done what was there before.
@@ -137,11 +139,19 @@ fn both<M: Machine, R: Abort + AllocGlobal>(rt: &R) -> M::Image {
     outcome.synced
 }
 
+/// The same of version 1.
+fn both_of_version_1<M: Machine, R: Abort + AllocGlobal>(rt: &R) -> M::Image {
+    let outcome = M::work(rt, &both::<M, R>(rt), Work::Downgrade, NEVER);
+    assert!(rt; outcome.done);
+    outcome.synced
+}
+
 /// Tables are made in files that hold nothing, and topics stored in or deleted from some that hold two.
 fn check_work<M: Machine, R: Abort + AllocGlobal>(rt: &R, work: Work) {
     let image = match work {
         Work::Create => M::empty(rt),
-        Work::Round | Work::Store | Work::Delete => both::<M, R>(rt),
+        Work::Upgrade => both_of_version_1::<M, R>(rt),
+        Work::Round | Work::Store | Work::Delete | Work::Downgrade => both::<M, R>(rt),
     };
     check::<M, R>(rt, &image, work);
 }
@@ -168,4 +178,9 @@ fn a_store_of_two_is_made_or_not(rt: HostRuntime) {
 #[test]
 fn a_deletion_is_made_or_not(rt: HostRuntime) {
     check_on_disks(&rt, Work::Delete);
+}
+
+#[test]
+fn a_database_of_version_1_becomes_one_of_the_last_version_or_stays(rt: HostRuntime) {
+    check_on_disks(&rt, Work::Upgrade);
 }

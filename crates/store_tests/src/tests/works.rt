@@ -18,6 +18,10 @@ dispatch s 1000
 ack 1 CAAQAA==
 dropsub t
 seek s latest
+subscribe u Shared 0 push:10 0 100 5 - Earliest
+dispatch u 1000
+nack 2 CAAQAA== 1000
+tick u 1100
 ";
 
 #[derive(Clone, Copy)]
@@ -30,6 +34,10 @@ pub(super) enum Work {
     Store,
     /// One topic is deleted.
     Delete,
+    /// The database is made one of version 1.
+    Downgrade,
+    /// One of version 1 is made one of the last version.
+    Upgrade,
 }
 
 fn first<K: Keeps, R: Abort + AllocGlobal>(rt: &R, name: &str) -> K::Topic {
@@ -88,9 +96,17 @@ pub(super) fn is_done<K: Keeps, R: Abort + AllocGlobal>(
     work: Work,
 ) -> bool {
     match work {
-        Work::Create => true,
+        Work::Create | Work::Downgrade | Work::Upgrade => true,
         Work::Round => is_one_stored(rt, keeper),
         Work::Store => are_both_stored(rt, keeper),
         Work::Delete => keeper.delete(rt, T).is_ok(),
+    }
+}
+
+/// What is done with the database afterwards.
+pub(super) fn statements(work: Work) -> &'static str {
+    match work {
+        Work::Downgrade => "DROP TABLE redelivery; UPDATE meta SET version = 1",
+        Work::Create | Work::Round | Work::Store | Work::Delete | Work::Upgrade => "",
     }
 }

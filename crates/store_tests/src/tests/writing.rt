@@ -9,7 +9,7 @@ use std::process::Abort;
 type Counts = (u64, u64, u64, u64);
 
 /// What is asked between two rounds, and what the second writes.
-const STEPS: [(&str, Counts); 9] = [
+const STEPS: [(&str, Counts); 11] = [
     (FOUR, (5, 0, 0, 1)),
     ("", (0, 0, 0, 0)),
     ("publish 1 4 - aGk= 1004\n", (1, 0, 0, 0)),
@@ -27,7 +27,30 @@ const STEPS: [(&str, Counts); 9] = [
         (1, 1, 0, 0),
     ),
     ("deaddone s 0\n", (0, 1, 1, 0)),
+    (
+        "dispatch s 1200\nnack 1 CAAQAw== 1200\ntick s 1300\n",
+        (1, 0, 0, 0),
+    ),
+    ("dispatch s 1300\nack 1 CAAQAw==\n", (0, 1, 1, 0)),
     ("leave 1\ndropsub s\n", (0, 0, 2, 0)),
+];
+
+/// What is sent back at once changes as many counts as it has messages, and nothing else.
+const REWOUND: [(&str, Counts); 5] = [
+    (FOUR, (5, 0, 0, 1)),
+    (
+        "subscribe e Exclusive 0 push:10 100 0 0 - Earliest\n",
+        (1, 0, 0, 0),
+    ),
+    (
+        "dispatch e 1000\ndispatch e 1000\ndispatch e 1000\ntick e 1100\n",
+        (3, 0, 0, 0),
+    ),
+    (
+        "dispatch e 1100\ndispatch e 1100\ntick e 1200\n",
+        (0, 2, 0, 0),
+    ),
+    ("seek e latest\n", (1, 0, 3, 0)),
 ];
 
 fn counts(written: Written) -> Counts {
@@ -52,18 +75,25 @@ fn check_step<K: Keeps, R: Abort + AllocGlobal>(
 }
 
 #[derive(Drop)]
-struct Counted;
+struct Counted {
+    steps: &'static [(&'static str, Counts)],
+}
 
 impl Scene for Counted {
     fn play<K: Keeps, R: Abort + AllocGlobal>(&self, rt: &R, mut keeper: K) {
         let mut cell = K::fresh(rt, T);
-        for (part, wanted) in STEPS {
-            check_step(rt, &mut keeper, &mut cell, part, wanted);
+        for (part, wanted) in self.steps {
+            check_step(rt, &mut keeper, &mut cell, part, *wanted);
         }
     }
 }
 
 #[test]
 fn rows_of_rounds(rt: HostRuntime) {
-    in_memory(&rt, &Counted);
+    in_memory(&rt, &Counted { steps: &STEPS });
+}
+
+#[test]
+fn rows_of_what_is_sent_back(rt: HostRuntime) {
+    in_memory(&rt, &Counted { steps: &REWOUND });
 }

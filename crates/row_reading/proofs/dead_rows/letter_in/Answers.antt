@@ -3,7 +3,8 @@ use Rattle.sqlite.specs.declared.types.Value.TheVariants.{Text as Words}
 use Rattle.sqlite.specs.Order.{Row, column}
 use Rattle.position_core.specs.declared.message.Entry.{Entry}
 use Rattle.log_pieces.specs.Pieces.{joined}
-use Rattle.row_reading.proofs.Letters.{letter_row, letter_shown, place_below, place_told}
+use Rattle.row_reading.proofs.Letters.{letter_row, letter_shown}
+use Rattle.row_reading.proofs.PlacesRead.{place_below, place_told}
 use Rattle.row_reading.proofs.dead_rows.letter_in.Goals as goal
 use Rattle.row_reading.proofs.dead_rows.letter_in.Goals.{then-column_count-ne4-via-then-column_count-ne4, then-column_count-ne4-via-else-column_count-ne4+then-not-is_text}
 

@@ -12,7 +12,7 @@ use Rattle.delivery_machine.specs.WellFormed.{AreDeadLettersOf}
 use Rattle.delivery_machine.proofs.Letters.{none_dead}
 use Rattle.row_forms.specs.Forms.{place_in}
 use Rattle.row_reading.specs.Reading.{IsLetterOf, OrdinalsCame}
-use Rattle.row_reading.proofs.Letters.{HasLeast, HasNoOthers, HavePlaces, came_more, came_none, dead_more, least_below_more, least_more, letters_more, no_least, no_others, no_others_more, places_more}
+use Rattle.row_reading.proofs.Letters.{HasLeast, HasNoOthers, HavePlaces, came_more, came_none, dead_at, dead_more, least_below_more, least_more, letters_more, no_least, no_others, no_others_more, places_more}
 use Rattle.row_reading.proofs.NextLetters.{next_letter}
 use Rattle.row_reading.proofs.dead_rows.put_letters.Goals as goal
 
@@ -64,6 +64,16 @@ letters-preserved c =
       no_other_places = subst (λ ds. HasNoOthers log c.next_letter.new.places ds) (sym pushed) (no_others_more log c.letters.places c.next_letter.new.places was d h.no_other_places with_place);
       ordinals = subst (λ ds. OrdinalsCame ds c.args.ordinals.now c.next_letter.new.ordinals) (sym pushed) (came_more was d c.args.ordinals.now c.letters.ordinals c.next_letter.new.ordinals h.ordinals new_ordinal with_ordinal);
     }
+
+pub returns-then-not-is_text-clause-places : goal.returns-then-not-is_text-clause-places
+returns-then-not-is_text-clause-places c =
+    let h = c.letters.invariant in
+    dead_at (joined c.args.deaths.log.now) c.letters.letters.items c.letters.places h.dead h.places h.no_other_places
+
+pub returns-clause-places : goal.returns-clause-places
+returns-clause-places c =
+    let h = c.letters.invariant in
+    dead_at (joined c.args.deaths.log.now) c.letters.letters.items c.letters.places h.dead h.places h.no_other_places
 
 pub returns-in-None-clause-all_read : goal.returns-in-None-clause-all_read
 returns-in-None-clause-all_read c =

@@ -5,7 +5,7 @@ use Rattle.log_pieces.specs.Pieces.{joined}
 use Rattle.delivery_machine.specs.Places.{KeptPlaces}
 use Rattle.delivery_machine.specs.WellFormed.{NamesRise}
 use Rattle.row_forms.specs.Forms.{sub_rows}
-use Rattle.row_reading.specs.Reading.{BeginsWithAcks, BeginsWithDeads, IsSubOf, OrdinalsCame, ShowSubs, put}
+use Rattle.row_reading.specs.Reading.{BeginWithCounts, BeginsWithAcks, BeginsWithDeads, IsSubOf, OrdinalsCame, ShowSubs, put}
 use Rattle.row_reading.proofs.LeftSubs.{AreLeft}
 use Rattle.row_reading.proofs.kept_subs.put_subs.Given as goal
 
@@ -14,9 +14,10 @@ invariant-subs l = record {
   rows : (topic : List ℕ) → put topic (take l.row-index l.rows) ≡ sub_rows topic l.subs.items;
   acks : BeginsWithAcks l.subs.items l.others.acks.now l.left.acks.now;
   deads : BeginsWithDeads (joined l.deaths.log.now) l.subs.items l.others.deads.now l.left.deads.now;
+  counts : BeginWithCounts (joined l.deaths.log.now) l.subs.items l.others.counts.now l.left.counts.now;
   names : NamesRise (map (λ sub. sub.name) l.subs.items);
   each : All (IsSubOf l.deaths.topic.now (joined l.deaths.log.now) l.deaths.next_ordinal) l.subs.items;
   ordinals : OrdinalsCame (flat_map (λ sub. sub.dead) l.subs.items) set.empty l.ordinals;
-  left : (topic : List ℕ) (all : List KeptPlaces) → ShowSubs l.deaths.topic.now (joined l.deaths.log.now) l.deaths.next_ordinal topic all l.rows l.others.acks.now l.others.deads.now
-      → AreLeft topic (joined l.deaths.log.now) all l.subs.items l.left.acks.now l.left.deads.now;
+  left : (topic : List ℕ) (all : List KeptPlaces) → ShowSubs l.deaths.topic.now (joined l.deaths.log.now) l.deaths.next_ordinal topic all l.rows l.others.acks.now l.others.deads.now l.others.counts.now
+      → AreLeft topic (joined l.deaths.log.now) all l.subs.items l.left.acks.now l.left.deads.now l.left.counts.now;
 }

@@ -1,4 +1,4 @@
-use Rattle.row_reading.proofs.Told.{one_stands}
+use Rattle.row_reading.proofs.OneSnapshot.{one_stands}
 use Rattle.row_reading.proofs.laws.one_stands.Goals as goal
 
 pub returns : goal.returns

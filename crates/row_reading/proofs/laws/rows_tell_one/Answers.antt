@@ -1,4 +1,4 @@
-use Rattle.row_reading.proofs.Told.{rows_tell_one}
+use Rattle.row_reading.proofs.OneSnapshot.{rows_tell_one}
 use Rattle.row_reading.proofs.laws.rows_tell_one.Goals as goal
 
 pub returns : goal.returns

@@ -11,12 +11,12 @@ over-requires g c clean =
     (g.met.S.Store.broken_if_shut c.into_store-store.result) (c.into_store-store.ensures.numbered clean)
 
 pub returns-in-Ok-clause-keyed : goal.returns-in-Ok-clause-keyed
-returns-in-Ok-clause-keyed g c clean has =
+returns-in-Ok-clause-keyed g c clean =
     let v = g.S.Store.view c.into_store-store.result in
     let early : IsClean v = omega (arith, c.in-Ok.ensures.clean) in
     let sound : v.is_broken ≡ false = sym (c.is_broken.ensures early) ∙ c.if-is_broken.false in
     let opens = c.in-Ok.ensures.opens clean in
-    keyed_in v (state g.S.Store c.in-Ok.again).now (c.in-Ok.ensures.trees clean) (opens.1 opens.0.is_open).0 has (g.met.S.Alter.listed c.into_store-store.result sound) (g.met.S.Store.ordered c.into_store-store.result sound)
+    keyed_in v (state g.S.Store c.in-Ok.again).now (c.in-Ok.ensures.trees clean) (opens.1 opens.0.is_open).0 (g.met.S.Alter.listed c.into_store-store.result sound) (g.met.S.Store.ordered c.into_store-store.result sound)
 
 pub returns-in-Ok-clause-same : goal.returns-in-Ok-clause-same
 returns-in-Ok-clause-same g c clean =

@@ -22,6 +22,42 @@ deadnext s -> nodead
 }
 
 #[test]
+fn counts_that_were_stored_stay(rt: HostRuntime) {
+    let rows = "subscribe s Shared 0 push:10 0 100 1 - Earliest -> consumer 1
+dispatch s 1000 -> sent 1 CAAQAA== 0
+nack 1 CAAQAA== 1000 -> done
+tick s 1100 -> released CAAQAA==
+stored -> durable 1
+restart -> restarted 1
+subscribe s Shared 0 push:10 0 100 1 - Earliest -> consumer 1
+dispatch s 2000 -> sent 1 CAAQAA== 1
+nack 1 CAAQAA== 2000 -> done
+tick s 2100 -> died CAAQAA== 0
+";
+    check_rows(&rt, &[ONE, rows]);
+}
+
+#[test]
+fn what_is_acknowledged_is_not_counted_after_a_restart(rt: HostRuntime) {
+    let rows = "subscribe s Exclusive 0 push:10 100 0 0 - Earliest -> consumer 1
+dispatch s 1000 -> sent 1 CAAQAA== 0
+dispatch s 1000 -> sent 1 CAAQAQ== 0
+tick s 1100 -> rewound 2
+ack 1 CAAQAA== -> done
+stored -> durable 3
+restart -> restarted 1
+restart -> restarted 1
+subscribe s Exclusive 0 push:10 0 100 0 - Earliest -> consumer 1
+dispatch s 2000 -> sent 1 CAAQAQ== 1
+dispatch s 2000 -> sent 1 CAAQAg== 0
+seek s earliest -> done
+dispatch s 2000 -> sent 1 CAAQAA== 0
+dispatch s 2000 -> sent 1 CAAQAQ== 0
+";
+    check_rows(&rt, &[THREE, rows]);
+}
+
+#[test]
 fn who_died_and_what_was_acknowledged_stay_so(rt: HostRuntime) {
     let rows = "subscribe s Shared 0 push:10 0 60000 1 - Earliest -> consumer 1
 dispatch s 1000 -> sent 1 CAAQAA== 0

@@ -50,6 +50,23 @@ fn agree(map: &PendingMap, plain: &Plain, at: Position) -> bool {
         && map.count_of(at) == plain.count_of(at)
 }
 
+/// A map with the same counts, in which nothing is pending.
+fn counted_again<R: Abort + AllocGlobal>(rt: &R, map: &PendingMap) -> PendingMap {
+    let counts = map.counts(rt.alloc()).expect(rt, "no memory");
+    let again = PendingMap::counted(rt.alloc(), &counts);
+    drop(counts);
+    again.expect(rt, "no memory")
+}
+
+fn check_counts<R: Abort + AllocGlobal>(rt: &R, map: &PendingMap) {
+    let again = counted_again(rt, map);
+    for number in 0..23 {
+        let at = position(number);
+        assert!(rt; again.count_of(at) == map.count_of(at) && again.get(at) == None);
+    }
+    drop(again);
+}
+
 #[test]
 fn answers_as_a_plain_list(rt: HostRuntime) {
     let mut map = PendingMap::new(rt.alloc());
@@ -61,6 +78,7 @@ fn answers_as_a_plain_list(rt: HostRuntime) {
         call(&rt, &mut map, &mut plain, draw >> 33, at);
         assert!(rt; agree(&map, &plain, at), "after {step}");
     }
+    check_counts(&rt, &map);
     drop(plain);
     drop(map);
 }

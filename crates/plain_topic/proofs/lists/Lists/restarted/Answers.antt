@@ -1,10 +1,9 @@
-use Rattle.std.proofs.Common.{rules, ◌≡◌, refl, sym, subst}
+use Rattle.std.proofs.Common.{rules, refl, sym, subst}
 use Rattle.delivery_machine.specs.State.{State}
 use Rattle.delivery_machine.specs.Laws.{IsReached}
 use Rattle.delivery_machine.specs.Places.{snapshot_in}
-use Rattle.delivery_machine.specs.Snapshot.{restarted}
 use Rattle.delivery_machine.proofs.ReachedOn.{reached_restarted}
-use Rattle.plain_topic.proofs.Saved.{going, goes_on}
+use Rattle.plain_topic.proofs.Saved.{goes_on}
 use Rattle.plain_topic.proofs.lists.Lists.restarted.Goals as goal
 
 pub returns-clause-state : goal.returns-clause-state

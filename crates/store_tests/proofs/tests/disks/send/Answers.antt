@@ -1,4 +1,4 @@
 use Rattle.store_tests.proofs.tests.disks.send.Goals as goal
 
 pub run-store-requires-clause-keyed : goal.run-store-requires-clause-keyed
-run-store-requires-clause-keyed g c clean is_open has = c.requires.keyed clean has
+run-store-requires-clause-keyed g c clean is_open = c.requires.keyed clean

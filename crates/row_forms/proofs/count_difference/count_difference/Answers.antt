@@ -1,0 +1,34 @@
+use Rattle.std.proofs.Common.{List, [], ◌++◌}
+use Rattle.log_pieces.specs.Pieces.{joined}
+use Rattle.delivery_machine.specs.Places.{KeptPlaces}
+use Rattle.row_forms.specs.Parts.{AreCountedIn}
+use Rattle.row_forms.specs.Sides.{new_of, old_of}
+use Rattle.row_forms.proofs.Counts.{all_next, counts-append, counts_in_all, no_count_more}
+use Rattle.row_forms.proofs.Subs.{passed, nothing_left}
+use Rattle.row_forms.proofs.count_difference.count_difference.Goals as goal
+
+pub sides-init : goal.sides-init
+sides-init c = ([], [], c.of-walk.ensures.olds, c.of-walk.ensures.news, no_count_more (joined c.args.logs.was.now) (joined c.args.logs.now.now) c.none-difference.result)
+
+pub add-requires-clause-there : goal.add-requires-clause-there
+add-requires-clause-there c =
+    let h = c.sides.invariant in
+    all_next (AreCountedIn (joined c.args.logs.was.now)) _ h.0 _ (old_of (λ x. x.now) c.in-Some.side) _ h.2 c.in-Some.ensures.olds c.requires.there
+
+pub sides-preserved : goal.sides-preserved
+sides-preserved c =
+    let h = c.sides.invariant in
+    let olds : List KeptPlaces = old_of (λ x. x.now) c.in-Some.side in
+    let news : List KeptPlaces = new_of (λ x. x.now) c.in-Some.side in (
+      h.0 ++ olds,
+      h.1 ++ news,
+      passed _ h.0 _ _ _ h.2 c.in-Some.ensures.olds,
+      passed _ h.1 _ _ _ h.3 c.in-Some.ensures.news,
+      counts-append (joined c.args.logs.was.now) (joined c.args.logs.now.now) c.none-difference.result c.sides.difference c.add.new.difference h.0 h.1 olds news h.4 c.in_ok-add.ensures,
+    )
+
+pub returns : goal.returns
+returns c =
+    let h = c.sides.invariant in
+    counts_in_all (joined c.args.logs.was.now) (joined c.args.logs.now.now) c.none-difference.result c.sides.difference _ _ h.0 h.1 c.none-difference.ensures.gone c.none-difference.ensures.news
+    (nothing_left _ h.0 _ h.2 c.in_default.ensures.no_olds) (nothing_left _ h.1 _ h.3 c.in_default.ensures.no_news) h.4
