@@ -1,4 +1,5 @@
 pub mod Climb
+pub mod Lowered
 pub mod Numbers
 pub mod Ranges
 pub mod Changes

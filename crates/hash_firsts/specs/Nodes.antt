@@ -1,5 +1,5 @@
 -- A tree in a row: below the node k stand the nodes 2k and 2k + 1, and the 256 leaves at the end.
-use Rattle.std.specs.Prelude.{◌≡◌, ℕ, ◌+◌, ◌*◌, ◌/◌, ◌<◌, ◌≤◌, nat_lt, ◌≢◌, List, Option, Some, None, if◌then◌else◌}
+use Rattle.std.specs.Prelude.{◌≡◌, ℕ, ◌+◌, ◌-◌, ◌*◌, ◌/◌, ◌<◌, ◌≤◌, nat_lt, ◌≢◌, List, Option, Some, None, if◌then◌else◌}
 use Rattle.std.specs.List.{slice_index_or}
 use Rattle.hash_firsts.specs.declared.node.Node.{Node}
 
@@ -21,6 +21,14 @@ found_of node = if nat_lt node.number none_yet then Some (node.number, node.hash
 -- the one of two that has the lesser number
 abbrev pub better : Node → Node → Node
 better a b = if nat_lt b.number a.number then b else a
+
+-- its number, where it has one, less by n
+abbrev pub lowered : ℕ → Node → Node
+lowered n node = if nat_lt node.number none_yet then record node { number = node.number - n } else node
+
+-- its number, where it has one, is no less than n
+abbrev pub IsNotBelow : ℕ → Node → Type 0
+IsNotBelow n node = node.number < none_yet → n ≤ node.number
 
 -- the node at a place of the row, and nothing past its end
 abbrev pub node_at : List Node → ℕ → Node

@@ -1,6 +1,6 @@
 // The hashes in chunks of 256, with a tournament for each, and one over the least of each.
 ghost use Rattle.std.specs.Prelude.{◌≡◌, ℕ, ◌<◌, ◌≤◌, ◌/◌, ◌%◌, ◌==◌, ◌≢◌, true, OnOk, OnErr, length};
-ghost use Rattle.hash_firsts.specs.Nodes.{nothing, IsLeastOf};
+ghost use Rattle.hash_firsts.specs.Nodes.{nothing, lowered, IsNotBelow, IsLeastOf};
 ghost use Rattle.hash_firsts.specs.Firsts.{leaf_in, room_in, first_at, AreTied};
 
 use crate::node::{LEAVES, Node};
@@ -91,6 +91,30 @@ pub(crate) fn clear(chunks: &mut [Tournament])
     let mut chunk = 0;
     while chunk < chunks.len() {
         chunks[chunk].clear();
+        chunk += 1;
+    }
+}
+
+/// Makes the number of each place of a chunk less.
+fn lower_in(chunks: &mut [Tournament], chunk: usize, by: u64)
+    requires within { chunk < length chunks.old }
+    requires low { (k : ℕ) → k < 256 → IsNotBelow by (leaf_in chunks.old chunk k) }
+    ensures here { (k : ℕ) → leaf_in chunks.new chunk k ≡ lowered by (leaf_in chunks.old chunk k) }
+    ensures others { (c k : ℕ) → c ≢ chunk → leaf_in chunks.new c k ≡ leaf_in chunks.old c k }
+    ensures room { (c : ℕ) → room_in chunks.new c ≡ room_in chunks.old c }
+{
+    chunks[chunk].lower(by);
+}
+
+/// Makes the number of each place less.
+pub(crate) fn lower(chunks: &mut [Tournament], by: u64)
+    requires { (c k : ℕ) → k < 256 → IsNotBelow by (leaf_in chunks.old c k) }
+    ensures leaves { (c k : ℕ) → leaf_in chunks.new c k ≡ lowered by (leaf_in chunks.old c k) }
+    ensures room { (c : ℕ) → room_in chunks.new c ≡ room_in chunks.old c }
+{
+    let mut chunk = 0;
+    while chunk < chunks.len() {
+        lower_in(chunks, chunk, by);
         chunk += 1;
     }
 }

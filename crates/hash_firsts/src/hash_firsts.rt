@@ -1,5 +1,6 @@
 // The numbers, as their callers see them.
-ghost use Rattle.std.specs.Prelude.{◌≡◌, ℕ, ◌-◌, ◌^◌, ◌<◌, ◌≤◌, true, OnOk, OnErr, IfSome, IfNone};
+ghost use Rattle.std.specs.Prelude.{◌≡◌, ℕ, ◌-◌, ◌^◌, ◌<◌, ◌≤◌, true, Some, OnOk, OnErr, IfSome, IfNone};
+ghost use Rattle.std.specs.Option.{option_map};
 ghost use Rattle.std.specs.FinMap as map_of;
 ghost use Rattle.std.specs.FinSet as set;
 ghost use Rattle.hash_firsts.specs.Nodes.{none_yet, number_of, IsLeastOf};
@@ -124,5 +125,15 @@ impl HashFirsts {
     {
         chunks::clear(&mut self.chunks);
         self.top.clear();
+    }
+
+    /// Makes the number of each hash less by `by`. Goes over all hashes that have room, in chunks.
+    pub fn lower(&mut self, by: u64)
+        requires { (hash number : ℕ) → hash < 2 ^ 16 → map_of.get self.old.numbers hash ≡ Some number → by ≤ number }
+        ensures numbers { (hash : ℕ) → map_of.get self.new.numbers hash ≡ option_map (λ number. number - by) (map_of.get self.old.numbers hash) }
+        ensures room { self.new.room ≡ self.old.room }
+    {
+        chunks::lower(&mut self.chunks, by);
+        self.top.lower(by);
     }
 }

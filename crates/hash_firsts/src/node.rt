@@ -1,6 +1,6 @@
 // Numbers with their hashes, in a row that stands for a tree: below the node k stand 2k and 2k + 1.
 ghost use Rattle.std.specs.Prelude.{◌≡◌, ℕ, ◌+◌, ◌*◌, ◌<◌, ◌≤◌, ◌==◌, if◌then◌else◌, length, slice_set};
-ghost use Rattle.hash_firsts.specs.Nodes.{nothing, node_at, better, number_of, found_of, leaf_at, IsRight, IsRightBut, IsLeastOf};
+ghost use Rattle.hash_firsts.specs.Nodes.{nothing, node_at, better, number_of, found_of, leaf_at, lowered, IsNotBelow, IsRight, IsRightBut, IsLeastOf};
 
 /// How many leaves a tree has. They stand at the end of the row.
 pub(crate) const LEAVES: usize = 256;
@@ -43,6 +43,18 @@ impl Node {
             Some((u64::from(self.number), self.hash))
         } else {
             None
+        }
+    }
+
+    /// Its number, where it has one, less by `by`, or 0 where it is no more than that.
+    fn lowered(self, by: u64) -> Node
+        ensures { result ≡ lowered by self }
+    {
+        if self.number < NO_NUMBER {
+            let number = u64::from(self.number).saturating_sub(by) as u32;
+            Node { number, ..self }
+        } else {
+            self
         }
     }
 
@@ -90,6 +102,19 @@ pub(crate) fn set_leaf(nodes: &mut [Node], leaf: usize, node: Node)
 {
     nodes[LEAVES + leaf] = node;
     mend(nodes, LEAVES + leaf);
+}
+
+/// Makes the numbers of all nodes less.
+pub(crate) fn lower(nodes: &mut [Node], by: u64)
+    requires sized { length nodes.old ≡ 512 }
+    requires right { IsRight nodes.old }
+    requires least { (k : ℕ) → k < 256 → IsNotBelow by (leaf_at nodes.old k) }
+    ensures right { IsRight nodes.new }
+    ensures leaves { (k : ℕ) → leaf_at nodes.new k ≡ lowered by (leaf_at nodes.old k) }
+{
+    for node in nodes.iter_mut() {
+        *node = node.lowered(by);
+    }
 }
 
 /// The node, where it counts.

@@ -1,8 +1,8 @@
 // A tree of 256 leaves that is made only when it is needed.
 ghost use Rattle.std.specs.Prelude.{◌≡◌, ◌≢◌, ℕ, ◌<◌, ◌≤◌, ◌==◌, true, false, if◌then◌else◌, OnOk, OnErr, vec_len};
-ghost use Rattle.hash_firsts.specs.Nodes.{nothing, leaf_at, IsRight, IsLeastOf};
+ghost use Rattle.hash_firsts.specs.Nodes.{nothing, leaf_at, lowered, IsNotBelow, IsRight, IsLeastOf};
 
-use crate::node::{LEAVES, Node, least, node_at, set_leaf};
+use crate::node::{LEAVES, Node, least, lower, node_at, set_leaf};
 use std::alloc::{AllocError, Global};
 
 /// Leaves, each with a number and its hash or with nothing. Without room all have nothing.
@@ -69,5 +69,16 @@ impl Tournament {
         ensures room { has_room self.new ≡ has_room self.old }
     {
         self.nodes.fill(Node::nothing());
+    }
+
+    /// Makes the numbers of all leaves less.
+    pub(crate) fn lower(&mut self, by: u64)
+        requires { (k : ℕ) → k < 256 → IsNotBelow by (leaf_of self.old k) }
+        ensures leaves { (k : ℕ) → leaf_of self.new k ≡ lowered by (leaf_of self.old k) }
+        ensures room { has_room self.new ≡ has_room self.old }
+    {
+        if !self.nodes.is_empty() {
+            lower(&mut self.nodes, by);
+        }
     }
 }
