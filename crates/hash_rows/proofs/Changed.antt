@@ -1,20 +1,21 @@
 -- What is known of a hash after a change of one of its messages.
 use Rattle.std.proofs.Common.{◌≡◌, ◌≢◌, ℕ, zero, suc, ◌+◌, ◌<◌, ◌≤◌, Bool, true, false, cond, Option, Some, None, inl, inr, refl, sym, ap, ◌∙◌, subst, arith, true≢false, ◌⊎◌}
 use Rattle.std.specs.Prelude.{◌==◌, ◌&&◌, ◌||◌, nat_lt, is_some}
+use Rattle.std.specs.Option.{option_map_or}
 use Rattle.std.proofs.lemmas.Bool.{cases_eq, cases_lt, ne_eqb, eq-eqb, lt-ltb, le-ltb, and_parts, false_from_ne_true}
 use Rattle.delivery_machine.specs.State.{State, Subscription}
 use Rattle.dispatch_core.specs.Log.{waits_at, holder_at}
 use Rattle.dispatch_core.specs.Changes.{StaysAt, OnlyChangesAt}
-use Rattle.hash_rows.specs.declared.row.Row.{Row}
 use Rattle.hash_rows.specs.Hashes.{hash_at}
-use Rattle.hash_rows.specs.Rows.{waits_in, holds_in}
-use Rattle.hash_rows.specs.Standing.{is_placed, waits_there, holds_there, keeper_of, AllPlacedBefore, SameKnowledge, Stands, Added}
+use Rattle.hash_rows.specs.declared.row.Row.{Row}
+use Rattle.hash_rows.specs.Rows.{is_in, waits_in, holds_in}
+use Rattle.hash_rows.specs.Standing.{Found, is_placed, waits_there, holds_there, keeper_of, AllPlacedBefore, SameKnowledge, Stands, Added}
 use Rattle.hash_rows.specs.Knowing.{Knows, IsRowOf, is_read}
 use Rattle.hash_rows.proofs.Moving.{hash_of_log}
 
 -- ---- as much as before
 
-pub knows_same : (o p : Option Row) (first : Option ℕ) (hash read : ℕ) (s : State) (sub : Subscription) → SameKnowledge o p → Knows o first hash read s sub → Knows p first hash read s sub
+pub knows_same : (o p : Found) (first : Option ℕ) (hash read : ℕ) (s : State) (sub : Subscription) → SameKnowledge o p → Knows o first hash read s sub → Knows p first hash read s sub
 knows_same o p first hash read s sub same known = record {
   row = record {
     places = λ i is. known.row.places i (sym (same.places i) ∙ is);
@@ -39,15 +40,25 @@ knows_same o p first hash read s sub same known = record {
 
 -- ---- what is marked was put in
 
-waits_placed : (row : Option Row) (i : ℕ) → waits_there row i ≡ true → is_placed row i ≡ true
-unfolding waits_there is_placed waits_in
-waits_placed None i waits = waits
-waits_placed (Some row) i waits = lt-ltb _ _ (row.waiting_ranks _ waits)
+placed_if : (o : Option Row) (p : ℕ) (marked : Row → ℕ → Bool) → ((r : Row) → marked r p ≡ true → is_in r p ≡ true) → option_map_or (λ r. marked r p) o false ≡ true → option_map_or (λ r. is_in r p) o false ≡ true
+placed_if None p marked inside is = is
+placed_if (Some r) p marked inside is = inside r is
 
-holds_placed : (row : Option Row) (i : ℕ) → holds_there row i ≡ true → is_placed row i ≡ true
-unfolding holds_there is_placed holds_in
-holds_placed None i held = held
-holds_placed (Some row) i held = lt-ltb _ _ (row.held_ranks _ held)
+waiting_in : (r : Row) (p : ℕ) → waits_in r p ≡ true → is_in r p ≡ true
+unfolding waits_in
+waiting_in r p waits = lt-ltb _ _ (r.waiting_ranks _ waits)
+
+held_in : (r : Row) (p : ℕ) → holds_in r p ≡ true → is_in r p ≡ true
+unfolding holds_in
+held_in r p held = lt-ltb _ _ (r.held_ranks _ held)
+
+waits_placed : (known : Found) (i : ℕ) → waits_there known i ≡ true → is_placed known i ≡ true
+unfolding waits_there is_placed
+waits_placed known i waits = placed_if known.row (known.base + i) waits_in (λ r is. waiting_in r (known.base + i) is) waits
+
+holds_placed : (known : Found) (i : ℕ) → holds_there known i ≡ true → is_placed known i ≡ true
+unfolding holds_there is_placed
+holds_placed known i held = placed_if known.row (known.base + i) holds_in (λ r is. held_in r (known.base + i) is) held
 
 -- ---- a change at one index
 
@@ -60,7 +71,7 @@ there_is : (o : Option ℕ) → is_some o ≡ true → (x : ℕ) × (o ≡ Some 
 there_is (Some x) is = (x, refl)
 there_is None is = absurd (true≢false (sym is))
 
-module _ (o p : Option Row) (hash read end index : ℕ) (placed wait : Bool) (holder : Option ℕ) (s : State) (sub : Subscription) (t : State) (new : Subscription) (of_row : IsRowOf o hash read s sub) where
+module _ (o p : Found) (hash read end index : ℕ) (placed wait : Bool) (holder : Option ℕ) (s : State) (sub : Subscription) (t : State) (new : Subscription) (of_row : IsRowOf o hash read s sub) where
   pub row_changed :
       AllPlacedBefore p end →
       ((i : ℕ) → i ≢ index → waits_there p i ≡ waits_there o i) →
@@ -103,7 +114,7 @@ module _ (o p : Option Row) (hash read end index : ℕ) (placed wait : Bool) (ho
 
 -- ---- a message that was read
 
-module _ (o p : Option Row) (hash read index : ℕ) (wait : Bool) (holder : Option ℕ) (s : State) (sub : Subscription) (t : State) (new : Subscription) (of_row : IsRowOf o hash read s sub) (stands : Stands index wait holder o p) (is : hash_at s index ≡ hash) (change : OnlyChangesAt index s sub t new) (waits_is : waits_at t new index ≡ wait) (holder_is : holder_at t new index ≡ holder) (was : (wait || is_some holder) ≡ true → (waits_at s sub index || is_some (holder_at s sub index)) ≡ true) where
+module _ (o p : Found) (hash read index : ℕ) (wait : Bool) (holder : Option ℕ) (s : State) (sub : Subscription) (t : State) (new : Subscription) (of_row : IsRowOf o hash read s sub) (stands : Stands index wait holder o p) (is : hash_at s index ≡ hash) (change : OnlyChangesAt index s sub t new) (waits_is : waits_at t new index ≡ wait) (holder_is : holder_at t new index ≡ holder) (was : (wait || is_some holder) ≡ true → (waits_at s sub index || is_some (holder_at s sub index)) ≡ true) where
   read_there : index < read → is_read s hash read index ≡ true
   read_there below =
       ap (λ (b : Bool). b && hash_at s index == hash) (lt-ltb index read below) ∙ eq-eqb (hash_at s index) hash is
@@ -163,7 +174,7 @@ reads_next : (s : State) (hash read i : ℕ) → i ≢ read → is_read s hash (
 reads_next s hash read i other = ap (λ (b : Bool). b && hash_at s i == hash) (below_next i read other)
 
 -- it has another hash, or is neither waiting nor pending
-module _ (o : Option Row) (first : Option ℕ) (hash read : ℕ) (s : State) (sub : Subscription) (known : Knows o first hash read s sub) where
+module _ (o : Found) (first : Option ℕ) (hash read : ℕ) (s : State) (sub : Subscription) (known : Knows o first hash read s sub) where
   not_yet : (x : Bool) → (is_read s hash read read && x) ≡ false
   not_yet x = ap (λ (b : Bool). (b && hash_at s read == hash) && x) (le-ltb read read (omega arith))
 
@@ -196,7 +207,7 @@ module _ (o : Option Row) (first : Option ℕ) (hash read : ℕ) (s : State) (su
     first = known.first;
   }
 
-module _ (o q p : Option Row) (hash read : ℕ) (wait : Bool) (holder : Option ℕ) (s : State) (sub : Subscription) (of_row : IsRowOf o hash read s sub) (added : Added read o q) (stands : Stands read wait holder q p) (is : hash_at s read ≡ hash) (waits_is : wait ≡ waits_at s sub read) (holder_is : holder ≡ holder_at s sub read) where
+module _ (o q p : Found) (hash read : ℕ) (wait : Bool) (holder : Option ℕ) (s : State) (sub : Subscription) (of_row : IsRowOf o hash read s sub) (added : Added read o q) (stands : Stands read wait holder q p) (is : hash_at s read ≡ hash) (waits_is : wait ≡ waits_at s sub read) (holder_is : holder ≡ holder_at s sub read) where
   pub row_read : IsRowOf p hash (read + 1) s sub
   row_read =
       row_changed o p hash read (read + 1) read true wait holder s sub s sub of_row
@@ -225,7 +236,7 @@ module _ (o q p : Option Row) (hash read : ℕ) (wait : Bool) (holder : Option �
       now_read = ap (λ (b : Bool). b && hash_at s read == hash) (lt-ltb read (read + 1) (omega arith)) ∙ eq-eqb (hash_at s read) hash is
 
 -- so many messages were neither waiting nor pending
-pub knows_past_all : (o : Option Row) (first : Option ℕ) (hash read n : ℕ) (s : State) (sub : Subscription) → Knows o first hash read s sub → ((k : ℕ) → read ≤ k → k < read + n → (waits_at s sub k ≡ false) × (holder_at s sub k ≡ None)) → Knows o first hash (read + n) s sub
+pub knows_past_all : (o : Found) (first : Option ℕ) (hash read n : ℕ) (s : State) (sub : Subscription) → Knows o first hash read s sub → ((k : ℕ) → read ≤ k → k < read + n → (waits_at s sub k ≡ false) × (holder_at s sub k ≡ None)) → Knows o first hash (read + n) s sub
 knows_past_all o first hash read zero s sub known aside = subst (λ (k : ℕ). Knows o first hash k s sub) (omega arith) known
 knows_past_all o first hash read (suc n) s sub known aside =
     subst (λ (k : ℕ). Knows o first hash k s sub) (omega arith)

@@ -1,15 +1,12 @@
 -- What a row knows, from its parts.
-use Rattle.std.proofs.Common.{◌≡◌, ℕ, ◌<◌, ◌≤◌, true, false, List, [], ◌∷◌, ◌++◌, length, get_or, Some, sym, ap, ◌∙◌, arith}
+use Rattle.std.proofs.Common.{◌≡◌, ℕ, ◌<◌, ◌≤◌, false, List, [], ◌∷◌, ◌++◌, length, get_or, ap, ◌∙◌, arith}
 use Rattle.std.specs.Prelude.{nat_lt}
 use Rattle.std.specs.Ordering.{nat_cmp}
 use Rattle.std.specs.FinSet as set
-use Rattle.dispatch_core.specs.Log.{holder_at}
-use Rattle.delivery_machine.specs.State.{State, Subscription}
 use Rattle.hash_rows.specs.Ranks.{rank_of}
-use Rattle.hash_rows.specs.Rows.{waits_in, holds_in, KnowsAsMuch, HasOneMore, AreAllAt}
+use Rattle.hash_rows.specs.Rows.{waits_in, holds_in, KnowsAsMuch, HasOneMore}
 use Rattle.hash_rows.specs.declared.row.Row.{Row}
-use Rattle.hash_rows.proofs.Ranks.{at_rank}
-use Rattle.hash_rows.proofs.Marks.{marked_at, one_more_in, one_more_marked, others_marked}
+use Rattle.hash_rows.proofs.Marks.{one_more_in, one_more_marked, others_marked}
 
 pub knows_as_much : (row other : Row) → other.places.items ≡ row.places.items → other.waiting.places ≡ row.waiting.places → other.held.places ≡ row.held.places → other.keeper ≡ row.keeper → KnowsAsMuch row other
 unfolding waits_in holds_in
@@ -28,16 +25,6 @@ has_one_more row other index above items waiting held keeper = record {
   holds = λ i. ap (λ (xs : List ℕ). set.contains other.held.places (rank_of xs i)) items ∙ others_marked row.places.items index above row.held.places other.held.places row.held_ranks held i;
   keeper = keeper;
 }
-
--- the message at a rank that is held
-pub held_at : (row : Row) (r : ℕ) → set.contains row.held.places r ≡ true → holds_in row (get_or row.places.items r 0) ≡ true
-unfolding holds_in
-held_at row r is = marked_at row.places.items row.held.places r row.rises (row.held_ranks r is) ∙ is
-
-pub all_at : (row : Row) (s : State) (sub : Subscription) (owner : ℕ) → ((r : ℕ) → set.contains row.held.places r ≡ true → holder_at s sub (get_or row.places.items r 0) ≡ Some owner) → AreAllAt row s sub owner
-unfolding holds_in
-all_at row s sub owner each i is =
-    ap (holder_at s sub) (sym (at_rank row.places.items i (row.held_ranks _ is))) ∙ each (rank_of row.places.items i) is
 
 pub nothing_held : (row : Row) → ((r : ℕ) → 0 ≤ r → set.contains row.held.places r ≡ false) → (i : ℕ) → holds_in row i ≡ false
 unfolding holds_in

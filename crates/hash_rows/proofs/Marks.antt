@@ -87,7 +87,7 @@ mark_nothing xs ranks index there within away i = elim (cases_eq i index) [
 pub marked_at : (xs : List ℕ) (ranks : set.FinSet nat_cmp) (r : ℕ) → Rises xs → r < length xs → set.contains ranks (rank_of xs (get_or xs r 0)) ≡ set.contains ranks r
 marked_at xs ranks r rises within = ap (set.contains ranks) (rank_at xs r rises within)
 
-not_above : (xs : List ℕ) (j k : ℕ) → Rises xs → j ≤ k → k < length xs → get_or xs j 0 ≤ get_or xs k 0
+pub not_above : (xs : List ℕ) (j k : ℕ) → Rises xs → j ≤ k → k < length xs → get_or xs j 0 ≤ get_or xs k 0
 not_above xs j k rises order within = elim (cases_eq j k) [
   | inl same ↦ omega (arith, ap (λ (r : ℕ). get_or xs r 0) same)
   | inr other ↦ omega (arith, rises j k (omega (arith, order, other)) within)

@@ -12,21 +12,20 @@ use Rattle.delivery_machine.specs.Words.{visible}
 use Rattle.delivery_machine.specs.Shares.{owner_of}
 use Rattle.dispatch_core.specs.Log.{waits_at, holder_at, holder_of, key_at}
 use Rattle.dispatch_core.specs.Changes.{StaysAt, Appended, Kept}
-use Rattle.hash_rows.specs.declared.row.Row.{Row}
 use Rattle.hash_rows.specs.Hashes.{hash_at}
-use Rattle.hash_rows.specs.Standing.{waits_there, holds_there}
+use Rattle.hash_rows.specs.Standing.{Found, waits_there, holds_there}
 use Rattle.hash_rows.specs.Knowing.{Knows, IsRowOf, IsFirstOf, AreHeldBy, is_read}
 
 -- ---- one row
 
 -- what a row holds was read, and has the hash
-pub held_read : (row : Option Row) (hash read : ℕ) (s : State) (sub : Subscription) (i : ℕ) → IsRowOf row hash read s sub → holds_there row i ≡ true → (i < read) × (hash_at s i ≡ hash) × (is_some (holder_at s sub i) ≡ true)
+pub held_read : (row : Found) (hash read : ℕ) (s : State) (sub : Subscription) (i : ℕ) → IsRowOf row hash read s sub → holds_there row i ≡ true → (i < read) × (hash_at s i ≡ hash) × (is_some (holder_at s sub i) ≡ true)
 held_read row hash read s sub i of_row held =
     let both = and_parts (is_read s hash read i) (is_some (holder_at s sub i)) (sym (of_row.holds i) ∙ held) in
     let first = and_parts (nat_lt i read) (hash_at s i == hash) both.0 in
     (ltb-true i read first.0, eqb-true (hash_at s i) hash first.1, both.1)
 
-pub waiting_read : (row : Option Row) (hash read : ℕ) (s : State) (sub : Subscription) (i : ℕ) → IsRowOf row hash read s sub → waits_there row i ≡ true → (i < read) × (hash_at s i ≡ hash) × (waits_at s sub i ≡ true)
+pub waiting_read : (row : Found) (hash read : ℕ) (s : State) (sub : Subscription) (i : ℕ) → IsRowOf row hash read s sub → waits_there row i ≡ true → (i < read) × (hash_at s i ≡ hash) × (waits_at s sub i ≡ true)
 waiting_read row hash read s sub i of_row waits =
     let both = and_parts (is_read s hash read i) (waits_at s sub i) (sym (of_row.waits i) ∙ waits) in
     let first = and_parts (nat_lt i read) (hash_at s i == hash) both.0 in
@@ -50,7 +49,7 @@ same_read hash read i s t a b hashes same = elim (cases_lt i read) [
       ]
 ]
 
-module _ (row : Option Row) (hash read : ℕ) (s : State) (sub : Subscription) (t : State) (new : Subscription) (hashes : (i : ℕ) → i < read → hash_at t i ≡ hash_at s i) (stays : (i : ℕ) → i < read → hash_at s i ≡ hash → StaysAt i s sub t new) (of_row : IsRowOf row hash read s sub) where
+module _ (row : Found) (hash read : ℕ) (s : State) (sub : Subscription) (t : State) (new : Subscription) (hashes : (i : ℕ) → i < read → hash_at t i ≡ hash_at s i) (stays : (i : ℕ) → i < read → hash_at s i ≡ hash → StaysAt i s sub t new) (of_row : IsRowOf row hash read s sub) where
   still_held_by : (consumer : ℕ) → AreHeldBy row s sub consumer → AreHeldBy row t new consumer
   still_held_by consumer all i held =
       let at = held_read row hash read s sub i of_row held in
@@ -112,7 +111,7 @@ hash_in_front s t e i longer within =
     ap (λ (o : Option Entry). sticky_hash (option_and_then (λ e. e.body.key) o))
     (ap (λ (log : List Entry). slice_get log i) longer ∙ in_front s.log e i within)
 
-module _ (row : Option Row) (first : Option ℕ) (hash read : ℕ) (s : State) (sub : Subscription) (t : State) (new : Subscription) (known : Knows row first hash read s sub) where
+module _ (row : Found) (first : Option ℕ) (hash read : ℕ) (s : State) (sub : Subscription) (t : State) (new : Subscription) (known : Knows row first hash read s sub) where
   pub knows_kept : Kept s sub t new → Knows row first hash read t new
   knows_kept change =
       known_still row hash read s sub t new (λ i _. hash_of_log s t i change.log) (λ i _ _. change.messages i) known.row first (ap (λ bs. owner_of bs hash) change.shares) known.first

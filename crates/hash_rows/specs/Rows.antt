@@ -1,5 +1,5 @@
 -- What a row knows of the messages of its hash, by their indexes.
-use Rattle.std.specs.Prelude.{◌≡◌, ◌==◌, ℕ, nat_lt, ◌<◌, Bool, true, ◌||◌, Some, length}
+use Rattle.std.specs.Prelude.{◌≡◌, ◌==◌, ℕ, ◌+◌, nat_lt, ◌<◌, Bool, true, ◌||◌, Some, length}
 use Rattle.std.specs.FinSet as set
 use Rattle.delivery_machine.specs.State.{State, Subscription}
 use Rattle.dispatch_core.specs.Log.{holder_at}
@@ -36,10 +36,17 @@ pub record HasOneMore (index : ℕ) (row other : Row) : Type 0 where
   pub holds : (i : ℕ) → holds_in other i ≡ holds_in row i
   pub keeper : other.keeper ≡ row.keeper
 
--- all that are pending are so at the consumer
-abbrev pub AreAllAt : Row → State → Subscription → ℕ → Type 0
-AreAllAt row s sub consumer = (i : ℕ) → holds_in row i ≡ true → holder_at s sub i ≡ Some consumer
+-- of the messages from `base` on all that are pending are so at the consumer
+abbrev pub AreAllAt : Row → ℕ → State → Subscription → ℕ → Type 0
+AreAllAt row base s sub consumer = (i : ℕ) → holds_in row (base + i) ≡ true → holder_at s sub i ≡ Some consumer
 
 -- the keeper, where there is one, holds all that are pending
-abbrev pub KeepsAll : Row → State → Subscription → Type 0
-KeepsAll row s sub = (consumer : ℕ) → row.keeper ≡ Some consumer → AreAllAt row s sub consumer
+abbrev pub KeepsAll : Row → ℕ → State → Subscription → Type 0
+KeepsAll row base s sub = (consumer : ℕ) → row.keeper ≡ Some consumer → AreAllAt row base s sub consumer
+
+-- of the messages from `base` on the second row knows as much as the first
+pub record KnowsFrom (base : ℕ) (row other : Row) : Type 0 where
+  pub places : (i : ℕ) → is_in other (base + i) ≡ is_in row (base + i)
+  pub waits : (i : ℕ) → waits_in other (base + i) ≡ waits_in row (base + i)
+  pub holds : (i : ℕ) → holds_in other (base + i) ≡ holds_in row (base + i)
+  pub keeper : other.keeper ≡ row.keeper

@@ -4,5 +4,6 @@
 mod asking;
 mod changing;
 mod row;
+mod shedding;
 
 pub use row::Row;
