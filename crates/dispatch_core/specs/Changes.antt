@@ -1,6 +1,6 @@
 -- What happens to a topic, as one of its subscriptions sees it: by indexes of the log, by the line of its members and by
 -- their shares.
-use Rattle.std.specs.Prelude.{◌≡◌, ◌≢◌, ℕ, ◌==◌, ◌<◌, ◌≤◌, true, false, not, List, [], ◌∷◌, ◌++◌, length, Option, Some, None, IsSome}
+use Rattle.std.specs.Prelude.{◌≡◌, ◌≢◌, ℕ, ◌+◌, ◌-◌, ◌==◌, ◌<◌, ◌≤◌, true, false, not, List, [], ◌∷◌, ◌++◌, length, drop, Option, Some, None, IsSome}
 use Rattle.std.specs.List.{filter, list_any}
 use Rattle.position_core.specs.declared.message.Entry.{Entry}
 use Rattle.position_core.specs.declared.ranges.HashRange.{HashRange}
@@ -51,6 +51,18 @@ pub record Appended (s : State) (sub : Subscription) (t : State) (new : Subscrip
 pub record TakenBack (s : State) (sub : Subscription) (t : State) (new : Subscription) : Type 0 where
   pub appended : Appended t new s sub
   pub unseen : t.durable ≤ length t.log
+
+-- the first messages of the log went, so many, which all had done with
+pub record Trimmed (n : ℕ) (s : State) (sub : Subscription) (t : State) (new : Subscription) : Type 0 where
+  pub kind : new.kind ≡ sub.kind
+  pub log : t.log ≡ drop n s.log
+  pub durable : t.durable ≡ s.durable - n
+  pub seen : n ≤ length (visible s)
+  pub line : line_of t new ≡ line_of s sub
+  pub shares : new.shares ≡ sub.shares
+  pub waits : (i : ℕ) → waits_at t new i ≡ waits_at s sub (n + i)
+  pub holder : (i : ℕ) → holder_at t new i ≡ holder_at s sub (n + i)
+  pub idle : (i : ℕ) → i < n → (waits_at s sub i ≡ false) × (holder_at s sub i ≡ None)
 
 -- ---- the line
 

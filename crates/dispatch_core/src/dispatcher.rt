@@ -1,12 +1,12 @@
 // What every dispatcher keeps.
-ghost use Rattle.std.specs.Prelude.{◌≡◌, [], Bool, None, IsTrue, IfOk, IfErr, OnOk, OnErr, IfSome, IfNone};
+ghost use Rattle.std.specs.Prelude.{◌≡◌, ◌%◌, [], Bool, None, IsTrue, IfOk, IfErr, OnOk, OnErr, IfSome, IfNone};
 ghost use Rattle.position_core.specs.declared.fault.Fault.TheVariants.{NoMemory};
 ghost use Rattle.position_core.specs.declared.kind.Kind.{Kind};
 ghost use Rattle.delivery_machine.specs.Shares.{no_shares};
 ghost use Rattle.delivery_machine.specs.State.{State, Subscription};
 ghost use Rattle.delivery_machine.specs.Words.{members_of, NoneEligible};
 ghost use Rattle.dispatch_core.specs.Offers.{IsGoodOffer};
-ghost use Rattle.dispatch_core.specs.Changes.{Appended, TakenBack, Joined, Left, Sent, Gone, Released, Reset, Kept, AgreesAfter, WillAgree};
+ghost use Rattle.dispatch_core.specs.Changes.{Appended, TakenBack, Trimmed, Joined, Left, Sent, Gone, Released, Reset, Kept, AgreesAfter, WillAgree};
 
 use crate::view::View;
 use position_core::{ConsumerNumber, Fault, LogIndex};
@@ -58,6 +58,12 @@ pub trait Dispatcher {
     /// The last message of the log, which nobody has seen, is about to be taken back.
     fn undo_append<V: View>(&mut self, view: &V)
         ensures { WillAgree TakenBack (agrees self.old) (agrees self.new)
+            (V.state view.now) (V.subscription view.now) };
+
+    /// The first messages of the log went, so many, which all had done with: whole sixty-fours.
+    fn on_trim<V: View>(&mut self, view: &V, count: u64)
+        requires { count % 64 ≡ 0 }
+        ensures { AgreesAfter (Trimmed count) (agrees self.old) (agrees self.new)
             (V.state view.now) (V.subscription view.now) };
 
     /// The consumer joined, and did not say which hashes it takes.

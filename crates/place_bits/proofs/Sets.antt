@@ -1,11 +1,11 @@
 -- The set of the numbers whose bits are set.
-use Rattle.std.proofs.Common.{◌≡◌, ℕ, zero, suc, ◌+◌, ◌*◌, ◌/◌, ◌<◌, ◌≤◌, Bool, true, false, not, cond, List, [], ◌∷◌, length, inl, inr, refl, sym, ap, ◌∙◌, arith, eq-eqb, Option, Some, None, Result, Ok, Err}
+use Rattle.std.proofs.Common.{◌≡◌, ℕ, zero, suc, ◌+◌, ◌*◌, Bool, true, false, not, cond, List, ◌∷◌, length, inl, inr, refl, sym, ap, ◌∙◌, arith, eq-eqb, Option, Some, None, Result, Ok, Err}
 use Rattle.std.specs.Prelude.{◌==◌, ◌&&◌, ◌||◌, nat_lt, IfSome, IfNone, OnErr}
 use Rattle.std.specs.List.{filter, list_any}
-use Rattle.std.specs.Ordering.{nat_cmp, eq_by_cmp}
+use Rattle.std.specs.Ordering.{nat_cmp}
 use Rattle.std.specs.Cmp.{nat_cmp_total, unsigned_tied}
 use Rattle.std.specs.FinSet as set
-use Rattle.std.proofs.lemmas.Bool.{cases_eq, cases_lt, ne_eqb, lt-ltb, le-ltb, false≢true}
+use Rattle.std.proofs.lemmas.Bool.{cases_eq, cases_lt, ne_eqb, lt-ltb, le-ltb}
 use Rattle.std.proofs.lemmas.Map.Lookups.{exact_unsigned}
 use Rattle.place_bits.specs.Bits.{has, down_from, set_of}
 use Rattle.place_bits.specs.Places.{Places, IsNext, NoneFrom}
@@ -72,6 +72,10 @@ removed ws fs n is = set.same_set nat_cmp_total exact_unsigned _ _ (λ q.
     ∙ ap (λ (b : Bool). not (q == n) && b) (sym (contains_set_of ws q))
     ∙ ap (λ (b : Bool). not b && set.contains (set_of ws) q) (sym (unsigned_tied q n))
     ∙ sym (set.contains-remove nat_cmp_total (set_of ws) n q))
+
+pub lowered : (ws fs : List ℕ) (count words : ℕ) → 64 * words ≡ count → ((i : ℕ) → has fs i ≡ has ws (64 * words + i)) → (q : ℕ) → set.contains (set_of fs) q ≡ set.contains (set_of ws) (count + q)
+lowered ws fs count words whole is q =
+    contains_set_of fs q ∙ is q ∙ ap (λ (k : ℕ). has ws (k + q)) whole ∙ sym (contains_set_of ws (count + q))
 
 -- ---- the least place
 

@@ -36,6 +36,11 @@ pub(crate) trait Layer: Sized {
         ensures some { IfSome result (IsNext (has self.now) from) }
         ensures none { IfNone result (NoneFrom (has self.now) from) };
 
+    /// Takes all numbers out. The room stays.
+    fn empty(&mut self)
+        ensures none { (i : ℕ) → has self.new i ≡ false }
+        ensures room { room self.new ≡ room self.old };
+
     /// Takes all numbers out, and the room, but keeps the memory.
     fn clear(&mut self)
         ensures none { (i : ℕ) → has self.new i ≡ false }

@@ -1,11 +1,12 @@
 // The set, as its callers see it.
-ghost use Rattle.std.specs.Prelude.{◌≡◌, ◌<◌, ◌≤◌, OnOk, OnErr, IfSome, IfNone};
+ghost use Rattle.std.specs.Prelude.{◌≡◌, ℕ, ◌+◌, ◌-◌, ◌%◌, ◌<◌, ◌≤◌, OnOk, OnErr, IfSome, IfNone};
 ghost use Rattle.std.specs.FinSet as set;
 ghost use Rattle.place_bits.specs.Places.{IsNext, NoneFrom};
 
 use crate::layer::Layer;
 use crate::summed::Summed;
 use crate::top::Top;
+use crate::words::BITS;
 use std::alloc::{AllocError, Global};
 use std::marker::Model;
 
@@ -13,8 +14,9 @@ use std::marker::Model;
 /// the top stands for 16,777,216 places.
 type Tree = Summed<Summed<Summed<Top>>>;
 
-/// A set of places. A call looks at one or two words of each layer, and at all words of the top at
-/// most; only `grow` takes memory, one bit for each place that there is room for, and little more.
+/// A set of places. A call other than `shift_down` looks at one or two words of each layer, and at
+/// all words of the top at most; only `grow` takes memory, one bit for each place that there is room
+/// for, and little more.
 pub struct PlaceBits {
     tree: Tree,
 }
@@ -83,6 +85,16 @@ impl PlaceBits {
         ensures none { IfNone result (NoneFrom (set.contains self.now.places) 0) }
     {
         self.next_from(0)
+    }
+
+    /// Takes the first places out, so many, and lowers the others and the room by as much. It goes over
+    /// all words: a step for each 64 places that there is room for.
+    pub fn shift_down(&mut self, count: u64)
+        requires { count % 64 ≡ 0 }
+        ensures places { (q : ℕ) → set.contains self.new.places q ≡ set.contains self.old.places (count + q) }
+        ensures room { self.new.room ≡ self.old.room - count }
+    {
+        self.tree.lower((count / BITS) as usize);
     }
 
     /// Takes all places out, and the room too, but keeps the memory.

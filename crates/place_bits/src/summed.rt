@@ -1,9 +1,9 @@
 // The layers of a tree of words.
-ghost use Rattle.std.specs.Prelude.{◌≡◌, ℕ, ◌*◌, ◌≤◌, ◌^◌, length, vec_len};
+ghost use Rattle.std.specs.Prelude.{◌≡◌, ℕ, ◌+◌, ◌-◌, ◌*◌, ◌≤◌, ◌^◌, length, vec_len};
 ghost use Rattle.place_bits.specs.Bits.{has, is_used};
 
 use crate::layer::Layer;
-use crate::words::{BITS, next_in_word, put, take_out, widen, words_for};
+use crate::words::{BITS, next_in_word, put, remove_front, take_out, widen, wipe, words_for};
 use std::alloc::{AllocError, Global};
 
 /// A layer under one that has the indexes of its words that are not empty.
@@ -56,8 +56,38 @@ impl<S: Layer + Drop> Layer for Summed<S> {
         }
     }
 
+    fn empty(&mut self) {
+        wipe(&mut self.words);
+        self.above.empty();
+    }
+
     fn clear(&mut self) {
         self.words.clear();
         self.above.clear();
+    }
+}
+
+impl<S: Layer + Drop> Summed<S> {
+    /// Takes the first words out, so many, and makes the layers above anew.
+    pub(crate) fn lower(&mut self, count: usize)
+        ensures has { (i : ℕ) → has self.new.words.items i ≡ has self.old.words.items (64 * count + i) }
+        ensures room { 64 * vec_len self.new.words ≡ 64 * vec_len self.old.words - 64 * count }
+    {
+        remove_front(&mut self.words, count);
+        sum_up(&self.words, &mut self.above);
+    }
+}
+
+/// Makes the set that of the indexes of the words that are not empty.
+fn sum_up<S: Layer>(words: &[u64], above: &mut S)
+    requires { length words.now ≤ S.room above.old }
+    ensures has { (w : ℕ) → S.has above.new w ≡ is_used words.now w }
+    ensures room { S.room above.new ≡ S.room above.old }
+{
+    above.empty();
+    for index in 0..words.len() {
+        if words[index] != 0 {
+            above.insert(index as u64);
+        }
     }
 }

@@ -3,7 +3,7 @@ ghost use Rattle.std.specs.Prelude.{◌*◌, ◌≤◌, ◌^◌, vec_len};
 ghost use Rattle.place_bits.specs.Bits.{has};
 
 use crate::layer::Layer;
-use crate::words::{BITS, next_in_word, next_used, put, take_out, widen, words_for};
+use crate::words::{BITS, next_in_word, next_used, put, take_out, widen, wipe, words_for};
 use std::alloc::{AllocError, Global};
 
 /// Words that are gone through one by one.
@@ -44,6 +44,10 @@ impl Layer for Top {
                 next_in_word(&self.words, BITS * word)
             }
         }
+    }
+
+    fn empty(&mut self) {
+        wipe(&mut self.words);
     }
 
     fn clear(&mut self) {

@@ -1,6 +1,6 @@
 // Numbers as bits of words: a number's word is the one of index number / 64.
-ghost use Rattle.std.specs.Prelude.{◌≡◌, ◌==◌, ℕ, ◌/◌, ◌%◌, ◌*◌, ◌^◌, ◌<◌, ◌≤◌, Bool, true, false, not, ◌&&◌, ◌||◌, length, IfSome, IfNone};
-ghost use Rattle.std.specs.Prelude.{vec_len, OnOk, OnErr};
+ghost use Rattle.std.specs.Prelude.{◌≡◌, ◌==◌, ℕ, ◌-◌, ◌/◌, ◌%◌, ◌*◌, ◌^◌, ◌<◌, ◌≤◌, Bool, true, false, not, ◌&&◌, ◌||◌, length, IfSome, IfNone};
+ghost use Rattle.std.specs.Prelude.{drop, vec_len, OnOk, OnErr};
 ghost use Rattle.place_bits.specs.Bits.{has, is_used, IsNextInWord, NoneInWord};
 ghost use Rattle.place_bits.specs.Places.{IsNext, NoneFrom};
 
@@ -30,6 +30,17 @@ pub(crate) fn widen(words: &mut Vec<u64>, count: usize) -> Result<(), AllocError
         words.resize(count, 0)?;
     }
     Ok(())
+}
+
+/// Takes the first words out, so many, where there are as many.
+pub(crate) fn remove_front(words: &mut Vec<u64>, count: usize)
+    ensures items { words.new.items ≡ drop count words.old.items }
+    ensures len { vec_len words.new ≡ vec_len words.old - count }
+{
+    let len = words.len();
+    let gone = count.min(len);
+    words.as_mut_slice().copy_within(gone..len, 0);
+    words.truncate(len - gone);
 }
 
 /// The first word from `from` on that is not empty.
@@ -70,6 +81,15 @@ pub(crate) fn take_out(words: &mut [u64], number: u64) -> bool
     let word = words[index] & !(1 << (number % BITS));
     words[index] = word;
     word == 0
+}
+
+/// Takes all numbers out.
+pub(crate) fn wipe(words: &mut [u64])
+    ensures len { length words.new ≡ length words.old }
+    ensures has { (i : ℕ) → has words.new i ≡ false }
+    ensures used { (w : ℕ) → is_used words.new w ≡ false }
+{
+    words.fill(0);
 }
 
 /// The least number of the set from `from` on, among those of its word.

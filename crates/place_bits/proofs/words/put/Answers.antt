@@ -1,4 +1,3 @@
-use Rattle.place_bits.specs.Bits.{is_used}
 use Rattle.place_bits.proofs.Bits.{put_has, put_used, word_is_empty}
 use Rattle.place_bits.proofs.words.put.Goals as goal
 

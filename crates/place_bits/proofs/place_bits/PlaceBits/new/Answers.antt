@@ -1,4 +1,3 @@
-use Rattle.std.proofs.Common.{refl}
 use Rattle.place_bits.proofs.Sets.{placed, set_of_none}
 use Rattle.place_bits.proofs.place_bits.PlaceBits.new.Goals as goal
 

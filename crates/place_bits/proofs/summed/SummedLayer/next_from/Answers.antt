@@ -1,4 +1,4 @@
-use Rattle.std.proofs.Common.{◌/◌, ◌+◌, ◌∙◌, sym, arith}
+use Rattle.std.proofs.Common.{◌∙◌, sym, arith}
 use Rattle.place_bits.specs.Bits.{is_used}
 use Rattle.place_bits.proofs.Bits.{next_found, next_missed, none_at_all, below_all, same_next}
 use Rattle.place_bits.proofs.summed.SummedLayer.next_from.Goals as goal

@@ -1,4 +1,4 @@
-use Rattle.std.proofs.Common.{◌/◌, ◌+◌, arith}
+use Rattle.std.proofs.Common.{arith}
 use Rattle.place_bits.proofs.Bits.{next_found, next_missed, none_at_all, below_all}
 use Rattle.place_bits.proofs.top.TopLayer.next_from.Goals as goal
 
