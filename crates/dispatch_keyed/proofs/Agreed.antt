@@ -3,7 +3,7 @@ use Rattle.std.proofs.Common.{◌≡◌, ◌≢◌, ℕ, ◌+◌, ◌-◌, ◌^�
 use Rattle.std.specs.Prelude.{◌==◌, ◌&&◌, nat_lt, is_some}
 use Rattle.std.specs.Ordering.{nat_cmp}
 use Rattle.std.specs.FinMap as map_of
-use Rattle.std.specs.BTreeMap as tree
+use Rattle.std.specs.Option.{option_map_or, option_and_then}
 use Rattle.std.specs.Map.{lookup}
 use Rattle.std.specs.BTreeMap.{is_at}
 use Rattle.std.proofs.lemmas.Bool.{cases_eq, cases_lt, eq-eqb, lt-ltb, le-ltb, and_from}
@@ -22,12 +22,14 @@ use Rattle.dispatch_core.specs.Offers.{IsGoodOffer}
 use Rattle.dispatch_core.specs.Changes.{OnlyLineChanges, Kept, Appended, TakenBack}
 use Rattle.hash_rows.specs.declared.row.Row.{Row}
 use Rattle.hash_rows.specs.Hashes.{hash_at}
-use Rattle.hash_rows.specs.Standing.{is_placed, waits_there, holds_there, keeper_of, AllPlacedBefore, SameKnowledge, Stands, Added}
+use Rattle.hash_rows.specs.Rows.{is_in, waits_in, holds_in}
+use Rattle.hash_rows.specs.Standing.{Found, is_placed, waits_there, holds_there, keeper_of, AllPlacedBefore, SameKnowledge, Stands, Added}
 use Rattle.hash_rows.specs.Knowing.{Knows, IsRowOf, IsFirstOf, IsFreeRow, KeeperIsRight, WaitBefore, is_read}
 use Rattle.hash_rows.proofs.Moving.{held_read, waiting_read, row_stays, known_still, hash_of_log, hash_in_front, seen_still, unsent_behind, seen_kept, knows_kept, knows_appended}
 use Rattle.hash_rows.proofs.Changed.{knows_same, row_stands, knows_past, knows_past_all, row_read}
 use Rattle.dispatch_keyed.specs.Hashes.{IsRoomyOwner, NoneFreeBefore}
 use Rattle.dispatch_keyed.specs.Owning.{owners_in}
+use Rattle.dispatch_keyed.specs.Tables.{row_at}
 use Rattle.dispatch_keyed.specs.Agreeing.{Agrees, IsStuck, IsNews}
 use Rattle.dispatch_keyed.specs.declared.keyed.Keyed.{Keyed}
 use Rattle.dispatch_keyed.proofs.Owning.{same_owners, shares_in}
@@ -36,8 +38,8 @@ use Rattle.dispatch_keyed.proofs.Firsts.{rowless, no_first}
 use Rattle.dispatch_keyed.proofs.Owners.{free_for, owner_number}
 use Rattle.dispatch_keyed.proofs.Serving.{good_first}
 
-abbrev pub row_of : Keyed → ℕ → Option Row
-row_of d h = tree.get nat_cmp d.rows h
+abbrev pub row_of : Keyed → ℕ → Found
+row_of d h = row_at d.rows h
 
 abbrev pub number_of : Keyed → ℕ → Option ℕ
 number_of d h = map_of.get d.firsts.numbers h
@@ -49,7 +51,7 @@ hash_within s i = sticky_hash-lt (key_at s i)
 known_as : (d e : Keyed) (h read : ℕ) (s : State) (sub : Subscription) → row_of e h ≡ row_of d h → number_of e h ≡ number_of d h → e.read ≡ read → Knows (row_of d h) (number_of d h) h read s sub → Knows (row_of e h) (number_of e h) h e.read s sub
 known_as d e h read s sub row number same known =
     subst (λ (n : ℕ). Knows (row_of e h) (number_of e h) h n s sub) (sym same)
-    (subst (λ (o : Option Row). Knows o (number_of e h) h read s sub) (sym row)
+    (subst (λ (o : Found). Knows o (number_of e h) h read s sub) (sym row)
     (subst (λ (o : Option ℕ). Knows (row_of d h) o h read s sub) (sym number) known))
 
 -- ---- offers
@@ -204,7 +206,7 @@ module _ (d e : Keyed) (index hash : ℕ) (wait : Bool) (holder : Option ℕ) (s
       | inr other ↦
           let known = agreed.hashes h within in
           subst (λ (n : ℕ). Knows (row_of e h) (number_of e h) h n t new) (sym read)
-          (subst (λ (o : Option Row). Knows o (number_of e h) h d.read t new) (sym (others h other))
+          (subst (λ (o : Found). Knows o (number_of e h) h d.read t new) (sym (others h other))
           (subst (λ (o : Option ℕ). Knows (row_of d h) o h d.read t new) (sym (others_first h other))
           (known_still (row_of d h) h d.read s sub t new (λ i _. hash_of_log s t i news.stays.log.log)
           (λ i _ at. news.stays.others i (λ same. other (sym at ∙ ap (hash_at s) same ∙ same_hash)))
@@ -222,6 +224,24 @@ module _ (d e : Keyed) (index hash : ℕ) (wait : Bool) (holder : Option ℕ) (s
         first = subst (λ shares. IsFirstOf (row_of e hash) (number_of e hash) (owner_of shares hash) t new) (shares_in (owners ∙ agreed.owners) ∙ sym news.stays.shares)
             (first row_now.keeper (λ i waits. omega (arith, (waiting_read (row_of e hash) hash d.read t new i row_now waits).0, agreed.small)));
       })
+
+-- at a message that was not read
+pub agrees_unread : (d : Keyed) (index : ℕ) (wait : Bool) (holder : Option ℕ) (s : State) (sub : Subscription) (t : State) (new : Subscription) → IsNews d index wait holder s sub t new → Agrees d s sub → d.read ≤ index → Agrees d t new
+agrees_unread d index wait holder s sub t new news agreed unread = record {
+  kind = news.stays.log.kind ∙ agreed.kind;
+  owners = same_owners s sub t new d.owners agreed.owners news.stays.shares news.stays.line;
+  seen = seen_still d.read s t agreed.seen (omega (arith, news.stays.log.durable)) (omega (arith, ap length news.stays.log.log));
+  small = agreed.small;
+  unsent = λ i past behind. elim (cases_eq i index) [
+    | inl same ↦ ap (holder_at t new) same ∙ news.holder ∙ news.unsent unread (omega (arith, behind, same))
+    | inr other ↦ (news.stays.others i other).holder ∙ agreed.unsent i past behind
+  ];
+  hashes = λ h within.
+      let known = agreed.hashes h within in
+      known_still (row_of d h) h d.read s sub t new (λ i _. hash_of_log s t i news.stays.log.log)
+      (λ i below _. news.stays.others i (λ same. omega (arith, same, below, unread)))
+      known.row (number_of d h) (ap (λ shares. owner_of shares h) news.stays.shares) known.first;
+}
 
 -- ---- a message that was sent
 
@@ -256,7 +276,7 @@ seen_in_both index s t log durable seen = omega (arith, seen, ap length log, dur
 
 -- ---- members
 
-pub agrees_shared : (d e : Keyed) (s : State) (sub : Subscription) (t : State) (new : Subscription) → OnlyLineChanges s sub t new → Agrees d s sub → e.owners ≡ owners_in t new → e.read ≡ d.read → e.sent ≡ d.sent → ((h : ℕ) → row_of e h ≡ row_of d h) → ((h : ℕ) → h < 2 ^ 16 → KeeperIsRight (row_of e h) t new → WaitBefore (row_of e h) (2 ^ 32 - 1) → (row_of e h ≡ None → number_of d h ≡ None) → IsFirstOf (row_of e h) (number_of e h) (owner_of e.owners.shares h) t new) → Agrees e t new
+pub agrees_shared : (d e : Keyed) (s : State) (sub : Subscription) (t : State) (new : Subscription) → OnlyLineChanges s sub t new → Agrees d s sub → e.owners ≡ owners_in t new → e.read ≡ d.read → e.sent ≡ d.sent → ((h : ℕ) → row_of e h ≡ row_of d h) → ((h : ℕ) → h < 2 ^ 16 → KeeperIsRight (row_of e h) t new → WaitBefore (row_of e h) (2 ^ 32 - 1) → ((row_of e h).row ≡ None → number_of d h ≡ None) → IsFirstOf (row_of e h) (number_of e h) (owner_of e.owners.shares h) t new) → Agrees e t new
 agrees_shared d e s sub t new change agreed owners read sent rows firsts = record {
   kind = change.log.kind ∙ agreed.kind;
   owners = owners;
@@ -266,13 +286,13 @@ agrees_shared d e s sub t new change agreed owners read sent rows firsts = recor
   hashes = λ h within.
       let known = agreed.hashes h within in
       let row : IsRowOf (row_of e h) h d.read t new =
-      subst (λ (o : Option Row). IsRowOf o h d.read t new) (sym (rows h))
+      subst (λ (o : Found). IsRowOf o h d.read t new) (sym (rows h))
       (row_stays (row_of d h) h d.read s sub t new (λ i _. hash_of_log s t i change.log.log) (λ i _ _. change.messages i) known.row) in
       subst (λ (n : ℕ). Knows (row_of e h) (number_of e h) h n t new) (sym read) (record {
         row = row;
         first = subst (λ shares. IsFirstOf (row_of e h) (number_of e h) (owner_of shares h) t new) (shares_in owners)
             (firsts h within row.keeper (λ i waits. omega (arith, (waiting_read (row_of e h) h d.read t new i row waits).0, agreed.small))
-            (λ none. no_first (row_of d h) (number_of d h) (owner_of sub.shares h) s sub (sym (rows h) ∙ none) known.first));
+            (λ none. no_first (row_of d h) (number_of d h) (owner_of sub.shares h) s sub (ap (λ (o : Found). o.row) (sym (rows h)) ∙ none) known.first));
       });
 }
 
@@ -284,16 +304,20 @@ key_shared Exclusive never = absurd (true≢false (sym never))
 key_shared Failover never = absurd (true≢false (sym never))
 key_shared Shared never = absurd (true≢false (sym never))
 
-empty_row : (hash : ℕ) (s : State) (sub : Subscription) → IsRowOf None hash 0 s sub
+empty_row : (o : Found) (hash : ℕ) (s : State) (sub : Subscription) → o.row ≡ None → IsRowOf o hash 0 s sub
 unfolding is_placed waits_there holds_there keeper_of
-empty_row hash s sub = record {
-  places = λ i never. absurd (true≢false (sym never));
-  waits = λ i. sym (ap (λ (b : Bool). (b && hash_at s i == hash) && waits_at s sub i) (le-ltb i 0 (omega arith)));
-  holds = λ i. sym (ap (λ (b : Bool). (b && hash_at s i == hash) && is_some (holder_at s sub i)) (le-ltb i 0 (omega arith)));
-  keeper = λ c never. absurd (none-some c never);
+empty_row o hash s sub none = record {
+  places = λ i placed. absurd (true≢false (sym placed ∙ ap (λ (row : Option Row). option_map_or (λ r. is_in r (o.base + i)) row false) none));
+  waits = λ i.
+      ap (λ (row : Option Row). option_map_or (λ r. waits_in r (o.base + i)) row false) none
+      ∙ sym (ap (λ (b : Bool). (b && hash_at s i == hash) && waits_at s sub i) (le-ltb i 0 (omega arith)));
+  holds = λ i.
+      ap (λ (row : Option Row). option_map_or (λ r. holds_in r (o.base + i)) row false) none
+      ∙ sym (ap (λ (b : Bool). (b && hash_at s i == hash) && is_some (holder_at s sub i)) (le-ltb i 0 (omega arith)));
+  keeper = λ c kept. absurd (none-some c (sym (ap (λ (row : Option Row). option_and_then (λ r. r.keeper) row) none) ∙ kept));
 }
 
-pub agrees_empty : (d : Keyed) (s : State) (sub : Subscription) → sub.kind ≡ KeyShared → d.owners ≡ owners_in s sub → d.read ≡ 0 → ((i : ℕ) → d.sent ≤ i → holder_at s sub i ≡ None) → d.rows.entries ≡ [] → d.firsts.numbers ≡ map_of.empty → Agrees d s sub
+pub agrees_empty : (d : Keyed) (s : State) (sub : Subscription) → sub.kind ≡ KeyShared → d.owners ≡ owners_in s sub → d.read ≡ 0 → ((i : ℕ) → d.sent ≤ i → holder_at s sub i ≡ None) → d.rows.rows.entries ≡ [] → d.firsts.numbers ≡ map_of.empty → Agrees d s sub
 agrees_empty d s sub kind owners read unsent rows numbers = record {
   kind = kind;
   owners = owners;
@@ -301,10 +325,10 @@ agrees_empty d s sub kind owners read unsent rows numbers = record {
   small = omega (arith, read);
   unsent = λ i _ behind. unsent i behind;
   hashes = λ h _.
-      let none : row_of d h ≡ None = ap (λ (es : List (ℕ × Row)). lookup (is_at (nat_cmp h)) es) rows in
+      let none : (row_of d h).row ≡ None = ap (λ (es : List (ℕ × Row)). lookup (is_at (nat_cmp h)) es) rows in
       let first : number_of d h ≡ None = ap (λ (m : map_of.FinMap nat_cmp ℕ). map_of.get m h) numbers ∙ map_of.get-empty nat_cmp h in
       subst (λ (n : ℕ). Knows (row_of d h) (number_of d h) h n s sub) (sym read) (record {
-        row = subst (λ (o : Option Row). IsRowOf o h 0 s sub) (sym none) (empty_row h s sub);
+        row = empty_row (row_of d h) h s sub none;
         first = subst (λ (o : Option ℕ). IsFirstOf (row_of d h) o (owner_of sub.shares h) s sub) (sym first) (rowless (row_of d h) (owner_of sub.shares h) s sub none);
       });
 }
@@ -358,7 +382,7 @@ agrees_past_all d e s sub agreed all owners read sent rows numbers seen small no
     }
 
 -- the message was put into its row
-module _ (d e : Keyed) (made pushed : Option Row) (hash : ℕ) (wait : Bool) (holder : Option ℕ) (s : State) (sub : Subscription) (agreed : Agrees d s sub) (is : hash ≡ hash_at s d.read) (wait_is : wait ≡ waits_at s sub d.read) (holder_is : holder ≡ holder_at s sub d.read) where
+module _ (d e : Keyed) (made pushed : Found) (hash : ℕ) (wait : Bool) (holder : Option ℕ) (s : State) (sub : Subscription) (agreed : Agrees d s sub) (is : hash ≡ hash_at s d.read) (wait_is : wait ≡ waits_at s sub d.read) (holder_is : holder ≡ holder_at s sub d.read) where
   pub agrees_read : e.owners ≡ d.owners → e.read ≡ d.read + 1 → e.sent ≡ d.sent → ((h : ℕ) → h ≢ hash → row_of e h ≡ row_of d h) → SameKnowledge (row_of d hash) made → (AllPlacedBefore made d.read → Added d.read made pushed) → Stands d.read wait holder pushed (row_of e hash) → ((h : ℕ) → h ≢ hash → number_of e h ≡ number_of d h) → (KeeperIsRight (row_of e hash) s sub → WaitBefore (row_of e hash) (2 ^ 32 - 1) → IsFirstOf (row_of e hash) (number_of e hash) (owner_of e.owners.shares hash) s sub) → d.read < length (visible s) → d.read < 2 ^ 32 - 1 → Agrees e s sub
   agrees_read owners read sent others same added stands others_first first seen small = record {
     kind = agreed.kind;

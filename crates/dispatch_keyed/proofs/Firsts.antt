@@ -1,9 +1,9 @@
 -- The first messages of hashes, from their rows.
-use Rattle.std.proofs.Common.{◌≡◌, ◌≢◌, ℕ, ◌-◌, ◌<◌, inl, inr, arith, Bool, true, cond, Option, Some, None, refl, sym, ap, ◌∙◌, subst, true≢false}
+use Rattle.std.proofs.Common.{◌≡◌, ◌≢◌, ℕ, ◌+◌, ◌-◌, ◌<◌, inl, inr, arith, Bool, false, cond, Option, Some, None, refl, sym, ap, ◌∙◌, subst, true≢false}
 use Rattle.std.specs.Cmp.{nat_cmp_total, unsigned_tied}
 use Rattle.std.specs.Ordering.{nat_cmp}
 use Rattle.std.specs.FinMap as map_of
-use Rattle.std.specs.Option.{is_some}
+use Rattle.std.specs.Option.{is_some, option_map_or}
 use Rattle.std.proofs.lemmas.Bool.{cases_eq, cases_lt, ne_eqb, eq-eqb}
 use Rattle.std.proofs.lemmas.Option.{same_Some, none-some}
 use Rattle.place_bits.specs.Places.{IsNext, NoneFrom}
@@ -11,76 +11,71 @@ use Rattle.delivery_machine.specs.State.{State, Subscription}
 use Rattle.hash_firsts.specs.Firsts.{Firsts}
 use Rattle.hash_rows.specs.declared.row.Row.{Row}
 use Rattle.hash_rows.specs.Rows.{waits_in, AreAllAt, KeepsAll}
-use Rattle.hash_rows.specs.Standing.{waits_there, holds_there, keeper_of}
+use Rattle.hash_rows.specs.Standing.{Found, waits_there, holds_there, keeper_of}
 use Rattle.hash_rows.specs.Knowing.{IsFirstOf, AreHeldBy, KeeperIsRight, WaitBefore}
+use Rattle.dispatch_keyed.specs.Tables.{found_in}
 
 -- ---- of one row
 
-pub keeps_all : (row : Row) (s : State) (sub : Subscription) → KeeperIsRight (Some row) s sub → KeepsAll row s sub
+pub keeps_all : (row : Row) (base : ℕ) (s : State) (sub : Subscription) → KeeperIsRight (found_in base (Some row)) s sub → KeepsAll row base s sub
 unfolding keeper_of holds_there
-keeps_all row s sub right = right
+keeps_all row base s sub right = right
 
-all_at : (row : Row) (s : State) (sub : Subscription) (c : ℕ) → AreHeldBy (Some row) s sub c → AreAllAt row s sub c
+all_at : (row : Row) (base : ℕ) (s : State) (sub : Subscription) (c : ℕ) → AreHeldBy (found_in base (Some row)) s sub c → AreAllAt row base s sub c
 unfolding holds_there
-all_at row s sub c all = all
+all_at row base s sub c all = all
 
-held_by : (row : Row) (s : State) (sub : Subscription) (c : ℕ) → AreAllAt row s sub c → AreHeldBy (Some row) s sub c
+held_by : (row : Row) (base : ℕ) (s : State) (sub : Subscription) (c : ℕ) → AreAllAt row base s sub c → AreHeldBy (found_in base (Some row)) s sub c
 unfolding holds_there
-held_by row s sub c all = all
+held_by row base s sub c all = all
 
 none_is : (x : ℕ) → None ≡ Some x → ⊥
 none_is x e = none-some x e
 
-module _ (row : Row) (owner : ℕ) (s : State) (sub : Subscription) where
-  pub not_free : (AreAllAt row s sub owner → ⊥) → IsFirstOf (Some row) None (Some owner) s sub
+module _ (row : Row) (base owner : ℕ) (s : State) (sub : Subscription) where
+  pub not_free : (AreAllAt row base s sub owner → ⊥) → IsFirstOf (found_in base (Some row)) None (Some owner) s sub
   not_free elsewhere = record {
     some = λ n is. absurd (none_is n is);
-    none = λ _ free. absurd (elsewhere (subst (λ (c : ℕ). AreAllAt row s sub c) (sym (same_Some owner free.0 free.1)) (all_at row s sub free.0 free.2)));
+    none = λ _ free. absurd (elsewhere (subst (λ (c : ℕ). AreAllAt row base s sub c) (sym (same_Some owner free.0 free.1)) (all_at row base s sub free.0 free.2)));
   }
 
-  pub first_there : (first : ℕ) → AreAllAt row s sub owner → IsNext (waits_in row) 0 first → IsFirstOf (Some row) (Some first) (Some owner) s sub
+  pub first_there : (first : ℕ) → AreAllAt row base s sub owner → IsNext (λ i. waits_in row (base + i)) 0 first → IsFirstOf (found_in base (Some row)) (Some first) (Some owner) s sub
   unfolding waits_there
   first_there first all next = record {
-    some = λ n is. (subst (λ (k : ℕ). IsNext (waits_in row) 0 k) (same_Some first n is) next, (owner, refl, held_by row s sub owner all));
+    some = λ n is. (subst (λ (k : ℕ). IsNext (λ i. waits_in row (base + i)) 0 k) (same_Some first n is) next, (owner, refl, held_by row base s sub owner all));
     none = λ is _. absurd (none_is first (sym is));
   }
 
-  pub none_there : NoneFrom (waits_in row) 0 → IsFirstOf (Some row) None (Some owner) s sub
+  pub none_there : NoneFrom (λ i. waits_in row (base + i)) 0 → IsFirstOf (found_in base (Some row)) None (Some owner) s sub
   unfolding waits_there
   none_there none = record {
     some = λ n is. absurd (none_is n is);
     none = λ _ _. none;
   }
 
-  pub not_beyond : (first limit : ℕ) → WaitBefore (Some row) limit → IsNext (waits_in row) 0 first → first < limit
+  pub not_beyond : (first limit : ℕ) → WaitBefore (found_in base (Some row)) limit → IsNext (λ i. waits_in row (base + i)) 0 first → first < limit
   unfolding waits_there
   not_beyond first limit before next = before first next.is_in
 
 -- ---- of a hash
 
-nothing_first : (owner : Option ℕ) (s : State) (sub : Subscription) → IsFirstOf None None owner s sub
+pub nothing_waits : (o : Found) → o.row ≡ None → (i : ℕ) → waits_there o i ≡ false
 unfolding waits_there
-nothing_first owner s sub = record { some = λ n is. absurd (none_is n is); none = λ _ _ _ _. refl }
+nothing_waits o none i = ap (λ (row : Option Row). option_map_or (λ r. waits_in r (o.base + i)) row false) none
 
-nothing_waits : (n : ℕ) → waits_there None n ≡ true → ⊥
-unfolding waits_there
-nothing_waits n waits = true≢false (sym waits)
+pub rowless : (o : Found) (owner : Option ℕ) (s : State) (sub : Subscription) → o.row ≡ None → IsFirstOf o None owner s sub
+rowless o owner s sub none = record { some = λ n is. absurd (none_is n is); none = λ _ _ i _. nothing_waits o none i }
 
-pub rowless : (o : Option Row) (owner : Option ℕ) (s : State) (sub : Subscription) → o ≡ None → IsFirstOf o None owner s sub
-rowless (Some row) owner s sub none = absurd (none-some row (sym none))
-rowless None owner s sub _ = nothing_first owner s sub
-
-pub ownerless : (o : Option Row) (owner : Option ℕ) (s : State) (sub : Subscription) → owner ≡ None → IsFirstOf o None owner s sub
+pub ownerless : (o : Found) (owner : Option ℕ) (s : State) (sub : Subscription) → owner ≡ None → IsFirstOf o None owner s sub
 ownerless o owner s sub none = record {
   some = λ n is. absurd (none_is n is);
   none = λ _ free. absurd (none_is free.0 (sym none ∙ free.1));
 }
 
 -- no row, no first
-pub no_first : (o : Option Row) (first owner : Option ℕ) (s : State) (sub : Subscription) → o ≡ None → IsFirstOf o first owner s sub → first ≡ None
+pub no_first : (o : Found) (first owner : Option ℕ) (s : State) (sub : Subscription) → o.row ≡ None → IsFirstOf o first owner s sub → first ≡ None
 no_first o None owner s sub none is = refl
-no_first None (Some n) owner s sub none is = absurd (nothing_waits n (is.some n refl).0.is_in)
-no_first (Some row) (Some n) owner s sub none is = absurd (none-some row (sym none))
+no_first o (Some n) owner s sub none is = absurd (true≢false (sym (is.some n refl).0.is_in ∙ nothing_waits o none n))
 
 -- ---- the numbers that are kept
 

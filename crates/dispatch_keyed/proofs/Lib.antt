@@ -9,3 +9,4 @@ pub mod Renewed
 pub mod Serving
 pub mod Shares
 pub mod Standing
+pub mod Trimmed

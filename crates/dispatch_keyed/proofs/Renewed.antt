@@ -1,8 +1,6 @@
 -- The first messages that are kept, as some are renewed.
 use Rattle.std.proofs.Common.{◌≡◌, ◌≢◌, ℕ, ◌-◌, ◌^◌, ◌<◌, ◌≤◌, Bool, true, false, cond, List, [], ◌∷◌, Option, Some, None, ◌⊎◌, inl, inr, refl, sym, ap, ◌∙◌, subst, arith}
 use Rattle.std.specs.List.{find}
-use Rattle.std.specs.Ordering.{nat_cmp}
-use Rattle.std.specs.BTreeMap as tree
 use Rattle.std.proofs.lemmas.Bool.{cases_eq, cases_lt, cases_Bool}
 use Rattle.std.proofs.lemmas.Option.{same_Some, none-some}
 use Rattle.position_core.specs.declared.block.Block.{Block}
@@ -14,12 +12,14 @@ use Rattle.delivery_machine.specs.ShareSets.{AreApart}
 use Rattle.delivery_machine.proofs.Sticky.{free_of, owner_stays}
 use Rattle.delivery_machine.proofs.StickyLeft.{others as gone_from, owner_gone, owner_left as owner_stayed}
 use Rattle.dispatch_core.specs.Changes.{OnlyLineChanges}
-use Rattle.hash_rows.specs.declared.row.Row.{Row}
+use Rattle.hash_rows.specs.Standing.{Found}
 use Rattle.hash_rows.specs.Knowing.{Knows, KeeperIsRight, WaitBefore, IsFirstOf}
 use Rattle.hash_rows.proofs.Moving.{hash_of_log, first_stays}
 use Rattle.dispatch_keyed.specs.Owning.{owners_in}
 use Rattle.dispatch_keyed.specs.Agreeing.{Agrees}
 use Rattle.dispatch_keyed.specs.Resharing.{IsOutside, SameButFirsts, IsRenewed}
+use Rattle.dispatch_keyed.specs.Tables.{row_at}
+use Rattle.dispatch_keyed.specs.declared.table.Rows.{Rows}
 use Rattle.dispatch_keyed.specs.declared.keyed.Keyed.{Keyed}
 use Rattle.dispatch_keyed.proofs.Agreed.{row_of, number_of, agrees_shared}
 use Rattle.dispatch_keyed.proofs.Firsts.{ownerless, no_first}
@@ -43,12 +43,12 @@ renewed_on a b c h s sub rest number renewed =
     (subst (λ shares. Of b.rows (number_of c h) shares) (sym (shares_in rest.owners))
     (subst (λ (o : Option ℕ). Of b.rows o b.owners.shares) (sym number) renewed))
   where
-    Of : tree.BTreeMap ℕ Row → Option ℕ → Shares → Type 0
+    Of : Rows → Option ℕ → Shares → Type 0
     Of rows first shares =
-        KeeperIsRight (tree.get nat_cmp rows h) s sub
-        → WaitBefore (tree.get nat_cmp rows h) (2 ^ 32 - 1)
-        → (tree.get nat_cmp rows h ≡ None → number_of a h ≡ None)
-        → IsFirstOf (tree.get nat_cmp rows h) first (owner_of shares h) s sub
+        KeeperIsRight (row_at rows h) s sub
+        → WaitBefore (row_at rows h) (2 ^ 32 - 1)
+        → ((row_at rows h).row ≡ None → number_of a h ≡ None)
+        → IsFirstOf (row_at rows h) first (owner_of shares h) s sub
 
 -- it was not touched before
 pub renewed_since : (a b c : Keyed) (h : ℕ) (s : State) (sub : Subscription) → number_of b h ≡ number_of a h → IsRenewed b c h s sub → IsRenewed a c h s sub
@@ -58,13 +58,13 @@ renewed_since a b c h s sub number renewed right before absent = renewed right b
 pub renewed_again : (a b c : Keyed) (h : ℕ) (s : State) (sub : Subscription) → SameButFirsts b c → IsRenewed a b h s sub → IsRenewed b c h s sub → IsRenewed a c h s sub
 renewed_again a b c h s sub rest first then right before absent =
     then right before (λ none.
-    no_first (row_of b h) (number_of b h) (owner_of b.owners.shares h) s sub (at_b (λ (o : Option Row). o ≡ None) none)
-    (first (at_b (λ (o : Option Row). KeeperIsRight o s sub) right) (at_b (λ (o : Option Row). WaitBefore o (2 ^ 32 - 1)) before) (λ gone. absent (same_row ∙ gone))))
+    no_first (row_of b h) (number_of b h) (owner_of b.owners.shares h) s sub (at_b (λ (o : Found). o.row ≡ None) none)
+    (first (at_b (λ (o : Found). KeeperIsRight o s sub) right) (at_b (λ (o : Found). WaitBefore o (2 ^ 32 - 1)) before) (λ gone. absent (ap (λ (o : Found). o.row) same_row ∙ gone))))
   where
     same_row : row_of c h ≡ row_of b h
-    same_row = ap (λ m. tree.get nat_cmp m h) rest.rows
+    same_row = ap (λ m. row_at m h) rest.rows
 
-    at_b : (P : Option Row → Type 0) → P (row_of c h) → P (row_of b h)
+    at_b : (P : Found → Type 0) → P (row_of c h) → P (row_of b h)
     at_b P p = subst P same_row p
 
 -- ---- members
@@ -87,7 +87,7 @@ module _ (d e : Keyed) (s : State) (sub : Subscription) (t : State) (new : Subsc
   -- the owner stays
   still_first : (h : ℕ) → h < 2 ^ 16 → number_of e h ≡ number_of d h → owner_of e.owners.shares h ≡ owner_of d.owners.shares h → IsRenewed d e h t new
   still_first h within number owner right before absent =
-      subst (λ (o : Option Row). IsFirstOf o (number_of e h) (owner_of e.owners.shares h) t new) (sym (ap (λ m. tree.get nat_cmp m h) rows))
+      subst (λ (o : Found). IsFirstOf o (number_of e h) (owner_of e.owners.shares h) t new) (sym (ap (λ m. row_at m h) rows))
       (subst (λ (o : Option ℕ). IsFirstOf (row_of d h) o (owner_of e.owners.shares h) t new) (sym number)
       (subst (λ (o : Option ℕ). IsFirstOf (row_of d h) (number_of d h) o t new) (sym (owner ∙ ap (λ bs. owner_of bs h) (shares_in agreed.owners)))
       (first_stays (row_of d h) h d.read s sub t new (λ i _. hash_of_log s t i change.log.log) (λ i _ _. change.messages i) known.row (number_of d h) (owner_of sub.shares h) known.first)))
@@ -150,4 +150,4 @@ module _ (d e : Keyed) (s : State) (sub : Subscription) (t : State) (new : Subsc
   -- the consumer left, and the first messages of its hashes were taken out before
   pub agrees_forgotten : (consumer : ℕ) → e.owners ≡ owners_in t new → e.read ≡ d.read → e.sent ≡ d.sent → e.owners.shares ≡ shares_without consumer d.owners.shares → d.owners.shares.sticky ≡ true → AreApart 0 d.owners.shares.blocks → ((h : ℕ) → owner_of d.owners.shares h ≢ Some consumer → number_of e h ≡ number_of d h) → ((h : ℕ) → owner_of d.owners.shares h ≡ Some consumer → number_of e h ≡ None) → Agrees e t new
   agrees_forgotten consumer owners read sent shares is_sticky apart others gone =
-      agrees_shared d e s sub t new change agreed owners read sent (λ h. ap (λ m. tree.get nat_cmp m h) rows) (firsts_forgotten consumer shares is_sticky apart others gone)
+      agrees_shared d e s sub t new change agreed owners read sent (λ h. ap (λ m. row_at m h) rows) (firsts_forgotten consumer shares is_sticky apart others gone)

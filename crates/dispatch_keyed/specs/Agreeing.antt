@@ -1,8 +1,6 @@
 -- How the tables agree with a topic.
 use Rattle.std.specs.Prelude.{◌≡◌, ℕ, ◌-◌, ◌^◌, ◌≤◌, ◌<◌, Bool, true, ◌||◌, Option, Some, None, is_some, length}
-use Rattle.std.specs.Ordering.{nat_cmp}
 use Rattle.std.specs.FinMap as map_of
-use Rattle.std.specs.BTreeMap as tree
 use Rattle.position_core.specs.declared.kind.Kind.TheVariants.{KeyShared}
 use Rattle.delivery_machine.specs.State.{State, Subscription}
 use Rattle.delivery_machine.specs.Words.{visible}
@@ -11,6 +9,7 @@ use Rattle.dispatch_core.specs.Changes.{OnlyChangesAt}
 use Rattle.hash_rows.specs.Knowing.{Knows}
 use Rattle.dispatch_keyed.specs.Hashes.{HasNoRoomyOwner}
 use Rattle.dispatch_keyed.specs.Owning.{owners_in}
+use Rattle.dispatch_keyed.specs.Tables.{row_at}
 use Rattle.dispatch_keyed.specs.declared.keyed.Keyed.{Keyed}
 
 pub record Agrees (d : Keyed) (s : State) (sub : Subscription) : Type 0 where
@@ -19,7 +18,7 @@ pub record Agrees (d : Keyed) (s : State) (sub : Subscription) : Type 0 where
   pub seen : d.read ≤ length (visible s)
   pub small : d.read ≤ 2 ^ 32 - 1
   pub unsent : (i : ℕ) → d.read ≤ i → d.sent ≤ i → holder_at s sub i ≡ None
-  pub hashes : (h : ℕ) → h < 2 ^ 16 → Knows (tree.get nat_cmp d.rows h) (map_of.get d.firsts.numbers h) h d.read s sub
+  pub hashes : (h : ℕ) → h < 2 ^ 16 → Knows (row_at d.rows h) (map_of.get d.firsts.numbers h) h d.read s sub
 
 -- where the hash has a message that could be sent, its owner has no room
 abbrev pub IsStuck : Keyed → State → Subscription → ℕ → Type 0

@@ -1,12 +1,11 @@
 -- What changes as hashes get another owner.
 use Rattle.std.specs.Prelude.{◌≡◌, ℕ, ◌+◌, ◌-◌, ◌^◌, ◌≤◌, ◌<◌, Option, Some, None}
-use Rattle.std.specs.Ordering.{nat_cmp}
 use Rattle.std.specs.FinMap as map_of
-use Rattle.std.specs.BTreeMap as tree
 use Rattle.position_core.specs.declared.block.Block.{Block}
 use Rattle.delivery_machine.specs.State.{State, Subscription}
 use Rattle.delivery_machine.specs.Shares.{owner_of}
 use Rattle.hash_rows.specs.Knowing.{KeeperIsRight, WaitBefore, IsFirstOf}
+use Rattle.dispatch_keyed.specs.Tables.{row_at}
 use Rattle.dispatch_keyed.specs.declared.keyed.Keyed.{Keyed}
 
 -- the hash is not in the share, if there is one
@@ -23,7 +22,7 @@ pub record SameButFirsts (d e : Keyed) : Type 0 where
 -- where its row is right, so is the first message that is kept of the hash
 abbrev pub IsRenewed : Keyed → Keyed → ℕ → State → Subscription → Type 0
 IsRenewed d e h s sub =
-    KeeperIsRight (tree.get nat_cmp e.rows h) s sub
-    → WaitBefore (tree.get nat_cmp e.rows h) (2 ^ 32 - 1)
-    → (tree.get nat_cmp e.rows h ≡ None → map_of.get d.firsts.numbers h ≡ None)
-    → IsFirstOf (tree.get nat_cmp e.rows h) (map_of.get e.firsts.numbers h) (owner_of e.owners.shares h) s sub
+    KeeperIsRight (row_at e.rows h) s sub
+    → WaitBefore (row_at e.rows h) (2 ^ 32 - 1)
+    → ((row_at e.rows h).row ≡ None → map_of.get d.firsts.numbers h ≡ None)
+    → IsFirstOf (row_at e.rows h) (map_of.get e.firsts.numbers h) (owner_of e.owners.shares h) s sub

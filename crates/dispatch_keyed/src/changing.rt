@@ -25,6 +25,9 @@ impl Keyed {
         ensures { (s : State) (sub : Subscription) → IsNews self.old index waits holder s sub (V.state view.now) (V.subscription view.now)
             → Agrees self.old s sub → Agrees self.new (V.state view.now) (V.subscription view.now) }
     {
+        if index >= self.read {
+            return;
+        }
         let hash = hash_at(view, index);
         rows::stand(&mut self.rows, hash, index, waits, holder);
         renew(

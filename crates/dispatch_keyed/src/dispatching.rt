@@ -2,11 +2,11 @@
 use crate::keyed::Keyed;
 use crate::resharing::hashes_of;
 use crate::seats::Owners;
+use crate::table::Rows;
 use dispatch_core::{Dispatcher, Offer, View};
 use hash_firsts::HashFirsts;
 use position_core::{ConsumerNumber, Fault, LogIndex};
 use std::alloc::Global;
-use std::collections::BTreeMap;
 
 impl Dispatcher for Keyed {
     ghost use Rattle.std.specs.Prelude.{◌≡◌, [], IsOk, IfOk, OnOk, OnErr, IfErr, IfSome, IfNone};
@@ -28,7 +28,7 @@ impl Dispatcher for Keyed {
             owners: Owners::new(alloc),
             read: 0,
             sent: view.length(),
-            rows: BTreeMap::new(alloc),
+            rows: Rows::new(alloc),
             firsts: HashFirsts::new(alloc),
         })
     }
@@ -102,12 +102,19 @@ impl Dispatcher for Keyed {
         Ok(())
     }
 
+    fn on_trim<V: View>(&mut self, view: &V, count: u64) {
+        if self.can_follow(count) {
+            self.follow(count);
+        } else {
+            self.begin_anew(view);
+        }
+    }
+
     ghost use Rattle.std.proofs.Common.{◌∙◌, sym, ap₂, map};
-    ghost use Rattle.std.specs.Ordering.{nat_cmp};
     ghost use Rattle.std.specs.FinMap as map_of;
-    ghost use Rattle.std.specs.BTreeMap as tree;
     ghost use Rattle.hash_rows.proofs.Moving.{knows_kept, seen_kept};
     ghost use Rattle.dispatch_keyed.specs.Owning.{owners_with};
+    ghost use Rattle.dispatch_keyed.specs.Tables.{row_at};
 
     ghost kept = { λ d s sub agreed t new change. record {
       kind = change.kind ∙ agreed.kind;
@@ -115,6 +122,6 @@ impl Dispatcher for Keyed {
       seen = seen_kept d.read s sub t new agreed.seen change;
       small = agreed.small;
       unsent = λ i read sent. (change.messages i).holder ∙ agreed.unsent i read sent;
-      hashes = λ h within. knows_kept (tree.get nat_cmp d.rows h) (map_of.get d.firsts.numbers h) h d.read s sub t new (agreed.hashes h within) change;
+      hashes = λ h within. knows_kept (row_at d.rows h) (map_of.get d.firsts.numbers h) h d.read s sub t new (agreed.hashes h within) change;
     } };
 }

@@ -1,11 +1,10 @@
 // The tables of the kind in which each hash has its owner.
-ghost use Rattle.std.specs.Prelude.{◌≡◌, ℕ, true, is_some};
-ghost use Rattle.std.specs.Ordering.{nat_cmp};
+ghost use Rattle.std.specs.Prelude.{◌≡◌, ℕ, ◌-◌, ◌^◌, ◌≤◌, true};
 ghost use Rattle.std.specs.FinSet as set;
-ghost use Rattle.std.specs.BTreeMap as tree;
+ghost use Rattle.dispatch_keyed.specs.Tables.{HasRow};
 
-use crate::rows::Rows;
 use crate::seats::Owners;
+use crate::table::Rows;
 use hash_firsts::HashFirsts;
 use position_core::LogIndex;
 use std::alloc::Global;
@@ -30,5 +29,6 @@ pub struct Keyed {
     pub(crate) sent: LogIndex,
     pub(crate) rows: Rows,
     pub(crate) firsts: HashFirsts,
-    ghost room: { (h : ℕ) → is_some (tree.get nat_cmp rows h) ≡ true → set.contains firsts.room h ≡ true },
+    ghost short: { read ≤ 2 ^ 32 - 1 },
+    ghost room: { (h : ℕ) → HasRow rows h → set.contains firsts.room h ≡ true },
 }

@@ -12,5 +12,7 @@ mod resharing;
 mod rows;
 mod seats;
 mod sticking;
+mod table;
+mod trimming;
 
 pub use keyed::Keyed;

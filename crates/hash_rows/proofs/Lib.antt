@@ -5,3 +5,4 @@ pub mod Shed
 pub mod Known
 pub mod Moving
 pub mod Changed
+pub mod Trimmed

@@ -25,6 +25,10 @@ holds_there known i = option_map_or (λ r. holds_in r (known.base + i)) known.ro
 unfoldable pub keeper_of : Found → Option ℕ
 keeper_of known = option_and_then (λ r. r.keeper) known.row
 
+-- the same row, once n more messages went
+abbrev pub later : ℕ → Found → Found
+later n known = record { row = known.row; base = known.base + n }
+
 abbrev pub AllPlacedBefore : Found → ℕ → Type 0
 AllPlacedBefore row index = (i : ℕ) → is_placed row i ≡ true → i < index
 

@@ -11,4 +11,4 @@ returns-clause-ok g c =
     let s = g.V.View.state c.args.view.now in
     let sub = g.V.View.subscription c.args.view.now in
     agrees_empty _ s sub (key_shared sub.kind c.requires.kind) (c.new.ensures ∙ ap₂ owners_with (sym c.requires.unshared) (sym (nobody_in_line s sub c.requires.empty))) refl (λ i past. unsent_behind s sub i (omega (arith, past, c.length.ensures)))
-    c.new-2.ensures.empty (ap (λ (f : Firsts). f.numbers) c.new-3.ensures)
+    c.new-2.ensures (ap (λ (f : Firsts). f.numbers) c.new-3.ensures)

@@ -1,6 +1,5 @@
 use Rattle.std.proofs.Common.{None, ap, ◌∙◌}
-use Rattle.std.specs.Ordering.{nat_cmp}
-use Rattle.std.specs.BTreeMap as tree
+use Rattle.dispatch_keyed.specs.Tables.{row_at}
 use Rattle.dispatch_keyed.proofs.Agreed.{agrees_shared}
 use Rattle.dispatch_keyed.proofs.Owning.{joined_owners, shares_in}
 use Rattle.dispatch_keyed.proofs.Renewed.{firsts_joined}
@@ -15,5 +14,5 @@ returns-in-Ok-clause-ok g c s sub change agreed =
     let call = c.renew_owned.ensures in
     agrees_shared d e s sub t new change.stays agreed
     (call.rest.owners ∙ joined_owners s sub t new None c.args.consumer d.owners c.join.new.self change agreed.kind agreed.owners c.in-Ok.ensures.ok)
-    call.rest.read call.rest.sent (λ h. ap (λ m. tree.get nat_cmp m h) call.rest.rows)
+    call.rest.read call.rest.sent (λ h. ap (λ m. row_at m h) call.rest.rows)
     (firsts_joined d e s sub t new agreed change.stays call.rest.rows c.args.consumer c.join.new.self.shares (shares_in c.in-Ok.ensures.ok) (shares_in call.rest.owners) call.others call.first)

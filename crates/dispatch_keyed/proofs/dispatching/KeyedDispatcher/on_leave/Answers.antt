@@ -1,7 +1,6 @@
 use Rattle.std.proofs.Common.{ap, sym, ◌∙◌}
-use Rattle.std.specs.Ordering.{nat_cmp}
-use Rattle.std.specs.BTreeMap as tree
 use Rattle.delivery_machine.specs.Shares.{shares_without}
+use Rattle.dispatch_keyed.specs.Tables.{row_at}
 use Rattle.dispatch_keyed.specs.declared.seats.Owners.{Owners}
 use Rattle.dispatch_keyed.proofs.Agreed.{agrees_shared}
 use Rattle.dispatch_keyed.proofs.Owning.{left_owners, shares_in}
@@ -30,5 +29,5 @@ returns-else-is_sticky g c s sub change agreed =
     let left = c.leave-else-is_sticky in
     agrees_shared d e s sub t new change.stays agreed
     (call.rest.owners ∙ left_owners s sub t new c.args.consumer d.owners left.new.self change agreed.owners left.ensures)
-    call.rest.read call.rest.sent (λ h. ap (λ m. tree.get nat_cmp m h) call.rest.rows)
+    call.rest.read call.rest.sent (λ h. ap (λ m. row_at m h) call.rest.rows)
     (firsts_left d e s sub t new agreed change.stays call.rest.rows c.args.consumer _ _ (shares_in (call.rest.owners ∙ left.ensures)) (sym c.is_sticky.ensures ∙ c.if-is_sticky.false) c.hashes_of-from.ensures.split c.hashes_of-from.ensures.outside call.others call.first)

@@ -1,8 +1,7 @@
 use Rattle.std.proofs.Common.{◌≡◌, Some, false, ap, sym, ◌∙◌, List, subst}
-use Rattle.std.specs.Ordering.{nat_cmp}
-use Rattle.std.specs.BTreeMap as tree
 use Rattle.position_core.specs.declared.ranges.HashRange.{HashRange}
 use Rattle.delivery_machine.specs.Shares.{is_taken, sticky_with}
+use Rattle.dispatch_keyed.specs.Tables.{row_at}
 use Rattle.dispatch_keyed.proofs.Agreed.{agrees_shared}
 use Rattle.dispatch_keyed.proofs.Owning.{joined_owners, shares_in}
 use Rattle.dispatch_keyed.proofs.Renewed.{firsts_taken}
@@ -19,7 +18,7 @@ returns-in-Ok-clause-ok g c s sub change agreed =
     let same : ranges ≡ c.args.ranges.now = c.as_slice.ensures.value in
     agrees_shared d e s sub t new change.stays agreed
     (call.rest.owners ∙ joined_owners s sub t new (Some c.args.ranges.now) c.args.consumer d.owners c.join_sticky.new.self change agreed.kind agreed.owners c.in-Ok.ensures.ok)
-    call.rest.read call.rest.sent (λ h. ap (λ m. tree.get nat_cmp m h) call.rest.rows)
+    call.rest.read call.rest.sent (λ h. ap (λ m. row_at m h) call.rest.rows)
     (firsts_taken d e s sub t new agreed change.stays call.rest.rows c.args.consumer ranges
     (shares_in (call.rest.owners ∙ c.in-Ok.ensures.ok) ∙ ap (λ (rs : List HashRange). sticky_with c.args.consumer rs d.owners.shares) (sym same))
     c.as_slice.ensures.within

@@ -4,6 +4,12 @@ use Rattle.dispatch_keyed.proofs.Agreed.{agrees_same, agrees_read}
 use Rattle.dispatch_keyed.proofs.Standing.{knowledge_on}
 use Rattle.dispatch_keyed.proofs.keyed.Keyed.read_as.Goals as goal
 
+pub returns-in_err-make-clause-agrees : goal.returns-in_err-make-clause-agrees
+returns-in_err-make-clause-agrees g c seen wait_is holder_is agreed =
+    agrees_same c.args.self.now _ c.hash_at-hash.result (g.V.View.state c.args.view.now) (g.V.View.subscription c.args.view.now) agreed refl refl refl
+    c.in_err-make.ensures.others c.in_err-make.ensures.here
+    (λ h. ap (λ m. map_of.get m h) c.in_ok-grow.ensures.same)
+
 pub returns-in_err-push-clause-agrees : goal.returns-in_err-push-clause-agrees
 returns-in_err-push-clause-agrees g c seen wait_is holder_is agreed =
     agrees_same c.args.self.now _ c.hash_at-hash.result (g.V.View.state c.args.view.now) (g.V.View.subscription c.args.view.now) agreed refl refl refl

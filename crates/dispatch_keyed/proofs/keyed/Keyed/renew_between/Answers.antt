@@ -1,10 +1,9 @@
 use Rattle.std.proofs.Common.{◌≡◌, ◌-◌, ◌^◌, inl, inr, sym, ◌∙◌, subst, arith}
-use Rattle.std.specs.Ordering.{nat_cmp}
 use Rattle.std.specs.FinMap as map_of
-use Rattle.std.specs.BTreeMap as tree
 use Rattle.std.proofs.lemmas.Bool.{cases_lt}
 use Rattle.delivery_machine.specs.Shares.{owner_of}
 use Rattle.hash_rows.specs.Knowing.{KeeperIsRight, WaitBefore, IsFirstOf}
+use Rattle.dispatch_keyed.specs.Tables.{row_at}
 use Rattle.dispatch_keyed.proofs.Firsts.{rowless}
 use Rattle.dispatch_keyed.proofs.keyed.Keyed.renew_between.Goals as goal
 
@@ -23,7 +22,7 @@ loop-hash-preserved g c =
       others = λ h out. others h (λ same. out (omega (arith, same, next.0, inv.start)) (omega (arith, same, next.1))) ∙ inv.others h out;
       first = λ h start below right before absent. elim (cases_lt h c.in-Some.hash) [
         | inl sooner ↦
-            let row = tree.get nat_cmp d.rows h in
+            let row = row_at d.rows h in
             subst (λ o. IsFirstOf row o (owner_of d.owners.shares h) s sub) (sym (others h (λ is. omega (arith, is, sooner))))
             (elim (cases_lt h c.loop-hash.next) [
               | inl earlier ↦ inv.first h start earlier right before absent
@@ -33,7 +32,7 @@ loop-hash-preserved g c =
             ])
         | inr here ↦
             let same : h ≡ c.in-Some.hash = omega (arith, here, below, c.from-next.ensures) in
-            subst (λ k. KeeperIsRight (tree.get nat_cmp d.rows k) s sub → WaitBefore (tree.get nat_cmp d.rows k) (2 ^ 32 - 1) → IsFirstOf (tree.get nat_cmp d.rows k) (map_of.get c.renew.new.firsts.numbers k) (owner_of d.owners.shares k) s sub) (sym same) c.renew.ensures.first right before
+            subst (λ k. KeeperIsRight (row_at d.rows k) s sub → WaitBefore (row_at d.rows k) (2 ^ 32 - 1) → IsFirstOf (row_at d.rows k) (map_of.get c.renew.new.firsts.numbers k) (owner_of d.owners.shares k) s sub) (sym same) c.renew.ensures.first right before
       ];
     }
 
@@ -46,7 +45,7 @@ returns-clause-first g c h start below within right before absent =
     elim (cases_lt h c.loop-hash.next) [
       | inl earlier ↦ inv.first h start earlier right before absent
       | inr later ↦
-          let row = tree.get nat_cmp d.rows h in
+          let row = row_at d.rows h in
           let none = c.in_default.ensures.none h later below within in
           subst (λ o. IsFirstOf row o (owner_of d.owners.shares h) s sub) (sym (inv.behind h later ∙ absent none)) (rowless row (owner_of d.owners.shares h) s sub none)
     ]
