@@ -1,17 +1,16 @@
 -- After each change the table tells what waits, as before.
-use Rattle.std.proofs.Common.{◌≡◌, ℕ, List, [], ◌∷◌, ◌++◌, ◌+◌, ◌<◌, ◌≤◌, Bool, true, false, not, length, Option, Some, None, inl, inr, refl, sym, ap, ◌∙◌, arith}
-use Rattle.std.specs.Prelude.{◌==◌, ◌&&◌, ◌||◌, IfSome, IfNone}
-use Rattle.std.specs.Ordering.{nat_cmp, eq_by_cmp}
+use Rattle.std.proofs.Common.{◌≡◌, ℕ, [], ◌∷◌, ◌<◌, ◌≤◌, Bool, true, false, not, length, inl, inr, refl, sym, ap, ◌∙◌, arith}
+use Rattle.std.specs.Prelude.{◌==◌, ◌&&◌, ◌||◌}
+use Rattle.std.specs.Ordering.{nat_cmp}
 use Rattle.std.specs.Cmp.{nat_cmp_total, unsigned_tied}
 use Rattle.std.specs.FinSet as set
-use Rattle.std.proofs.lemmas.Bool.{cases_eq, cases_lt, ne_eqb, eq-eqb, false≢true}
+use Rattle.std.proofs.lemmas.Bool.{cases_eq, ne_eqb, eq-eqb}
 use Rattle.std.proofs.lemmas.List.{length-take, length-take-le, length-append}
 use Rattle.delivery_machine.specs.State.{State, Subscription}
 use Rattle.delivery_machine.specs.Words.{visible}
-use Rattle.dispatch_core.specs.Log.{waits_at, IsReadyAt, IsNextReady, NoneReady}
-use Rattle.dispatch_core.specs.Changes.{StaysAt, LogStays, OnlyLineChanges, OnlyChangesAt, Appended, TakenBack, Sent, Gone, Released, Kept}
-use Rattle.place_bits.specs.Places.{IsNext, NoneFrom}
-use Rattle.waiting_places.specs.Waiting.{Waiting, Tells, NoneReadyBetween}
+use Rattle.dispatch_core.specs.Log.{waits_at}
+use Rattle.dispatch_core.specs.Changes.{OnlyLineChanges, OnlyChangesAt, Appended, TakenBack, Kept}
+use Rattle.waiting_places.specs.Waiting.{Waiting, Tells}
 
 -- ---- after changes that leave the messages as they were
 

@@ -1,8 +1,8 @@
 // The table that dispatchers keep where a subscription's messages go out in topic order.
-ghost use Rattle.std.specs.Prelude.{◌≡◌, ℕ, false, OnOk, OnErr, IfSome, IfNone};
+ghost use Rattle.std.specs.Prelude.{◌≡◌, ℕ, ◌%◌, false, OnOk, OnErr, IfSome, IfNone};
 ghost use Rattle.std.specs.FinSet as set;
 ghost use Rattle.dispatch_core.specs.Log.{IsNextReady, NoneReady};
-ghost use Rattle.dispatch_core.specs.Changes.{Sent, Gone, Released, AgreesAfter};
+ghost use Rattle.dispatch_core.specs.Changes.{Trimmed, Sent, Gone, Released, AgreesAfter};
 ghost use Rattle.waiting_places.specs.Waiting.{NoneReadyBetween, Tells};
 
 use dispatch_core::View;
@@ -13,8 +13,8 @@ use std::marker::Model;
 
 /// Which messages of a subscription wait: those from the read index on that the view shows, and of
 /// those before it the ones that came back. As long as messages are sent as they are found here,
-/// none from the read index on is pending, so the view goes over none. Each call takes the time of a
-/// look into the set and of one call of the view at most.
+/// none from the read index on is pending, so the view goes over none. Each call but `on_trim` takes the
+/// time of a look into the set and of one call of the view at most.
 pub struct WaitingPlaces {
     read: LogIndex,
     /// What waits before `read`. It has room for all places there, so that a release takes no memory.
@@ -65,6 +65,17 @@ impl WaitingPlaces {
             Some(place) => Some(place),
             None => view.next_waiting(self.read),
         }
+    }
+
+    /// The first messages of the log went, so many: whole sixty-fours. It goes over the set, a step for
+    /// each 64 messages before the read index.
+    pub fn on_trim<V: View>(&mut self, view: &V, count: u64)
+        requires { count % 64 ≡ 0 }
+        ensures { AgreesAfter (Trimmed count) (Tells self.old) (Tells self.new)
+            (V.state view.now) (V.subscription view.now) }
+    {
+        self.read = self.read.saturating_sub(count);
+        self.returned.shift_down(count);
     }
 
     /// The message was sent.
