@@ -48,6 +48,14 @@ impl Dispatcher for Keyed {
 
     fn undo_append<V: View>(&mut self, _view: &V) {}
 
+    fn on_trim<V: View>(&mut self, view: &V, count: u64) {
+        if self.can_follow(count) {
+            self.follow(count);
+        } else {
+            self.begin_anew(view);
+        }
+    }
+
     fn on_join<V: View>(&mut self, view: &V, consumer: ConsumerNumber) -> Result<(), Fault> {
         match self.owners.join(consumer) {
             Ok(()) => {
@@ -100,14 +108,6 @@ impl Dispatcher for Keyed {
         self.rows.clear();
         self.firsts.clear();
         Ok(())
-    }
-
-    fn on_trim<V: View>(&mut self, view: &V, count: u64) {
-        if self.can_follow(count) {
-            self.follow(count);
-        } else {
-            self.begin_anew(view);
-        }
     }
 
     ghost use Rattle.std.proofs.Common.{◌∙◌, sym, ap₂, map};

@@ -79,6 +79,10 @@ impl Dispatcher for Shared {
 
     fn undo_append<V: View>(&mut self, _view: &V) {}
 
+    fn on_trim<V: View>(&mut self, view: &V, count: u64) {
+        self.waiting.on_trim(view, count);
+    }
+
     fn on_join<V: View>(&mut self, view: &V, _consumer: ConsumerNumber) -> Result<(), Fault> {
         match view.member(self.seats.len() as u64) {
             Some(seen) => sit(&mut self.seats, Seat::of(&seen)),

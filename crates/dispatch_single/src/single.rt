@@ -86,6 +86,10 @@ impl Dispatcher for Single {
 
     fn undo_append<V: View>(&mut self, _view: &V) {}
 
+    fn on_trim<V: View>(&mut self, view: &V, count: u64) {
+        self.waiting.on_trim(view, count);
+    }
+
     fn on_join<V: View>(&mut self, view: &V, _consumer: ConsumerNumber) -> Result<(), Fault> {
         self.line.join(view);
         Ok(())

@@ -1,12 +1,12 @@
 // A subscription's dispatcher, of whichever kind.
-ghost use Rattle.std.specs.Prelude.{◌≡◌, [], Some, None, IsOk, IfOk, IfErr, OnOk, OnErr, IfSome, IfNone, if◌then◌else◌};
+ghost use Rattle.std.specs.Prelude.{◌≡◌, ◌%◌, [], Some, None, IsOk, IfOk, IfErr, OnOk, OnErr, IfSome, IfNone, if◌then◌else◌};
 ghost use Rattle.position_core.specs.declared.fault.Fault.TheVariants.{NoMemory};
 ghost use Rattle.position_core.specs.Kind.{is_in_order};
 ghost use Rattle.delivery_machine.specs.Shares.{no_shares};
 ghost use Rattle.delivery_machine.specs.State.{State, Subscription};
 ghost use Rattle.delivery_machine.specs.Words.{active_at, members_of, NoneEligible};
 ghost use Rattle.dispatch_core.specs.Offers.{IsGoodOffer};
-ghost use Rattle.dispatch_core.specs.Changes.{Appended, TakenBack, Joined, Left, Sent, Gone, Released, Reset, AgreesAfter, WillAgree};
+ghost use Rattle.dispatch_core.specs.Changes.{Appended, TakenBack, Trimmed, Joined, Left, Sent, Gone, Released, Reset, AgreesAfter, WillAgree};
 ghost use Rattle.dispatchers.specs.Agreeing.{agrees, AsksForFree};
 
 use dispatch_core::{Dispatcher, Offer, View};
@@ -117,6 +117,21 @@ impl Dispatch {
             Dispatch::InOrder(d) => d.undo_append(view),
             Dispatch::InTurn(d) => d.undo_append(view),
             Dispatch::ByKey(d) => d.undo_append(view),
+        }
+    }
+
+    /// The first messages of the log went, so many, which all had done with: whole sixty-fours. The view
+    /// shows the log without them. In the kinds in order and in Shared this takes a step for each 64
+    /// messages that were read; in Key_Shared it goes over the hashes that have had a message.
+    pub fn on_trim<V: View>(&mut self, view: &V, count: u64)
+        requires { count % 64 ≡ 0 }
+        ensures { AgreesAfter (Trimmed count) (agrees self.old) (agrees self.new)
+            (V.state view.now) (V.subscription view.now) }
+    {
+        match self {
+            Dispatch::InOrder(d) => d.on_trim(view, count),
+            Dispatch::InTurn(d) => d.on_trim(view, count),
+            Dispatch::ByKey(d) => d.on_trim(view, count),
         }
     }
 
