@@ -1,11 +1,13 @@
 -- The rows after a change of one of them.
 use Rattle.std.proofs.Common.{◌≡◌, ℕ, ◌+◌, ◌-◌, inl, inr, arith, Bool, true, false, cond, Option, Some, None, Result, Ok, Err, refl, sym, ap, ◌∙◌, true≢false}
 use Rattle.std.specs.Prelude.{◌==◌, ◌&&◌, ◌||◌, is_some, OnOk, OnErr}
-use Rattle.std.proofs.lemmas.Bool.{cases_eq, cases_lt, ne_eqb, eq-eqb}
+use Rattle.std.specs.Option.{option_map_or, option_and_then}
+use Rattle.std.proofs.lemmas.Bool.{cases_eq, cases_lt, ne_eqb, eq-eqb, false_from_ne_true}
 use Rattle.std.proofs.lemmas.Option.{same_Some, none-some}
 use Rattle.hash_rows.specs.declared.row.Row.{Row}
 use Rattle.hash_rows.specs.Rows.{is_in, waits_in, holds_in, AllBefore, KnowsAsMuch, KnowsFrom, HasOneMore}
 use Rattle.hash_rows.specs.Standing.{Found, is_placed, waits_there, holds_there, keeper_of, AllPlacedBefore, SameKnowledge, Stands, Added}
+use Rattle.hash_rows.proofs.Changed.{waits_placed, holds_placed}
 use Rattle.dispatch_keyed.specs.Tables.{found_in}
 
 -- two messages are the same where they are so from the base on
@@ -76,7 +78,7 @@ module _ (base index : ℕ) (row shed other : Row) (same : KnowsFrom base row sh
     places = λ i. more.places (base + i) ∙ same.places i;
     waits = λ i. more.waits (base + i) ∙ same.waits i;
     holds = λ i. more.holds (base + i) ∙ same.holds i;
-    keeper = more.keeper ∙ same.keeper;
+    keeper = λ c is. sym (more.keeper ∙ same.keeper) ∙ is;
   }
 
   added_one : HasOneMore (base + index) shed other → Added index (found_in base (Some row)) (found_in base (Some other))
@@ -108,17 +110,40 @@ module _ (base index : ℕ) (row shed other : Row) (same : KnowsFrom base row sh
 -- a new row is as good as none
 pub new_row : (base : ℕ) (row : Row) → ((i : ℕ) → is_in row i ≡ false) → ((i : ℕ) → waits_in row i ≡ false) → ((i : ℕ) → holds_in row i ≡ false) → row.keeper ≡ None → SameKnowledge (found_in base None) (found_in base (Some row))
 unfolding is_placed waits_there holds_there keeper_of
-new_row base row places waits holds keeper = record { places = λ i. places (base + i); waits = λ i. waits (base + i); holds = λ i. holds (base + i); keeper = keeper }
+new_row base row places waits holds keeper = record { places = λ i. places (base + i); waits = λ i. waits (base + i); holds = λ i. holds (base + i); keeper = λ c is. absurd (none-some c (sym keeper ∙ is)) }
+
+-- the word of a row that is found
+pub none_placed : (base : ℕ) (row : Row) → ((i : ℕ) → is_in row (base + i) ≡ false) → (i : ℕ) → is_placed (found_in base (Some row)) i ≡ false
+unfolding is_placed
+none_placed base row none i = none i
+
+pub shed_alike : (base : ℕ) (row other : Row) → KnowsFrom base row other → SameKnowledge (found_in base (Some row)) (found_in base (Some other))
+unfolding is_placed waits_there holds_there keeper_of
+shed_alike base row other same = record { places = same.places; waits = same.waits; holds = same.holds; keeper = λ c is. sym same.keeper ∙ is }
+
+-- a row without messages is as good as none
+pub row_taken : (o p : Found) → ((i : ℕ) → is_placed o i ≡ false) → p.row ≡ None → SameKnowledge o p
+unfolding is_placed waits_there holds_there keeper_of
+row_taken o p done none = record {
+  places = λ i. ap (λ (row : Option Row). option_map_or (λ r. is_in r (p.base + i)) row false) none ∙ sym (done i);
+  waits = λ i.
+      ap (λ (row : Option Row). option_map_or (λ r. waits_in r (p.base + i)) row false) none
+      ∙ sym (false_from_ne_true _ (λ is. true≢false (sym (waits_placed o i is) ∙ done i)));
+  holds = λ i.
+      ap (λ (row : Option Row). option_map_or (λ r. holds_in r (p.base + i)) row false) none
+      ∙ sym (false_from_ne_true _ (λ is. true≢false (sym (holds_placed o i is) ∙ done i)));
+  keeper = λ c is. absurd (none-some c (sym (ap (λ (row : Option Row). option_and_then (λ r. r.keeper) row) none) ∙ is));
+}
 
 pub knowledge_itself : (o : Found) → SameKnowledge o o
-knowledge_itself o = record { places = λ _. refl; waits = λ _. refl; holds = λ _. refl; keeper = refl }
+knowledge_itself o = record { places = λ _. refl; waits = λ _. refl; holds = λ _. refl; keeper = λ _ is. is }
 
 pub knowledge_on : (o p q : Found) → SameKnowledge o p → SameKnowledge p q → SameKnowledge o q
 knowledge_on o p q first then = record {
   places = λ i. then.places i ∙ first.places i;
   waits = λ i. then.waits i ∙ first.waits i;
   holds = λ i. then.holds i ∙ first.holds i;
-  keeper = then.keeper ∙ first.keeper;
+  keeper = λ c is. first.keeper c (then.keeper c is);
 }
 
 pub then_ok : {T E P Q : Type 0} (r : Result T E) → (P → Q) → OnOk r P → OnOk r Q

@@ -30,6 +30,7 @@ impl Dispatcher for Keyed {
             sent: view.length(),
             rows: Rows::new(alloc),
             firsts: HashFirsts::new(alloc),
+            swept: 0,
         })
     }
 
@@ -51,6 +52,7 @@ impl Dispatcher for Keyed {
     fn on_trim<V: View>(&mut self, view: &V, count: u64) {
         if self.can_follow(count) {
             self.follow(count);
+            self.sweep(count);
         } else {
             self.begin_anew(view);
         }

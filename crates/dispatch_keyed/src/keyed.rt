@@ -29,6 +29,8 @@ pub struct Keyed {
     pub(crate) sent: LogIndex,
     pub(crate) rows: Rows,
     pub(crate) firsts: HashFirsts,
+    /// The rows of the hashes below it were looked at last for what went from the log.
+    pub(crate) swept: u32,
     ghost short: { read ≤ 2 ^ 32 - 1 },
     ghost room: { (h : ℕ) → HasRow rows h → set.contains firsts.room h ≡ true },
 }

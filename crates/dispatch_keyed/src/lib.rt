@@ -12,6 +12,7 @@ mod resharing;
 mod rows;
 mod seats;
 mod sticking;
+mod sweeping;
 mod table;
 mod trimming;
 

@@ -92,7 +92,7 @@ pub(crate) fn push(rows: &mut Rows, hash: u16, index: LogIndex) -> Result<(), Al
 }
 
 /// The least hash from `from` on that has a row.
-fn next_hash(rows: &Rows, from: u32) -> Option<u16>
+pub(crate) fn next_hash(rows: &Rows, from: u32) -> Option<u16>
     ensures some { IfSome result (λ hash. (from ≤ hash) × (hash < 2 ^ 16) × ((h : ℕ) → from ≤ h → h < hash → (row_at rows.now h).row ≡ None)) }
     ensures none { IfNone result ((h : ℕ) → from ≤ h → h < 2 ^ 16 → (row_at rows.now h).row ≡ None) }
 {

@@ -21,7 +21,7 @@ knows_same o p first hash read s sub same known = record {
     places = λ i is. known.row.places i (sym (same.places i) ∙ is);
     waits = λ i. same.waits i ∙ known.row.waits i;
     holds = λ i. same.holds i ∙ known.row.holds i;
-    keeper = λ c is i held. known.row.keeper c (sym same.keeper ∙ is) i (sym (same.holds i) ∙ held);
+    keeper = λ c is i held. known.row.keeper c (same.keeper c is) i (sym (same.holds i) ∙ held);
   };
   first = record {
     some = λ n is.
@@ -52,11 +52,11 @@ held_in : (r : Row) (p : ℕ) → holds_in r p ≡ true → is_in r p ≡ true
 unfolding holds_in
 held_in r p held = lt-ltb _ _ (r.held_ranks _ held)
 
-waits_placed : (known : Found) (i : ℕ) → waits_there known i ≡ true → is_placed known i ≡ true
+pub waits_placed : (known : Found) (i : ℕ) → waits_there known i ≡ true → is_placed known i ≡ true
 unfolding waits_there is_placed
 waits_placed known i waits = placed_if known.row (known.base + i) waits_in (λ r is. waiting_in r (known.base + i) is) waits
 
-holds_placed : (known : Found) (i : ℕ) → holds_there known i ≡ true → is_placed known i ≡ true
+pub holds_placed : (known : Found) (i : ℕ) → holds_there known i ≡ true → is_placed known i ≡ true
 unfolding holds_there is_placed
 holds_placed known i held = placed_if known.row (known.base + i) holds_in (λ r is. held_in r (known.base + i) is) held
 

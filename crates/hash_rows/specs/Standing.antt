@@ -34,12 +34,12 @@ AllPlacedBefore row index = (i : ℕ) → is_placed row i ≡ true → i < index
 
 -- ---- changes
 
--- the same is known
+-- the same is known, but that the keeper may be known no more
 pub record SameKnowledge (old new : Found) : Type 0 where
   pub places : (i : ℕ) → is_placed new i ≡ is_placed old i
   pub waits : (i : ℕ) → waits_there new i ≡ waits_there old i
   pub holds : (i : ℕ) → holds_there new i ≡ holds_there old i
-  pub keeper : keeper_of new ≡ keeper_of old
+  pub keeper : (consumer : ℕ) → keeper_of new ≡ Some consumer → keeper_of old ≡ Some consumer
 
 -- the message, where it is in the row, waits now or not, and is pending at the holder, if there is one
 pub record Stands (index : ℕ) (wait : Bool) (holder : Option ℕ) (old new : Found) : Type 0 where

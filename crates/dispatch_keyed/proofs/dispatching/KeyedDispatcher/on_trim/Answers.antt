@@ -8,7 +8,10 @@ use Rattle.dispatch_keyed.proofs.dispatching.KeyedDispatcher.on_trim.Goals as go
 pub returns-then-can_follow : goal.returns-then-can_follow
 returns-then-can_follow g c s sub change agreed =
     let call = c.follow.ensures in
-    agrees_trimmed c.args.count c.args.self.now c.follow.new.self s sub (g.V.View.state c.args.view.now) (g.V.View.subscription c.args.view.now) change agreed call.owners call.read call.sent call.rows call.firsts_less
+    let t = g.V.View.state c.args.view.now in
+    let new = g.V.View.subscription c.args.view.now in
+    c.sweep.ensures t new
+    (agrees_trimmed c.args.count c.args.self.now c.follow.new.self s sub t new change agreed call.owners call.read call.sent call.rows call.firsts_less)
 
 pub returns-else-can_follow : goal.returns-else-can_follow
 returns-else-can_follow g c s sub change agreed =
