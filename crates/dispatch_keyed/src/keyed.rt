@@ -19,6 +19,10 @@ pub(crate) const HASHES: u32 = 65_536;
 /// the shares whose owners have no room, and the logarithm of the messages, as long as `look` has read
 /// what can be seen: it goes over the messages from the read index on one by one. Who joins or leaves
 /// costs time by the shares, and by the hashes that get another owner, as far as they have rows.
+///
+/// Where the front of the log goes, no row is touched, but for each message that goes one row is looked
+/// at, in turn: it lets go its messages that went, where they are half of it or more, and is taken out,
+/// with its memory, where it has no other.
 #[derive(Drop)]
 pub struct Keyed {
     pub(crate) alloc: Global,

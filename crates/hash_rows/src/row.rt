@@ -5,8 +5,9 @@ ghost use Rattle.hash_rows.specs.Ranks.{Rises, AreRanksOf};
 use place_bits::PlaceBits;
 use position_core::{ConsumerNumber, LogIndex};
 
-/// The messages of one hash, in the order of the log. Each call takes the logarithm of their number.
-/// Only `push` takes memory.
+/// The messages of one hash, in the order of the log, by numbers that stay as they are when the front of
+/// the log goes: the index in the log and `base`, which is how many messages went till now. Each call but
+/// `shed` takes the logarithm of their number, and only `push` takes memory.
 pub struct Row {
     pub(crate) places: Vec<LogIndex>,
     /// The ranks, among the places, of those that wait.
