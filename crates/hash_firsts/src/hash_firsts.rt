@@ -127,7 +127,8 @@ impl HashFirsts {
         self.top.clear();
     }
 
-    /// Makes the number of each hash less by `by`. Goes over all hashes that have room, in chunks.
+    /// Makes the number of each hash less by `by`. Goes over the hashes of each chunk in which one has a
+    /// number.
     pub fn lower(&mut self, by: u64)
         requires { (hash number : ℕ) → hash < 2 ^ 16 → map_of.get self.old.numbers hash ≡ Some number → by ≤ number }
         ensures numbers { (hash : ℕ) → map_of.get self.new.numbers hash ≡ option_map (λ number. number - by) (map_of.get self.old.numbers hash) }

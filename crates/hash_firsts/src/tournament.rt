@@ -2,7 +2,7 @@
 ghost use Rattle.std.specs.Prelude.{◌≡◌, ◌≢◌, ℕ, ◌<◌, ◌≤◌, ◌==◌, true, false, if◌then◌else◌, OnOk, OnErr, vec_len};
 ghost use Rattle.hash_firsts.specs.Nodes.{nothing, leaf_at, lowered, IsNotBelow, IsRight, IsLeastOf};
 
-use crate::node::{LEAVES, Node, least, lower, node_at, set_leaf};
+use crate::node::{LEAVES, NO_NUMBER, Node, least, lower, node_at, set_leaf};
 use std::alloc::{AllocError, Global};
 
 /// Leaves, each with a number and its hash or with nothing. Without room all have nothing.
@@ -71,13 +71,13 @@ impl Tournament {
         self.nodes.fill(Node::nothing());
     }
 
-    /// Makes the numbers of all leaves less.
+    /// Makes the numbers of all leaves less. Goes over them only where one has a number.
     pub(crate) fn lower(&mut self, by: u64)
         requires { (k : ℕ) → k < 256 → IsNotBelow by (leaf_of self.old k) }
         ensures leaves { (k : ℕ) → leaf_of self.new k ≡ lowered by (leaf_of self.old k) }
         ensures room { has_room self.new ≡ has_room self.old }
     {
-        if !self.nodes.is_empty() {
+        if self.least(0, LEAVES).number < NO_NUMBER {
             lower(&mut self.nodes, by);
         }
     }
