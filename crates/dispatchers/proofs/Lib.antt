@@ -18,3 +18,4 @@ pub mod Chaining
 pub mod Opening
 pub mod Offered
 pub mod Then
+pub mod TellingAll
