@@ -12,7 +12,7 @@ use Rattle.ack_ranges.proofs.Rises.{apart_from_rise, sorted_from_rise, rise_from
 use Rattle.ack_ranges.proofs.Sets.{already_in, joined_set, joined_ranges, raised_at}
 use Rattle.ack_ranges.proofs.Sizes.{one_more}
 
-module _ (low : ℕ) (es : List (ℕ × ℕ)) (rise : RiseAbove low es) (small : AreSmall es) (few : low < 2 ^ 64) (q : ℕ) where
+module _ (low : ℕ) (es : List (ℕ × ℕ)) (rise : RiseAbove low es) (small : AreSmall es) (few : low < 2 ^ 128) (q : ℕ) where
   pub adds_none : set.contains (set_of low es) q ≡ true → Adds low es q low es false
   adds_none is_in = record { was = is_in; same = already_in (set_of low es) q is_in; counted = omega arith; rise = rise; up_small = few; small = small }
 
@@ -21,14 +21,14 @@ module _ (low : ℕ) (es : List (ℕ × ℕ)) (rise : RiseAbove low es) (small :
       let risen : RiseAbove up fs = rise_from_apart up fs sorted apart in
       record { was = out; same = same; counted = one_more low es q up fs rise risen out same; rise = risen; up_small = apart.low_small; small = small_from_apart up fs sorted apart }
 
-  pub adds_low : (fs : List (ℕ × ℕ)) (end : ℕ) → q ≡ low → Sorted fs → q + 1 < 2 ^ 64 → end ≡ end_at (ends_of es) (q + 1) → ends_of fs (q + 1) ≡ None → ((t : ℕ) → tree.is_at (nat_cmp (q + 1)) t ≡ false → ends_of fs t ≡ ends_of es t) → Adds low es q end fs true
+  pub adds_low : (fs : List (ℕ × ℕ)) (end : ℕ) → q ≡ low → Sorted fs → q + 1 < 2 ^ 128 → end ≡ end_at (ends_of es) (q + 1) → ends_of fs (q + 1) ≡ None → ((t : ℕ) → tree.is_at (nat_cmp (q + 1)) t ≡ false → ends_of fs t ≡ ends_of es t) → Adds low es q end fs true
   adds_low fs end same sorted fits is gone others =
       let apart : AreApart low (ends_of es) = apart_from_rise low es few small rise in
       let both : (set_of end fs ≡ set.insert (set_of low es) q) × AreApart end (ends_of fs) = raised_at low es fs q end same (sorted_from_rise low es rise) sorted apart (record { is = is }) fits gone others in
       let out : set.contains (set_of low es) q ≡ false = ap (λ n. set.contains (set_of low es) n) same ∙ (missing_low low es rise small few low (omega arith)).missing in
       adds_new end fs sorted both.1 out both.0
 
-  pub adds_joined : (fs : List (ℕ × ℕ)) (s : ℕ) → Sorted fs → q + 1 < 2 ^ 64 → TakesIn (ends_of es) low s q → Joined (ends_of es) (ends_of fs) s (end_at (ends_of es) (q + 1)) (q + 1) → Adds low es q low fs true
+  pub adds_joined : (fs : List (ℕ × ℕ)) (s : ℕ) → Sorted fs → q + 1 < 2 ^ 128 → TakesIn (ends_of es) low s q → Joined (ends_of es) (ends_of fs) s (end_at (ends_of es) (q + 1)) (q + 1) → Adds low es q low fs true
   adds_joined fs s sorted fits takes joined =
       let apart : AreApart low (ends_of es) = apart_from_rise low es few small rise in
       let end : ℕ = end_at (ends_of es) (q + 1) in

@@ -14,7 +14,7 @@ use Rattle.ack_ranges.proofs.Sizes.{above_covers, size, size_new, size_set_of, s
 
 -- ---- counts over a row of numbers
 
-abbrev one : Bool → ℕ
+abbrev pub one : Bool → ℕ
 one b = cond b 1 0
 
 pub count_alike : (p q : ℕ → Bool) (a n : ℕ) → ((k : ℕ) → a ≤ k → k < a + n → p k ≡ q k) → count_by p (numbers a n) ≡ count_by q (numbers a n)
@@ -34,7 +34,7 @@ count_rest p a (suc n) =
     let rest = count_rest p (suc a) n in
     omega (arith, sum_by-cons (λ k. one (not (p k))) a (numbers (suc a) n), sum_by-cons (λ k. one (p k)) a (numbers (suc a) n), rest, one_of_both (p a))
 
-count_all : (a n : ℕ) → count_by (λ k. true) (numbers a n) ≡ n
+pub count_all : (a n : ℕ) → count_by (λ k. true) (numbers a n) ≡ n
 count_all a zero = refl
 count_all a (suc n) =
     let rest = count_all (suc a) n in
@@ -247,7 +247,7 @@ module _ (from : ℕ) (es old left : List (ℕ × ℕ)) (r : ℕ × ℕ) (low co
   pub longest : (m : ℕ) → m ≡ max r.0 from → from < r.1 → m ≤ r.1
   longest m is lt = omega (arith, is, lt, last_some low left rises)
 
-  pub counts_fit : (m : ℕ) → m ≡ max r.0 from → RiseAbove low es → AreSmall es → low < 2 ^ 64 → count + (r.1 - m) < 2 ^ 64
+  pub counts_fit : (m : ℕ) → m ≡ max r.0 from → RiseAbove low es → AreSmall es → low < 2 ^ 128 → count + (r.1 - m) < 2 ^ 128
   counts_fit m is rise small low_small = omega (arith, so_far.same, parts, is, total_within low from es rise, size_small low es low_small small rise)
 
 pub counts_ended : (from : ℕ) (es left : List (ℕ × ℕ)) (low count : ℕ) → IsCounted from es left low count → left ≡ [] → count ≡ total_from from es

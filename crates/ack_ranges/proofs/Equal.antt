@@ -1,5 +1,5 @@
 -- A set has one list of ranges, and is kept in one way.
-use Rattle.std.proofs.Common.{◌≡◌, ℕ, zero, suc, ◌<◌, ◌≤◌, ◌+◌, List, [], ◌∷◌, length, Bool, true, false, refl, ap, ◌∙◌, sym, subst, arith, leb, ltb, inl, inr}
+use Rattle.std.proofs.Common.{◌≡◌, ℕ, zero, suc, ◌<◌, ◌≤◌, ◌+◌, List, [], ◌∷◌, length, Bool, true, false, refl, ap, ◌∙◌, sym, arith, leb, ltb, inl, inr}
 use mir.Val.{bool_byte}
 use Rattle.std.specs.Prelude.{◌⊎◌, ◌||◌, ◌&&◌}
 use Rattle.std.specs.Ordering.{nat_cmp}
@@ -88,29 +88,6 @@ all_ranges low es rise = record {
   numbers = same_numbers _ _ (λ q. contains_set_of low es q ∙ with_low_covers low es q ∙ sym (contains_spread (with_low low es) q));
   rise = with_low_rise low es rise;
 }
-
-first_same : (r : ℕ × ℕ) (rs : List (ℕ × ℕ)) (t : ℕ × ℕ) (ts : List (ℕ × ℕ)) → (r ∷ rs) ≡ (t ∷ ts) → r ≡ t
-first_same r rs t ts h = cc
-
-later_same : (r : ℕ × ℕ) (rs : List (ℕ × ℕ)) (t : ℕ × ℕ) (ts : List (ℕ × ℕ)) → (r ∷ rs) ≡ (t ∷ ts) → rs ≡ ts
-later_same r rs t ts h = cc
-
-low_same : (low up : ℕ) (es fs : List (ℕ × ℕ)) → with_low low es ≡ with_low up fs → RiseAbove low es → RiseAbove up fs → (low ≡ up) × (es ≡ fs)
-low_same zero zero es fs h rise rise2 = (refl, h)
-low_same (suc n) (suc m) es fs h rise rise2 = let heads : (0, suc n) ≡ (0, suc m) = first_same (0, suc n) es (0, suc m) fs h in (ap (λ (r : ℕ × ℕ). r.1) heads, later_same (0, suc n) es (0, suc m) fs h)
-low_same zero (suc m) [] fs h rise rise2 = cc
-low_same zero (suc m) (r ∷ rs) fs h rise rise2 = let heads : r ≡ (0, suc m) = first_same r rs (0, suc m) fs h in let zero_is : r.0 ≡ 0 = ap (λ (p : ℕ × ℕ). p.0) heads in absurd (omega (arith, zero_is, rise.0))
-low_same (suc n) zero es [] h rise rise2 = cc
-low_same (suc n) zero es (r ∷ rs) h rise rise2 = let heads : (0, suc n) ≡ r = first_same (0, suc n) es r rs h in let zero_is : r.0 ≡ 0 = ap (λ (p : ℕ × ℕ). p.0) (sym heads) in absurd (omega (arith, zero_is, rise2.0))
-
--- equal sets are kept in the same way
-pub kept_same : (low up : ℕ) (es fs : List (ℕ × ℕ)) → RiseAbove low es → RiseAbove up fs → set_of low es ≡ set_of up fs → (low ≡ up) × (es ≡ fs)
-kept_same low up es fs rise rise2 same =
-    let one : with_low low es ≡ with_low up fs = ranges_unique (set_of low es) _ _ (all_ranges low es rise) (subst (λ (s : set.FinSet nat_cmp). AreRangesOf s (with_low up fs)) (sym same) (all_ranges up fs rise2)) in
-    low_same low up es fs one rise rise2
-
-pub same_kept : (low up : ℕ) (es fs : List (ℕ × ℕ)) → low ≡ up → es ≡ fs → set_of low es ≡ set_of up fs
-same_kept low up es fs lows entries = ap (λ n. set_of n es) lows ∙ ap (λ ks. set_of up ks) entries
 
 some_low : (n : ℕ) → ltb 0 (suc n) ≡ true
 some_low n = grind (arith, nat_tests)

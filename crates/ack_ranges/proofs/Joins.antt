@@ -40,7 +40,7 @@ lt_or_ge a b = by (ltb a b) refl
     by true h = inl (grind (arith, nat_tests))
     by false h = inr (grind (arith, nat_tests))
 
-module _ (f g : ℕ → Option ℕ) (low s q end : ℕ) (apart : AreApart low f) (above : low < s) (le : s ≤ q) (joins : Joins f s q) (out : IsIn f q → ⊥) (is_end : IsEnd f q end) (small : q + 1 < 2 ^ 64) (j : Joined f g s end (q + 1)) where
+module _ (f g : ℕ → Option ℕ) (low s q end : ℕ) (apart : AreApart low f) (above : low < s) (le : s ≤ q) (joins : Joins f s q) (out : IsIn f q → ⊥) (is_end : IsEnd f q end) (small : q + 1 < 2 ^ 128) (j : Joined f g s end (q + 1)) where
   end_above : q < end
   end_above = by (end_cases f q end is_end)
     where
@@ -48,10 +48,10 @@ module _ (f g : ℕ → Option ℕ) (low s q end : ℕ) (apart : AreApart low f)
       by (inl n) = omega (arith, n.1)
       by (inr h) = let b : (low < q + 1) × (q + 1 < end) = apart.above (q + 1) end h in omega (arith, b.1)
 
-  end_small : end < 2 ^ 64
+  end_small : end < 2 ^ 128
   end_small = by (end_cases f q end is_end)
     where
-      by : ((f (q + 1) ≡ None) × (end ≡ q + 1)) ⊎ (f (q + 1) ≡ Some end) → end < 2 ^ 64
+      by : ((f (q + 1) ≡ None) × (end ≡ q + 1)) ⊎ (f (q + 1) ≡ Some end) → end < 2 ^ 128
       by (inl n) = omega (arith, n.1, small)
       by (inr h) = apart.small (q + 1) end h
 
@@ -97,11 +97,11 @@ module _ (f g : ℕ → Option ℕ) (low s q end : ℕ) (apart : AreApart low f)
   joined_has k (inl same) = let big : q < end = end_above in (s, end, j.here, omega (arith, same, le), omega (arith, same, big))
   joined_has k (inr h) = in_old k h.0 h.1 h.2 h.3 h.4 (same_or_not h.0 s) (same_or_not h.0 (q + 1))
 
-  one_above : (t e : ℕ) → g t ≡ Some e → (t ≡ s) ⊎ (t ≡ s → ⊥) → (low < t) × (t < e) × (e < 2 ^ 64)
+  one_above : (t e : ℕ) → g t ≡ Some e → (t ≡ s) ⊎ (t ≡ s → ⊥) → (low < t) × (t < e) × (e < 2 ^ 128)
   one_above t e is (inl at) =
       let ends : e ≡ end = some_is g t e end is (ap g at ∙ j.here) in
       let big : q < end = end_above in
-      let few : end < 2 ^ 64 = end_small in
+      let few : end < 2 ^ 128 = end_small in
       (omega (arith, at, above), omega (arith, at, ends, big, le), omega (arith, ends, few))
   one_above t e is (inr other) =
       let h : f t ≡ Some e = old_range f g s end (q + 1) t e j is other in

@@ -1,12 +1,15 @@
 pub mod Adding
+pub mod Changed
 pub mod Counts
 pub mod Covers
 pub mod Equal
 pub mod Joins
 pub mod Low
+pub mod Lowering
 pub mod Members
 pub mod Missing
 pub mod Reading
+pub mod Raised
 pub mod Rises
 pub mod Sets
 pub mod Sizes

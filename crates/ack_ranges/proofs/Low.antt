@@ -4,7 +4,7 @@ use Rattle.std.specs.Prelude.{◌⊎◌}
 use Rattle.ack_ranges.specs.Joining.{AreApart, IsIn}
 use Rattle.ack_ranges.proofs.Joins.{IsEnd, end_cases, same_or_not, lt_or_ge, none_some, some_is}
 
-module _ (f g : ℕ → Option ℕ) (low end : ℕ) (apart : AreApart low f) (is_end : IsEnd f low end) (small : low + 1 < 2 ^ 64) (gone : g (low + 1) ≡ None) (others : (t : ℕ) → (t ≡ low + 1 → ⊥) → g t ≡ f t) where
+module _ (f g : ℕ → Option ℕ) (low end : ℕ) (apart : AreApart low f) (is_end : IsEnd f low end) (small : low + 1 < 2 ^ 128) (gone : g (low + 1) ≡ None) (others : (t : ℕ) → (t ≡ low + 1 → ⊥) → g t ≡ f t) where
   old_one : (t u : ℕ) → g t ≡ Some u → (f t ≡ Some u) × (t ≡ low + 1 → ⊥)
   old_one t u is =
       let other : t ≡ low + 1 → ⊥ = λ h. none_some g t u (ap g h ∙ gone) is in
@@ -44,7 +44,7 @@ module _ (f g : ℕ → Option ℕ) (low end : ℕ) (apart : AreApart low f) (is
   above_end t u is other (inl n) = let b : (low < t) × (t < u) = apart.above t u is in omega (arith, b.0, other, n.1)
   above_end t u is other (inr h) = let b : (low < t) × (t < u) = apart.above t u is in apart.apart (low + 1) end t u h is (omega (arith, b.0, other))
 
-  few : ((f (low + 1) ≡ None) × (end ≡ low + 1)) ⊎ (f (low + 1) ≡ Some end) → end < 2 ^ 64
+  few : ((f (low + 1) ≡ None) × (end ≡ low + 1)) ⊎ (f (low + 1) ≡ Some end) → end < 2 ^ 128
   few (inl n) = omega (arith, n.1, small)
   few (inr h) = apart.small (low + 1) end h
 

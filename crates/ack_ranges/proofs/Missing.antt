@@ -1,7 +1,7 @@
 -- Which numbers are missing, found by the last range that begins before one.
-use Rattle.std.proofs.Common.{◌≡◌, ℕ, zero, suc, ◌<◌, ◌≤◌, ◌+◌, ◌-◌, ◌^◌, List, [], ◌∷◌, length, Some, None, Option, true, false, refl, ap, ◌∙◌, sym, subst, arith, inl, inr}
+use Rattle.std.proofs.Common.{◌≡◌, ℕ, zero, suc, ◌<◌, ◌≤◌, ◌+◌, ◌^◌, List, [], ◌∷◌, length, Some, None, true, false, refl, ap, ◌∙◌, sym, arith, inl, inr}
 use Rattle.std.specs.Prelude.{◌⊎◌}
-use Rattle.std.specs.Option.{is_some, IsSome, SomeIff, IfSome, IfNone}
+use Rattle.std.specs.Option.{is_some, IsSome}
 use Rattle.std.specs.Ordering.{nat_cmp, is_lt}
 use Rattle.std.specs.FinSet as set
 use Rattle.std.proofs.lemmas.Bool.Decides.{nat_tests}
@@ -13,7 +13,7 @@ use Rattle.ack_ranges.proofs.Members.{Has, ends_of, has_set, in_set}
 use Rattle.ack_ranges.proofs.Rises.{apart_from_rise, sorted_from_rise}
 use Rattle.ack_ranges.proofs.Sets.{contains_is, low_before, low_missing}
 
-module _ (low : ℕ) (es : List (ℕ × ℕ)) (rise : RiseAbove low es) (small : AreSmall es) (few : low < 2 ^ 64) where
+module _ (low : ℕ) (es : List (ℕ × ℕ)) (rise : RiseAbove low es) (small : AreSmall es) (few : low < 2 ^ 128) where
   as_function : AreApart low (ends_of es)
   as_function = apart_from_rise low es few small rise
 
@@ -158,15 +158,3 @@ follows_from s last start end is some lt = record { some = some; apart = λ k h.
 pub last_before : (s : set.FinSet nat_cmp) (last start end : ℕ) → IsEndOf s last → (last ≡ 0 → ⊥) → MayFollow s start end → last < start
 last_before s zero start end is nonzero may = absurd (nonzero refl)
 last_before s (suc n) start end is nonzero may = let b : n + 1 < start = may.apart n (is.least n (omega arith)) in omega (arith, b)
-
-pub mark_some : (s : set.FinSet nat_cmp) (low : ℕ) (o : Option ℕ) → SomeIff o (1 ≤ low) (low - 1) → IsNextMissing s 0 low → IfSome o (λ place. IsNextMissing s 0 (place + 1))
-mark_some s low None is missing = tt
-mark_some s low (Some place) is missing =
-    let at : low ≡ place + 1 = omega (arith, is.0, is.1) in
-    subst (λ (n : ℕ). IsNextMissing s 0 n) at missing
-
-pub mark_none : (s : set.FinSet nat_cmp) (low : ℕ) (o : Option ℕ) → SomeIff o (1 ≤ low) (low - 1) → IsNextMissing s 0 low → IfNone o (set.contains s 0 ≡ false)
-mark_none s low None is missing =
-    let at : low ≡ 0 = omega (arith, is) in
-    ap (λ n. set.contains s n) (sym at) ∙ missing.missing
-mark_none s low (Some place) is missing = tt

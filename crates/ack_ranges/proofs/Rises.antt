@@ -27,7 +27,7 @@ above_of a (r ∷ rs) s e rise h = first_or_later r rs s e h
     (λ at ends. (omega (arith, at, rise.0), omega (arith, at, ends, rise.1)))
     (λ h. let b : (r.1 < s) × (s < e) = above_of r.1 rs s e rise.2 h in (omega (arith, b.0, rise.0, rise.1), b.1))
 
-small_of : (es : List (ℕ × ℕ)) (s e : ℕ) → AreSmall es → ends_of es s ≡ Some e → e < 2 ^ 64
+small_of : (es : List (ℕ × ℕ)) (s e : ℕ) → AreSmall es → ends_of es s ≡ Some e → e < 2 ^ 128
 small_of [] s e small h = cc
 small_of (r ∷ rs) s e small h = first_or_later r rs s e h (λ at ends. omega (arith, ends, small.0)) (λ h. small_of rs s e small.1 h)
 
@@ -42,7 +42,7 @@ apart_of a (r ∷ rs) s e t u rise h k lt = first_or_later r rs s e h
     (λ at2 ends2. let bad : ⊥ = omega (arith, lt, at2, b.0, rise.1) in absurd bad)
     (λ k. apart_of r.1 rs s e t u rise.2 h k lt))
 
-pub apart_from_rise : (low : ℕ) (es : List (ℕ × ℕ)) → low < 2 ^ 64 → AreSmall es → RiseAbove low es → AreApart low (ends_of es)
+pub apart_from_rise : (low : ℕ) (es : List (ℕ × ℕ)) → low < 2 ^ 128 → AreSmall es → RiseAbove low es → AreApart low (ends_of es)
 apart_from_rise low es few small rise = record {
   low_small = few;
   small = λ s e h. small_of es s e small h;

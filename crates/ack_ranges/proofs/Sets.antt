@@ -60,7 +60,7 @@ already_in s q is_in = set.same_set nat_cmp_total exact_unsigned _ _ (λ k. sym 
     by k true at = sym (ap (λ n. set.contains s n) (tells_apart {R = nat_cmp} exact_unsigned k q at) ∙ is_in)
     by k false at = refl
 
-pub joined_set : (low : ℕ) (es fs : List (ℕ × ℕ)) (s q end : ℕ) → Sorted es → Sorted fs → AreApart low (ends_of es) → TakesIn (ends_of es) low s q → IsEnd (ends_of es) q end → q + 1 < 2 ^ 64 → Joined (ends_of es) (ends_of fs) s end (q + 1) → set_of low fs ≡ set.insert (set_of low es) q
+pub joined_set : (low : ℕ) (es fs : List (ℕ × ℕ)) (s q end : ℕ) → Sorted es → Sorted fs → AreApart low (ends_of es) → TakesIn (ends_of es) low s q → IsEnd (ends_of es) q end → q + 1 < 2 ^ 128 → Joined (ends_of es) (ends_of fs) s end (q + 1) → set_of low fs ≡ set.insert (set_of low es) q
 joined_set low es fs s q end old new apart t e small j = inserted low low es fs q old new to from
   where
     to : (k : ℕ) → Has low (ends_of fs) k → (k ≡ q) ⊎ Has low (ends_of es) k
@@ -76,10 +76,10 @@ joined_set low es fs s q end old new apart t e small j = inserted low low es fs 
     from k (inr (inl lt)) = inl lt
     from k (inr (inr h)) = inr (joined_has (ends_of es) (ends_of fs) low s q end apart t.above t.le t.joins t.out e small j k (inr h))
 
-pub joined_ranges : (low : ℕ) (es fs : List (ℕ × ℕ)) (s q end : ℕ) → AreApart low (ends_of es) → TakesIn (ends_of es) low s q → IsEnd (ends_of es) q end → q + 1 < 2 ^ 64 → Joined (ends_of es) (ends_of fs) s end (q + 1) → AreApart low (ends_of fs)
+pub joined_ranges : (low : ℕ) (es fs : List (ℕ × ℕ)) (s q end : ℕ) → AreApart low (ends_of es) → TakesIn (ends_of es) low s q → IsEnd (ends_of es) q end → q + 1 < 2 ^ 128 → Joined (ends_of es) (ends_of fs) s end (q + 1) → AreApart low (ends_of fs)
 joined_ranges low es fs s q end apart t e small j = joined_apart (ends_of es) (ends_of fs) low s q end apart t.above t.le t.joins t.out e small j
 
-raised_set : (low : ℕ) (es fs : List (ℕ × ℕ)) (end : ℕ) → Sorted es → Sorted fs → AreApart low (ends_of es) → IsEnd (ends_of es) low end → low + 1 < 2 ^ 64 → ends_of fs (low + 1) ≡ None → ((t : ℕ) → (t ≡ low + 1 → ⊥) → ends_of fs t ≡ ends_of es t) → set_of end fs ≡ set.insert (set_of low es) low
+raised_set : (low : ℕ) (es fs : List (ℕ × ℕ)) (end : ℕ) → Sorted es → Sorted fs → AreApart low (ends_of es) → IsEnd (ends_of es) low end → low + 1 < 2 ^ 128 → ends_of fs (low + 1) ≡ None → ((t : ℕ) → (t ≡ low + 1 → ⊥) → ends_of fs t ≡ ends_of es t) → set_of end fs ≡ set.insert (set_of low es) low
 raised_set low es fs end old new apart e small gone others = inserted low end es fs low old new
     (λ k h. raised_in (ends_of es) (ends_of fs) low end apart e small gone others k h)
     (λ k h. raised_has (ends_of es) (ends_of fs) low end apart e small gone others k h)
@@ -87,7 +87,7 @@ raised_set low es fs end old new apart e small gone others = inserted low end es
 other_key : (a b : ℕ) → (b ≡ a → ⊥) → tree.is_at (nat_cmp a) b ≡ false
 other_key a b h = grind (arith, common_steps)
 
-pub raised_at : (low : ℕ) (es fs : List (ℕ × ℕ)) (q end : ℕ) → q ≡ low → Sorted es → Sorted fs → AreApart low (ends_of es) → IsEnd (ends_of es) q end → q + 1 < 2 ^ 64 → ends_of fs (q + 1) ≡ None → ((t : ℕ) → tree.is_at (nat_cmp (q + 1)) t ≡ false → ends_of fs t ≡ ends_of es t) → (set_of end fs ≡ set.insert (set_of low es) q) × AreApart end (ends_of fs)
+pub raised_at : (low : ℕ) (es fs : List (ℕ × ℕ)) (q end : ℕ) → q ≡ low → Sorted es → Sorted fs → AreApart low (ends_of es) → IsEnd (ends_of es) q end → q + 1 < 2 ^ 128 → ends_of fs (q + 1) ≡ None → ((t : ℕ) → tree.is_at (nat_cmp (q + 1)) t ≡ false → ends_of fs t ≡ ends_of es t) → (set_of end fs ≡ set.insert (set_of low es) q) × AreApart end (ends_of fs)
 raised_at low es fs q end same old new apart e small gone others =
     let at : AreApart q (ends_of es) = subst (λ (n : ℕ). AreApart n (ends_of es)) (sym same) apart in
     let rest : (t : ℕ) → (t ≡ q + 1 → ⊥) → ends_of fs t ≡ ends_of es t = λ t h. others t (other_key (q + 1) t h) in

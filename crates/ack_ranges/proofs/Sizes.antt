@@ -47,10 +47,10 @@ size_set_of low es rise =
     let here : size (numbers 0 low ++ spread es) ≡ low + size (spread es) = size_numbers 0 low (spread es) (λ k from to. has_spread_is es k ∙ above_covers low es k rise (omega (arith, to))) in
     omega (arith, rest, here)
 
-pub size_small : (a : ℕ) (es : List (ℕ × ℕ)) → a < 2 ^ 64 → AreSmall es → RiseAbove a es → a + total es < 2 ^ 64
+pub size_small : (a : ℕ) (es : List (ℕ × ℕ)) → a < 2 ^ 128 → AreSmall es → RiseAbove a es → a + total es < 2 ^ 128
 size_small a [] few small rise = omega (arith, few)
 size_small a (r ∷ rs) few small rise =
-    let rest : r.1 + total rs < 2 ^ 64 = size_small r.1 rs small.0 small.1 rise.2 in
+    let rest : r.1 + total rs < 2 ^ 128 = size_small r.1 rs small.0 small.1 rise.2 in
     omega (arith, rest, rise.0, rise.1)
 
 -- one more number

@@ -65,7 +65,7 @@ total_push : (es : List (ℕ × ℕ)) (s e : ℕ) → total (es ++ (s, e) ∷ []
 total_push [] s e = omega arith
 total_push (r ∷ rs) s e = let rest : total (rs ++ (s, e) ∷ []) ≡ total rs + (e - s) = total_push rs s e in omega (arith, rest)
 
-small_push : (es : List (ℕ × ℕ)) (s e : ℕ) → AreSmall es → e < 2 ^ 64 → AreSmall (es ++ (s, e) ∷ [])
+small_push : (es : List (ℕ × ℕ)) (s e : ℕ) → AreSmall es → e < 2 ^ 128 → AreSmall (es ++ (s, e) ∷ [])
 small_push [] s e small few = (few, tt)
 small_push (r ∷ rs) s e small few = (small.0, small_push rs s e small.1 few)
 
@@ -118,7 +118,7 @@ module _ (low : ℕ) (es : List (ℕ × ℕ)) (start end : ℕ) (rise : RiseAbov
       regroup true b c = refl
       regroup false b c = refl
 
-  pub follows_last : (start ≡ 0 → ⊥) → low < 2 ^ 64 → AreSmall es → end < 2 ^ 64 → Follows low es start end low (es ++ (start, end) ∷ [])
+  pub follows_last : (start ≡ 0 → ⊥) → low < 2 ^ 128 → AreSmall es → end < 2 ^ 128 → Follows low es start end low (es ++ (start, end) ∷ [])
   follows_last some few small end_few = record {
     same = same_numbers _ _ joined_numbers;
     counted = let b : total (es ++ (start, end) ∷ []) ≡ total es + (end - start) = total_push es start end in omega (arith, b);
@@ -131,7 +131,7 @@ only_below : (k end : ℕ) → (ltb k end || false) ≡ ((ltb k 0 || false) || (
 only_below k end = grind (arith, nat_tests)
 
 -- the range from 0 comes where there is nothing yet
-pub follows_first : (low : ℕ) (es : List (ℕ × ℕ)) (start end : ℕ) → RiseAbove low es → MayFollow (set_of low es) start end → start ≡ 0 → end < 2 ^ 64 → Follows low es start end end es
+pub follows_first : (low : ℕ) (es : List (ℕ × ℕ)) (start end : ℕ) → RiseAbove low es → MayFollow (set_of low es) start end → start ≡ 0 → end < 2 ^ 128 → Follows low es start end end es
 follows_first (suc n) es start end rise may zero_is few =
     let b : n + 1 < start = may.apart n (below_is_in (suc n) es start end rise may n (omega arith)) in absurd (omega (arith, b, zero_is))
 follows_first zero (r ∷ rs) start end rise may zero_is few =

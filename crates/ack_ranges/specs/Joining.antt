@@ -5,8 +5,8 @@ use Rattle.std.specs.Option.{unwrap_or}
 -- what a map has from a number to its range's end: each range is above low and not empty, and
 -- between two is a number of neither
 pub record AreApart (low : ℕ) (f : ℕ → Option ℕ) : Type 0 where
-  pub low_small : low < 2 ^ 64
-  pub small : (s e : ℕ) → f s ≡ Some e → e < 2 ^ 64
+  pub low_small : low < 2 ^ 128
+  pub small : (s e : ℕ) → f s ≡ Some e → e < 2 ^ 128
   pub above : (s e : ℕ) → f s ≡ Some e → (low < s) × (s < e)
   pub apart : (s e t u : ℕ) → f s ≡ Some e → f t ≡ Some u → s < t → e < t
 

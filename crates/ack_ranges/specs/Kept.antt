@@ -26,12 +26,12 @@ total_from a (r ∷ rs) = (r.1 - max r.0 a) + total_from a rs
 -- the ends are numbers of 64 bits
 abbrev pub AreSmall : List (ℕ × ℕ) → Type 0
 AreSmall [] = Unit {0}
-AreSmall (r ∷ rs) = (r.1 < 2 ^ 64) × AreSmall rs
+AreSmall (r ∷ rs) = (r.1 < 2 ^ 128) × AreSmall rs
 
 -- the numbers below low and the ranges above it are count numbers
 pub record IsKept (low : ℕ) (es : List (ℕ × ℕ)) (count : ℕ) : Type 0 where
   pub rise : RiseAbove low es
-  pub low_small : low < 2 ^ 64
+  pub low_small : low < 2 ^ 128
   pub small : AreSmall es
   pub counted : count ≡ low + total es
 
@@ -50,7 +50,7 @@ pub record Swallows (es : List (ℕ × ℕ)) (end : ℕ) (fs : List (ℕ × ℕ)
   pub same : set_of to fs ≡ set_of end es
   pub counted : count + total fs ≡ total es
   pub from : end ≤ to
-  pub to_small : to < 2 ^ 64
+  pub to_small : to < 2 ^ 128
   pub rise : Rise fs
   pub small : AreSmall fs
 
@@ -59,7 +59,7 @@ pub record Follows (low : ℕ) (es : List (ℕ × ℕ)) (start end up : ℕ) (fs
   pub same : set_of up fs ≡ set.union (set_of low es) (from_to start end)
   pub counted : up + total fs ≡ low + total es + (end - start)
   pub rise : RiseAbove up fs
-  pub up_small : up < 2 ^ 64
+  pub up_small : up < 2 ^ 128
   pub small : AreSmall fs
 
 -- q came to the numbers below low and those of es, which are now those below up and those of fs: it was not there before, or nothing changed
@@ -68,5 +68,5 @@ pub record Adds (low : ℕ) (es : List (ℕ × ℕ)) (q up : ℕ) (fs : List (�
   pub same : set_of up fs ≡ set.insert (set_of low es) q
   pub counted : up + total fs ≡ low + total es + cond new 1 0
   pub rise : RiseAbove up fs
-  pub up_small : up < 2 ^ 64
+  pub up_small : up < 2 ^ 128
   pub small : AreSmall fs

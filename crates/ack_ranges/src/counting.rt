@@ -1,13 +1,13 @@
 // How many places of the ranges stand from one on.
-ghost use Rattle.std.specs.Prelude.{◌≡◌, ◌+◌, ◌<◌, ◌^◌, ◌∷◌, ◌++◌, [], IfSome, IfNone};
+ghost use Rattle.std.specs.Prelude.{◌≡◌, ◌+◌, ◌<◌, ◌∷◌, ◌++◌, [], IfSome, IfNone};
 ghost use Rattle.ack_ranges.specs.Kept.{AreSmall, total_from};
 ghost use Rattle.ack_ranges.specs.Ranges.{RiseAbove};
 
-use position_core::LogIndex;
+use crate::place::Place;
 use std::collections::BTreeMap;
 use std::collections::btree_map::Iter;
 
-fn last_of(left: &mut Iter<'_, LogIndex, LogIndex>) -> Option<(LogIndex, LogIndex)>
+fn last_of(left: &mut Iter<'_, Place, Place>) -> Option<(Place, Place)>
     ensures some { IfSome result (λ r. left.old ≡ left.new ++ r ∷ []) }
     ensures none { IfNone result (left.old ≡ []) }
 {
@@ -18,11 +18,7 @@ fn last_of(left: &mut Iter<'_, LogIndex, LogIndex>) -> Option<(LogIndex, LogInde
 }
 
 /// How many places from `from` on the ranges have. Looks at those alone that end behind it.
-pub(crate) fn total_from(
-    low: LogIndex,
-    ranges: &BTreeMap<LogIndex, LogIndex>,
-    from: LogIndex,
-) -> u64
+pub(crate) fn total_from(low: Place, ranges: &BTreeMap<Place, Place>, from: Place) -> u128
     requires rise { RiseAbove low ranges.now.entries }
     requires small { AreSmall ranges.now.entries }
     ensures { result ≡ total_from from ranges.now.entries }

@@ -1,5 +1,5 @@
 // One more place, or one more range at the end, among the ranges.
-ghost use Rattle.std.specs.Prelude.{◌≡◌, ◌+◌, ◌^◌, ◌≤◌, ◌<◌, ℕ, true, Option, None, OnOk, OnErr, IfOk, IfSome, IfNone};
+ghost use Rattle.std.specs.Prelude.{◌≡◌, ◌+◌, ◌^◌, ◌<◌, true, Option, None, OnOk, OnErr, IfOk, IfSome, IfNone};
 ghost use Rattle.std.specs.Ordering.{nat_cmp};
 ghost use Rattle.std.specs.FinSet as set;
 ghost use Rattle.std.specs.BTreeMap as tree;
@@ -8,21 +8,21 @@ ghost use Rattle.ack_ranges.specs.Kept.{set_of, AreSmall, Adds, Follows};
 ghost use Rattle.ack_ranges.specs.Ranges.{RiseAbove, HasGapBefore, MayFollow};
 
 use crate::lookup::last_up_to;
-use position_core::LogIndex;
+use crate::place::Place;
 use std::alloc::AllocError;
 use std::collections::BTreeMap;
 
 /// Adds a place, and says whether it is new. The range that begins behind it, and the one that ends at it,
 /// become one with it.
 pub(crate) fn add(
-    low: &mut LogIndex,
-    ranges: &mut BTreeMap<LogIndex, LogIndex>,
-    place: LogIndex,
+    low: &mut Place,
+    ranges: &mut BTreeMap<Place, Place>,
+    place: Place,
 ) -> Result<bool, AllocError>
     requires rise { RiseAbove low.old ranges.old.entries }
-    requires low_small { low.old < 2 ^ 64 }
+    requires low_small { low.old < 2 ^ 128 }
     requires small { AreSmall ranges.old.entries }
-    requires fits { place + 1 < 2 ^ 64 }
+    requires fits { place + 1 < 2 ^ 128 }
     ensures ok { IfOk result (λ new. Adds low.old ranges.old.entries place low.new ranges.new.entries new) }
     ensures err { OnErr result (ranges.new.entries ≡ ranges.old.entries) }
     ensures err_low { OnErr result (low.new ≡ low.old) }
@@ -42,11 +42,7 @@ pub(crate) fn add(
 }
 
 /// Where the range begins that is to take the place, or none where one has it.
-fn start_for(
-    low: LogIndex,
-    ranges: &BTreeMap<LogIndex, LogIndex>,
-    place: LogIndex,
-) -> Option<LogIndex>
+fn start_for(low: Place, ranges: &BTreeMap<Place, Place>, place: Place) -> Option<Place>
     requires rise { RiseAbove low ranges.now.entries }
     requires small { AreSmall ranges.now.entries }
     requires other { place ≡ low → ⊥ }
@@ -71,11 +67,7 @@ fn start_for(
 }
 
 /// A range from `start` to `after`, and on to the end of the one that begins there.
-fn join(
-    ranges: &mut BTreeMap<LogIndex, LogIndex>,
-    start: LogIndex,
-    after: LogIndex,
-) -> Result<(), AllocError>
+fn join(ranges: &mut BTreeMap<Place, Place>, start: Place, after: Place) -> Result<(), AllocError>
     requires { start < after }
     ensures ok { OnOk result
         (Joined (tree.get nat_cmp ranges.old) (tree.get nat_cmp ranges.new) start (end_at (tree.get nat_cmp ranges.old) after) after) }
@@ -95,7 +87,7 @@ fn join(
     Ok(())
 }
 
-fn end_of_range(ranges: &BTreeMap<LogIndex, LogIndex>, start: LogIndex) -> Option<LogIndex>
+fn end_of_range(ranges: &BTreeMap<Place, Place>, start: Place) -> Option<Place>
     ensures { result ≡ tree.get nat_cmp ranges.now start }
 {
     match ranges.get(&start) {
@@ -106,14 +98,14 @@ fn end_of_range(ranges: &BTreeMap<LogIndex, LogIndex>, start: LogIndex) -> Optio
 
 /// Puts a range behind all that are there. One from 0 raises the first number that is not in the set.
 pub(crate) fn append(
-    low: &mut LogIndex,
-    ranges: &mut BTreeMap<LogIndex, LogIndex>,
-    start: LogIndex,
-    end: LogIndex,
+    low: &mut Place,
+    ranges: &mut BTreeMap<Place, Place>,
+    start: Place,
+    end: Place,
 ) -> Result<(), AllocError>
     requires rise { RiseAbove low.old ranges.old.entries }
     requires follows { MayFollow (set_of low.old ranges.old.entries) start end }
-    requires low_small { low.old < 2 ^ 64 }
+    requires low_small { low.old < 2 ^ 128 }
     requires small { AreSmall ranges.old.entries }
     ensures ok { OnOk result (Follows low.old ranges.old.entries start end low.new ranges.new.entries) }
     ensures err { OnErr result (ranges.new.entries ≡ ranges.old.entries) }

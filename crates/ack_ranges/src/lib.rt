@@ -5,7 +5,9 @@ mod ack_set;
 mod counting;
 mod joining;
 mod lookup;
+mod place;
 mod ranges;
+mod spans;
 mod swallowing;
 
 pub use ack_set::AckSet;

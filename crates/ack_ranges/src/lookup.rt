@@ -1,19 +1,16 @@
 // What is read of the ranges.
-ghost use Rattle.std.specs.Prelude.{◌≡◌, ◌+◌, ◌≤◌, ◌<◌, ℕ, IsTrue, ◌↔◌, IfSome, IfNone};
+ghost use Rattle.std.specs.Prelude.{◌<◌, IsTrue, ◌↔◌, IfSome, IfNone};
 ghost use Rattle.std.specs.Ordering.{nat_cmp};
 ghost use Rattle.std.specs.BTreeMap as tree;
 ghost use Rattle.ack_ranges.specs.Joining.{IsLastUpTo, NoneUpTo};
 ghost use Rattle.ack_ranges.specs.Kept.{set_of, AreSmall, IsEndOf};
 ghost use Rattle.ack_ranges.specs.Ranges.{RiseAbove, IsNextMissing, MayFollow};
 
-use position_core::LogIndex;
+use crate::place::Place;
 use std::collections::BTreeMap;
 
 /// The last range that begins at the place or before it.
-pub(crate) fn last_up_to(
-    ranges: &BTreeMap<LogIndex, LogIndex>,
-    place: LogIndex,
-) -> Option<(LogIndex, LogIndex)>
+pub(crate) fn last_up_to(ranges: &BTreeMap<Place, Place>, place: Place) -> Option<(Place, Place)>
     ensures some { IfSome result (λ r. IsLastUpTo (tree.get nat_cmp ranges.now) place r.0 r.1) }
     ensures none { IfNone result (NoneUpTo (tree.get nat_cmp ranges.now) place) }
     ensures ordered { tree.IsOrdered nat_cmp ranges.now }
@@ -24,11 +21,7 @@ pub(crate) fn last_up_to(
     }
 }
 
-pub(crate) fn next_missing(
-    low: LogIndex,
-    ranges: &BTreeMap<LogIndex, LogIndex>,
-    from: LogIndex,
-) -> LogIndex
+pub(crate) fn next_missing(low: Place, ranges: &BTreeMap<Place, Place>, from: Place) -> Place
     requires rise { RiseAbove low ranges.now.entries }
     requires small { AreSmall ranges.now.entries }
     ensures { IsNextMissing (set_of low ranges.now.entries) from result }
@@ -43,7 +36,7 @@ pub(crate) fn next_missing(
 }
 
 /// The least number above all that are in the set.
-fn end_of(low: LogIndex, ranges: &BTreeMap<LogIndex, LogIndex>) -> LogIndex
+fn end_of(low: Place, ranges: &BTreeMap<Place, Place>) -> Place
     requires rise { RiseAbove low ranges.now.entries }
     requires small { AreSmall ranges.now.entries }
     ensures { IsEndOf (set_of low ranges.now.entries) result }
@@ -56,10 +49,10 @@ fn end_of(low: LogIndex, ranges: &BTreeMap<LogIndex, LogIndex>) -> LogIndex
 
 /// Whether a range may come after all that are there.
 pub(crate) fn may_follow(
-    low: LogIndex,
-    ranges: &BTreeMap<LogIndex, LogIndex>,
-    start: LogIndex,
-    end: LogIndex,
+    low: Place,
+    ranges: &BTreeMap<Place, Place>,
+    start: Place,
+    end: Place,
 ) -> bool
     requires rise { RiseAbove low ranges.now.entries }
     requires small { AreSmall ranges.now.entries }

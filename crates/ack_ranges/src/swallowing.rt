@@ -3,22 +3,22 @@ ghost use Rattle.std.specs.Prelude.{◌≡◌, ◌+◌, ◌≤◌, ◌<◌, ◌^
 ghost use Rattle.ack_ranges.specs.Kept.{total, AreSmall, BeginAfter, Swallows};
 ghost use Rattle.ack_ranges.specs.Ranges.{Rise, RiseAbove};
 
-use position_core::LogIndex;
+use crate::place::Place;
 use std::collections::BTreeMap;
 
 /// Where the run ends that took ranges in, and how many places they had.
 #[derive(Clone, Copy, Drop)]
 pub(crate) struct Taken {
-    pub(crate) end: LogIndex,
-    pub(crate) count: u64,
+    pub(crate) end: Place,
+    pub(crate) count: u128,
 }
 
 /// Takes the ranges out that begin below `end` or at it, and those that begin where one of them ends
 /// or before.
-pub(crate) fn take_up_to(ranges: &mut BTreeMap<LogIndex, LogIndex>, end: LogIndex) -> Taken
+pub(crate) fn take_up_to(ranges: &mut BTreeMap<Place, Place>, end: Place) -> Taken
     requires rise { Rise ranges.old.entries }
     requires small { AreSmall ranges.old.entries }
-    requires fits { total ranges.old.entries < 2 ^ 64 }
+    requires fits { total ranges.old.entries < 2 ^ 128 }
     ensures taken { Swallows ranges.old.entries end ranges.new.entries result.end result.count }
     ensures apart { RiseAbove result.end ranges.new.entries }
 {
@@ -33,10 +33,7 @@ pub(crate) fn take_up_to(ranges: &mut BTreeMap<LogIndex, LogIndex>, end: LogInde
 }
 
 /// Takes the first range out, if it begins at `end` or before.
-fn pop_up_to(
-    ranges: &mut BTreeMap<LogIndex, LogIndex>,
-    end: LogIndex,
-) -> Option<(LogIndex, LogIndex)>
+fn pop_up_to(ranges: &mut BTreeMap<Place, Place>, end: Place) -> Option<(Place, Place)>
     ensures some { IfSome result (λ r. ranges.old.entries ≡ r ∷ ranges.new.entries) }
     ensures begins { IfSome result (λ r. r.0 ≤ end) }
     ensures none { IfNone result (ranges.new.entries ≡ ranges.old.entries) }

@@ -1,6 +1,6 @@
-use Rattle.std.proofs.Common.{sym, arith}
-use Rattle.ack_ranges.proofs.Missing.{missing_low}
+use Rattle.ack_ranges.proofs.Lowering.{first_lowered}
 use Rattle.ack_ranges.proofs.ack_set.AckSet.first_missing.Goals as goal
 
 pub returns : goal.returns
-returns c = rw (sym c.self.view_is) (missing_low c.self.inside.low c.self.inside.ranges.entries c.self.invariant.rise c.self.invariant.small c.self.invariant.low_small 0 (omega arith))
+returns c =
+    rw (c.lowered.ensures, ← c.self.view_is) (first_lowered c.self.inside.base c.self.inside.spans c.self.invariant c.first_missing.result c.first_missing.ensures)
