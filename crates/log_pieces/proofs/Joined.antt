@@ -1,6 +1,8 @@
 -- Lists in pieces: how long they are, and what stands at an index.
-use Rattle.std.proofs.Common.{◌≡◌, ℕ, ◌+◌, ◌-◌, ◌*◌, ◌<◌, ◌≤◌, suc, zero, List, [], ◌∷◌, ◌++◌, length, take, Some, None, refl, ap, sym, ◌∙◌, append_assoc, arith, slice_set}
+use Rattle.std.proofs.Common.{◌≡◌, ℕ, ◌+◌, ◌-◌, ◌*◌, ◌<◌, ◌≤◌, suc, zero, List, [], ◌∷◌, ◌++◌, length, take, drop, Some, None, refl, ap, ap₂, sym, ◌∙◌, append_assoc, arith, slice_set}
+use Rattle.std.specs.Prelude.{min}
 use Rattle.std.specs.List.{flat_map, slice_get}
+use Rattle.std.proofs.Math.Seq.{drop-nil, drop-append-add}
 use Rattle.std.proofs.Math.ListN.{length-append}
 use Rattle.std.proofs.lemmas.Grind.{flat_map-append}
 use Rattle.position_core.specs.declared.message.Entry.{Entry}
@@ -94,3 +96,48 @@ further (t ∷ segments) s zero at =
     append-nil t ∙ same
 further (t ∷ segments) s (suc i) at =
     ap (λ (xs : List Entry). t ++ xs) (further segments s i at) ∙ sym (append_assoc t (flat_map (λ s. s) (take i segments)) s)
+
+-- ---- the front leaves
+
+pub drop-append : (k : ℕ) (xs ys : List Entry) → drop k (xs ++ ys) ≡ drop k xs ++ drop (k - length xs) ys
+drop-append k [] ys = let same : k ≡ k - 0 = omega arith in ap (λ n. drop n ys) same ∙ ap (λ zs. zs ++ drop (k - 0) ys) (sym (drop-nil k))
+drop-append zero (x ∷ xs) ys = let none : 0 ≡ 0 - length (x ∷ xs) = omega arith in ap (λ n. (x ∷ xs) ++ drop n ys) none
+drop-append (suc k) (x ∷ xs) ys =
+    let same : k - length xs ≡ suc k - length (x ∷ xs) = omega arith in
+    drop-append k xs ys ∙ ap (λ n. drop k xs ++ drop n ys) same
+
+-- whole segments are passed over
+pub drop_seam : (size : ℕ) (segments : List (List Entry)) (ys : List Entry) (k j n : ℕ) → AreEach size segments → k ≤ length segments → n ≡ size * k + j → drop n (flat_map (λ s. s) segments ++ ys) ≡ drop j (flat_map (λ s. s) (drop k segments) ++ ys)
+drop_seam size segments ys zero j n are few is =
+    let same : n ≡ j = omega (arith, is) in ap (λ m. drop m (flat_map (λ s. s) segments ++ ys)) same
+drop_seam size [] ys (suc k) j n are few is = absurd (omega (arith, few))
+drop_seam size (s ∷ segments) ys (suc k) j n are few is =
+    let rest : List Entry = flat_map (λ s. s) segments in
+    let at : n ≡ length s + (size * k + j) = omega (arith, is, are.0) in
+    ap (drop n) (append_assoc s rest ys)
+    ∙ ap (λ m. drop m (s ++ (rest ++ ys))) at
+    ∙ drop-append-add s (rest ++ ys) (size * k + j)
+    ∙ drop_seam size segments ys k j (size * k + j) are.1 (omega (arith, few)) refl
+
+pub each_dropped : (size k : ℕ) (segments : List (List Entry)) → AreEach size segments → AreEach size (drop k segments)
+each_dropped size zero segments are = are
+each_dropped size (suc k) [] are = tt
+each_dropped size (suc k) (s ∷ segments) are = each_dropped size k segments are.1
+
+pub get_dropped : (n i : ℕ) (xs : List Entry) → slice_get (drop n xs) i ≡ slice_get xs (n + i)
+get_dropped zero i xs = let same : i ≡ 0 + i = omega arith in ap (slice_get xs) same
+get_dropped (suc n) i [] = refl
+get_dropped (suc n) i (x ∷ xs) =
+    let same : suc n + i ≡ suc (n + i) = omega arith in get_dropped n i xs ∙ ap (slice_get (x ∷ xs)) (sym same)
+
+-- the last one leaves from what stays, if any stays
+pub front_dropped : (n : ℕ) (xs : List Entry) → n ≤ length xs → drop (min n (length xs - 1)) (front xs) ≡ front (drop n xs)
+front_dropped zero xs within =
+    let none : min 0 (length xs - 1) ≡ 0 = omega arith in ap (λ n. drop n (front xs)) none
+front_dropped (suc n) [] within = absurd (omega (arith, within))
+front_dropped (suc n) (x ∷ []) within =
+    let one : n ≡ 0 = omega (arith, within) in ap (λ k. drop (min (suc k) (length (x ∷ []) - 1)) (front (x ∷ []))) one ∙ ap (λ k. front (drop k [])) (sym one)
+front_dropped (suc n) (x ∷ y ∷ xs) within =
+    let first : min (suc n) (length (x ∷ y ∷ xs) - 1) ≡ suc (min n (length (y ∷ xs) - 1)) = omega arith in
+    let some : length (x ∷ y ∷ xs) - 1 ≡ suc (length (y ∷ xs) - 1) = omega arith in
+    ap₂ (λ m k. drop m (take k (x ∷ y ∷ xs))) first some ∙ front_dropped n (y ∷ xs) (omega (arith, within))

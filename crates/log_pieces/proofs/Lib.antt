@@ -1,3 +1,4 @@
 pub mod Joined
 pub mod Searching
 pub mod Moments
+pub mod Trimmed

@@ -1,168 +1,35 @@
--- How many messages are earlier than a time, by segments.
-use Rattle.std.proofs.Common.{drop, ◌≡◌, ℕ, zero, suc, ◌+◌, ◌-◌, ◌*◌, ◌<◌, ◌≤◌, Bool, true, false, cond, List, [], ◌∷◌, ◌++◌, length, Some, None, refl, ap, sym, ◌∙◌, subst, get_or, append_assoc, Option, arith}
-use Rattle.std.specs.Prelude.{nat_le, max, not}
+-- How many messages are earlier than a time, by segments, of which the first messages may have gone.
+use Rattle.std.proofs.Common.{drop, ◌≡◌, ℕ, zero, suc, ◌+◌, ◌-◌, ◌*◌, ◌<◌, ◌≤◌, Bool, true, false, cond, List, [], ◌∷◌, ◌++◌, length, map, Some, refl, ap, sym, ◌∙◌, append_assoc, get_or, arith}
+use Rattle.std.specs.Prelude.{nat_le, max, min, not}
+use Rattle.std.specs.Option.{option_map}
 use Rattle.std.specs.List.{flat_map, position_or_len, slice_get}
-use Rattle.std.specs.List.Sorted.{IsNonDecreasingBy, IsPartitionPoint, IsPartitionedBy}
-use Rattle.std.proofs.lemmas.List.Sorted.{IsPartitionedBy-leb}
-use Rattle.std.proofs.lemmas.List.{append-nil}
-use Rattle.std.proofs.lemmas.Option.{slice_get-get_or}
+use Rattle.std.proofs.Math.Seq.{drop-nil}
 use Rattle.std.proofs.lemmas.Bool.Decides.{nat_tests}
-use Rattle.std.proofs.lemmas.List.Sums.{fold-append}
+use Rattle.std.proofs.lemmas.List.{length-drop}
+use Rattle.std.proofs.lemmas.Option.{slice_get-map, get_or_from_slice_get}
 use Rattle.position_core.specs.declared.message.Entry.{Entry}
 use Rattle.log_pieces.specs.Pieces.{AreEach}
-use Rattle.log_pieces.specs.Times.{is_from, moment_after, moments_after}
+use Rattle.log_pieces.specs.Times.{is_from, moment_after}
+use Rattle.log_pieces.proofs.Joined.{each_long, drop-append}
 
 -- ---- moments
 
-pub not_before : (from : ℕ) (log : List Entry) → from ≤ moment_after from log
+not_before : (from : ℕ) (log : List Entry) → from ≤ moment_after from log
 not_before from [] = omega arith
 not_before from (e ∷ log) =
     let rest = not_before (max from (e.time + 1)) log in
     omega (arith, rest)
 
-pub length_moments : (from : ℕ) (segments : List (List Entry)) → length (moments_after from segments) ≡ length segments
-length_moments from [] = refl
-length_moments from (s ∷ segments) = ap suc (length_moments (moment_after from s) segments)
+-- the moment that stands beside a segment
+pub moment_at : (segments : List (List Entry)) (moments : List ℕ) (i m d : ℕ) (s : List Entry) → moments ≡ map (moment_after 0) segments → m ≡ get_or moments i d → slice_get segments i ≡ Some s → m ≡ moment_after 0 s
+moment_at segments moments i m d s are is at =
+    is ∙ ap (λ (ms : List ℕ). get_or ms i d) are
+    ∙ get_or_from_slice_get (map (moment_after 0) segments) i (moment_after 0 s) d (slice_get-map (moment_after 0) segments i ∙ ap (option_map (moment_after 0)) at)
 
-from_on : (from : ℕ) (segments : List (List Entry)) (j d : ℕ) → j < length (moments_after from segments) → from ≤ get_or (moments_after from segments) j d
-from_on from [] j d within = absurd (omega arith)
-from_on from (s ∷ segments) zero d within = not_before from s
-from_on from (s ∷ segments) (suc j) d within =
-    let here = not_before from s in
-    let rest = from_on (moment_after from s) segments j d (omega arith) in
-    omega (arith, here, rest)
-
--- they never fall
-pub never_fall : (from : ℕ) (segments : List (List Entry)) → IsNonDecreasingBy (λ n. n) (moments_after from segments)
-never_fall from [] i j d low within = absurd (omega arith)
-never_fall from (s ∷ segments) zero zero d low within = omega arith
-never_fall from (s ∷ segments) zero (suc j) d low within = from_on (moment_after from s) segments j d (omega arith)
-never_fall from (s ∷ segments) (suc i) zero d low within = absurd (omega arith)
-never_fall from (s ∷ segments) (suc i) (suc j) d low within = never_fall (moment_after from s) segments i j d (omega arith) (omega arith)
-
-pub moments_push : (from : ℕ) (segments : List (List Entry)) (s : List Entry) → moments_after from (segments ++ s ∷ []) ≡ moments_after from segments ++ moment_after (moment_after from (flat_map (λ s. s) segments)) s ∷ []
-moments_push from [] s = refl
-moments_push from (t ∷ segments) s =
-    ap (λ ms. moment_after from t ∷ ms)
-    (moments_push (moment_after from t) segments s
-    ∙ ap (λ m. moments_after (moment_after from t) segments ++ moment_after m s ∷ []) (sym (fold-append (λ (moment : ℕ) (e : Entry). max moment (e.time + 1)) from t (flat_map (λ s. s) segments))))
-
-last_from : (from : ℕ) (s : List Entry) (segments : List (List Entry)) (m : ℕ) → slice_get (moments_after from (s ∷ segments)) (length segments) ≡ Some m → m ≡ moment_after from (s ++ flat_map (λ s. s) segments)
-last_from from s [] m is = some_is m (moment_after from s) is ∙ ap (moment_after from) (sym (append-nil s))
-  where
-    some_is : (m n : ℕ) → ◌≡◌ {A = Option ℕ} (Some n) (Some m) → m ≡ n
-    some_is m n is = cc
-last_from from s (t ∷ segments) m is =
-    last_from (moment_after from s) t segments m is
-    ∙ sym (fold-append (λ (moment : ℕ) (e : Entry). max moment (e.time + 1)) from s (t ++ flat_map (λ s. s) segments))
-
-pub last_moment : (segments : List (List Entry)) (moments : List ℕ) (m : ℕ) → moments ≡ moments_after 0 segments → slice_get moments (length moments - 1) ≡ Some m → m ≡ moment_after 0 (flat_map (λ s. s) segments)
-last_moment [] moments m are is = absurd (none (sym (ap (λ (ms : List ℕ). slice_get ms (length ms - 1)) are) ∙ is))
-  where
-    none : ◌≡◌ {A = Option ℕ} None (Some m) → ⊥
-    none e = cc
-last_moment (s ∷ segments) moments m are is =
-    last_from 0 s segments m
-    (ap (slice_get (moments_after 0 (s ∷ segments))) (omega (arith, length_moments (moment_after 0 s) segments))
-    ∙ sym (ap (λ (ms : List ℕ). slice_get ms (length ms - 1)) are) ∙ is)
-
-pub no_moment : (segments : List (List Entry)) (moments : List ℕ) → moments ≡ moments_after 0 segments → slice_get moments (length moments - 1) ≡ None → 0 ≡ moment_after 0 (flat_map (λ s. s) segments)
-no_moment [] moments are is = refl
-no_moment (s ∷ segments) moments are is = absurd (some (sym (slice_get-get_or moments (length moments - 1) 0 (omega (arith, ap length are))) ∙ is))
-  where
-    some : ◌≡◌ {A = Option ℕ} (Some (get_or moments (length moments - 1) 0)) None → ⊥
-    some e = cc
-
--- ---- one segment
+pub is_low : (m time : ℕ) → nat_le m time ≡ true → m ≤ time
+is_low m time test = grind (arith, nat_tests)
 
 module _ (time : ℕ) where
-  all_earlier : (from : ℕ) (s ys : List Entry) → moment_after from s ≤ time → position_or_len (is_from time) (s ++ ys) ≡ length s + position_or_len (is_from time) ys
-  all_earlier from [] ys after = omega arith
-  all_earlier from (e ∷ s) ys after =
-      let rest = all_earlier (max from (e.time + 1)) s ys after in
-      let over = not_before (max from (e.time + 1)) s in
-      let low : e.time < time = omega (arith, over, after) in
-      let test : is_from time e ≡ false = grind (arith, nat_tests) in
-      ap (λ b. cond (not b) (1 + position_or_len (is_from time) (s ++ ys)) 0) test ∙ next rest
-    where
-      next : position_or_len (is_from time) (s ++ ys) ≡ length s + position_or_len (is_from time) ys → 1 + position_or_len (is_from time) (s ++ ys) ≡ length (e ∷ s) + position_or_len (is_from time) ys
-      next rest = omega (arith, rest)
-
-  one_from : (from : ℕ) (s ys : List Entry) → from ≤ time → time < moment_after from s → position_or_len (is_from time) (s ++ ys) ≡ position_or_len (is_from time) s
-  one_from from [] ys low after = absurd (omega arith)
-  one_from from (e ∷ s) ys low after = by (one_from (max from (e.time + 1)) s ys) (is_from time e) refl
-    where
-      by : (max from (e.time + 1) ≤ time → time < moment_after (max from (e.time + 1)) s → position_or_len (is_from time) (s ++ ys) ≡ position_or_len (is_from time) s) → (b : Bool) → is_from time e ≡ b → position_or_len (is_from time) ((e ∷ s) ++ ys) ≡ position_or_len (is_from time) (e ∷ s)
-      by further true test =
-          ap (λ b. cond (not b) (1 + position_or_len (is_from time) (s ++ ys)) 0) test
-          ∙ sym (ap (λ b. cond (not b) (1 + position_or_len (is_from time) s) 0) test)
-      by further false test =
-          let earlier : e.time < time = grind (arith, nat_tests) in
-          ap (λ n. cond (not (is_from time e)) (1 + n) 0) (further (omega arith) after)
-
-  -- ---- all segments
-
-  abbrev IsWhole : List ℕ → ℕ → Type 0
-  IsWhole moments whole = IsPartitionPoint (λ moment. nat_le moment time ≡ true) (λ moment. nat_le moment time ≡ false) moments whole
-
-  behind : (m : ℕ) (moments : List ℕ) (whole : ℕ) → IsWhole (m ∷ moments) (suc whole) → IsWhole moments whole
-  behind m moments whole parts = (
-    (λ k d from below. parts.0 (suc k) d (omega arith) (omega arith)),
-    (λ k d from below. parts.1 (suc k) d (omega arith) (omega arith)),
-  )
-
-  earlier_test : (m : ℕ) → nat_le m time ≡ true → m ≤ time
-  earlier_test m test = grind (arith, nat_tests)
-
-  later_test : (m : ℕ) → nat_le m time ≡ false → time < m
-  later_test m test = grind (arith, nat_tests)
-
-  step : (i n a : ℕ) (s : List Entry) → length s ≡ 1024 → n ≡ i * 1024 + a → length s + n ≡ suc i * 1024 + a
-  step i n a s long is = omega (arith, long, is)
-
-  in_segment : (from : ℕ) (segments : List (List Entry)) (ys s : List Entry) (i : ℕ) → AreEach 1024 segments → from ≤ time → IsWhole (moments_after from segments) i → slice_get segments i ≡ Some s → i * 1024 + position_or_len (is_from time) s ≡ position_or_len (is_from time) (flat_map (λ s. s) segments ++ ys)
-  in_segment from [] ys s i are low parts at = absurd (cc)
-  in_segment from (t ∷ segments) ys s zero are low parts at =
-      let rest : List Entry = flat_map (λ s. s) segments in
-      let same : t ≡ s = cc in
-      let after : time < moment_after from t = later_test (moment_after from t) (parts.1 0 0 (omega arith) (omega arith)) in
-      let whole = one_from from t (rest ++ ys) low after in
-      omega (arith, ap (λ (u : List Entry). position_or_len (is_from time) u) same, whole, ap (λ (u : List Entry). position_or_len (is_from time) u) (append_assoc t rest ys))
-  in_segment from (t ∷ segments) ys s (suc i) are low parts at =
-      let rest : List Entry = flat_map (λ s. s) segments in
-      let before : moment_after from t ≤ time = earlier_test (moment_after from t) (parts.0 0 0 (omega arith) (omega arith)) in
-      let further = in_segment (moment_after from t) segments ys s i are.1 before (behind (moment_after from t) (moments_after (moment_after from t) segments) i parts) at in
-      let whole = all_earlier from t (rest ++ ys) before in
-      omega (arith, are.0, further, whole, ap (λ (u : List Entry). position_or_len (is_from time) u) (append_assoc t rest ys))
-
-  past_segments : (from : ℕ) (segments : List (List Entry)) (ys : List Entry) (i : ℕ) → AreEach 1024 segments → from ≤ time → IsWhole (moments_after from segments) i → i ≡ length segments → i * 1024 + position_or_len (is_from time) ys ≡ position_or_len (is_from time) (flat_map (λ s. s) segments ++ ys)
-  past_segments from [] ys i are low parts all = omega arith
-  past_segments from (t ∷ segments) ys zero are low parts all = absurd (omega arith)
-  past_segments from (t ∷ segments) ys (suc i) are low parts all =
-      let rest : List Entry = flat_map (λ s. s) segments in
-      let before : moment_after from t ≤ time = earlier_test (moment_after from t) (parts.0 0 0 (omega arith) (omega arith)) in
-      let further = past_segments (moment_after from t) segments ys i are.1 before (behind (moment_after from t) (moments_after (moment_after from t) segments) i parts) (omega arith) in
-      let whole = all_earlier from t (rest ++ ys) before in
-      omega (arith, are.0, further, whole, ap (λ (u : List Entry). position_or_len (is_from time) u) (append_assoc t rest ys))
-
-  pub earlier_in_segment : (segments : List (List Entry)) (ys s : List Entry) (i : ℕ) → AreEach 1024 segments → IsWhole (moments_after 0 segments) i → slice_get segments i ≡ Some s → i * 1024 + position_or_len (is_from time) s ≡ position_or_len (is_from time) (flat_map (λ s. s) segments ++ ys)
-  earlier_in_segment segments ys s i are parts at = in_segment 0 segments ys s i are (omega arith) parts at
-
-  pub earlier_past_segments : (segments : List (List Entry)) (ys : List Entry) (i : ℕ) → AreEach 1024 segments → IsWhole (moments_after 0 segments) i → i ≡ length segments → i * 1024 + position_or_len (is_from time) ys ≡ position_or_len (is_from time) (flat_map (λ s. s) segments ++ ys)
-  earlier_past_segments segments ys i are parts all = past_segments 0 segments ys i are (omega arith) parts all
-
--- ---- one message after the other
-
-dropped : (log : List Entry) (e : Entry) (i : ℕ) → slice_get log i ≡ Some e → drop i log ≡ e ∷ drop (suc i) log
-dropped [] e i at = absurd (cc)
-dropped (x ∷ log) e zero at = let same : x ≡ e = cc in ap (λ (y : Entry). y ∷ log) same
-dropped (x ∷ log) e (suc i) at = dropped log e i at
-
-module _ (time : ℕ) where
-  -- those before the index are earlier
-  abbrev pub AreEarlier : List Entry → ℕ → Type 0
-  AreEarlier log i = position_or_len (is_from time) log ≡ i + position_or_len (is_from time) (drop i log)
-
   not_from : (e : Entry) (rest : List Entry) → e.time < time → position_or_len (is_from time) (e ∷ rest) ≡ 1 + position_or_len (is_from time) rest
   not_from e rest low =
       let test : is_from time e ≡ false = grind (arith, nat_tests) in
@@ -173,19 +40,145 @@ module _ (time : ℕ) where
       let test : is_from time e ≡ true = grind (arith, nat_tests) in
       ap (λ b. cond (not b) (1 + position_or_len (is_from time) rest) 0) test
 
-  pub one_earlier : (log : List Entry) (e : Entry) (i : ℕ) → slice_get log i ≡ Some e → AreEarlier log i → e.time < time → AreEarlier log (i + 1)
-  one_earlier log e i at are low =
-      let further = not_from e (drop (suc i) log) low in
+  -- what the moment says of the messages that stay
+  pub all_earlier : (from k : ℕ) (s : List Entry) → moment_after from s ≤ time → position_or_len (is_from time) (drop k s) ≡ length (drop k s)
+  all_earlier from zero [] after = refl
+  all_earlier from (suc k) [] after = refl
+  all_earlier from zero (e ∷ s) after =
+      let rest = all_earlier (max from (e.time + 1)) 0 s after in
+      let over = not_before (max from (e.time + 1)) s in
+      let low : e.time < time = omega (arith, over, after) in
+      let here = not_from e s low in
+      omega (arith, here, rest)
+  all_earlier from (suc k) (e ∷ s) after = all_earlier (max from (e.time + 1)) k s after
+
+  pub within_first : (xs ys : List Entry) → position_or_len (is_from time) xs < length xs → position_or_len (is_from time) (xs ++ ys) ≡ position_or_len (is_from time) xs
+  within_first [] ys low = absurd (omega arith)
+  within_first (e ∷ xs) ys low = by (within_first xs ys) (is_from time e) refl
+    where
+      by : (position_or_len (is_from time) xs < length xs → position_or_len (is_from time) (xs ++ ys) ≡ position_or_len (is_from time) xs) → (b : Bool) → is_from time e ≡ b → position_or_len (is_from time) ((e ∷ xs) ++ ys) ≡ position_or_len (is_from time) (e ∷ xs)
+      by further true test =
+          ap (λ b. cond (not b) (1 + position_or_len (is_from time) (xs ++ ys)) 0) test
+          ∙ sym (ap (λ b. cond (not b) (1 + position_or_len (is_from time) xs) 0) test)
+      by further false test =
+          let earlier : e.time < time = grind (arith, nat_tests) in
+          let here = not_from e xs earlier in
+          ap (λ n. cond (not (is_from time e)) (1 + n) 0) (further (omega (arith, low, here)))
+
+  pub past_first : (xs ys : List Entry) → position_or_len (is_from time) xs ≡ length xs → position_or_len (is_from time) (xs ++ ys) ≡ length xs + position_or_len (is_from time) ys
+  past_first [] ys all = omega arith
+  past_first (e ∷ xs) ys all = by (past_first xs ys) (is_from time e) refl
+    where
+      by : (position_or_len (is_from time) xs ≡ length xs → position_or_len (is_from time) (xs ++ ys) ≡ length xs + position_or_len (is_from time) ys) → (b : Bool) → is_from time e ≡ b → position_or_len (is_from time) ((e ∷ xs) ++ ys) ≡ length (e ∷ xs) + position_or_len (is_from time) ys
+      by further true test =
+          let none : position_or_len (is_from time) (e ∷ xs) ≡ 0 = ap (λ b. cond (not b) (1 + position_or_len (is_from time) xs) 0) test in
+          absurd (omega (arith, none, all))
+      by further false test =
+          let earlier : e.time < time = grind (arith, nat_tests) in
+          let one = not_from e xs earlier in
+          let more = not_from e (xs ++ ys) earlier in
+          let rest = further (omega (arith, one, all)) in
+          omega (arith, more, rest)
+
+  -- ---- all segments
+
+  -- what stays from the segment on
+  abbrev pub rest_at : ℕ → List (List Entry) → List Entry → ℕ → List Entry
+  rest_at skipped segments ys place = drop (skipped - 1024 * place) (flat_map (λ s. s) (drop place segments) ++ ys)
+
+  -- so many messages stay in front of the segment, and all are earlier
+  pub record EarlierUpTo (skipped : ℕ) (segments : List (List Entry)) (ys : List Entry) (place count : ℕ) : Type 0 where
+    pub earlier : position_or_len (is_from time) (drop skipped (flat_map (λ s. s) segments ++ ys)) ≡ count + position_or_len (is_from time) (rest_at skipped segments ys place)
+    pub few : count ≤ 1024 * place
+
+  pub none_passed : (skipped : ℕ) (segments : List (List Entry)) (ys : List Entry) → EarlierUpTo skipped segments ys 0 0
+  none_passed skipped segments ys =
+      let same : skipped - 1024 * 0 ≡ skipped = omega arith in
+      let whole = ap (λ n. position_or_len (is_from time) (drop n (flat_map (λ s. s) segments ++ ys))) same in
+      record { earlier = omega (arith, whole); few = omega arith }
+
+  at_place : (segments : List (List Entry)) (s : List Entry) (i : ℕ) → slice_get segments i ≡ Some s → drop i segments ≡ s ∷ drop (suc i) segments
+  at_place [] s i at = absurd (cc)
+  at_place (t ∷ segments) s zero at = let same : t ≡ s = cc in ap (λ u. u ∷ segments) same
+  at_place (t ∷ segments) s (suc i) at = at_place segments s i at
+
+  drop_most : (k from : ℕ) (s : List Entry) → from ≡ min k (length s) → drop k s ≡ drop from s
+  drop_most zero from s is = let none : from ≡ 0 = omega (arith, is) in ap (λ n. drop n s) (sym none)
+  drop_most (suc k) from [] is = sym (drop-nil from)
+  drop_most (suc k) zero (e ∷ s) is = absurd (omega (arith, is))
+  drop_most (suc k) (suc from) (e ∷ s) is = drop_most k from s (omega (arith, is))
+
+  module _ (skipped : ℕ) (segments : List (List Entry)) (ys s : List Entry) (place count from here : ℕ) (are : AreEach 1024 segments) (at : slice_get segments place ≡ Some s) (from_is : from ≡ min (skipped - 1024 * place) 1024) (here_is : here ≡ position_or_len (is_from time) (drop from s)) (so_far : EarlierUpTo skipped segments ys place count) where
+    long : length s ≡ 1024
+    long = each_long 1024 segments s place are at
+
+    parts : rest_at skipped segments ys place ≡ drop from s ++ rest_at skipped segments ys (place + 1)
+    parts =
+        let k = skipped - 1024 * place in
+        let later : List Entry = flat_map (λ s. s) (drop (suc place) segments) in
+        let less : k - length s ≡ skipped - 1024 * (place + 1) = omega (arith, long) in
+        let next : suc place ≡ place + 1 = omega arith in
+        ap (λ ss. drop k (flat_map (λ s. s) ss ++ ys)) (at_place segments s place at)
+        ∙ ap (drop k) (append_assoc s later ys)
+        ∙ drop-append k s (later ++ ys)
+        ∙ ap (λ xs. xs ++ drop (k - length s) (later ++ ys)) (drop_most k from s (from_is ∙ ap (min k) (sym long)))
+        ∙ ap (λ n. drop from s ++ drop n (later ++ ys)) less
+        ∙ ap (λ n. drop from s ++ drop (skipped - 1024 * (place + 1)) (flat_map (λ s. s) (drop n segments) ++ ys)) next
+
+    pub found_in : from + here < 1024 → count + here ≡ position_or_len (is_from time) (drop skipped (flat_map (λ s. s) segments ++ ys))
+    found_in low =
+        let inside = within_first (drop from s) (rest_at skipped segments ys (place + 1)) (omega (arith, low, here_is, length-drop from s, long)) in
+        let whole = ap (position_or_len (is_from time)) parts in
+        omega (arith, so_far.earlier, whole, inside, here_is)
+
+    pub passed : 1024 ≤ from + here → from + here ≤ 1024 → EarlierUpTo skipped segments ys (place + 1) (count + here)
+    passed high most =
+        let all : position_or_len (is_from time) (drop from s) ≡ length (drop from s) = omega (arith, high, most, here_is, length-drop from s, long) in
+        let past = past_first (drop from s) (rest_at skipped segments ys (place + 1)) all in
+        let whole = ap (position_or_len (is_from time)) parts in
+        record {
+          earlier = omega (arith, so_far.earlier, whole, past, all, here_is);
+          few = omega (arith, so_far.few, most);
+        }
+
+  none_left : (segments : List (List Entry)) (place : ℕ) → place ≡ length segments → drop place segments ≡ []
+  none_left [] zero all = refl
+  none_left [] (suc place) all = refl
+  none_left (s ∷ segments) zero all = absurd (omega (arith, all))
+  none_left (s ∷ segments) (suc place) all = none_left segments place (omega (arith, all))
+
+  pub after_all : (skipped : ℕ) (segments : List (List Entry)) (ys : List Entry) (place count from here : ℕ) → EarlierUpTo skipped segments ys place count → place ≡ length segments → from ≡ skipped - 1024 * place → here ≡ position_or_len (is_from time) (drop from ys) → count + here ≡ position_or_len (is_from time) (drop skipped (flat_map (λ s. s) segments ++ ys))
+  after_all skipped segments ys place count from here so_far all from_is here_is =
+      let rest = ap (λ ss. position_or_len (is_from time) (drop (skipped - 1024 * place) (flat_map (λ s. s) ss ++ ys))) (none_left segments place all) in
+      let same = ap (λ n. position_or_len (is_from time) (drop n ys)) from_is in
+      omega (arith, so_far.earlier, rest, same, here_is)
+
+-- ---- one message after the other
+
+dropped : (log : List Entry) (e : Entry) (i : ℕ) → slice_get log i ≡ Some e → drop i log ≡ e ∷ drop (suc i) log
+dropped [] e i at = absurd (cc)
+dropped (x ∷ log) e zero at = let same : x ≡ e = cc in ap (λ (y : Entry). y ∷ log) same
+dropped (x ∷ log) e (suc i) at = dropped log e i at
+
+module _ (time : ℕ) where
+  -- those from the first index on and before the second are earlier
+  abbrev pub AreEarlier : List Entry → ℕ → ℕ → Type 0
+  AreEarlier log from i =
+      (from ≤ i) × (position_or_len (is_from time) (drop from log) ≡ (i - from) + position_or_len (is_from time) (drop i log))
+
+  pub one_earlier : (log : List Entry) (e : Entry) (from i : ℕ) → slice_get log i ≡ Some e → AreEarlier log from i → e.time < time → AreEarlier log from (i + 1)
+  one_earlier log e from i at are low =
+      let further = not_from time e (drop (suc i) log) low in
       let same = ap (λ (u : List Entry). position_or_len (is_from time) u) (dropped log e i at) in
       let next : i + 1 ≡ suc i = omega arith in
       let on = ap (λ (n : ℕ). position_or_len (is_from time) (drop n log)) next in
-      omega (arith, are, further, same, on)
+      (omega (arith, are.0), omega (arith, are.0, are.1, further, same, on))
 
-  pub one_later : (log : List Entry) (e : Entry) (i : ℕ) → slice_get log i ≡ Some e → AreEarlier log i → time ≤ e.time → i ≡ position_or_len (is_from time) log
-  one_later log e i at are high =
-      let none = from_it e (drop (suc i) log) high in
+  pub one_later : (log : List Entry) (e : Entry) (from i : ℕ) → slice_get log i ≡ Some e → AreEarlier log from i → time ≤ e.time → i - from ≡ position_or_len (is_from time) (drop from log)
+  one_later log e from i at are high =
+      let none = from_it time e (drop (suc i) log) high in
       let same = ap (λ (u : List Entry). position_or_len (is_from time) u) (dropped log e i at) in
-      omega (arith, are, none, same)
+      omega (arith, are.1, none, same)
 
   nothing_after : (log : List Entry) (i : ℕ) → length log ≤ i → position_or_len (is_from time) (drop i log) ≡ 0
   nothing_after [] zero low = refl
@@ -193,9 +186,5 @@ module _ (time : ℕ) where
   nothing_after (x ∷ log) zero low = absurd (omega arith)
   nothing_after (x ∷ log) (suc i) low = nothing_after log i (omega arith)
 
-  pub all_are_earlier : (log : List Entry) (i : ℕ) → length log ≡ i → AreEarlier log i → i ≡ position_or_len (is_from time) log
-  all_are_earlier log i all are = omega (arith, are, nothing_after log i (omega arith))
-
--- halving serves
-pub parted : (time : ℕ) (segments : List (List Entry)) (moments : List ℕ) → moments ≡ moments_after 0 segments → IsPartitionedBy (λ m. nat_le m time) moments
-parted time segments moments are = subst (λ (ms : List ℕ). IsPartitionedBy (λ m. nat_le m time) ms) (sym are) (IsPartitionedBy-leb (λ n. n) (moments_after 0 segments) time (never_fall 0 segments))
+  pub all_are_earlier : (log : List Entry) (from i : ℕ) → length log ≡ i → AreEarlier log from i → i - from ≡ position_or_len (is_from time) (drop from log)
+  all_are_earlier log from i all are = omega (arith, are.1, nothing_after log i (omega arith))

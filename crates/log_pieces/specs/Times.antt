@@ -1,5 +1,5 @@
 -- From when on all messages of a list are earlier.
-use Rattle.std.specs.Prelude.{ℕ, ◌+◌, nat_le, max, Bool, List, [], ◌∷◌}
+use Rattle.std.specs.Prelude.{ℕ, ◌+◌, nat_le, max, Bool, List}
 use Rattle.std.specs.List.{fold}
 use Rattle.position_core.specs.declared.message.Entry.{Entry}
 
@@ -10,8 +10,3 @@ is_from time e = nat_le time e.time
 -- the first moment after the times of all messages, which is not before the given one
 abbrev pub moment_after : ℕ → List Entry → ℕ
 moment_after from log = fold (λ moment e. max moment (e.time + 1)) from log
-
--- for each segment, the first moment after the times of all messages up to its end
-abbrev pub moments_after : ℕ → List (List Entry) → List ℕ
-moments_after from [] = []
-moments_after from (segment ∷ segments) = moment_after from segment ∷ moments_after (moment_after from segment) segments

@@ -1,5 +1,5 @@
 // The last messages of a log, which no segment has yet: in runs that several logs may share, but for the very last.
-ghost use Rattle.std.specs.Prelude.{◌≡◌, ◌*◌, ◌<◌, ◌≤◌, [], ◌∷◌, ◌++◌, length, OnOk, OnErr, IfOk, slice_get};
+ghost use Rattle.std.specs.Prelude.{◌≡◌, ◌*◌, ◌<◌, ◌≤◌, [], ◌∷◌, ◌++◌, drop, length, OnOk, OnErr, IfOk, slice_get};
 ghost use Rattle.std.specs.List.{position_or_len};
 ghost use Rattle.std.specs.Option.{option_copied};
 ghost use Rattle.log_pieces.specs.Pieces.{front, loosely};
@@ -86,7 +86,7 @@ impl Loose {
         ensures err { OnErr result (self.new ≡ self.old) }
     {
         let run = Segment::of(alloc, &self.last)?;
-        self.runs = self.runs.with(alloc, run)?;
+        self.runs = self.runs.with(alloc, 0, run)?;
         self.last.truncate(1);
         self.last[0] = message;
         Ok(())
@@ -146,23 +146,23 @@ impl Loose {
         self.last[0] = message;
     }
 
-    /// How many messages stand before the first that is not earlier than the time.
-    pub(crate) fn count_earlier(&self, time: Moment) -> usize
-        ensures value { result ≡ position_or_len (is_from time) (loosely self.now) }
-        ensures within { result ≤ length (loosely self.now) }
+    /// How many messages from the place on stand before the first of them that is not earlier than the time.
+    pub(crate) fn count_earlier(&self, from: usize, time: Moment) -> usize
+        requires { from ≤ length (loosely self.now) }
+        ensures value { result ≡ position_or_len (is_from time) (drop from (loosely self.now)) }
         ensures few { result ≤ 1024 }
     {
-        for place in 0..self.len() {
+        for place in from..self.len() {
             match self.get(place) {
                 Some(message) => {
                     if time.millis() <= message.entry().time.millis() {
-                        return place;
+                        return place - from;
                     }
                 }
                 None => {}
             }
         }
-        self.len()
+        self.len() - from
     }
 }
 

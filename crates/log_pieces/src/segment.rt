@@ -1,5 +1,5 @@
 // A run of messages that several logs may share.
-ghost use Rattle.std.specs.Prelude.{◌≡◌, ◌≤◌, IfOk, length, slice_get};
+ghost use Rattle.std.specs.Prelude.{◌≡◌, ◌+◌, ◌≤◌, IfOk, drop, length, slice_get};
 ghost use Rattle.std.specs.List.{position_or_len};
 ghost use Rattle.std.specs.Option.{option_copied};
 ghost use Rattle.log_pieces.specs.Times.{is_from, moment_after};
@@ -14,6 +14,13 @@ pub(crate) fn message_at(messages: &[Message], place: usize) -> Option<&Message>
     ensures { option_copied result ≡ slice_get messages.now place }
 {
     messages.get(place)
+}
+
+fn messages_from(messages: &[Message], from: usize) -> &[Message]
+    requires { from ≤ length messages.now }
+    ensures { result.now ≡ drop from messages.now }
+{
+    &messages[from..]
 }
 
 fn shared(messages: &Vec<Message>) -> Result<Vec<Message>, AllocError>
@@ -65,19 +72,20 @@ impl Segment {
         &self.messages
     }
 
-    /// The first moment after the times of all messages, which is not before the given one.
-    pub(crate) fn moment_after(&self, from: u64) -> u64
-        ensures { result ≡ moment_after from self.now }
+    /// The first moment after the times of all messages.
+    pub(crate) fn moment_after(&self) -> u64
+        ensures { result ≡ moment_after 0 self.now }
     {
-        times::moment_after(from, &self.messages)
+        times::moment_after(&self.messages)
     }
 
-    /// How many messages stand before the first that is not earlier than the time.
-    pub(crate) fn count_earlier(&self, time: Moment) -> usize
-        ensures value { result ≡ position_or_len (is_from time) self.now }
-        ensures within { result ≤ length self.now }
+    /// How many messages from the place on stand before the first of them that is not earlier than the time.
+    pub(crate) fn count_earlier(&self, from: usize, time: Moment) -> usize
+        requires { from ≤ length self.now }
+        ensures value { result ≡ position_or_len (is_from time) (drop from self.now) }
+        ensures within { from + result ≤ length self.now }
     {
-        times::count_earlier(&self.messages, time)
+        times::count_earlier(messages_from(&self.messages, from), time)
     }
 }
 

@@ -1,5 +1,5 @@
 // A row of segments that several logs may share as a whole.
-ghost use Rattle.std.specs.Prelude.{◌≡◌, [], ◌∷◌, ◌++◌, length, slice_get, IfOk};
+ghost use Rattle.std.specs.Prelude.{◌≡◌, [], ◌∷◌, ◌++◌, drop, length, slice_get, IfOk};
 ghost use Rattle.std.specs.Option.{option_copied};
 
 use crate::segment::Segment;
@@ -29,10 +29,20 @@ fn segment_at(segments: &[Segment], place: usize) -> Option<&Segment>
     segments.get(place)
 }
 
-fn shared(segments: &Vec<Segment>) -> Result<Vec<Segment>, AllocError>
-    ensures { IfOk result (λ copy. copy.items ≡ segments.now.items) }
+/// Those after the first ones, where there are more.
+fn segments_from(segments: &[Segment], gone: usize) -> &[Segment]
+    ensures { result.now ≡ drop gone segments.now }
 {
-    segments.clone()
+    &segments[gone.min(segments.len())..]
+}
+
+/// The segments as a row of its own, with room for one more.
+fn shared(alloc: Global, segments: &[Segment]) -> Result<Vec<Segment>, AllocError>
+    ensures { IfOk result (λ copy. copy.items ≡ segments.now) }
+{
+    let mut copy = Vec::with_capacity(alloc, segments.len() + 1)?;
+    copy.extend_with_clones(segments)?;
+    Ok(copy)
 }
 
 impl Segments {
@@ -61,20 +71,26 @@ impl Segments {
         }
     }
 
-    fn copied(&self, alloc: Global) -> Result<Vec<Segment>, AllocError>
-        ensures { IfOk result (λ copy. copy.items ≡ self.now) }
+    fn copied(&self, alloc: Global, gone: usize) -> Result<Vec<Segment>, AllocError>
+        ensures { IfOk result (λ copy. copy.items ≡ drop gone self.now) }
     {
         match &self.row {
-            Some(row) => shared(row),
+            Some(row) => shared(alloc, segments_from(row, gone)),
             None => Ok(Vec::new(alloc)),
         }
     }
 
-    /// A row of its own, with one segment more. Takes a step for each segment.
-    pub(crate) fn with(&self, alloc: Global, segment: Segment) -> Result<Self, AllocError>
-        ensures { IfOk result (λ row. row ≡ self.now ++ segment ∷ []) }
+    /// A row of its own, without so many of the first segments, and with one more at the end. Takes a step
+    /// for each segment.
+    pub(crate) fn with(
+        &self,
+        alloc: Global,
+        gone: usize,
+        segment: Segment,
+    ) -> Result<Self, AllocError>
+        ensures { IfOk result (λ row. row ≡ drop gone self.now ++ segment ∷ []) }
     {
-        let mut segments = self.copied(alloc)?;
+        let mut segments = self.copied(alloc, gone)?;
         segments.push(segment)?;
         Ok(Segments {
             row: Some(Arc::new(alloc, segments)?),

@@ -5,11 +5,11 @@ ghost use Rattle.log_pieces.specs.Times.{is_from, moment_after};
 
 use position_core::{Message, Moment};
 
-/// The first moment after the times of all messages, which is not before the given one.
-pub(crate) fn moment_after(from: u64, messages: &[Message]) -> u64
-    ensures { result ≡ moment_after from messages.now }
+/// The first moment after the times of all messages.
+pub(crate) fn moment_after(messages: &[Message]) -> u64
+    ensures { result ≡ moment_after 0 messages.now }
 {
-    let mut moment = from;
+    let mut moment = 0;
     for message in messages {
         moment = moment.max(message.entry().time.millis() + 1);
     }
