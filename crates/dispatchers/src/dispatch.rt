@@ -121,8 +121,9 @@ impl Dispatch {
     }
 
     /// The first messages of the log went, so many, which all had done with: whole sixty-fours. The view
-    /// shows the log without them. In the kinds in order and in Shared this takes a step for each 64
-    /// messages that were read; in Key_Shared it goes over the hashes that have had a message.
+    /// shows the log without them. No memory is taken. The kinds in order and Shared take a step for each
+    /// 64 messages that were read. Key_Shared looks at the row of one hash for each message that went, and
+    /// at the chunks of 256 hashes: it goes over those in which a hash has a message that may be sent.
     pub fn on_trim<V: View>(&mut self, view: &V, count: u64)
         requires { count % 64 ≡ 0 }
         ensures { AgreesAfter (Trimmed count) (agrees self.old) (agrees self.new)
