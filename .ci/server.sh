@@ -15,5 +15,6 @@ port() {
 
 python3 bench/server/refusals.py "$program" "$(port)"
 python3 bench/server/version_1.py "$program" "$(port)"
+python3 bench/server/offline.py "$program" "$(port)"
 python3 bench/server/opens.py "$program" 60 "$(port)"
 python3 bench/server/full.py "$program" 6 "$(port)"
