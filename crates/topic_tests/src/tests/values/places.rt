@@ -45,3 +45,15 @@ fn places_are_found_in_order(rt: HostRuntime) {
     set.insert(64);
     check_first(&rt, &set, Some(64));
 }
+
+#[test]
+fn places_move_down(rt: HostRuntime) {
+    let mut set = PlaceBits::new(rt.alloc());
+    set.grow(300_000).expect(&rt, "no memory");
+    set.insert(4_096);
+    set.insert(299_999);
+    set.shift_down(128);
+    check_first(&rt, &set, Some(3_968));
+    check(&rt, &set, 3_969, Some(299_871));
+    check(&rt, &set, 299_872, None);
+}
