@@ -68,6 +68,19 @@ for command in stats earliest "skip 2" stats drop; do
     timeout 60 "$python" "$here/admin.py" "$address" my-topic "$1" other-sub ${2:-}
 done
 
+echo "== brokerctl"
+ctl() { timeout 60 "$python" "$here/../tools/brokerctl" --broker "$address" "$@"; }
+ctl publish errands one two three --key k
+ctl consume errands worker --count 2 -v
+ctl --json stats errands worker | tee "$room/stats"
+grep -q '"acknowledged": 2.*"live": 1' "$room/stats"
+ctl seek errands worker earliest
+ctl skip errands worker 1
+ctl consume errands worker --wait 1 | diff - <(printf 'two\nthree\n')
+ctl dead list my-topic-2 none > "$room/dead" && [ ! -s "$room/dead" ]
+ctl drop errands worker
+ctl delete errands
+
 echo "== Each is refused with one line"
 refused() {
     local want=$1

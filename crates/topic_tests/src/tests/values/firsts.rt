@@ -56,12 +56,3 @@ fn the_least_number_of_a_range_is_found(rt: HostRuntime) {
     take_out_some(&rt, &mut firsts);
     drop(firsts);
 }
-
-#[test]
-fn a_number_becomes_less(rt: HostRuntime) {
-    let mut firsts = HashFirsts::new(rt.alloc());
-    firsts.grow(40_000).expect(&rt, "no memory");
-    firsts.put(40_000, 700);
-    firsts.lower(128);
-    check(&rt, &firsts, 0, 65_536, Some((572, 40_000)));
-}

@@ -115,13 +115,3 @@ fn ranges_are_read_back_in_order(rt: HostRuntime) {
     let copy = set.clone().expect(&rt, "no memory");
     assert!(rt; set.is(&copy));
 }
-
-#[test]
-fn the_first_places_are_forgotten(rt: HostRuntime) {
-    let mut set = AckSet::new(rt.alloc());
-    set.reset(200);
-    set.forget_below(128);
-    check(&rt, &set, &[(0, 72)], 72);
-    set.add(80).expect(&rt, "no memory");
-    check(&rt, &set, &[(0, 72), (80, 81)], 73);
-}
