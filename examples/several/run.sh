@@ -1,0 +1,82 @@
+#!/usr/bin/env bash
+# Starts two brokers behind nginx with the file brokers.conf, uses both by one address, and then moves a broker to a copy
+# of its file, as a spare machine would have it. Debian's packages: nginx openssl python3-websocket.
+# examples/several/run.sh [program] [port]      It also uses the three ports after that one.
+set -euo pipefail
+here=$(cd "$(dirname "$0")" && pwd)
+program=${1:-$here/../../crates/pulsar_broker/out/pulsar_broker}
+port=${2:-18443}
+room=$(mktemp -d)
+chmod 755 "$room"
+bills=
+orders=
+finish() {
+    exec 2> /dev/null
+    kill -9 $bills $orders
+    kill "$(cat "$room/nginx.pid")"
+    rm -rf "$room"
+}
+trap finish EXIT
+
+start() {                # start NAME PORT
+    : > "$room/said"
+    "$program" "$room/$1.db" "127.0.0.1:$2" 2 > "$room/said" &
+    until grep -q listening "$room/said"; do sleep 0.05; done
+}
+start bills $((port + 1))
+bills=$!
+start orders $((port + 2))
+orders=$!
+
+openssl req -x509 -newkey rsa:2048 -nodes -days 2 -subj /CN=localhost -addext subjectAltName=DNS:localhost \
+    -keyout "$room/brokers.key" -out "$room/brokers.crt" 2> "$room/openssl"
+for user in bills orders admins; do
+    echo "$user:$(openssl passwd -apr1 "secret of $user")" > "$room/$user.passwd"
+done
+site() {                 # site ORDERS-PORT: brokers.conf with this room's files and ports
+    sed "s|/etc/nginx/|$room/|; s|listen 443|listen 127.0.0.1:$port|; s|:8081|:$((port + 1))|; s|:8082|:$1|" "$here/brokers.conf" > "$room/site.conf"
+}
+site $((port + 2))
+cat > "$room/nginx.conf" <<END
+pid $room/nginx.pid;
+events {}
+http { access_log off; include $room/site.conf; }
+END
+nginx -e "$room/errors" -c "$room/nginx.conf"
+
+ctl() {                  # ctl USER WORD..
+    local user=$1
+    shift
+    timeout 60 /usr/bin/python3 "$here/../../tools/brokerctl" --ca "$room/brokers.crt" \
+        --broker "wss://$user:secret%20of%20${owner:-$user}@localhost:$port" "$@"
+}
+is() { diff <(printf '%s\n' "${@:2}") - > /dev/null || { echo "$1" >&2; exit 1; }; }
+refused() { "${@:2}" > "$room/out" 2>&1 && { echo "it was not refused: $*" >&2; exit 1; } || grep "$1" "$room/out"; }
+
+echo "== One address, two brokers"
+ctl orders publish shop/orders/new first second > /dev/null
+ctl bills publish shop/bills/open one > /dev/null
+ctl orders consume shop/orders/new worker --count 1 | is "the first order does not come" first
+ctl bills consume shop/bills/open clerk --count 1 | is "the bill does not come" one
+ctl admins stats shop/orders/new worker
+
+echo "== Who has no right is turned away"
+owner=bills refused 'turned away with 401' ctl orders publish shop/orders/new third
+refused 'turned away with 401' ctl bills publish shop/orders/new third
+refused 'turned away with 404' ctl bills publish public/default/mine third
+refused 'turned away with 401' ctl orders delete shop/orders/new
+
+echo "== The broker of the orders is killed, and goes on elsewhere with a copy of its files"
+{ kill -9 $orders; wait $orders; } 2> /dev/null || true
+mkdir "$room/spare"
+mv "$room"/orders.db* "$room/spare/"
+began=$(date +%s%3N)
+start spare/orders $((port + 3))
+orders=$!
+site $((port + 3))
+nginx -e "$room/errors" -c "$room/nginx.conf" -s reload
+until ctl orders consume shop/orders/new worker --count 1 --wait 10 > "$room/out" 2> /dev/null; do sleep 0.1; done
+is "the second order does not come" second < "$room/out"
+echo "the next order came $(($(date +%s%3N) - began)) ms after the kill"
+ctl bills publish shop/bills/open two > /dev/null
+ctl bills consume shop/bills/open clerk --count 1 | is "the other broker does not go on" two
