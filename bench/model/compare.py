@@ -13,7 +13,7 @@ import random
 import subprocess
 import sys
 
-from lines import BadLine, NAMES, answer, id_text, replay
+from lines import BadLine, MOST_MOMENT, MOST_U64, NAMES, answer, id_text, replay
 from topic import Topic
 
 KINDS = ["Exclusive", "Failover", "Shared", "Key_Shared"]
@@ -26,7 +26,7 @@ RANGES = [
 NO_IDS = ["CIAAEAM=", "CAAQAw", "CAAQAA===", "xx", "-"]
 ODD_WORDS = [
     "", "-", "-1", "01", "+1", "18446744073709551616", "9223372036854775808", "4611686018427387905", "2147483648",
-    "253402300800000", "100001", "1000001", "%FF", "%", "%2", "%zz", "%00", "%41", "a%2Fb", "push:0", "push:", "push:01",
+    "253402300799999", "253402300800000", "100001", "1000001", "%FF", "%", "%2", "%zz", "%00", "%41", "a%2Fb", "push:0", "push:", "push:01",
     "Push:1", "pull:1", "earliest", "Earliest", "LATEST", "é", "persistent://a/b", "persistent://a/b/c/d",
     "persistent://a//c", "x" * 300, "0-65536", "5-4", "0-5,5-9", "0-5,", ",0-5", "0-5,,7-8", "00-5", "0--5", "0-+5", "7", "3-3",
     ",".join(f"{n}-{n}" for n in range(64)), ",".join(f"{n}-{n}" for n in range(65)),
@@ -59,7 +59,7 @@ class Draw:
     def id(self):
         pending = [it for sub in self.topic.subscriptions.values() for it in sub.pending]
         log = [message.position for message in self.topic.log]
-        among = self.dice.choices([pending or log, log, [(0, 99)]], [5, 4, 1])[0]
+        among = self.dice.choices([pending or log, log, [(0, 0), (0, 99)]], [5, 4, 1])[0]
         return id_text(self.dice.choice(among or [(0, 0)])) if self.dice.random() < 0.96 else self.dice.choice(NO_IDS)
 
     def subscribe(self, name):
@@ -73,9 +73,23 @@ class Draw:
         )
 
     def publish(self):
-        pick, count = self.dice.choice, len(self.topic.log)
+        pick, count = self.dice.choice, self.topic.had()
         sequence = max(0, count + pick([-2, -1, 0, 0, 0, 1, 5]))
         self.say("publish", self.producer(), sequence, pick(KEYS), pick(["-", "aGk=", "YQ==", "YWJj"]), self.now - pick([0, 0, 50]))
+
+    def fill(self, count):
+        """So many messages of a few names, most of which a subscription has done with, or all."""
+        for name in ("q", "-", "-"):
+            self.say("producer", name, "-")
+        for _ in range(count):
+            self.now += self.dice.choice([0, 1])
+            self.publish()
+        self.say("stored")
+        self.say("skip", "s", self.dice.choice([count, self.dice.randrange(count)]))
+
+    def trim(self):
+        pick, some = self.dice.choice, self.dice.randrange(150)
+        self.say("trim", pick([0, 0, 0, some]), pick([MOST_MOMENT, MOST_MOMENT, self.now - some]), pick([1_000, MOST_U64, 64 + some]))
 
     def step(self):
         pick, say, now = self.dice.choice, self.say, self.now
@@ -96,16 +110,17 @@ class Draw:
             "tick": lambda: say("tick", name, now + pick([0, 0, 100, 200])),
             "seek": lambda: say("seek", name, pick(["earliest", "latest", self.id(), self.id()])),
             "seektime": lambda: say("seektime", name, max(0, now - self.dice.randrange(200))),
-            "skip": lambda: say("skip", name, self.dice.randrange(4)),
+            "skip": lambda: say("skip", name, self.dice.randrange(pick([4, 4, 100]))),
             "dropsub": lambda: say("dropsub", name),
             "dispatch": lambda: say("dispatch", name, now),
             "collect": lambda: say("collect", self.consumer()),
             "deadnext": lambda: say("deadnext", name),
             "deaddone": lambda: say("deaddone", name, pick([0, 0, 1, max(0, self.topic.ordinal - 1)])),
             "stats": lambda: say("stats", name),
+            "trim": self.trim,
             "restart": lambda: say("restart"),
         }
-        often = {"publish": 16, "stored": 7, "subscribe": 5, "ack": 6, "nack": 9, "tick": 11, "dispatch": 14, "collect": 3, "producer": 2, "restart": 0.4}
+        often = {"publish": 16, "stored": 7, "subscribe": 5, "ack": 6, "nack": 9, "tick": 11, "dispatch": 14, "collect": 3, "producer": 2, "trim": 3, "restart": 0.4}
         steps[self.dice.choices([*steps], [often.get(it, 1) for it in steps])[0]]()
 
 
@@ -113,6 +128,8 @@ def drawn(dice, ledger_size, events):
     draw = Draw(dice, ledger_size)
     draw.say("producer", "p", "-")
     draw.subscribe("s")
+    if dice.random() < 0.3:
+        draw.fill(dice.randrange(100, 300))
     for _ in range(events):
         draw.step()
     return draw.lines

@@ -177,6 +177,7 @@ LINES = {
     "collect": (Topic.collect, u64),
     "deadnext": (Topic.dead_next, name),
     "deaddone": (Topic.dead_done, name, number(0, 2**62)),
+    "trim": (Topic.trim, u64, moment, u64),
     "stats": (Topic.stats, name),
     "restart": (Topic.restart,),
 }

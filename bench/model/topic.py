@@ -1,4 +1,5 @@
 """A topic as docs/MACHINE.md has it, by whole lists and sets: slow, and written without a look at the broker's code."""
+import itertools
 from dataclasses import dataclass, field
 
 ALL_HASHES = 65_536
@@ -6,6 +7,9 @@ MOST_CREDIT = MOST_COUNT = 2**31 - 1
 MOST_LEDGER = MOST_ORDINALS = 2**62
 MOST_MESSAGES = 1_048_576
 MOST_PRODUCERS = 256
+MOST_GONE = 2**62
+AT_ONCE = 64
+FORGETTABLE = 4_096
 MOST_SUBSCRIPTIONS = MOST_MEMBERS = 64
 IN_ORDER = ("Exclusive", "Failover")
 
@@ -125,8 +129,9 @@ class Topic:
 
     def __init__(self, names, ledger_size):
         self.names, self.ledger_size = names, ledger_size
-        self.ledger = self.ordinal = self.durable = 0
+        self.ledger = self.ordinal = self.durable = self.gone = 0
         self.log = []
+        self.authors = {}  # of what is gone: name: the greatest sequence number; whose message was the last comes last
         self.producers, self.members, self.subscriptions = {}, {}, {}
         self.next_producer = self.next_consumer = 1
         self.kept = self.snapshot()
@@ -135,12 +140,12 @@ class Topic:
 
     def snapshot(self):
         kept = {name: (it.kind, set(it.acknowledged), list(it.dead), dict(it.counts)) for name, it in self.subscriptions.items()}
-        return self.ledger, self.ordinal, list(self.log), kept
+        return self.ledger, self.ordinal, self.gone, dict(self.authors), list(self.log), kept
 
     def restart(self):
-        ledger, self.ordinal, log, kept = self.kept
+        ledger, self.ordinal, self.gone, authors, log, kept = self.kept
         self.ledger = min(ledger + 1, MOST_LEDGER + 1)
-        self.log, self.durable = list(log), len(log)
+        self.authors, self.log, self.durable = dict(authors), list(log), len(log)
         self.producers, self.members = {}, {}
         self.next_producer = self.next_consumer = 1
         self.subscriptions = {
@@ -151,15 +156,24 @@ class Topic:
 
     # ---- producers and the log
 
+    def had(self):
+        return self.gone + len(self.log)
+
     def last(self, name, base):
-        return max((it.sequence for it in self.log if it.producer == name), default=base)
+        known = [it.sequence for it in self.log if it.producer == name]
+        if name in self.authors:
+            known.append(self.authors[name])
+        return max(known, default=base)
+
+    def connected(self):
+        return {name for name, _ in self.producers.values()}
 
     def add_producer(self, name, base):
-        connected = {other for other, _ in self.producers.values()}
+        connected = self.connected()
         require(name is None or name not in connected, 2)
         require(len(self.producers) < MOST_PRODUCERS, 7)
         if name is None:
-            used = connected | {it.producer for it in self.log}
+            used = connected | {it.producer for it in self.log} | set(self.authors)
             number = next(n for n in range(len(used) + 1) if f"auto-{n}" not in used)
             name = f"auto-{number}"
         producer, self.next_producer = self.next_producer, self.next_producer + 1
@@ -175,23 +189,60 @@ class Topic:
         require(producer in self.producers, 3)
         name, base = self.producers[producer]
         if sequence <= self.last(name, base):
-            return ["duplicate", len(self.log)]
-        entries = sum(it.position[0] == self.ledger for it in self.log)
+            return ["duplicate", self.had()]
+        ledger, entry = self.log[-1].position if self.log else (None, 0)
+        entries = entry + 1 if ledger == self.ledger else 0
         position = (self.ledger, entries) if entries < self.ledger_size else (self.ledger + 1, 0)
         require(len(self.log) < MOST_MESSAGES and position[0] <= MOST_LEDGER, 4)
         self.ledger = position[0]
         self.log.append(Message(position, name, sequence, key, payload, now))
-        return ["published", position, len(self.log)]
+        return ["published", position, self.had()]
 
     def stored(self):
         self.durable = len(self.log)
         for it in self.subscriptions.values():
             it.safe = len(it.dead)
         self.kept = self.snapshot()
-        return ["durable", self.durable]
+        return ["durable", self.gone + self.durable]
 
     def progress(self):
-        return ["progress", self.durable, len(self.log)]
+        return ["progress", self.gone + self.durable, self.had()]
+
+    # ---- trimming
+
+    def is_done(self, message):
+        """Every subscription has done with the message, and there is one."""
+        at = message.position
+        return bool(self.subscriptions) and all(
+            at in it.acknowledged and at not in it.pending and all(letter.position != at for letter in it.dead)
+            for it in self.subscriptions.values()
+        )
+
+    def trim(self, keep, before, most):
+        may_go = (message.time <= before and self.is_done(message) for message in self.visible())
+        free = sum(itertools.takewhile(bool, may_go))
+        count = max(0, min(free - 1, len(self.log) - keep, most, MOST_GONE - self.gone)) // AT_ONCE * AT_ONCE
+        if count == 0:
+            return ["untrimmed"]
+        for message in self.log[:count]:
+            self.let_go(message)
+        self.forget_names()
+        return ["trimmed", self.gone]
+
+    def let_go(self, message):
+        self.log.remove(message)
+        self.gone += 1
+        self.durable -= 1
+        for it in self.subscriptions.values():
+            it.acknowledged.discard(message.position)
+            it.counts.pop(message.position, None)
+        self.authors[message.producer] = max(message.sequence, self.authors.pop(message.producer, message.sequence))
+
+    def forget_names(self):
+        lasting = self.connected() | {message.producer for message in self.log}
+        for name in [*self.authors][:-FORGETTABLE]:
+            if name not in lasting and not name.startswith("dlq/"):
+                del self.authors[name]
 
     # ---- what is asked of the state
 

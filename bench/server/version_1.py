@@ -1,5 +1,5 @@
 #!/usr/bin/env python3
-# A file of version 1, as an earlier program wrote it: the broker goes on from it, and makes it one of version 2. Python's own
+# A file of version 1, as an earlier program wrote it: the broker goes on from it, and makes it one of version 3, by way of version 2. Python's own
 # library alone. The gate runs it.
 # version_1.py PROGRAM [port]
 import base64
@@ -74,10 +74,11 @@ broker = Broker(program, port, folder=folder)
 try:
     broker.kill()
     assert ask(broker.database, 'PRAGMA integrity_check') == [('ok',)]
-    assert ask(broker.database, 'SELECT * FROM meta') == [(1, 2)]
-    assert ask(broker.database, 'SELECT * FROM redelivery') == []
+    assert ask(broker.database, 'SELECT * FROM meta') == [(1, 3)]
+    for table in ('redelivery', 'author', 'retention'):
+        assert ask(broker.database, f'SELECT * FROM {table}') == []
     has_same(broker.database, but=('meta',))
-    print('a file of version 1 became one of version 2, with the same rows')
+    print('a file of version 1 became one of version 3, with the same rows')
 
     broker.start()
     given = consumer(port, 't', 's', '?subscriptionType=Shared&negativeAckRedeliveryDelay=1')

@@ -1,5 +1,5 @@
 -- A seat that is free again, and what a topic keeps under its lock: its name, and what it goes on from.
-use Rattle.std.proofs.Common.{◌≡◌, ◌-◌, ◌<◌, ◌≤◌, ◌==◌, ℕ, nat_lt, Bool, true, false, List, set, length, length-set, Option, Some, Result, Ok, Err, IfOk, OnErr, OnOk, IsTrue, IsFalse, if◌then◌else◌, ◌||◌, refl, sym, ap, subst, ◌∙◌, arith}
+use Rattle.std.proofs.Common.{◌≡◌, ◌+◌, ◌-◌, ◌<◌, ◌≤◌, ◌==◌, ℕ, nat_lt, Bool, true, false, List, set, length, length-set, Option, Some, Result, Ok, Err, IfOk, OnErr, OnOk, IsTrue, IsFalse, if◌then◌else◌, ◌||◌, refl, sym, ap, subst, ◌∙◌, arith}
 use Rattle.std.proofs.lemmas.List.{set-set, set-get_or, get_or-set_same}
 use Rattle.std.proofs.lemmas.Option.{get_or_from_slice_get, slice_get-get_or}
 use Rattle.std.proofs.lemmas.Bool.Decides.{nat_tests}
@@ -71,9 +71,9 @@ stored_origin rows kept name = refl
 
 -- a confirmation leaves the name
 pub confirmed_named : (done : Bool) (old new : Held) (kept : Noted) → (IsFalse done → new ≡ old)
-    → (IsTrue done → (count : ℕ) × StoresLine old.cell (StoredTo (length kept.kept.log) kept.kept.next_ordinal) count new.cell) → new.cell.state.name ≡ old.cell.state.name
+    → (IsTrue done → (count : ℕ) × StoresLine old.cell (StoredTo (kept.kept.gone + length kept.kept.log) kept.kept.next_ordinal) count new.cell) → new.cell.state.name ≡ old.cell.state.name
 confirmed_named true old new kept nothing line =
-    let stored = line refl in step_named old.cell.state (StoredTo (length kept.kept.log) kept.kept.next_ordinal) (Durable stored.0) new.cell.state stored.1.step
+    let stored = line refl in step_named old.cell.state (StoredTo (kept.kept.gone + length kept.kept.log) kept.kept.next_ordinal) (Durable stored.0) new.cell.state stored.1.step
 confirmed_named false old new kept nothing line = ap (λ (h : Held). h.cell.state.name) (nothing refl)
 
 pub confirmed_origin : {X : Type 0} (done : Bool) (old new : Held) (rows kept : Noted) (name : TopicName) → (IsFalse done → new ≡ old)

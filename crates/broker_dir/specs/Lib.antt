@@ -4,3 +4,4 @@ pub mod Ends
 pub mod Handing
 pub mod Listing
 pub mod Refusing
+pub mod Trimming

@@ -4,7 +4,7 @@ use std::rt::Clock;
 use std::time::{Instant, SystemTime, UNIX_EPOCH};
 
 /// The moment that it is; none where the clock tells none.
-fn read<R: Clock>(rt: &R) -> Option<Moment> {
+pub(crate) fn read<R: Clock>(rt: &R) -> Option<Moment> {
     let time = SystemTime::now(rt).ok()?;
     let since = time.duration_since(UNIX_EPOCH).ok()?;
     let millis = u64::try_from(since.as_millis()).ok()?;

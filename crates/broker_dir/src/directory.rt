@@ -4,7 +4,7 @@ use crate::closing::Closed;
 use crate::table::Table;
 use crate::topic::Shared;
 use crate::uses::Uses;
-use delivery_machine::{Fault, Opened, TopicName};
+use delivery_machine::{Fault, Opened, Retention, TopicName};
 use marks::Naming;
 use row_forms::topic_text;
 use row_store::{Cause, Keeper};
@@ -19,6 +19,8 @@ use stored_cell::Terms;
 pub struct Directory<T: Opened + Drop, S: Alter, J: Naming, B: Bell + Drop> {
     pub(crate) alloc: Global,
     pub(crate) terms: Terms,
+    /// What a topic keeps that has no rule of its own.
+    pub(crate) retention: Retention,
     pub(crate) table: Mutex<Table<T, J, B>>,
     pub(crate) keeper: Mutex<Keeper<S, J>>,
     pub(crate) board: Board<Arc<Shared<T, J, B>>>,
@@ -32,6 +34,7 @@ impl<T: Opened + Drop, S: Alter + Drop, J: Naming, B: Bell + Drop> Drop for Dire
         let Directory {
             alloc: _,
             terms: _,
+            retention: _,
             table: _,
             keeper: _,
             board: _,
@@ -42,11 +45,12 @@ impl<T: Opened + Drop, S: Alter + Drop, J: Naming, B: Bell + Drop> Drop for Dire
 }
 
 impl<T: Opened + Drop, S: Alter, J: Naming, B: Bell + Drop> Directory<T, S, J, B> {
-    /// Over the database of the keeper; no topic is open.
-    pub fn open(alloc: Global, keeper: Keeper<S, J>, terms: Terms) -> Self {
+    /// Over the database of the keeper; no topic is open. A topic that has no rule of its own keeps what this one says.
+    pub fn open(alloc: Global, keeper: Keeper<S, J>, terms: Terms, retention: Retention) -> Self {
         Directory {
             alloc,
             terms,
+            retention,
             table: Mutex::new(Table::new(alloc)),
             keeper: Mutex::new(keeper),
             board: Board::new(alloc),
@@ -60,6 +64,7 @@ impl<T: Opened + Drop, S: Alter, J: Naming, B: Bell + Drop> Directory<T, S, J, B
         let Directory {
             alloc: _,
             terms: _,
+            retention: _,
             table: _,
             keeper,
             board: _,

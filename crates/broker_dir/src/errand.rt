@@ -21,7 +21,7 @@ use std::time::Instant;
 /// directory is used, since the couriers go with it.
 pub struct Errands<T: Opened + Drop, J: Naming, B: Bell + Drop> {
     couriers: Vec<Courier<T, J, B>>,
-    now: Moment,
+    pub(crate) now: Moment,
     pub(crate) time: Option<Instant>,
     pub(crate) looks: Looks,
     /// When the first pause of a courier is over, where one pauses.

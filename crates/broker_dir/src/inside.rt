@@ -10,7 +10,8 @@ ghost use Rattle.topic_seats.specs.Seats.{IsFree, without_seat};
 use crate::graves::{Change, Graves};
 use crate::named_cell::NamedCell;
 use crate::stage::{Stage, is_ending};
-use delivery_machine::{Event, Fault, Opened, Reply, Snapshot};
+use crate::trimming::{most_after, rule_of, trim_by};
+use delivery_machine::{Event, Fault, Moment, Opened, Reply, Retention, Snapshot};
 use marks::Naming;
 use row_store::OpenCell;
 use session_bells::{Asked, Bell, Bells};
@@ -20,6 +21,9 @@ use stored_cell::Kept;
 
 /// After how many lines a journal begins anew, so that its memory is bounded.
 const LONG: u64 = 4_096;
+
+/// After how many messages that went a journal begins anew: its lines hold their bodies.
+const PINNED: u64 = 1_024;
 
 /// By this number an event is asked for which nobody sits down: no seat has it.
 const VISITOR: u64 = u64::MAX;
@@ -48,6 +52,8 @@ pub(crate) struct Inside<T: Opened + Drop, J: Naming, B: Bell + Drop> {
     pub(crate) is_awaited: bool,
     /// The number of its last use.
     pub(crate) used: u64,
+    /// How many messages had gone when its journal last began anew for that.
+    rolled_at: u64,
 }
 
 /// A topic that may leave, by the number of its last use: nobody is connected, and what is stored of it is the topic as it is.
@@ -89,7 +95,8 @@ impl<T: Opened + Drop, J: Naming, B: Bell + Drop> Inside<T, J, B> {
         ensures open { IfOk result (λ inside. (inside.stage ≡ Stage.Open) × (inside.is_queued ≡ false) × (inside.is_behind ≡ false)) }
         ensures fault { IfErr result (λ fault. fault ≡ Fault.NoMemory) }
     {
-        let durable = snapshot.log().count() as u64;
+        let gone = snapshot.gone();
+        let durable = gone.saturating_add(snapshot.log().count() as u64);
         let mut inside = Inside {
             topic,
             stage: Stage::Open,
@@ -100,6 +107,7 @@ impl<T: Opened + Drop, J: Naming, B: Bell + Drop> Inside<T, J, B> {
             is_sent: false,
             is_awaited: false,
             used: 0,
+            rolled_at: gone,
         };
         match inside.graves.know(snapshot.subscriptions()) {
             Ok(()) => Ok(inside),
@@ -370,10 +378,11 @@ impl<T: Opened + Drop, J: Naming, B: Bell + Drop> Inside<T, J, B> {
     }
 
     /// What was viewed, with so many messages, is stored: those are rung whose answers are ready. Where it is not what was
-    /// viewed last nobody is rung, and the topic is to be stored again.
-    pub(crate) fn confirmed<R: Wait>(&mut self, rt: &R, length: u64, kept: Kept<J>)
+    /// viewed last nobody is rung, and the topic is to be stored again. How many messages came since the store before.
+    pub(crate) fn confirmed<R: Wait>(&mut self, rt: &R, length: u64, kept: Kept<J>) -> u64
         ensures { self.new.topic.name ≡ self.old.topic.name }
     {
+        let came = length.saturating_sub(self.bells.durable());
         let is_done = self.topic.confirm(kept);
         self.is_queued = false;
         self.is_behind = !is_done;
@@ -381,6 +390,41 @@ impl<T: Opened + Drop, J: Naming, B: Bell + Drop> Inside<T, J, B> {
             self.graves.stored();
             self.roll_if_long();
             self.bells.stored(rt, length);
+        }
+        came
+    }
+
+    /// Messages go that every subscription has done with and that nothing keeps, by the topic's own rule or the broker's: at
+    /// most twice as many as came since the store before. Where that is refused (F1, F15) the next store asks again.
+    pub(crate) fn trim(&mut self, broker: Retention, now: Option<Moment>, came: u64)
+        ensures name { self.new.topic.name ≡ self.old.topic.name }
+        ensures stage { self.new.stage ≡ self.old.stage }
+    {
+        if self.stage != Stage::Open {
+            return;
+        }
+        let rule = rule_of(self.topic.cell().cell().retention(), broker);
+        let Some(event) = trim_by(rule, now, most_after(came)) else {
+            return;
+        };
+        match self.topic.call(VISITOR, event) {
+            Ok(receipt) => {
+                if let Reply::Trimmed(gone) = receipt.reply {
+                    self.roll_if_pinned(gone);
+                }
+            }
+            Err(_) => {}
+        }
+    }
+
+    /// So many messages have gone.
+    fn roll_if_pinned(&mut self, gone: u64)
+        ensures name { self.new.topic.name ≡ self.old.topic.name }
+        ensures stage { self.new.stage ≡ self.old.stage }
+    {
+        if gone.saturating_sub(self.rolled_at) >= PINNED {
+            self.topic.roll();
+            self.rolled_at = gone;
         }
     }
 

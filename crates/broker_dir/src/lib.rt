@@ -25,6 +25,7 @@ mod stage;
 mod storing;
 mod table;
 mod topic;
+mod trimming;
 mod unloading;
 mod uses;
 mod waiting;

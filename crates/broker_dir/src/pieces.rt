@@ -19,6 +19,7 @@ use row_store::{LoadedTopic, Unread, load_topic};
 use session_bells::Bell;
 use sqlite::Alter;
 use std::alloc::Global;
+use std::rt::Clock;
 use std::sync::{Arc, Wait};
 
 /// How many stores the thread makes before it makes a topic of what was read.
@@ -58,7 +59,7 @@ impl<T: Opened + Drop, S: Alter, J: Naming, B: Bell + Drop> Directory<T, S, J, B
 
     /// Reads a piece of the topic that was asked for first, with the right to store. Where that was the last one, the right is
     /// let go of, and the topic is made and opened, which takes a while where it has many messages.
-    pub(crate) fn open_on<R: Wait>(&self, rt: &R) {
+    pub(crate) fn open_on<R: Wait + Clock>(&self, rt: &R) {
         let Some(opening) = self.first_opening(rt) else {
             return;
         };
@@ -79,7 +80,7 @@ impl<T: Opened + Drop, S: Alter, J: Naming, B: Bell + Drop> Directory<T, S, J, B
 
     /// What came while the piece was read is stored, and the right to store is let go of: however much comes meanwhile, after
     /// so many stores.
-    fn step_aside<R: Wait>(&self, rt: &R) {
+    fn step_aside<R: Wait + Clock>(&self, rt: &R) {
         for count in 0..=MOST_BEFORE {
             let Some(topics) = self.board.step_aside(rt, count == MOST_BEFORE) else {
                 return;

@@ -4,6 +4,7 @@ ghost use Rattle.sqlite.specs.State.{HasCleanDisk};
 ghost use Rattle.sqlite.specs.Held.{state};
 ghost use Rattle.row_store.specs.Keeping.{StoresAll, kepts};
 
+use crate::clock::read;
 use crate::closing::Unstored;
 use crate::directory::Directory;
 use crate::errand::Errands;
@@ -22,7 +23,7 @@ use stored_cell::{Kept, Part};
 /// How many stores a worker makes in one turn where the thread that stores is not there.
 const MOST_IN_TURN: u32 = 8;
 
-/// A topic that was viewed: its place among those that are stored, and how many messages it had.
+/// A topic that was viewed: its place among those that are stored, and how many messages it had ever had.
 #[derive(Clone, Copy, Debug, PartialEq, Eq)]
 struct Seen {
     place: usize,
@@ -55,7 +56,7 @@ impl<J: Naming> Batch<J> {
     }
 
     fn add(&mut self, place: usize, part: Part<J>) -> Result<(), Fault> {
-        let length = part.snapshot().log().count() as u64;
+        let length = part.length();
         let (Ok(()), Ok(())) = (
             self.parts.push(part),
             self.seen.push(Seen { place, length }),
@@ -78,7 +79,7 @@ fn did_by<X: Drop>(task: &Task<X>) -> Did {
 impl<T: Opened + Drop, S: Alter, J: Naming, B: Bell + Drop> Directory<T, S, J, B> {
     /// A worker, which has made so many changes, stores what waits where that is little and nobody else stores, or has
     /// lately. Else the thread does.
-    pub fn help<R: Wait>(&self, rt: &R, made: u64) {
+    pub fn help<R: Wait + Clock>(&self, rt: &R, made: u64) {
         let mut made = made;
         for _ in 0..MOST_IN_TURN {
             let Some(topics) = self.board.lead(rt, made) else {
@@ -162,7 +163,7 @@ impl<T: Opened + Drop, S: Alter, J: Naming, B: Bell + Drop> Directory<T, S, J, B
     }
 
     /// Where the store fails the directory is closed.
-    pub(crate) fn store<R: Wait>(&self, rt: &R, topics: &[Arc<Shared<T, J, B>>]) {
+    pub(crate) fn store<R: Wait + Clock>(&self, rt: &R, topics: &[Arc<Shared<T, J, B>>]) {
         match self.store_together(rt, topics) {
             Ok(()) => {}
             Err(Unstored::NoMemory) => self.store_each(rt, topics),
@@ -171,7 +172,7 @@ impl<T: Opened + Drop, S: Alter, J: Naming, B: Bell + Drop> Directory<T, S, J, B
     }
 
     /// Where there is no memory for all, there may be for one. Those for which there is none are stored later.
-    fn store_each<R: Wait>(&self, rt: &R, topics: &[Arc<Shared<T, J, B>>]) {
+    fn store_each<R: Wait + Clock>(&self, rt: &R, topics: &[Arc<Shared<T, J, B>>]) {
         for place in 0..topics.len() {
             let one = &topics[place..place + 1];
             match self.store_together(rt, one) {
@@ -185,7 +186,7 @@ impl<T: Opened + Drop, S: Alter, J: Naming, B: Bell + Drop> Directory<T, S, J, B
         }
     }
 
-    fn store_together<R: Wait>(
+    fn store_together<R: Wait + Clock>(
         &self,
         rt: &R,
         topics: &[Arc<Shared<T, J, B>>],
@@ -196,7 +197,7 @@ impl<T: Opened + Drop, S: Alter, J: Naming, B: Bell + Drop> Directory<T, S, J, B
         }
     }
 
-    fn store_batch<R: Wait>(
+    fn store_batch<R: Wait + Clock>(
         &self,
         rt: &R,
         topics: &[Arc<Shared<T, J, B>>],
@@ -217,7 +218,7 @@ impl<T: Opened + Drop, S: Alter, J: Naming, B: Bell + Drop> Directory<T, S, J, B
     }
 
     /// Stores what was viewed, and confirms it. A keeper that has failed, now or before, is a failure.
-    fn store_viewed<R: Wait>(
+    fn store_viewed<R: Wait + Clock>(
         &self,
         rt: &R,
         keeper: &mut Keeper<S, J>,
@@ -238,7 +239,7 @@ impl<T: Opened + Drop, S: Alter, J: Naming, B: Bell + Drop> Directory<T, S, J, B
         }
     }
 
-    fn confirm_all<R: Wait>(
+    fn confirm_all<R: Wait + Clock>(
         &self,
         rt: &R,
         topics: &[Arc<Shared<T, J, B>>],
@@ -258,10 +259,18 @@ impl<T: Opened + Drop, S: Alter, J: Naming, B: Bell + Drop> Directory<T, S, J, B
         }
     }
 
-    /// The topic's lock is held for the confirmation alone; what it leads to on the board comes after it.
-    fn confirm<R: Wait>(&self, rt: &R, topic: &Arc<Shared<T, J, B>>, length: u64, kept: Kept<J>) {
+    /// The topic's lock is held for the confirmation and the trim that follows it; what they lead to on the board comes after.
+    fn confirm<R: Wait + Clock>(
+        &self,
+        rt: &R,
+        topic: &Arc<Shared<T, J, B>>,
+        length: u64,
+        kept: Kept<J>,
+    ) {
+        let now = read(rt);
         let mut inside = topic.inside.lock(rt);
-        inside.confirmed(rt, length, kept);
+        let came = inside.confirmed(rt, length, kept);
+        inside.trim(self.retention, now, came);
         let tells = inside.wants_storing();
         let sends = inside.wants_courier();
         drop(inside);

@@ -145,14 +145,15 @@ impl<T: Opened + Drop, S: Alter, J: Naming, B: Bell + Drop> Directory<T, S, J, B
         }
     }
 
-    /// Topics leave that nobody uses, and nobody has used for five minutes, and those whose journals are full. It looks for
-    /// them once a minute.
+    /// Topics leave that nobody uses, and nobody has used for five minutes, and those whose journals are full; the others are
+    /// asked to trim. It looks at them once a minute.
     pub(crate) fn look<R: Wait>(&self, rt: &R, errands: &mut Errands<T, J, B>) {
         let time = errands.time;
         if errands.looks.is_due(time) {
             let last = errands.looks.mark(self.uses.made(), time);
             self.unload(rt, last);
             self.see_all_out(rt);
+            self.trim_each(rt, errands.now);
         }
     }
 

@@ -1,7 +1,10 @@
 -- The dead letters of one subscription.
 use Rattle.std.specs.Prelude.{◌≡◌, ℕ, ◌-◌, ◌==◌, nat_lt, max, List, [], ◌∷◌, ◌++◌, length, take, drop, Bool, false, Option, None, if◌then◌else◌}
-use Rattle.std.specs.List.{count_by, slice_get}
+use Rattle.std.specs.List.{count_by, list_any, slice_get}
 use Rattle.std.specs.Option.{option_map_or}
+use Rattle.std.specs.Ordering.{is_lt}
+use Rattle.position_core.specs.declared.position.Position.{Position}
+use Rattle.position_core.specs.Position.{position_cmp}
 use Rattle.delivery_machine.specs.State.{DeadLetter, Subscription}
 
 -- in the order of dying; the first `safe` of them are stored
@@ -37,6 +40,10 @@ is_next ordinal q = option_map_or (λ letter. letter.ordinal == ordinal) (next_s
 
 abbrev pub without_first : Letters → Letters
 without_first q = record { dead = drop 1 q.dead; safe = q.safe - 1 }
+
+-- some letter's message stands before the position
+abbrev pub has_before : Position → Letters → Bool
+has_before end q = list_any (λ d. is_lt (position_cmp d.position end)) q.dead
 
 -- the letters are the subscription's
 abbrev pub AreLettersOf : Letters → Subscription → Type 0

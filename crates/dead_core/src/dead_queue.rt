@@ -1,13 +1,16 @@
 // A queue of letters: they come in at its back, and leave at its front once they are published.
-ghost use Rattle.std.specs.Prelude.{◌≡◌, ◌≤◌, [], length, None, IfOk, IfSome, IfNone, OnOk, OnErr, is_some, if◌then◌else◌};
+ghost use Rattle.std.specs.Prelude.{◌≡◌, ◌≤◌, [], false, length, None, IfOk, IfSome, IfNone, OnOk, OnErr, is_some, if◌then◌else◌};
+ghost use Rattle.std.specs.List.{All, Any};
 ghost use Rattle.std.specs.Option.{option_copied};
+ghost use Rattle.std.specs.Ordering.{is_lt};
+ghost use Rattle.position_core.specs.Position.{position_cmp};
 ghost use Rattle.delivery_machine.specs.State.{Subscription};
 ghost use Rattle.delivery_machine.specs.Producing.{storing, storing_below};
 ghost use Rattle.delivery_machine.specs.Dying.{burying, first_safe, is_next_letter, moving};
-ghost use Rattle.dead_core.specs.Letters.{AreLettersOf, none_dead, ending_with, without_last, all_safe, safe_below, next_safe, is_next, without_first};
+ghost use Rattle.dead_core.specs.Letters.{AreLettersOf, none_dead, ending_with, without_last, all_safe, safe_below, next_safe, is_next, without_first, has_before};
 
 use delivery_machine::DeadLetter;
-use position_core::Ordinal;
+use position_core::{Ordinal, Position};
 use std::alloc::{AllocError, Global};
 use std::collections::VecDeque;
 use std::marker::Model;
@@ -168,6 +171,22 @@ impl DeadQueue {
             letters.push(self.letters[i].clone()?)?;
         }
         Ok(letters)
+    }
+
+    /// Whether a letter's message stands before the position. Takes a step for each letter.
+    pub fn has_before(&self, end: Position) -> bool
+        ensures { result ≡ has_before end self.now }
+    {
+        self.letters.iter().any(|letter| letter.position < end)
+    }
+
+    /// The first position at which a letter's message stands. Takes a step for each letter.
+    pub fn first_position(&self) -> Option<Position>
+        ensures there { IfSome result (λ p. Any (λ d. d.position ≡ p) self.now.dead) }
+        ensures least { IfSome result (λ p. All (λ d. is_lt (position_cmp d.position p) ≡ false) self.now.dead) }
+        ensures none { IfNone result (self.now.dead ≡ []) }
+    {
+        self.letters.iter().map(|letter| letter.position).min()
     }
 
     pub fn count(&self) -> usize

@@ -24,7 +24,8 @@ use Rattle.dead_moves.proofs.Fronts.{front_same, front_pushed, taken_whole}
 use Rattle.dead_moves.proofs.LettersAt.{Letters, letters_found}
 use Rattle.dead_moves.proofs.SourceSteps.{Dies}
 use Rattle.dead_moves.proofs.Outcomes.{Tells, IsDone, Outcome, outcome}
-use Rattle.dead_moves.proofs.Deaths.{dead_at, safe_at, all_kept, told_letters}
+use Rattle.dead_moves.proofs.Topics.{all_kept}
+use Rattle.dead_moves.proofs.Deaths.{dead_at, safe_at, told_letters}
 use Rattle.dead_moves.proofs.Invariant.{ordinal_after}
 
 pub dead_is : (s : State) (n : List ℕ) → dead_of s n ≡ dead_at s n

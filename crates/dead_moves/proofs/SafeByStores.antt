@@ -12,7 +12,7 @@ use Rattle.std.proofs.lemmas.List.Sums.{sum_by-cons}
 use Rattle.std.proofs.lemmas.Map.Keys.{sorted_from_strictly_increasing}
 use Rattle.delivery_machine.specs.State.{State, Subscription, DeadLetter}
 use Rattle.delivery_machine.specs.Words.{is_named}
-use Rattle.delivery_machine.specs.Producing.{stored, stored_to}
+use Rattle.delivery_machine.specs.Producing.{had, stored, stored_to}
 use Rattle.delivery_machine.specs.Run.{Answers}
 use Rattle.delivery_machine.specs.declared.event.Event.{Event}
 use Rattle.delivery_machine.specs.declared.event.Event.TheVariants.{Stored, StoredTo}
@@ -27,7 +27,8 @@ use Rattle.dead_moves.specs.Letters.{dead_of, safe_of, SaysStored, OnlyStoresMak
 use Rattle.dead_moves.proofs.LettersAt.{Letters, letters_found}
 use Rattle.dead_moves.proofs.SourceSteps.{letters_at, Dies}
 use Rattle.dead_moves.proofs.Outcomes.{Tells, IsDone, Outcome, outcome}
-use Rattle.dead_moves.proofs.Deaths.{dead_at, safe_at, all_kept, counted, counted_most, told_letters}
+use Rattle.dead_moves.proofs.Topics.{all_kept}
+use Rattle.dead_moves.proofs.Deaths.{dead_at, safe_at, counted, counted_most, told_letters}
 use Rattle.dead_moves.proofs.DeadLetters.{dead_is, safe_is}
 
 -- ---- those below an ordinal come first
@@ -135,7 +136,7 @@ module _ (n : List ℕ) where
           )
 
   all_told : (s t : State) → IsAllKept s → t ≡ stored s → All (IsTold s Stored) (safe_letters t)
-  all_told s t all is = each_told s Stored t (λ d at. elim (told_below s (length s.log) s.next_ordinal t all (is ∙ stored_is s all) d at) [
+  all_told s t all is = each_told s Stored t (λ d at. elim (told_below s (had s) s.next_ordinal t all (is ∙ stored_is s all) d at) [
     | inl safe ↦ inl safe
     | inr told ↦ inr (told.0, tt)
   ])

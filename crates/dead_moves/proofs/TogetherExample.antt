@@ -4,14 +4,14 @@ use Rattle.std.specs.Prelude.{◌&&◌, if◌then◌else◌}
 use Rattle.std.specs.Str.{bytes_eq}
 use Rattle.std.proofs.Math.Path.{fun_ext}
 use Rattle.position_core.specs.declared.topic_name.TopicName.{TopicName}
-use Rattle.delivery_machine.specs.State.{State, DeadLetter, fresh}
+use Rattle.delivery_machine.specs.State.{State, DeadLetter}
 use Rattle.delivery_machine.specs.declared.event.Event.{Event}
 use Rattle.delivery_machine.specs.declared.event.Event.TheVariants.{AddProducer, DropProducer, Publish, DeadDone}
 use Rattle.delivery_machine.specs.declared.reply.Reply.{Reply}
 use Rattle.delivery_machine.proofs.Behind.{same_name, is_same_name}
 use Rattle.delivery_machine.proofs.Deciding.{and_first, and_second}
 use Rattle.dead_courier.specs.declared.hand.Hand.{Hand}
-use Rattle.dead_moves.specs.Worlds.{World, Act, at_source, at_target, view_source, view_target, store_source, store_target, reopen_source, reopen_target, courier, turned_away, let_go, crash, Happens, AllHappen, opened, idle, leaves_letters, leaves_couriers, done_with}
+use Rattle.dead_moves.specs.Worlds.{in_state, new_topic, World, Act, at_source, at_target, view_source, view_target, store_source, store_target, reopen_source, reopen_target, courier, turned_away, let_go, crash, Happens, AllHappen, opened, idle, leaves_letters, leaves_couriers, done_with}
 use Rattle.dead_moves.specs.Together.{TwoTopics, seen_by, route_of, begun, Deed, all_see, courier_of, turned_away_of, let_go_of, Stays, Does, DoesAll, AllMayBeMoved}
 use Rattle.dead_moves.proofs.Example.{a, b, name, deaths, moves, all_happen, last_world, letter, message}
 
@@ -83,10 +83,10 @@ module _ (source target : TopicName) (name : List ℕ) where
   others_see : (m : List ℕ) (w : World) (act : Act) (v : World) → is_plain act ≡ true → IsForAll act ≡ true → Happens (route_of source name) target w act v → Happens (route_of source m) target (seen_as false w) act (seen_as false v)
   others_see m w (at_source e r) v plain all h = (
     h.0,
-    none_taken m w.source e r plain,
-    (h.2.0, h.2.1, ap (seen_as false) h.2.2 ∙ ap (λ (ds : List DeadLetter). record (seen_as false w) { source = h.2.0; moved = ds }) (sym (none_done m w.source e r plain))),
+    none_taken m w.source.state e r plain,
+    (h.2.0, h.2.1, ap (seen_as false) h.2.2 ∙ ap (λ (ds : List DeadLetter). record (seen_as false w) { source = in_state w.source h.2.0; moved = ds }) (sym (none_done m w.source.state e r plain))),
   )
-  others_see m w (at_target e r) v plain all h = (h.0, none_named m w.target e r plain, (h.2.0, h.2.1, ap (seen_as false) h.2.2))
+  others_see m w (at_target e r) v plain all h = (h.0, none_named m w.target.state e r plain, (h.2.0, h.2.1, ap (seen_as false) h.2.2))
   others_see m w view_source v plain all h = ap (seen_as false) h
   others_see m w view_target v plain all h = ap (seen_as false) h
   others_see m w store_source v plain all h = ap (seen_as false) h
@@ -147,12 +147,12 @@ module _ (source target : TopicName) (name : List ℕ) where
 
   begins : (ledger_size : ℕ) → lifted (opened source target ledger_size) ≡ begun source target ledger_size
   begins ledger_size = ap₂ (λ (f : List ℕ → List DeadLetter) (hands : List ℕ → ℕ → Hand). record {
-    source = fresh source ledger_size;
-    source_viewed = fresh source ledger_size;
-    source_stored = fresh source ledger_size;
-    target = fresh target ledger_size;
-    target_viewed = fresh target ledger_size;
-    target_stored = fresh target ledger_size;
+    source = new_topic source ledger_size;
+    source_viewed = new_topic source ledger_size;
+    source_stored = new_topic source ledger_size;
+    target = new_topic target ledger_size;
+    target_viewed = new_topic target ledger_size;
+    target_stored = new_topic target ledger_size;
     moved = f;
     moved_viewed = f;
     moved_stored = f;

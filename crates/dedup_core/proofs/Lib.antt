@@ -1,2 +1,3 @@
 mod Found
-mod Agreed
+pub mod Agreed
+pub mod Known

@@ -1,27 +1,37 @@
--- The last sequence numbers, against a log.
-use Rattle.std.specs.Prelude.{◌≡◌, ℕ, List, map, ℤ, ◌<ℤ◌, IfSome}
-use Rattle.std.specs.List.{filter}
+-- The last sequence numbers of all names, against the producers of all messages that a topic ever had.
+use Rattle.std.specs.Prelude.{◌≡◌, ℕ, List, ℤ, Option, refl}
+use Rattle.std.specs.List.{find}
+use Rattle.std.specs.Int.{int_max}
+use Rattle.std.specs.Option.{option_map, option_map_or}
 use Rattle.std.specs.FinMap as map_of
-use Rattle.std.specs.Coded.{Coded, coded_ℕ, coded_ℤ, coded_list}
+use Rattle.std.specs.Coded.{Coded, code_by, coded_ℕ, coded_ℤ, coded_list, coded×}
 use Rattle.position_core.specs.Name.{name_order}
-use Rattle.position_core.specs.declared.message.Entry.{Entry}
-use Rattle.delivery_machine.specs.Words.{greatest, is_by}
+use Rattle.delivery_machine.specs.State.{Author}
+use Rattle.delivery_machine.specs.Trimming.{is_author}
+use Rattle.dedup_core.specs.declared.table.LastNumber.{LastNumber}
 
--- a number for each name that has one
+-- the last number of each name that has messages
 abbrev pub Numbers : Type 0
-Numbers = map_of.FinMap name_order ℤ
+Numbers = map_of.FinMap name_order LastNumber
+
+abbrev pub coded_last : Coded LastNumber
+coded_last = code_by (ℤ × ℕ) (coded× coded_ℤ coded_ℕ) (λ n. (n.sequence, n.index)) (λ p. record { sequence = p.0; index = p.1 }) (λ _. refl)
 
 abbrev pub coded_numbers : Coded Numbers
-coded_numbers = map_of.code (coded_list coded_ℕ) coded_ℤ
+coded_numbers = map_of.code (coded_list coded_ℕ) coded_last
 
--- the sequence numbers of the messages of the name
-abbrev pub sequences_by : List ℕ → List Entry → List ℤ
-sequences_by name log = map (λ e. e.sequence) (filter (is_by name) log)
+abbrev pub last_of : Author → LastNumber
+last_of a = record { sequence = a.sequence; index = a.index }
 
--- each name has the greatest number of its messages in the log, if it has messages there
-abbrev pub AgreesWith : List Entry → Numbers → Type 0
-AgreesWith log numbers = (name : List ℕ) → map_of.get numbers name ≡ greatest (sequences_by name log)
+-- what the producers have of the name
+abbrev pub found : List ℕ → List Author → Option LastNumber
+found name authors = option_map last_of (find (is_author name) authors)
 
--- the number is above those of the messages of the name
-abbrev pub IsAbove : List Entry → List ℕ → ℤ → Type 0
-IsAbove log name sequence = IfSome (greatest (sequences_by name log)) (λ last. last <ℤ sequence)
+-- each name has what the producers have of it
+abbrev pub AgreesWith : List Author → Numbers → Type 0
+AgreesWith authors numbers = (name : List ℕ) → map_of.get numbers name ≡ found name authors
+
+-- with one message more of the name
+abbrev pub offered : List ℕ → ℤ → ℕ → Numbers → Numbers
+offered name sequence index numbers =
+    map_of.insert numbers name (record { sequence = option_map_or (λ n. int_max n.sequence sequence) (map_of.get numbers name) sequence; index = index })

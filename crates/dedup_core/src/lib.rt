@@ -6,3 +6,4 @@ mod sequences;
 mod table;
 
 pub use sequences::Sequences;
+pub use table::LastNumber;

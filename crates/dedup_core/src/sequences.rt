@@ -1,21 +1,24 @@
 // What tells a duplicate from a new message.
-ghost use Rattle.std.specs.Prelude.{◌≡◌, List, [], ◌∷◌, ◌++◌, OnOk, OnErr};
-ghost use Rattle.std.specs.Option.{unwrap_or};
+ghost use Rattle.std.specs.Prelude.{◌≡◌, ℕ, [], List, nat_le, false, is_some, OnOk, OnErr};
+ghost use Rattle.std.specs.Option.{option_map_or};
 ghost use Rattle.std.specs.FinMap as map_of;
 ghost use Rattle.position_core.specs.declared.message.Entry.{Entry};
-ghost use Rattle.delivery_machine.specs.Words.{last_sequence};
-ghost use Rattle.dedup_core.specs.Sequences.{AgreesWith, IsAbove};
+ghost use Rattle.delivery_machine.specs.State.{Author};
+ghost use Rattle.delivery_machine.specs.Trimming.{with_author};
+ghost use Rattle.delivery_machine.specs.WellFormed.{AreAuthors};
+ghost use Rattle.dedup_core.specs.Sequences.{AgreesWith, offered};
 
 use crate::name_key::NameKey;
-use crate::table::{self, Table};
+use crate::table::{self, LastNumber, Table};
 use position_core::ProducerName;
 use std::alloc::{AllocError, Global};
 use std::collections::BTreeMap;
 use std::marker::Model;
 
-/// The last sequence number of each producer's name that has messages in the log. A call takes the
-/// logarithm of the number of names, and only `offer` takes memory. The name is shared, not copied. A name
-/// that has as many owners as it can have, some 2^63, is looked for among all.
+/// The last sequence number of each producer's name that has messages, also where they are gone from the log, and
+/// which of all messages was its last. A call takes the logarithm of the number of names, and only `offer` takes
+/// memory. The name is shared, not copied. A name that has as many owners as it can have, some 2^63, is looked for
+/// among all.
 pub struct Sequences {
     table: Table,
 }
@@ -39,7 +42,7 @@ impl Model for Sequences {
 }
 
 impl Sequences {
-    /// Of a log without messages.
+    /// Of a topic without messages.
     pub fn new(alloc: Global) -> Self
         ensures empty { result ≡ map_of.empty }
         ensures agrees { AgreesWith [] result }
@@ -51,22 +54,56 @@ impl Sequences {
 
     /// The last number of the name, or the base where it has none.
     pub fn last(&self, name: &ProducerName, base: i64) -> i64
-        ensures value { result ≡ unwrap_or (map_of.get self.now name.now) base }
-        ensures agrees { (log : List Entry) → AgreesWith log self.now → result ≡ last_sequence log name.now base }
+        ensures { result ≡ option_map_or (λ n. n.sequence) (map_of.get self.now name.now) base }
     {
-        table::number_of(&self.table, name).unwrap_or(base)
+        match table::number_of(&self.table, name) {
+            Some(last) => last.sequence,
+            None => base,
+        }
     }
 
-    /// Records the number of a message that is published under the name.
-    pub fn offer(&mut self, name: &ProducerName, sequence: i64) -> Result<(), AllocError>
-        ensures ok { OnOk result (self.new ≡ map_of.insert self.old name.now sequence) }
+    /// Whether the name has messages, here or gone.
+    pub fn has(&self, name: &ProducerName) -> bool
+        ensures { result ≡ is_some (map_of.get self.now name.now) }
+    {
+        table::number_of(&self.table, name).is_some()
+    }
+
+    /// Whether the last message of the name is the one at the index, of all that the topic ever had, or a later one.
+    pub fn reaches(&self, name: &ProducerName, index: u64) -> bool
+        ensures { result ≡ option_map_or (λ n. nat_le index n.index) (map_of.get self.now name.now) false }
+    {
+        match table::number_of(&self.table, name) {
+            Some(last) => index <= last.index,
+            None => false,
+        }
+    }
+
+    /// Records the number of a message of the name, which is the one at the index of all that the topic ever had. A
+    /// number that is not above the last one leaves that.
+    pub fn offer(
+        &mut self,
+        name: &ProducerName,
+        sequence: i64,
+        index: u64,
+    ) -> Result<(), AllocError>
+        ensures ok { OnOk result (self.new ≡ offered name.now sequence index self.old) }
         ensures err { OnErr result (self.new ≡ self.old) }
-        ensures agrees { OnOk result ((log : List Entry) (e : Entry) → AgreesWith log self.old → e.producer ≡ name.now → e.sequence ≡ sequence → IsAbove log name.now sequence → AgreesWith (log ++ e ∷ []) self.new) }
+        ensures agrees { OnOk result ((authors : List Author) (before : ℕ) (e : Entry) → AreAuthors before authors → AgreesWith authors self.old
+            → e.producer ≡ name.now → e.sequence ≡ sequence → AgreesWith (with_author index e authors) self.new) }
     {
         let key = NameKey {
             name: name.clone()?,
         };
-        self.table.insert(key, sequence)?;
+        let sequence = self.last(name, sequence).max(sequence);
+        self.table.insert(key, LastNumber { sequence, index })?;
         Ok(())
+    }
+
+    /// The name is as new.
+    pub fn forget(&mut self, name: ProducerName)
+        ensures { self.new ≡ map_of.remove self.old name }
+    {
+        self.table.remove(&NameKey { name });
     }
 }

@@ -6,10 +6,18 @@ use crate::name_key::NameKey;
 use position_core::ProducerName;
 use std::collections::BTreeMap;
 
-pub(crate) type Table = BTreeMap<NameKey, i64>;
+/// The greatest sequence number under a name, and which of all messages that the topic ever had was the last under
+/// it.
+#[derive(Clone, Copy)]
+pub struct LastNumber {
+    pub sequence: i64,
+    pub index: u64,
+}
+
+pub(crate) type Table = BTreeMap<NameKey, LastNumber>;
 
 /// The number of the name, by one key after another.
-fn number_among(table: &Table, name: &ProducerName) -> Option<i64>
+fn number_among(table: &Table, name: &ProducerName) -> Option<LastNumber>
     ensures { result ≡ number_at table.now.entries name.now }
 {
     for (key, number) in table {
@@ -22,7 +30,7 @@ fn number_among(table: &Table, name: &ProducerName) -> Option<i64>
 
 /// The table asks for a key, which is one more owner of the name. Where there can be no more owners, one
 /// key after another is looked at.
-pub(crate) fn number_of(table: &Table, name: &ProducerName) -> Option<i64>
+pub(crate) fn number_of(table: &Table, name: &ProducerName) -> Option<LastNumber>
     ensures { result ≡ number_at table.now.entries name.now }
 {
     match name.clone() {

@@ -1,6 +1,6 @@
 -- How many messages of the log are pending at a consumer.
 use Rattle.std.proofs.Common.{◌≡◌, ℕ, ◌+◌, ◌≤◌, List, [], ◌∷◌, ◌++◌, map, Some, None, Option, Bool, true, false, cond, refl, ap, ◌∙◌, sym, subst, arith, ◌⊎◌, inl, inr, true≢false, count_by}
-use Rattle.std.specs.Prelude.{◌==◌}
+use Rattle.std.specs.Prelude.{◌==◌, drop, suc, zero}
 use Rattle.std.specs.List.{AllByRecursion}
 use Rattle.std.specs.List.Sorted.{IsStrictlySortedBy}
 use Rattle.std.specs.FinMap as map_of
@@ -143,6 +143,15 @@ held_beside log pending p held consumer other =
           | inl new ↦ absurd (true≢false (sym here.2 ∙ ap (λ (h : Held). h.consumer == consumer) new.1 ∙ other))
           | inr old ↦ ap (is_held_by consumer) old ∙ here.2
         ]
+
+-- where the first messages go
+pub held_dropped : (n : ℕ) (log : List Entry) (pending : map_of.FinMap position_cmp Held) (consumer : ℕ) → held_at (drop n log) pending consumer ≤ held_at log pending consumer
+held_dropped zero log pending consumer = omega arith
+held_dropped (suc n) [] pending consumer = omega arith
+held_dropped (suc n) (e ∷ log) pending consumer =
+    let rest = held_dropped n log pending consumer in
+    let more = sum_by-cons (λ (x : Entry). cond {A = ℕ} (is_held_by consumer (map_of.get pending x.position)) 1 0) e log in
+    omega (arith, rest, more)
 
 -- a further message of the log that is pending at nobody
 pub held_appended : (log : List Entry) (e : Entry) (pending : map_of.FinMap position_cmp Held) (consumer : ℕ) → ((h : Held) → map_of.get pending e.position ≡ Some h → ⊥) → held_at (log ++ e ∷ []) pending consumer ≡ held_at log pending consumer

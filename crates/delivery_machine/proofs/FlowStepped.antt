@@ -7,7 +7,6 @@ use Rattle.std.specs.FinMap as map_of
 use Rattle.position_core.specs.declared.position.Position.{Position}
 use Rattle.position_core.specs.declared.message.Entry.{Entry}
 use Rattle.position_core.specs.declared.kind.Kind.{Kind}
-use Rattle.position_core.specs.declared.topic_name.TopicName.{TopicName}
 use Rattle.position_core.specs.declared.fault.Fault.{Fault}
 use Rattle.position_core.specs.declared.fault.Fault.TheVariants.{NoMemory}
 use Rattle.position_core.specs.declared.flow.Flow.{Flow}
@@ -15,41 +14,30 @@ use Rattle.position_core.specs.declared.flow.Flow.TheVariants.{Window, Credit}
 use Rattle.position_core.specs.Flow.{begun}
 use Rattle.position_core.specs.declared.ranges.HashRange.{HashRange}
 use Rattle.delivery_machine.specs.State.{State, Subscription, Member}
-use Rattle.delivery_machine.specs.Words.{changed, is_named, is_member, is_at, is_producer, is_held_by, emptied, emptied_at, active_at, next_position, count_of}
+use Rattle.delivery_machine.specs.Words.{changed, is_named, is_member, is_producer, is_held_by, emptied, emptied_at, active_at, next_position, count_of}
 use Rattle.delivery_machine.specs.Refusals.{refusal_of, nacking_refused, is_duplicate}
 use Rattle.delivery_machine.specs.Producing.{storing, storing_below, with_message, message_of}
 use Rattle.delivery_machine.specs.Joining.{releasing_all, all_released, is_taken_over, taken_over, joining, joined, leaving, permitted, without_member, placed, new_subscription, with_member}
-use Rattle.delivery_machine.specs.Acknowledging.{acknowledging, forgetting, is_one_of, without, Acks, positions_up_to}
+use Rattle.delivery_machine.specs.Acknowledging.{acknowledging, is_one_of, Acks, positions_up_to}
 use Rattle.delivery_machine.specs.Delivering.{holding, given, due_after, Dispatches}
 use Rattle.delivery_machine.specs.Ticking.{redelivering, Ticks, pending_positions}
 use Rattle.delivery_machine.specs.Seeking.{seeking, length_before, length_before_time, first_live}
 use Rattle.delivery_machine.specs.Dying.{burying, moving, dying_at, first_safe, letter_of}
+use Rattle.delivery_machine.specs.Trimming.{going, without_messages, Trims}
 use Rattle.delivery_machine.specs.Run.{Answers, Takes}
 use Rattle.delivery_machine.specs.Laws.{permitted_to, joins_to_pull}
 use Rattle.delivery_machine.specs.declared.event.Initial.{Initial}
 use Rattle.delivery_machine.specs.declared.event.Event.{Event}
-use Rattle.delivery_machine.specs.declared.event.Event.TheVariants.{AddProducer, DropProducer, Publish, Stored, StoredTo, Progress, Subscribe, Leave, Permit, Ack, AckUpTo, Nack, Tick, Seek, SeekTime, Skip, DropSubscription, Stats, Dispatch, Collect, DeadNext, DeadDone}
+use Rattle.delivery_machine.specs.declared.event.Event.TheVariants.{AddProducer, DropProducer, Publish, Stored, StoredTo, Progress, Subscribe, Leave, Permit, Ack, AckUpTo, Nack, Tick, Seek, SeekTime, Skip, DropSubscription, Stats, Trim, SetRetention, Dispatch, Collect, DeadNext, DeadDone}
 use Rattle.delivery_machine.specs.declared.reply.Reply.{Reply}
-use Rattle.delivery_machine.specs.declared.reply.Reply.TheVariants.{Sent, Idle, Quiet, Rewound, Released, Died, Subscribed, Refused}
+use Rattle.delivery_machine.specs.declared.reply.Reply.TheVariants.{Sent, Idle, Quiet, Rewound, Released, Died, Refused, Trimmed, Untrimmed}
 use Rattle.delivery_machine.proofs.Firsts.{some_elim}
 use Rattle.delivery_machine.proofs.Tending.{part_retained, part_empty, part_held_again, none_pending}
 use Rattle.delivery_machine.proofs.Kept.{IsKept}
-use Rattle.delivery_machine.proofs.Seats.{seat_of, seats, has_number, seats_of_changed, seats_stay, seats_of_mapped, seats_of_removed, seats_of_pushed}
+use Rattle.delivery_machine.proofs.Seats.{seats, has_number, seats_of_changed, seats_stay, seats_of_removed, seats_of_pushed, forgotten_stay, emptied_stay}
 use Rattle.delivery_machine.proofs.Shrinking.{Shrinks, shrinks_not, shrinks_then, shrinks_changed, shrinks_mapped, shrinks_placed, shrinks_removed, part_itself}
-use Rattle.delivery_machine.proofs.FlowSteps.{SendsNone, JoinsNone, Moves, Moves.stays, Moves.appends, Moves.joins, Moves.leaves, Moves.permits, Moves.sends, joins_to_push, pulls_if, pushes_if, granting, spending}
+use Rattle.delivery_machine.proofs.FlowSteps.{SendsNone, JoinsNone, Moves, Moves.stays, Moves.appends, Moves.joins, Moves.leaves, Moves.permits, Moves.sends, joins_to_push, pulls_if, pushes_if, pulls_so, pushes_so, granting, spending}
 use Rattle.delivery_machine.proofs.Deciding.{holds_unless_refused}
-
--- ---- members that keep their seats
-
-seat_if : (b : Bool) (m n : Member) → seat_of n ≡ seat_of m → seat_of (cond b n m) ≡ seat_of m
-seat_if true m n same = same
-seat_if false m n same = refl
-
-forgotten_stay : (n : List ℕ) (positions : List Position) (members : List Member) → seats (map (forgetting n positions) members) ≡ seats members
-forgotten_stay n positions = seats_of_mapped (forgetting n positions) (λ m. seat_if (is_at n m) m (record m { out = without positions m.out }) refl)
-
-emptied_stay : (n : List ℕ) (members : List Member) → seats (map (emptied_at n) members) ≡ seats members
-emptied_stay n = seats_of_mapped (emptied_at n) (λ m. seat_if (is_at n m) m (emptied m) refl)
 
 -- ---- takeover
 
@@ -88,7 +76,7 @@ module _ (n : List ℕ) (before : Option ℕ) (s : State) where
 module _ (s : State) (event : Event) (reply : Reply) (sends_none : SendsNone event reply) (joins_none : JoinsNone event reply) where
   stays_as : (t u : State) → t ≡ u → seats u.members ≡ seats s.members → u.next_consumer ≡ s.next_consumer → u.log ≡ s.log → Shrinks s.subscriptions u.subscriptions → Moves s event reply t
   stays_as t u is members next log shrinks =
-      subst (Moves s event reply) (sym is) (stays (record { members_as = members; next_as = next; log_as = log; shrinks = shrinks; sends = sends_none; joins = joins_none }))
+      subst (Moves s event reply) (sym is) (stays (record { members_as = members; next_as = next; trims = 0; log_as = log; shrinks = shrinks; sends = sends_none; joins = joins_none }))
 
   unmoved : (t : State) → t ≡ s → Moves s event reply t
   unmoved t is = stays_as t s is refl refl refl (shrinks_not s.subscriptions)
@@ -210,15 +198,21 @@ dispatch_moves s n now sub (Sent consumer p count) t found h =
 dispatch_moves s n now sub Idle t found h = unmoved s (Dispatch n now) Idle (λ _. refl) (λ _. (refl, refl)) t h.1
 dispatch_moves s n now sub reply t found h = absurd h
 
-pulls_so : (consumer : ℕ) (name : List ℕ) (kind : Kind) (level : ℕ) (flow : Flow) (ack_timeout nack_delay max_redeliver : ℕ) (dead_topic : TopicName) (initial : Initial) (ranges : Option (List HashRange)) (number : ℕ)
-    → joins_to_pull consumer (Subscribe name kind level flow ack_timeout nack_delay max_redeliver dead_topic initial ranges) (Subscribed number) ≡ pulls_if flow (number == consumer)
-pulls_so consumer name kind level (Window size) ack_timeout nack_delay max_redeliver dead_topic initial ranges number = refl
-pulls_so consumer name kind level (Credit left) ack_timeout nack_delay max_redeliver dead_topic initial ranges number = refl
-
-pushes_so : (consumer : ℕ) (name : List ℕ) (kind : Kind) (level : ℕ) (flow : Flow) (ack_timeout nack_delay max_redeliver : ℕ) (dead_topic : TopicName) (initial : Initial) (ranges : Option (List HashRange)) (number : ℕ)
-    → joins_to_push consumer (Subscribe name kind level flow ack_timeout nack_delay max_redeliver dead_topic initial ranges) (Subscribed number) ≡ pushes_if flow (number == consumer)
-pushes_so consumer name kind level (Window size) ack_timeout nack_delay max_redeliver dead_topic initial ranges number = refl
-pushes_so consumer name kind level (Credit left) ack_timeout nack_delay max_redeliver dead_topic initial ranges number = refl
+trim_moves : (s : State) (keep before most : ℕ) (reply : Reply) (t : State) → Trims s keep before most reply t → Moves s (Trim keep before most) reply t
+trim_moves s keep before most (Trimmed all) t h =
+    let count : ℕ = going s keep before most in
+    subst (Moves s (Trim keep before most) (Trimmed all)) (sym h.2)
+    (stays (record {
+      members_as = refl;
+      next_as = refl;
+      trims = count;
+      log_as = refl;
+      shrinks = shrinks_mapped (without_messages (map (λ (e : Entry). e.position) (take count s.log))) s.subscriptions (λ _. refl) (λ _. refl);
+      sends = λ _. refl;
+      joins = λ _. (refl, refl);
+    }))
+trim_moves s keep before most Untrimmed t h = unmoved s (Trim keep before most) Untrimmed (λ _. refl) (λ _. (refl, refl)) t h.1
+trim_moves s keep before most reply t h = absurd h
 
 takes_moves : (s : State) (event : Event) (reply : Reply) (t : State) → refusal_of s event ≡ None → Takes s event reply t → IsKept s → Moves s event reply t
 takes_moves s (AddProducer n base) reply t allowed h kept = stays_as s (AddProducer n base) reply (λ _. refl) (λ _. (refl, refl)) t _ h.3.1 refl refl refl (shrinks_not s.subscriptions)
@@ -267,6 +261,8 @@ takes_moves s (DropSubscription n) reply t allowed h kept =
     stays_as s (DropSubscription n) reply (λ _. refl) (λ _. (refl, refl)) t _ h.1 refl refl refl (shrinks_removed n s.subscriptions kept.tended.behind)
 takes_moves s (Stats n) reply t allowed h kept =
     some_elim (find (is_named n) s.subscriptions) _ (Moves s (Stats n) reply t) h (λ sub found h. unmoved s (Stats n) reply (λ _. refl) (λ _. (refl, refl)) t h.1)
+takes_moves s (Trim keep before most) reply t allowed h kept = trim_moves s keep before most reply t h
+takes_moves s (SetRetention retention) reply t allowed h kept = stays_as s (SetRetention retention) reply (λ _. refl) (λ _. (refl, refl)) t _ h.1 refl refl refl (shrinks_not s.subscriptions)
 takes_moves s (Dispatch n now) reply t allowed h kept =
     some_elim (find (is_named n) s.subscriptions) _ (Moves s (Dispatch n now) reply t) h (λ sub found h. dispatch_moves s n now sub reply t found h)
 takes_moves s (Collect consumer) reply t allowed h kept =

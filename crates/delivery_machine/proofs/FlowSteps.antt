@@ -1,11 +1,15 @@
 -- What a step does to members, the log and what is pending: six kinds of steps.
-use Rattle.std.proofs.Common.{◌≡◌, ℕ, ◌+◌, List, [], ◌∷◌, ◌++◌, Some, Option, Bool, false, cond}
-use Rattle.std.specs.Prelude.{◌==◌}
+use Rattle.std.proofs.Common.{◌≡◌, ℕ, ◌+◌, List, [], ◌∷◌, ◌++◌, Some, Option, Bool, false, cond, refl}
+use Rattle.std.specs.Prelude.{◌==◌, drop}
 use Rattle.std.specs.List.{find}
 use Rattle.position_core.specs.declared.message.Entry.{Entry}
 use Rattle.position_core.specs.declared.flow.Flow.{Flow}
 use Rattle.position_core.specs.declared.flow.Flow.TheVariants.{Window, Credit}
 use Rattle.position_core.specs.Flow.{begun, granted, spent}
+use Rattle.position_core.specs.declared.topic_name.TopicName.{TopicName}
+use Rattle.position_core.specs.declared.ranges.HashRange.{HashRange}
+use Rattle.position_core.specs.declared.kind.Kind.{Kind}
+use Rattle.delivery_machine.specs.declared.event.Initial.{Initial}
 use Rattle.delivery_machine.specs.State.{State, Subscription, Member}
 use Rattle.delivery_machine.specs.Words.{changed, removed, is_named, next_position, IsEligible}
 use Rattle.delivery_machine.specs.Delivering.{holding}
@@ -28,11 +32,12 @@ SendsNone event reply = (consumer : ℕ) → sent_to consumer event reply ≡ 0
 abbrev pub JoinsNone : Event → Reply → Type 0
 JoinsNone event reply = (consumer : ℕ) → (joins_to_pull consumer event reply ≡ false) × (joins_to_push consumer event reply ≡ false)
 
--- members stay, and no more is pending
+-- members stay, no message comes, and no more is pending
 pub record Stays (s : State) (event : Event) (reply : Reply) (t : State) : Type 0 where
   pub members_as : seats t.members ≡ seats s.members
   pub next_as : t.next_consumer ≡ s.next_consumer
-  pub log_as : t.log ≡ s.log
+  pub trims : ℕ
+  pub log_as : t.log ≡ drop trims s.log
   pub shrinks : Shrinks s.subscriptions t.subscriptions
   pub sends : SendsNone event reply
   pub joins : JoinsNone event reply
@@ -55,6 +60,16 @@ pulls_if (Credit left) b = b
 abbrev pub pushes_if : Flow → Bool → Bool
 pushes_if (Window size) b = b
 pushes_if (Credit left) b = false
+
+pub pulls_so : (consumer : ℕ) (name : List ℕ) (kind : Kind) (level : ℕ) (flow : Flow) (ack_timeout nack_delay max_redeliver : ℕ) (dead_topic : TopicName) (initial : Initial) (ranges : Option (List HashRange)) (number : ℕ)
+    → joins_to_pull consumer (Subscribe name kind level flow ack_timeout nack_delay max_redeliver dead_topic initial ranges) (Subscribed number) ≡ pulls_if flow (number == consumer)
+pulls_so consumer name kind level (Window size) ack_timeout nack_delay max_redeliver dead_topic initial ranges number = refl
+pulls_so consumer name kind level (Credit left) ack_timeout nack_delay max_redeliver dead_topic initial ranges number = refl
+
+pub pushes_so : (consumer : ℕ) (name : List ℕ) (kind : Kind) (level : ℕ) (flow : Flow) (ack_timeout nack_delay max_redeliver : ℕ) (dead_topic : TopicName) (initial : Initial) (ranges : Option (List HashRange)) (number : ℕ)
+    → joins_to_push consumer (Subscribe name kind level flow ack_timeout nack_delay max_redeliver dead_topic initial ranges) (Subscribed number) ≡ pushes_if flow (number == consumer)
+pushes_so consumer name kind level (Window size) ack_timeout nack_delay max_redeliver dead_topic initial ranges number = refl
+pushes_so consumer name kind level (Credit left) ack_timeout nack_delay max_redeliver dead_topic initial ranges number = refl
 
 -- a consumer joins under the next number
 pub record Joins (s : State) (event : Event) (reply : Reply) (t : State) : Type 0 where

@@ -1,7 +1,7 @@
--- What each step tells a journal: whether a snapshot has changed, who is attached, and which event was so answered.
+-- What each step tells a journal: whether a snapshot has changed, and who is attached.
 use Rattle.std.proofs.Common.{◌≡◌, ℕ, List, [], ◌∷◌, map, Some, None, Option, Bool, true, false, cond, refl, ap, ◌∙◌, sym, subst₂, true≢false}
 use Rattle.std.proofs.lemmas.List.{map-append}
-use Rattle.std.specs.Prelude.{◌==◌, if◌then◌else◌, ℤ, length, ◌+◌}
+use Rattle.std.specs.Prelude.{◌==◌, if◌then◌else◌, ℤ, ◌+◌}
 use Rattle.std.specs.List.{find}
 use Rattle.std.specs.Option.{option_map_or}
 use Rattle.position_core.specs.declared.position.Position.{Position}
@@ -9,27 +9,27 @@ use Rattle.position_core.specs.declared.message.Entry.{Entry}
 use Rattle.position_core.specs.declared.body.Content.{Content}
 use Rattle.position_core.specs.declared.kind.Kind.{Kind}
 use Rattle.position_core.specs.declared.fault.Fault.{Fault}
-use Rattle.position_core.specs.declared.topic_name.TopicName.{TopicName}
 use Rattle.position_core.specs.declared.ranges.HashRange.{HashRange}
 use Rattle.delivery_machine.specs.State.{State, Producer, Member, Subscription}
 use Rattle.delivery_machine.specs.State as state
 use Rattle.delivery_machine.specs.Words.{changed, removed, is_named, is_member, is_at, is_producer, emptied, emptied_at, active_at, next_position}
 use Rattle.delivery_machine.specs.Refusals.{is_duplicate}
-use Rattle.delivery_machine.specs.Producing.{storing, storing_below, with_message, message_of}
+use Rattle.delivery_machine.specs.Producing.{had, storing, storing_below, with_message, message_of}
 use Rattle.delivery_machine.specs.Joining.{releasing_all, all_released, is_taken_over, taken_over, leaving, permitted, without_member, with_member, Subscribes}
 use Rattle.delivery_machine.specs.Acknowledging.{forgetting, without, Acks, positions_up_to}
 use Rattle.delivery_machine.specs.Delivering.{holding, given, due_after, Dispatches}
 use Rattle.delivery_machine.specs.Ticking.{Ticks, pending_positions}
 use Rattle.delivery_machine.specs.Dying.{dying_at, first_safe, next_letter}
+use Rattle.delivery_machine.specs.Trimming.{Trims}
 use Rattle.delivery_machine.specs.Run.{Step, Takes}
 use Rattle.delivery_machine.specs.Snapshot.{KeptSubscription, Snapshot, kept_of, snapshot_of}
 use Rattle.delivery_machine.specs.Journals.{is_kept_once_done, changes_snapshot, producers_in, consumers_in, producers_noted, consumers_noted}
 use Rattle.delivery_machine.specs.declared.event.Initial.{Initial}
 use Rattle.delivery_machine.specs.declared.event.Event.{Event}
-use Rattle.delivery_machine.specs.declared.event.Event.TheVariants.{AddProducer, DropProducer, Publish, Stored, StoredTo, Progress, Subscribe, Leave, Permit, Ack, AckUpTo, Nack, Tick, Seek, SeekTime, Skip, DropSubscription, Dispatch, Collect, DeadNext, DeadDone}
+use Rattle.delivery_machine.specs.declared.event.Event.TheVariants.{AddProducer, DropProducer, Publish, Stored, StoredTo, Progress, Subscribe, Leave, Permit, Ack, AckUpTo, Nack, Tick, Seek, SeekTime, Skip, DropSubscription, Trim, SetRetention, Dispatch, Collect, DeadNext, DeadDone}
 use Rattle.delivery_machine.specs.declared.event.Event.TheVariants as event
 use Rattle.delivery_machine.specs.declared.reply.Reply.{Reply}
-use Rattle.delivery_machine.specs.declared.reply.Reply.TheVariants.{Published, Duplicate, Sent, Idle, Quiet, Rewound, Released, Died, Done, Subscribed, Dead, NoDead, Stats, Refused}
+use Rattle.delivery_machine.specs.declared.reply.Reply.TheVariants.{Published, Duplicate, Sent, Idle, Quiet, Rewound, Released, Died, Done, Subscribed, Dead, NoDead, Trimmed, Untrimmed, Refused}
 use Rattle.delivery_machine.proofs.Firsts.{some_elim}
 use Rattle.delivery_machine.proofs.Keyed.{keys_changed, keys_mapped}
 
@@ -97,7 +97,7 @@ told_acks s event consumer positions r t kept nobody none h =
     }))
 
 told_published : (s : State) (producer : ℕ) (sequence : ℤ) (body : Content) (now : ℕ) (e : Entry) (r : Reply) (t : State) (duplicate : Bool)
-    → r ≡ (if duplicate then Duplicate (length s.log) else Published (next_position s) (length s.log + 1)) → t ≡ (if duplicate then s else with_message s e)
+    → r ≡ (if duplicate then Duplicate (had s) else Published (next_position s) (had s + 1)) → t ≡ (if duplicate then s else with_message s e)
     → IsTold s (Publish producer sequence body now) r t
 told_published s producer sequence body now e r t true reply is = told_as s (Publish producer sequence body now) r _ t _ reply is (record { snapshot = λ _. refl; producers = refl; consumers = refl })
 told_published s producer sequence body now e r t false reply is =
@@ -146,6 +146,13 @@ told_joined s event kind ranges initial m r t h =
     (told_over s event (Subscribed m.number) m.subscription (active_at s m.subscription) (with_member s kind ranges initial m)
     (record { snapshot = λ (stays : true ≡ false). absurd (true≢false stays); producers = refl; consumers = map-append number s.members (m ∷ []) }))
 
+told_trimmed : (s : State) (keep before most : ℕ) (r : Reply) (t : State) → Trims s keep before most r t → IsTold s (Trim keep before most) r t
+told_trimmed s keep before most (Trimmed all) t h =
+    told_as s (Trim keep before most) (Trimmed all) (Trimmed all) t _ refl h.2 (record { snapshot = λ stays. absurd (true≢false stays); producers = refl; consumers = refl })
+told_trimmed s keep before most Untrimmed t h =
+    told_as s (Trim keep before most) Untrimmed Untrimmed t s refl h.1 (record { snapshot = λ _. refl; producers = refl; consumers = refl })
+told_trimmed s keep before most r t h = absurd h
+
 told_taken : (s : State) (e : Event) (r : Reply) (t : State) → Takes s e r t → IsTold s e r t
 told_taken s (AddProducer name base) r t h =
     told_as s (AddProducer name base) r _ t _ h.3.0 h.3.1 (record { snapshot = λ _. refl; producers = map-append (λ (p : Producer). p.number) s.producers _; consumers = refl })
@@ -193,6 +200,9 @@ told_taken s (DropSubscription name) r t h =
 told_taken s (event.Stats name) r t h =
     some_elim (find (is_named name) s.subscriptions) _ (IsTold s (event.Stats name) r t) h (λ sub found h.
     told_as s (event.Stats name) r _ t s h.0 h.1 (record { snapshot = λ _. refl; producers = refl; consumers = refl }))
+told_taken s (Trim keep before most) r t h = told_trimmed s keep before most r t h
+told_taken s (SetRetention retention) r t h =
+    told_as s (SetRetention retention) r Done t _ h.0 h.1 (record { snapshot = λ stays. absurd (true≢false stays); producers = refl; consumers = refl })
 told_taken s (Dispatch name now) r t h = some_elim (find (is_named name) s.subscriptions) _ (IsTold s (Dispatch name now) r t) h (λ sub found h. told_sent s name now sub r t h)
 told_taken s (Collect consumer) r t h =
     told_as s (Collect consumer) r _ t _ h.0 h.1 (record { snapshot = λ _. refl; producers = refl; consumers = keys_changed number (is_member consumer) emptied (λ _. refl) s.members })
@@ -223,79 +233,3 @@ producers_are s e r t step = (told s e r t step).producers
 
 pub consumers_are : (s : State) (e : Event) (r : Reply) (t : State) → Step s e r t → consumers_in t ≡ consumers_noted (consumers_in s) e r
 consumers_are s e r t step = (told s e r t step).consumers
-
--- ---- which event is so answered
-
--- only `DeadNext` shows a dead letter, and changes nothing
-dead_in : (s : State) (e : Event) (message : Entry) (target : TopicName) (ordinal : ℕ) (t : State) → Takes s e (Dead message target ordinal) t → ((name : List ℕ) × (e ≡ DeadNext name)) × (t ≡ s)
-dead_in s (AddProducer name base) message target ordinal t h = let reply = h.3.0 in cc
-dead_in s (DropProducer producer) message target ordinal t h = let reply = h.0 in cc
-dead_in s (Publish producer sequence body now) message target ordinal t h =
-    some_elim (find (is_producer producer) s.producers) _ _ h (λ p found h. other (is_duplicate s p sequence) h.0)
-  where
-    other : (duplicate : Bool) → Dead message target ordinal ≡ (if duplicate then Duplicate (length s.log) else Published (next_position s) (length s.log + 1)) → ((name : List ℕ) × (Publish producer sequence body now ≡ DeadNext name)) × (t ≡ s)
-    other true reply = cc
-    other false reply = cc
-dead_in s Stored message target ordinal t h = let reply = h.0 in cc
-dead_in s (StoredTo count below) message target ordinal t h = let reply = h.0 in cc
-dead_in s Progress message target ordinal t h = let reply = h.0 in cc
-dead_in s (Subscribe name kind level flow ack_timeout nack_delay max_redeliver dead_topic initial ranges) message target ordinal t h = let reply = h.0 in cc
-dead_in s (Leave consumer) message target ordinal t h = let reply = h.0 in cc
-dead_in s (Permit consumer permits) message target ordinal t h = let reply = h.0 in cc
-dead_in s (Ack consumer position) message target ordinal t h = let reply = h.0 in cc
-dead_in s (AckUpTo consumer position) message target ordinal t h = let reply = h.0 in cc
-dead_in s (Nack consumer position now) message target ordinal t h = let reply = h.0 in cc
-dead_in s (Tick name now) message target ordinal t h = some_elim (find (is_named name) s.subscriptions) _ _ h (λ sub found h. absurd h)
-dead_in s (Seek name place) message target ordinal t h = let reply = h.0 in cc
-dead_in s (SeekTime name time) message target ordinal t h = let reply = h.0 in cc
-dead_in s (Skip name count) message target ordinal t h = some_elim (find (is_named name) s.subscriptions) _ _ h (λ sub found h. let reply = h.0 in cc)
-dead_in s (DropSubscription name) message target ordinal t h = let reply = h.0 in cc
-dead_in s (event.Stats name) message target ordinal t h = some_elim (find (is_named name) s.subscriptions) _ _ h (λ sub found h. let reply = h.0 in cc)
-dead_in s (Dispatch name now) message target ordinal t h = some_elim (find (is_named name) s.subscriptions) _ _ h (λ sub found h. absurd h)
-dead_in s (Collect consumer) message target ordinal t h = let reply = h.0 in cc
-dead_in s (DeadNext name) message target ordinal t h = some_elim (find (is_named name) s.subscriptions) _ _ h (λ sub found h. ((name, refl), h.1))
-dead_in s (DeadDone name below) message target ordinal t h = some_elim (find (is_named name) s.subscriptions) _ _ h (λ sub found h. let reply = h.0 in cc)
-
-pub dead_is_shown : (s : State) (e : Event) (message : Entry) (target : TopicName) (ordinal : ℕ) (t : State) → Step s e (Dead message target ordinal) t → t ≡ s
-dead_is_shown s e message target ordinal t step = (dead_in s e message target ordinal t step.1).1
-
-pub dead_is_asked : (s : State) (e : Event) (message : Entry) (target : TopicName) (ordinal : ℕ) (t : State) → Step s e (Dead message target ordinal) t → (name : List ℕ) × (e ≡ DeadNext name)
-dead_is_asked s e message target ordinal t step = (dead_in s e message target ordinal t step.1).0
-
--- only `Stats` is answered with statistics
-module _ (s : State) (kind : Kind) (members : ℕ) (mark : Option Position) (acknowledged live pending dead : ℕ) (t : State) where
-  stats_in : (e : Event) → Takes s e (Stats kind members mark acknowledged live pending dead) t → (name : List ℕ) × (e ≡ event.Stats name)
-  stats_in (AddProducer name base) h = let reply = h.3.0 in cc
-  stats_in (DropProducer producer) h = let reply = h.0 in cc
-  stats_in (Publish producer sequence body now) h =
-      some_elim (find (is_producer producer) s.producers) _ _ h (λ p found h. other (is_duplicate s p sequence) h.0)
-    where
-      other : (duplicate : Bool) → Stats kind members mark acknowledged live pending dead ≡ (if duplicate then Duplicate (length s.log) else Published (next_position s) (length s.log + 1)) → (name : List ℕ) × (Publish producer sequence body now ≡ event.Stats name)
-      other true reply = cc
-      other false reply = cc
-  stats_in Stored h = let reply = h.0 in cc
-  stats_in (StoredTo count below) h = let reply = h.0 in cc
-  stats_in Progress h = let reply = h.0 in cc
-  stats_in (Subscribe name kind level flow ack_timeout nack_delay max_redeliver dead_topic initial ranges) h = let reply = h.0 in cc
-  stats_in (Leave consumer) h = let reply = h.0 in cc
-  stats_in (Permit consumer permits) h = let reply = h.0 in cc
-  stats_in (Ack consumer position) h = let reply = h.0 in cc
-  stats_in (AckUpTo consumer position) h = let reply = h.0 in cc
-  stats_in (Nack consumer position now) h = let reply = h.0 in cc
-  stats_in (Tick name now) h = some_elim (find (is_named name) s.subscriptions) _ _ h (λ sub found h. absurd h)
-  stats_in (Seek name place) h = let reply = h.0 in cc
-  stats_in (SeekTime name time) h = let reply = h.0 in cc
-  stats_in (Skip name count) h = some_elim (find (is_named name) s.subscriptions) _ _ h (λ sub found h. let reply = h.0 in cc)
-  stats_in (DropSubscription name) h = let reply = h.0 in cc
-  stats_in (event.Stats name) h = (name, refl)
-  stats_in (Dispatch name now) h = some_elim (find (is_named name) s.subscriptions) _ _ h (λ sub found h. absurd h)
-  stats_in (Collect consumer) h = let reply = h.0 in cc
-  stats_in (DeadNext name) h = some_elim (find (is_named name) s.subscriptions) _ _ h (λ sub found h. other (next_letter s sub) h.0)
-    where
-      other : (o : Option (state.DeadLetter × Entry)) → Stats kind members mark acknowledged live pending dead ≡ option_map_or (λ p. Dead p.1 p.0.target p.0.ordinal) o NoDead → (n : List ℕ) × (DeadNext name ≡ event.Stats n)
-      other None reply = cc
-      other (Some shown) reply = cc
-  stats_in (DeadDone name below) h = some_elim (find (is_named name) s.subscriptions) _ _ h (λ sub found h. let reply = h.0 in cc)
-
-  pub stats_are_asked : (e : Event) → Step s e (Stats kind members mark acknowledged live pending dead) t → (name : List ℕ) × (e ≡ event.Stats name)
-  stats_are_asked e step = stats_in e step.1

@@ -5,6 +5,7 @@ pub mod TwoHashes
 pub mod Deciding
 pub mod Finding
 pub mod Keyed
+pub mod Past
 pub mod Acknowledged
 pub mod Seats
 pub mod Shrinking
@@ -28,6 +29,7 @@ pub mod Tended
 pub mod Tending
 pub mod Sending
 pub mod Kept
+pub mod Trimmed
 pub mod Reached
 pub mod HeldFirst
 pub mod Ranks
@@ -53,6 +55,12 @@ pub mod Uncollected
 pub mod Seated
 pub mod Formed
 pub mod WellKept
+pub mod Remembered
+pub mod LastNumbers
+pub mod AuthorsFound
+pub mod SixtyFour
+pub mod WellTrimmed
+pub mod NothingLost
 pub mod WellTaken
 pub mod WellSeated
 pub mod Sharers
@@ -62,6 +70,7 @@ pub mod SharesReached
 pub mod WellReached
 pub mod WellFormedStates
 pub mod Journaling
+pub mod Answered
 pub mod ReachedOn
 pub mod Growing
 pub mod TurnedAway

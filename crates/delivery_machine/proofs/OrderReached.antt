@@ -1,6 +1,6 @@
 -- Every reached state keeps the order, and whatever is sent is the next in it.
-use Rattle.std.proofs.Common.{◌≡◌, ℕ, ◌+◌, ◌≤◌, List, [], ◌∷◌, ◌++◌, map, length, suc, take, Some, None, Option, Bool, true, false, cond, refl, ap, ◌∙◌, sym, subst, ap₂, arith, inl, inr, true≢false}
-use Rattle.std.specs.Prelude.{not, ◌||◌, is_some, nat_lt, min, max, IsSomeAnd, if◌then◌else◌}
+use Rattle.std.proofs.Common.{◌≡◌, ℕ, ◌+◌, ◌-◌, ◌≤◌, drop, length-drop, List, [], ◌∷◌, ◌++◌, map, length, suc, take, Some, None, Option, Bool, true, false, cond, refl, ap, ◌∙◌, sym, subst, ap₂, arith, inl, inr, true≢false}
+use Rattle.std.specs.Prelude.{not, ◌||◌, is_some, nat_lt, IsSomeAnd, if◌then◌else◌}
 use Rattle.std.specs.List.{AllByRecursion, list_any, filter, find}
 use Rattle.std.specs.List.Sorted.{IsStrictlySortedBy}
 use Rattle.std.specs.Cmp.{Equal-is, tied_itself}
@@ -21,22 +21,23 @@ use Rattle.delivery_machine.specs.State.{State, Subscription, Member, fresh}
 use Rattle.delivery_machine.specs.State as state
 use Rattle.delivery_machine.specs.Words.{changed, removed, is_named, is_at, is_member, is_producer, is_held_by, is_held_at, is_live, has_position, active_at, emptied, emptied_at, next_position, visible, first_waiting, count_of, ChoosesBy, IsEligible, IsNextInOrder}
 use Rattle.delivery_machine.specs.Refusals.{refusal_of, nacking_refused, dropping_refused, is_duplicate}
-use Rattle.delivery_machine.specs.Producing.{with_message, message_of, storing, storing_below}
+use Rattle.delivery_machine.specs.Producing.{durable_to, with_message, message_of, storing, storing_below}
 use Rattle.delivery_machine.specs.Joining.{permitted, without_member, taken_over, all_released, is_taken_over}
-use Rattle.delivery_machine.specs.Acknowledging.{Acks, acknowledging, with_acknowledged, forgetting, without, positions_up_to}
+use Rattle.delivery_machine.specs.Acknowledging.{Acks, acknowledging, is_one_of, with_acknowledged, forgetting, without, positions_up_to}
 use Rattle.delivery_machine.specs.Delivering.{Dispatches, holding, given, sent, due_after}
 use Rattle.delivery_machine.specs.Ticking.{Ticks, redelivering, redelivered, pending_positions}
 use Rattle.delivery_machine.specs.Seeking.{seeking, sought, length_before, length_before_time, first_live}
 use Rattle.delivery_machine.specs.Dying.{burying, letter_of, died, dying_at, first_safe, moving, moved}
+use Rattle.delivery_machine.specs.Trimming.{is_done_with, without_messages, trimmed, Trims}
 use Rattle.delivery_machine.specs.Run.{Run, Answers, Takes}
 use Rattle.delivery_machine.specs.Snapshot.{Snapshot, restarted}
 use Rattle.delivery_machine.specs.Laws.{IsBeginning, IsInOrderAtActive, SendsNextLive}
 use Rattle.delivery_machine.specs.declared.event.Event.{Event}
-use Rattle.delivery_machine.specs.declared.event.Event.TheVariants.{AddProducer, DropProducer, Publish, Stored, StoredTo, Progress, Subscribe, Leave, Permit, Ack, AckUpTo, Nack, Tick, Seek, SeekTime, Skip, DropSubscription, Stats, Dispatch, Collect, DeadNext, DeadDone}
+use Rattle.delivery_machine.specs.declared.event.Event.TheVariants.{AddProducer, DropProducer, Publish, Stored, StoredTo, Progress, Subscribe, Leave, Permit, Ack, AckUpTo, Nack, Tick, Seek, SeekTime, Skip, DropSubscription, Stats, Trim, SetRetention, Dispatch, Collect, DeadNext, DeadDone}
 use Rattle.delivery_machine.specs.declared.reply.Reply.{Reply}
-use Rattle.delivery_machine.specs.declared.reply.Reply.TheVariants.{Sent, Idle, Quiet, Rewound, Released, Died}
+use Rattle.delivery_machine.specs.declared.reply.Reply.TheVariants.{Sent, Idle, Quiet, Rewound, Released, Died, Trimmed, Untrimmed}
 use Rattle.delivery_machine.proofs.RunSteps.{split, Run-keeps}
-use Rattle.delivery_machine.proofs.Firsts.{some_elim, found_passes}
+use Rattle.delivery_machine.proofs.Firsts.{some_elim, found_passes, found_mapped}
 use Rattle.delivery_machine.proofs.Rising.{next_is_new}
 use Rattle.delivery_machine.proofs.Behind.{IsIdle, same_name}
 use Rattle.delivery_machine.proofs.Tended.{IsTended, position_is, some_is, got_inserted}
@@ -50,6 +51,7 @@ use Rattle.delivery_machine.proofs.InOrder.{is_pending_in, IsOrderly, IsOrderlyI
 use Rattle.delivery_machine.proofs.Taking.{taken_acknowledged, taken_moved, taken_stored, taken_stored_to, taken_held_again, pending_listed, idle_redelivered}
 use Rattle.delivery_machine.proofs.OrderOverMembers.{IsOrderlyBut, each_taken_over, each_joined, each_left, emptied_ranks}
 use Rattle.delivery_machine.proofs.Deciding.{holds_unless_refused, none_below}
+use Rattle.delivery_machine.proofs.Trimmed.{IsGoing, are_going, all_weaker, positions_gone, others_stay, live_stays, done_over, ordered_dropped, ordered_same}
 
 pub record AllOrderly (s : State) : Type 0 where
   pub durable : s.durable ≤ length s.log
@@ -181,6 +183,34 @@ order_published s e is kept all = record {
         by : (o : Option Held) → map_of.get sub.pending e.position ≡ o → is_some o ≡ false
         by None got = refl
         by (Some h) got = absurd (nowhere (tended.in_log e.position h got))
+
+-- the first messages go, which are neither live nor pending
+order_trimmed : (s : State) (n : ℕ) → IsGoing s n → IsKept s → AllOrderly s → AllOrderly (trimmed n s)
+order_trimmed s n are kept all = record {
+  durable = let below = all.durable in let shorter = length-drop n s.log in omega (arith, below, shorter);
+  each = λ name sub found.
+      let was = found_mapped (is_named name) (without_messages (positions_gone n s.log)) (λ x. refl) s.subscriptions sub found in
+      subst (IsOrderlyIn (drop n s.log) (s.durable - n) s.members) (sym was.2) (orderly name was.0 was.1);
+}
+  where
+    stay : (sub : Subscription) → (log : List Entry) → AllByRecursion (λ e. is_one_of (positions_gone n s.log) e.position ≡ false) log
+        → AllByRecursion (λ e. (is_live (without_messages (positions_gone n s.log) sub) e ≡ is_live sub e) × (is_pending_in (without_messages (positions_gone n s.log) sub) e ≡ is_pending_in sub e)) log
+    stay sub = all_weaker (λ e. is_one_of (positions_gone n s.log) e.position ≡ false)
+        (λ e. (is_live (without_messages (positions_gone n s.log) sub) e ≡ is_live sub e) × (is_pending_in (without_messages (positions_gone n s.log) sub) e ≡ is_pending_in sub e))
+        (λ e none. (live_stays (positions_gone n s.log) sub e none, refl))
+
+    orderly : (name : List ℕ) (sub : Subscription) → find (is_named name) s.subscriptions ≡ Some sub → IsOrderlyIn (drop n s.log) (s.durable - n) s.members (without_messages (positions_gone n s.log) sub)
+    orderly name sub found order =
+        let one = all.each name sub found order in
+        record {
+          leads =
+              ordered_same (is_live sub) (is_pending_in sub) (is_live (without_messages (positions_gone n s.log) sub)) (is_pending_in (without_messages (positions_gone n s.log) sub)) (s.durable - n) (drop n s.log)
+              (stay sub (drop n s.log) (others_stay n s.log kept.rising.sorted))
+              ∙ ordered_dropped (is_live sub) (is_pending_in sub) n s.durable (s.durable - n) s.log refl
+              (all_weaker (λ e. is_done_with e sub ≡ true) (λ e. (is_live sub e ≡ false) × (is_pending_in sub e ≡ false)) (done_over sub) (take n s.log) (are.done name sub found)) one.leads;
+          at_active = one.at_active;
+          alone = one.alone;
+        }
 
 order_dropped : (s : State) (n : List ℕ) → seats_at s.members n ≡ 0 → IsKept s → AllOrderly s → AllOrderly (record s { subscriptions = removed (is_named n) s.subscriptions })
 order_dropped s n nobody kept all = record {
@@ -319,6 +349,11 @@ order_over s n before low all = record { durable = by (is_taken_over n before s)
     by true = low
     by false = low
 
+trims_order : (s : State) (keep before most : ℕ) (reply : Reply) (t : State) → Trims s keep before most reply t → IsKept s → AllOrderly s → AllOrderly t
+trims_order s keep before most (Trimmed gone) t h kept all = settled t _ h.2 (order_trimmed s _ (are_going s keep before most h.0) kept all)
+trims_order s keep before most Untrimmed t h kept all = settled t s h.1 all
+trims_order s keep before most reply t h kept all = absurd h
+
 takes_order : (s : State) (event : Event) (reply : Reply) (t : State) → refusal_of s event ≡ None → Takes s event reply t → IsKept s → AllOrderly s → AllOrderly t
 takes_order s (AddProducer name base) reply t allowed h kept all = settled t _ h.3.1 (record { durable = all.durable; each = all.each })
 takes_order s (DropProducer producer) reply t allowed h kept all = settled t _ h.1 (record { durable = all.durable; each = all.each })
@@ -329,7 +364,7 @@ takes_order s Stored reply t allowed h kept all =
     settled t _ h.1 (order_stored s storing (length s.log) taken_stored (λ _. refl) all.durable (omega arith) all)
 takes_order s (StoredTo count ordinal) reply t allowed h kept all =
     let below = all.durable in
-    settled t _ h.1 (order_stored s (storing_below ordinal) (max s.durable (min count (length s.log))) (taken_stored_to ordinal) (λ _. refl) (omega arith) (omega arith) all)
+    settled t _ h.1 (order_stored s (storing_below ordinal) (durable_to s count) (taken_stored_to ordinal) (λ _. refl) (omega arith) (omega arith) all)
 takes_order s Progress reply t allowed h kept all = settled t s h.1 all
 takes_order s (Subscribe name kind level flow ack_timeout nack_delay max_redeliver dead_topic initial ranges) reply t allowed h kept all =
     settled t _ h.1 (order_over _ name (active_at s name) all.durable (each_joined s kind ranges initial _ allowed kept all.each))
@@ -350,6 +385,8 @@ takes_order s (Skip name count) reply t allowed h kept all =
     some_elim (find (is_named name) s.subscriptions) _ (AllOrderly t) h (λ sub found h. settled t _ h.1 (order_acknowledged s name (first_live s sub count) all))
 takes_order s (DropSubscription name) reply t allowed h kept all = settled t _ h.1 (order_dropped s name (nobody_there s name (find (is_named name) s.subscriptions) allowed) kept all)
 takes_order s (Stats name) reply t allowed h kept all = some_elim (find (is_named name) s.subscriptions) _ (AllOrderly t) h (λ sub found h. settled t s h.1 all)
+takes_order s (Trim keep before most) reply t allowed h kept all = trims_order s keep before most reply t h kept all
+takes_order s (SetRetention retention) reply t allowed h kept all = settled t _ h.1 (record { durable = all.durable; each = all.each })
 takes_order s (Dispatch name now) reply t allowed h kept all =
     some_elim (find (is_named name) s.subscriptions) _ (AllOrderly t) h (λ sub found h. dispatch_orders s name now sub reply t found h kept all)
 takes_order s (Collect consumer) reply t allowed h kept all = settled t _ h.1 (order_members s (is_member consumer) emptied (λ _. refl) all)

@@ -18,20 +18,22 @@ use Rattle.delivery_machine.specs.Delivering.{Dispatches}
 use Rattle.delivery_machine.specs.Ticking.{Ticks, pending_positions}
 use Rattle.delivery_machine.specs.Seeking.{length_before, length_before_time, first_live}
 use Rattle.delivery_machine.specs.Dying.{dying_at, first_safe}
+use Rattle.delivery_machine.specs.Trimming.{Trims}
 use Rattle.delivery_machine.specs.Run.{Run, Answers, Takes}
 use Rattle.delivery_machine.specs.Snapshot.{Snapshot, KeptSubscription, restarted, subscription_from}
 use Rattle.delivery_machine.specs.WellFormed.{IsSound}
 use Rattle.delivery_machine.specs.Laws.{IsBeginning}
 use Rattle.delivery_machine.specs.declared.event.Event.{Event}
-use Rattle.delivery_machine.specs.declared.event.Event.TheVariants.{AddProducer, DropProducer, Publish, Stored, StoredTo, Progress, Subscribe, Leave, Permit, Ack, AckUpTo, Nack, Tick, Seek, SeekTime, Skip, DropSubscription, Stats, Dispatch, Collect, DeadNext, DeadDone}
+use Rattle.delivery_machine.specs.declared.event.Event.TheVariants.{AddProducer, DropProducer, Publish, Stored, StoredTo, Progress, Subscribe, Leave, Permit, Ack, AckUpTo, Nack, Tick, Seek, SeekTime, Skip, DropSubscription, Stats, Trim, SetRetention, Dispatch, Collect, DeadNext, DeadDone}
 use Rattle.delivery_machine.specs.declared.reply.Reply.{Reply}
-use Rattle.delivery_machine.specs.declared.reply.Reply.TheVariants.{Sent, Idle, Quiet, Rewound, Released, Died}
+use Rattle.delivery_machine.specs.declared.reply.Reply.TheVariants.{Sent, Idle, Quiet, Rewound, Released, Died, Trimmed, Untrimmed}
 use Rattle.delivery_machine.proofs.RunSteps.{split, Run-keeps}
 use Rattle.delivery_machine.proofs.Firsts.{some_elim}
 use Rattle.delivery_machine.proofs.Rising.{rising_fresh, rising_restarted}
 use Rattle.delivery_machine.proofs.Behind.{IsIdle, IsBehindIdle, AllBehindIdle}
 use Rattle.delivery_machine.proofs.Tended.{tended_empty}
 use Rattle.delivery_machine.proofs.Tending.{none_pending}
+use Rattle.delivery_machine.proofs.Trimmed.{are_going, kept_going}
 use Rattle.delivery_machine.proofs.Kept.{IsKept, not_refused, kept_message, kept_acknowledged, kept_redelivered, kept_taken_over, kept_nacked, kept_members, kept_joined, kept_left, kept_sent, kept_died, kept_moved, kept_sought, kept_stored, kept_stored_to, kept_dropped}
 
 -- the new state is known
@@ -59,6 +61,11 @@ dispatch_keeps : (s : State) (name : List ℕ) (now : ℕ) (sub : Subscription) 
 dispatch_keeps s name now sub (Sent consumer position count) t found h kept = settled t _ h.6 (kept_sent s name sub h.0 h.1 now found h.2 kept)
 dispatch_keeps s name now sub Idle t found h kept = settled t s h.1 kept
 dispatch_keeps s name now sub reply t found h kept = absurd h
+
+trims_keeps : (s : State) (keep before most : ℕ) (reply : Reply) (t : State) → Trims s keep before most reply t → IsKept s → IsKept t
+trims_keeps s keep before most (Trimmed all) t h kept = settled t _ h.2 (kept_going s _ (are_going s keep before most h.0) kept)
+trims_keeps s keep before most Untrimmed t h kept = settled t s h.1 kept
+trims_keeps s keep before most reply t h kept = absurd h
 
 takes_keeps : (s : State) (event : Event) (reply : Reply) (t : State) → refusal_of s event ≡ None → Takes s event reply t → IsKept s → IsKept t
 takes_keeps s (AddProducer name base) reply t allowed h kept = settled t _ h.3.1 (record { rising = kept.rising; tended = kept.tended })
@@ -89,6 +96,8 @@ takes_keeps s (Skip name count) reply t allowed h kept =
     some_elim (find (is_named name) s.subscriptions) _ (IsKept t) h (λ sub found h. settled t _ h.1 (kept_acknowledged s name (first_live s sub count) kept))
 takes_keeps s (DropSubscription name) reply t allowed h kept = settled t _ h.1 (kept_dropped s name kept)
 takes_keeps s (Stats name) reply t allowed h kept = some_elim (find (is_named name) s.subscriptions) _ (IsKept t) h (λ sub found h. settled t s h.1 kept)
+takes_keeps s (Trim keep before most) reply t allowed h kept = trims_keeps s keep before most reply t h kept
+takes_keeps s (SetRetention retention) reply t allowed h kept = settled t _ h.1 (record { rising = kept.rising; tended = kept.tended })
 takes_keeps s (Dispatch name now) reply t allowed h kept =
     some_elim (find (is_named name) s.subscriptions) _ (IsKept t) h (λ sub found h. dispatch_keeps s name now sub reply t found h kept)
 takes_keeps s (Collect consumer) reply t allowed h kept = settled t _ h.1 (kept_members s (is_member consumer) emptied (λ _ _ _. refl) kept)

@@ -1,6 +1,6 @@
 -- The log's positions rise, and the next one is above them all.
-use Rattle.std.proofs.Common.{◌≡◌, ℕ, ◌+◌, ◌<◌, ◌≤◌, ◌^◌, min, List, [], ◌∷◌, ◌++◌, map, length, suc, zero, Bool, true, false, cond, get_or, refl, ap, ◌∙◌, sym, subst, arith, All, Contains, count_by, nat_lt}
-use Rattle.std.specs.Prelude.{◌&&◌, ◌||◌, ◌==◌}
+use Rattle.std.proofs.Common.{◌≡◌, ℕ, ◌+◌, ◌<◌, ◌≤◌, ◌^◌, min, List, [], ◌∷◌, ◌++◌, map, length, suc, zero, Bool, true, false, cond, get_or, refl, ap, ◌∙◌, sym, subst, arith, All, Contains, nat_lt}
+use Rattle.std.specs.Prelude.{◌&&◌, ◌||◌, ◌==◌, if◌then◌else◌, drop}
 use Rattle.std.specs.List.{AllByRecursion}
 use Rattle.std.specs.List.Sorted.{IsStrictlySortedBy}
 use Rattle.std.specs.Cmp.{IsTotalOrder, tied_itself}
@@ -8,12 +8,11 @@ use Rattle.std.specs.declared.cmp.Ordering.{Ordering}
 use Rattle.std.specs.declared.cmp.Ordering.TheVariants.{Less}
 use Rattle.std.proofs.lemmas.Bool.Decides.{nat_tests}
 use Rattle.std.proofs.lemmas.List.Elements.{All-nil, All-weaker, All-push, recursion_from_All, All-from_recursion, All-contains}
-use Rattle.std.proofs.lemmas.List.Sums.{sum_by_push}
 use Rattle.position_core.specs.declared.position.Position.{Position}
 use Rattle.position_core.specs.declared.message.Entry.{Entry}
 use Rattle.position_core.specs.Position.{position_cmp, positions_total}
 use Rattle.delivery_machine.specs.State.{State}
-use Rattle.delivery_machine.specs.Words.{next_position}
+use Rattle.delivery_machine.specs.Words.{next_position, used_after}
 use Rattle.delivery_machine.specs.Snapshot.{Snapshot}
 use Rattle.delivery_machine.specs.WellFormed.{IsSound}
 use Rattle.delivery_machine.proofs.Deciding.{within}
@@ -57,10 +56,6 @@ one_of_each {A} c never f (z ∷ zs) rising x y at bt same =
 
 -- ---- the log
 
--- how many messages of the log are in the ledger
-abbrev pub used_in : ℕ → List Entry → ℕ
-used_in ledger log = count_by (λ e. e.position.ledger == ledger) log
-
 -- the position is in an earlier ledger, or among the first entries of this one
 abbrev pub is_below : ℕ → ℕ → Position → Bool
 is_below ledger used p = nat_lt p.ledger ledger || (p.ledger == ledger && nat_lt p.entry used)
@@ -68,7 +63,7 @@ is_below ledger used p = nat_lt p.ledger ledger || (p.ledger == ledger && nat_lt
 -- positions rise, none stands above the ledger or the messages in it, and no ledger is above 2^62
 pub record IsRising (log : List Entry) (ledger : ℕ) : Type 0 where
   pub sorted : IsStrictlySortedBy position_cmp (map (λ e. e.position) log)
-  pub below : All (λ e. is_below ledger (used_in ledger log) e.position ≡ true) log
+  pub below : All (λ e. is_below ledger (used_after ledger log) e.position ≡ true) log
   pub bounded : All (λ e. e.position.ledger ≤ 2 ^ 62) log
 
 abbrev pub next_of : ℕ → ℕ → ℕ → Position
@@ -90,8 +85,8 @@ one_of_position log ledger rising = one_of_each position_cmp not_below_itself (�
 -- every position of the log is below the next
 pub all_before_next : (s : State) → IsRising s.log s.ledger → All (λ e. position_cmp e.position (next_position s) ≡ Less) s.log
 all_before_next s rising =
-    All-weaker (λ e. is_below s.ledger (used_in s.ledger s.log) e.position ≡ true) (λ e. position_cmp e.position (next_position s) ≡ Less)
-    (λ e low. before_next s.ledger (used_in s.ledger s.log) s.ledger_size e.position low) s.log rising.below
+    All-weaker (λ e. is_below s.ledger (used_after s.ledger s.log) e.position ≡ true) (λ e. position_cmp e.position (next_position s) ≡ Less)
+    (λ e low. before_next s.ledger (used_after s.ledger s.log) s.ledger_size e.position low) s.log rising.below
 
 pub next_is_new : (s : State) → IsRising s.log s.ledger → (x : Entry) → Contains s.log x → x.position ≡ next_position s → ⊥
 next_is_new s rising x at is =
@@ -99,7 +94,7 @@ next_is_new s rising x at is =
     not_below_itself (next_position s) (ap (λ (p : Position). position_cmp p (next_position s)) (sym is) ∙ lower)
 
 -- so many are in the ledger of the next message, with that message
-abbrev IsMore : ℕ → ℕ → ℕ → ℕ → Type 0
+abbrev pub IsMore : ℕ → ℕ → ℕ → ℕ → Type 0
 IsMore ledger used next more = (1 ≤ more) × (next ≡ ledger → more ≡ used + 1)
 
 next_itself_below : (ledger used size more : ℕ) (q : Position) → q ≡ next_of ledger used size → IsMore ledger used q.ledger more → is_below q.ledger more q ≡ true
@@ -116,7 +111,7 @@ next_itself_below ledger used size more q is longer = by (nat_lt used size) is
         let m = longer.0 in
         grind (arith, nat_tests)
 
-still_below : (ledger used size more : ℕ) (q p : Position) → q ≡ next_of ledger used size → IsMore ledger used q.ledger more → is_below ledger used p ≡ true → is_below q.ledger more p ≡ true
+pub still_below : (ledger used size more : ℕ) (q p : Position) → q ≡ next_of ledger used size → IsMore ledger used q.ledger more → is_below ledger used p ≡ true → is_below q.ledger more p ≡ true
 still_below ledger used size more q p is longer low = by (nat_lt used size) is
   where
     by : (b : Bool) → q ≡ cond b (record { ledger = ledger; entry = used }) (record { ledger = ledger + 1; entry = 0 }) → is_below q.ledger more p ≡ true
@@ -128,27 +123,41 @@ still_below ledger used size more q p is longer low = by (nat_lt used size) is
         let l : q.ledger ≡ ledger + 1 = ap (λ p. p.ledger) e in
         grind (arith, nat_tests)
 
-used_push : (ledger : ℕ) (log : List Entry) (e : Entry) → IsMore ledger (used_in ledger log) e.position.ledger (used_in e.position.ledger (log ++ e ∷ []))
-used_push ledger log e =
-    let one : cond {A = ℕ} (e.position.ledger == e.position.ledger) 1 0 ≡ 1 = grind (arith, nat_tests) in
-    let counted : used_in e.position.ledger (log ++ e ∷ []) ≡ used_in e.position.ledger log + 1 =
-    sum_by_push (λ x. cond {A = ℕ} (x.position.ledger == e.position.ledger) 1 0) log e ∙ ap (λ n. used_in e.position.ledger log + n) one in
-    (omega arith, λ same. counted ∙ ap (λ n. used_in n log + 1) same)
+pub used_last : (ledger : ℕ) (log : List Entry) (e : Entry) → used_after ledger (log ++ e ∷ []) ≡ (if e.position.ledger == ledger then e.position.entry + 1 else 0)
+used_last ledger [] e = refl
+used_last ledger (x ∷ []) e = refl
+used_last ledger (x ∷ y ∷ log) e = used_last ledger (y ∷ log) e
+
+pub used_push : (ledger size : ℕ) (log : List Entry) (e : Entry) → e.position ≡ next_of ledger (used_after ledger log) size → IsMore ledger (used_after ledger log) e.position.ledger (used_after e.position.ledger (log ++ e ∷ []))
+used_push ledger size log e is = by (nat_lt (used_after ledger log) size) is
+  where
+    counted : used_after e.position.ledger (log ++ e ∷ []) ≡ e.position.entry + 1
+    counted =
+        let one : (if e.position.ledger == e.position.ledger then e.position.entry + 1 else 0) ≡ e.position.entry + 1 = grind (arith, nat_tests) in
+        used_last e.position.ledger log e ∙ one
+
+    by : (b : Bool) → e.position ≡ cond b (record { ledger = ledger; entry = used_after ledger log }) (record { ledger = ledger + 1; entry = 0 }) → IsMore ledger (used_after ledger log) e.position.ledger (used_after e.position.ledger (log ++ e ∷ []))
+    by true at =
+        let n : e.position.entry ≡ used_after ledger log = ap (λ p. p.entry) at in
+        (omega (arith, counted), λ same. counted ∙ ap (λ n. n + 1) n)
+    by false at =
+        let l : e.position.ledger ≡ ledger + 1 = ap (λ p. p.ledger) at in
+        (omega (arith, counted), λ same. absurd (omega (arith, l, same)))
 
 -- the next message of the log keeps it so
 pub rising_push : (s : State) (e : Entry) → e.position ≡ next_position s → nat_lt (2 ^ 62) (next_position s).ledger ≡ false → IsRising s.log s.ledger → IsRising (s.log ++ e ∷ []) e.position.ledger
 rising_push s e is room rising =
-    let more : ℕ = used_in e.position.ledger (s.log ++ e ∷ []) in
-    let longer = used_push s.ledger s.log e in
+    let more : ℕ = used_after e.position.ledger (s.log ++ e ∷ []) in
+    let longer = used_push s.ledger s.ledger_size s.log e is in
     let Q : Entry → Type 0 = λ x. is_below e.position.ledger more x.position ≡ true in
     record {
       sorted = sorted_push position_cmp (λ x. x.position) s.log e rising.sorted
           (recursion_from_All (λ x. position_cmp x.position e.position ≡ Less) s.log
           (subst (λ (p : Position). All (λ x. position_cmp x.position p ≡ Less) s.log) (sym is) (all_before_next s rising)));
       below = All-push Q s.log e
-          (All-weaker (λ x. is_below s.ledger (used_in s.ledger s.log) x.position ≡ true) Q
-          (λ x low. still_below s.ledger (used_in s.ledger s.log) s.ledger_size more e.position x.position is longer low) s.log rising.below)
-          (next_itself_below s.ledger (used_in s.ledger s.log) s.ledger_size more e.position is longer);
+          (All-weaker (λ x. is_below s.ledger (used_after s.ledger s.log) x.position ≡ true) Q
+          (λ x low. still_below s.ledger (used_after s.ledger s.log) s.ledger_size more e.position x.position is longer low) s.log rising.below)
+          (next_itself_below s.ledger (used_after s.ledger s.log) s.ledger_size more e.position is longer);
       bounded = All-push (λ x. x.position.ledger ≤ 2 ^ 62) s.log e rising.bounded (within (2 ^ 62) e.position.ledger (ap (λ (p : Position). nat_lt (2 ^ 62) p.ledger) is ∙ room));
     }
 
@@ -156,7 +165,7 @@ rising_push s e is room rising =
 
 pub rising_fresh : IsRising [] 0
 unfolding IsStrictlySortedBy
-rising_fresh = record { sorted = tt; below = All-nil (λ e. is_below 0 (used_in 0 []) e.position ≡ true); bounded = All-nil (λ e. e.position.ledger ≤ 2 ^ 62) }
+rising_fresh = record { sorted = tt; below = All-nil (λ e. is_below 0 (used_after 0 []) e.position ≡ true); bounded = All-nil (λ e. e.position.ledger ≤ 2 ^ 62) }
 
 below_restarted : (ledger kept used : ℕ) (p : Position) → (p.ledger ≤ kept) × (p.ledger ≤ 2 ^ 62) → ledger ≡ min (kept + 1) (2 ^ 62 + 1) → is_below ledger used p ≡ true
 below_restarted ledger kept used p low is =
@@ -168,10 +177,41 @@ below_restarted ledger kept used p low is =
 pub rising_restarted : (kept : Snapshot) → IsSound kept → IsRising kept.log (min (kept.ledger + 1) (2 ^ 62 + 1))
 rising_restarted kept sound = record {
   sorted = sound.log.positions;
-  below = All-weaker (λ e. (e.position.ledger ≤ kept.ledger) × (e.position.ledger ≤ 2 ^ 62)) (λ e. is_below (min (kept.ledger + 1) (2 ^ 62 + 1)) (used_in (min (kept.ledger + 1) (2 ^ 62 + 1)) kept.log) e.position ≡ true)
+  below = All-weaker (λ e. (e.position.ledger ≤ kept.ledger) × (e.position.ledger ≤ 2 ^ 62)) (λ e. is_below (min (kept.ledger + 1) (2 ^ 62 + 1)) (used_after (min (kept.ledger + 1) (2 ^ 62 + 1)) kept.log) e.position ≡ true)
       (λ e low. below_restarted _ kept.ledger _ e.position low refl) kept.log sound.log.ledgers;
   bounded = All-weaker (λ e. (e.position.ledger ≤ kept.ledger) × (e.position.ledger ≤ 2 ^ 62)) (λ e. e.position.ledger ≤ 2 ^ 62) (λ e low. low.1) kept.log sound.log.ledgers;
 }
 
 pub ledgers_below : (ledger used : ℕ) (p : Position) → is_below ledger used p ≡ true → p.ledger ≤ ledger
 ledgers_below ledger used p low = grind (arith, nat_tests)
+
+-- ---- where the first messages go
+
+pub used_dropped : (ledger n : ℕ) (log : List Entry) → n < length log → used_after ledger (drop n log) ≡ used_after ledger log
+used_dropped ledger zero log low = refl
+used_dropped ledger (suc n) [] low = absurd (omega (arith, low))
+used_dropped ledger (suc n) (x ∷ []) low = absurd (omega (arith, low))
+used_dropped ledger (suc n) (x ∷ y ∷ log) low = used_dropped ledger n (y ∷ log) (omega (arith, low))
+
+pub sorted_dropped : (n : ℕ) (log : List Entry) → IsStrictlySortedBy position_cmp (map (λ e. e.position) log) → IsStrictlySortedBy position_cmp (map (λ e. e.position) (drop n log))
+unfolding IsStrictlySortedBy
+sorted_dropped zero log h = h
+sorted_dropped (suc n) [] h = h
+sorted_dropped (suc n) (x ∷ log) h = sorted_dropped n log h.1
+
+pub all_dropped : (P : Entry → Type 0) (n : ℕ) (log : List Entry) → All P log → All P (drop n log)
+all_dropped P n log h = All-from_recursion P (drop n log) (by n log (recursion_from_All P log h))
+  where
+    by : (n : ℕ) (log : List Entry) → AllByRecursion P log → AllByRecursion P (drop n log)
+    by zero log h = h
+    by (suc n) [] h = h
+    by (suc n) (x ∷ log) h = by n log h.1
+
+-- the positions rise still, and the next one is the same
+pub rising_dropped : (n : ℕ) (log : List Entry) (ledger : ℕ) → n < length log → IsRising log ledger → IsRising (drop n log) ledger
+rising_dropped n log ledger low rising = record {
+  sorted = sorted_dropped n log rising.sorted;
+  below = subst (λ (used : ℕ). All (λ e. is_below ledger used e.position ≡ true) (drop n log)) (sym (used_dropped ledger n log low))
+      (all_dropped (λ e. is_below ledger (used_after ledger log) e.position ≡ true) n log rising.below);
+  bounded = all_dropped (λ e. e.position.ledger ≤ 2 ^ 62) n log rising.bounded;
+}

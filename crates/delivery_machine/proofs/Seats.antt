@@ -6,7 +6,9 @@ use Rattle.std.proofs.lemmas.Bool.Decides.{nat_tests}
 use Rattle.std.proofs.lemmas.List.{map-append}
 use Rattle.position_core.specs.declared.flow.Flow.{Flow}
 use Rattle.delivery_machine.specs.State.{Member}
-use Rattle.delivery_machine.specs.Words.{changed, removed, is_member}
+use Rattle.position_core.specs.declared.position.Position.{Position}
+use Rattle.delivery_machine.specs.Words.{changed, removed, is_member, is_at, emptied, emptied_at}
+use Rattle.delivery_machine.specs.Acknowledging.{forgetting, without}
 use Rattle.delivery_machine.proofs.Deciding.{itself, number_is, apart_below, apart_above}
 use Rattle.delivery_machine.proofs.Keyed.{keys_changed, keys_mapped}
 use Rattle.delivery_machine.proofs.Finding.{find_removed}
@@ -178,3 +180,15 @@ found_before c number low xs next y rises found = by (number == c) refl
         cc
     by false f =
         sym (find_removed (has_number c) (has_number number) (λ x t. ap (λ n. n == c) (number_is x.number number t) ∙ f) xs) ∙ found
+
+-- ---- members that keep their seats
+
+seat_if : (b : Bool) (m n : Member) → seat_of n ≡ seat_of m → seat_of (cond b n m) ≡ seat_of m
+seat_if true m n same = same
+seat_if false m n same = refl
+
+pub forgotten_stay : (n : List ℕ) (positions : List Position) (members : List Member) → seats (map (forgetting n positions) members) ≡ seats members
+forgotten_stay n positions = seats_of_mapped (forgetting n positions) (λ m. seat_if (is_at n m) m (record m { out = without positions m.out }) refl)
+
+pub emptied_stay : (n : List ℕ) (members : List Member) → seats (map (emptied_at n) members) ≡ seats members
+emptied_stay n = seats_of_mapped (emptied_at n) (λ m. seat_if (is_at n m) m (emptied m) refl)

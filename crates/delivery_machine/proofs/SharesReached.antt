@@ -16,13 +16,14 @@ use Rattle.delivery_machine.specs.Delivering.{Dispatches, holding, given, sent, 
 use Rattle.delivery_machine.specs.Ticking.{Ticks, redelivering, redelivered, pending_positions}
 use Rattle.delivery_machine.specs.Seeking.{sought, length_before, length_before_time, first_live}
 use Rattle.delivery_machine.specs.Dying.{burying, letter_of, died, moving, moved, dying_at, first_safe}
+use Rattle.delivery_machine.specs.Trimming.{without_messages, Trims}
 use Rattle.delivery_machine.specs.Run.{Answers, Takes}
 use Rattle.delivery_machine.specs.Snapshot.{KeptSubscription, subscription_from}
 use Rattle.delivery_machine.specs.Laws.{IsBeginning}
 use Rattle.delivery_machine.specs.declared.event.Event.{Event}
-use Rattle.delivery_machine.specs.declared.event.Event.TheVariants.{AddProducer, DropProducer, Publish, Stored, StoredTo, Progress, Subscribe, Leave, Permit, Ack, AckUpTo, Nack, Tick, Seek, SeekTime, Skip, DropSubscription, Stats, Dispatch, Collect, DeadNext, DeadDone}
+use Rattle.delivery_machine.specs.declared.event.Event.TheVariants.{AddProducer, DropProducer, Publish, Stored, StoredTo, Progress, Subscribe, Leave, Permit, Ack, AckUpTo, Nack, Tick, Seek, SeekTime, Skip, DropSubscription, Stats, Trim, SetRetention, Dispatch, Collect, DeadNext, DeadDone}
 use Rattle.delivery_machine.specs.declared.reply.Reply.{Reply}
-use Rattle.delivery_machine.specs.declared.reply.Reply.TheVariants.{Sent, Idle, Quiet, Rewound, Released, Died}
+use Rattle.delivery_machine.specs.declared.reply.Reply.TheVariants.{Sent, Idle, Quiet, Rewound, Released, Died, Trimmed, Untrimmed}
 use Rattle.delivery_machine.proofs.RunSteps.{split}
 use Rattle.delivery_machine.proofs.Firsts.{some_elim, any_changed, any_mapped}
 use Rattle.delivery_machine.proofs.Tended.{is_seat, is_seated}
@@ -130,6 +131,11 @@ publish_shared : (s : State) (e : Entry) (t : State) (duplicate : Bool) → t �
 publish_shared s e t true is all = settled t s is all
 publish_shared s e t false is all = settled t (with_message s e) is all
 
+trims_shared : (s : State) (keep before most : ℕ) (reply : Reply) (t : State) → Trims s keep before most reply t → AreShared s → AreShared t
+trims_shared s keep before most (Trimmed gone) t h all = settled t _ h.2 (each_mapped (HasShares s.members) (HasShares s.members) (without_messages _) s.subscriptions (λ _. refl) (λ sub have. have) all)
+trims_shared s keep before most Untrimmed t h all = settled t s h.1 all
+trims_shared s keep before most reply t h all = absurd h
+
 takes_shared : (s : State) (event : Event) (reply : Reply) (t : State) → refusal_of s event ≡ None → Takes s event reply t → IsWellKept s → AreShared s → AreShared t
 takes_shared s (AddProducer name base) reply t allowed h well all = settled t _ h.3.1 all
 takes_shared s (DropProducer producer) reply t allowed h well all = settled t _ h.1 all
@@ -157,6 +163,8 @@ takes_shared s (Skip name count) reply t allowed h well all =
     some_elim (find (is_named name) s.subscriptions) _ (AreShared t) h (λ sub found h. settled t _ h.1 (shared_acknowledged s name (first_live s sub count) all))
 takes_shared s (DropSubscription name) reply t allowed h well all = settled t _ h.1 (λ n sub found. all n sub (found_left n name s.subscriptions sub well.named found).0)
 takes_shared s (Stats name) reply t allowed h well all = some_elim (find (is_named name) s.subscriptions) _ (AreShared t) h (λ sub found h. settled t s h.1 all)
+takes_shared s (Trim keep before most) reply t allowed h well all = trims_shared s keep before most reply t h all
+takes_shared s (SetRetention retention) reply t allowed h well all = settled t _ h.1 all
 takes_shared s (Dispatch name now) reply t allowed h well all =
     some_elim (find (is_named name) s.subscriptions) _ (AreShared t) h (λ sub found h. dispatch_shared s name now sub reply t h all)
 takes_shared s (Collect consumer) reply t allowed h well all = settled t _ h.1 (shared_members s.members _ s.subscriptions (same_changed (is_member consumer) emptied (λ _. refl) s.members) all)

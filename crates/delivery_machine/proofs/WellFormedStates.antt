@@ -12,12 +12,13 @@ use Rattle.position_core.specs.Position.{same_position}
 use Rattle.position_core.specs.Kind.{same_kind}
 use Rattle.delivery_machine.specs.State.{State, Member, Subscription, DeadLetter}
 use Rattle.delivery_machine.specs.Words.{visible, has_position, is_named, is_at, is_member, is_live, has_subscription}
-use Rattle.delivery_machine.specs.Producing.{storing, storing_below, stored, stored_to}
+use Rattle.delivery_machine.specs.Producing.{had, storing, storing_below, stored, stored_to}
 use Rattle.delivery_machine.specs.Snapshot.{KeptSubscription, kept_of, snapshot_of}
 use Rattle.delivery_machine.specs.WellFormed.{has_message, IsWellFormedLog, IsWellFormed, IsWellFormedIn, IsSound, IsSoundSubscription, HaveOrdinals, NamesRise}
 use Rattle.delivery_machine.proofs.Firsts.{any_contained, found_contained}
 use Rattle.delivery_machine.proofs.Messages.{message_there, position_itself}
-use Rattle.delivery_machine.proofs.Rising.{used_in, IsRising, ledgers_below}
+use Rattle.delivery_machine.specs.Words.{used_after}
+use Rattle.delivery_machine.proofs.Rising.{IsRising, ledgers_below}
 use Rattle.delivery_machine.proofs.Keyed.{keys_mapped}
 use Rattle.delivery_machine.proofs.Named.{all_from_each}
 use Rattle.delivery_machine.proofs.Seated.{AllThere, any_found}
@@ -29,7 +30,7 @@ use Rattle.delivery_machine.proofs.WellReached.{IsAllKept}
 log_formed : (ledger_size ledger : ℕ) (log : List Entry) → IsRising log ledger → IsLedgered ledger_size ledger log → IsWellFormedLog ledger_size ledger log
 log_formed ledger_size ledger log rising ledgered = record {
   positions = rising.sorted;
-  ledgers = λ k d low. (ledgers_below ledger (used_in ledger log) (get_or log k d).position (rising.below k d low), rising.bounded k d low);
+  ledgers = λ k d low. (ledgers_below ledger (used_after ledger log) (get_or log k d).position (rising.below k d low), rising.bounded k d low);
   entries = ledgered.entries;
   last_ledger = ledgered.last_ledger;
 }
@@ -75,6 +76,8 @@ at_subscriptions t (m ∷ members) all = (any_found (is_named m.subscription) t.
 pub well_formed : (t : State) → IsAllKept t → IsWellFormed t
 well_formed t all = record {
   log = log_formed t.ledger_size t.ledger t.log all.order.kept.rising all.well.ledgered;
+  gone = all.well.gone;
+  authors = all.well.authors;
   durable = all.order.all.durable;
   producers = all.well.connected.numbers;
   producer_names = all.well.connected.names;
@@ -93,6 +96,8 @@ well_formed t all = record {
 pub sound_snapshot : (t : State) → IsAllKept t → IsSound (snapshot_of t)
 sound_snapshot t all = record {
   log = log_formed t.ledger_size t.ledger t.log all.order.kept.rising all.well.ledgered;
+  gone = all.well.gone;
+  authors = all.well.authors;
   names = subst NamesRise (sym (keys_mapped (λ (kept : KeptSubscription). kept.name) kept_of (λ _. refl) t.subscriptions)) all.well.named;
   subscriptions = All-map (IsSoundSubscription t.log) kept_of t.subscriptions
       (all_from_each (λ sub. IsSoundSubscription t.log (kept_of sub)) t.subscriptions all.well.named
@@ -120,7 +125,7 @@ same_map : (f g : Subscription → Subscription) (subs : List Subscription) → 
 same_map f g [] same = refl
 same_map f g (sub ∷ subs) same = ap₂ (λ (x : Subscription) (xs : List Subscription). x ∷ xs) same.0 (same_map f g subs same.1)
 
-pub stored_is : (t : State) → IsAllKept t → stored t ≡ stored_to t (length t.log) t.next_ordinal
+pub stored_is : (t : State) → IsAllKept t → stored t ≡ stored_to t (had t) t.next_ordinal
 stored_is t all =
     let low = all.order.all.durable in
     ap₂ (λ (durable : ℕ) (subs : List Subscription). record t { durable = durable; subscriptions = subs }) (omega (arith, low))

@@ -1,5 +1,5 @@
 -- What every reached state keeps beside `IsKept`: numbers, names, ordinals, and well-formed subscriptions and members.
-use Rattle.std.proofs.Common.{◌≡◌, ℕ, ◌+◌, ◌<◌, ◌≤◌, List, [], ◌∷◌, ◌++◌, map, length, Some, Bool, true, false, cond, refl, ap, ◌∙◌, sym, subst, arith}
+use Rattle.std.proofs.Common.{◌≡◌, ℕ, ◌+◌, ◌<◌, ◌≤◌, List, [], ◌∷◌, ◌++◌, map, length, length-append, Some, Option, Bool, true, false, cond, refl, ap, ◌∙◌, sym, subst, arith}
 use Rattle.std.specs.Prelude.{◌^◌, nat_lt, nat_le}
 use Rattle.std.specs.List.{All, IsDistinct, list_any, find}
 use Rattle.std.specs.Str.{bytes_eq}
@@ -11,10 +11,12 @@ use Rattle.delivery_machine.specs.State.{State, Producer, Member, Subscription, 
 use Rattle.delivery_machine.specs.Words.{changed, removed, is_named, is_connected, has_position, next_position}
 use Rattle.delivery_machine.specs.Refusals.{is_full}
 use Rattle.delivery_machine.specs.Producing.{with_message, with_producer}
-use Rattle.delivery_machine.specs.WellFormed.{AreGiven}
+use Rattle.delivery_machine.specs.declared.retention.Retention.{Retention}
+use Rattle.delivery_machine.specs.WellFormed.{AreGiven, AreAuthors, IsGoneWell}
 use Rattle.delivery_machine.proofs.Deciding.{or_false, within}
 use Rattle.delivery_machine.proofs.Firsts.{any_changed, any_mapped, any_pushed}
-use Rattle.delivery_machine.proofs.Rising.{used_in, next_of}
+use Rattle.delivery_machine.specs.Words.{used_after}
+use Rattle.delivery_machine.proofs.Rising.{next_of}
 use Rattle.delivery_machine.proofs.Messages.{taken_more, first_pushed}
 use Rattle.delivery_machine.proofs.Given.{names, given_pushed, given_removed, names_pushed, names_removed}
 use Rattle.delivery_machine.proofs.EachFirst.{EachFirst, each_kept, each_changed, each_mapped}
@@ -44,6 +46,8 @@ letters sub = sub.dead
 
 pub record IsWellKept (s : State) : Type 0 where
   pub ledgered : IsLedgered s.ledger_size s.ledger s.log
+  pub gone : IsGoneWell s.gone s.log
+  pub authors : AreAuthors s.gone s.authors
   pub connected : AreConnected s.next_producer s.producers
   pub members : AreGiven s.next_consumer (numbers_of s.members)
   pub there : AllThere (names_of s.members) s.subscriptions
@@ -66,6 +70,8 @@ pub well_changed : (s : State) (n : List ℕ) (f : Subscription → Subscription
     → IsWellKept (record s { subscriptions = changed (is_named n) f s.subscriptions; members = members; next_ordinal = next })
 well_changed s n f members next change well = record {
   ledgered = well.ledgered;
+  gone = well.gone;
+  authors = well.authors;
   connected = well.connected;
   members = subst (AreGiven s.next_consumer) (sym change.numbers) well.members;
   there = subst (λ (ns : List (List ℕ)). AllThere ns (changed (is_named n) f s.subscriptions)) (sym change.names)
@@ -81,6 +87,22 @@ well_changed s n f members next change well = record {
 pub ordinals_stay : (next : ℕ) (n : List ℕ) (f : Subscription → Subscription) (subs : List Subscription) → ((k : ℕ) (sub : Subscription) → times k (f sub).dead ≤ times k sub.dead) → AreOnce letters next subs → AreOnce letters next (changed (is_named n) f subs)
 ordinals_stay next n f subs fewer all = once_fewer letters next subs (changed (is_named n) f subs) (λ k. let low = among_changed letters k 0 (is_named n) f (λ sub. let less = fewer k sub in omega arith) subs in omega arith) all
 
+-- ---- the topic's own retention
+
+pub well_retaining : (s : State) (retention : Option Retention) → IsWellKept s → IsWellKept (record s { retention = retention })
+well_retaining s retention well = record {
+  ledgered = well.ledgered;
+  gone = well.gone;
+  authors = well.authors;
+  connected = well.connected;
+  members = well.members;
+  there = well.there;
+  named = well.named;
+  ordinals = well.ordinals;
+  each = well.each;
+  uncollected = well.uncollected;
+}
+
 -- ---- more is stored
 
 abbrev pub storing_so : (Subscription → ℕ) → Subscription → Subscription
@@ -90,6 +112,8 @@ pub well_stored : (s : State) (safe : Subscription → ℕ) (durable : ℕ) → 
     → IsWellKept (record s { durable = durable; subscriptions = map (storing_so safe) s.subscriptions })
 well_stored s safe durable enough longer well = record {
   ledgered = well.ledgered;
+  gone = well.gone;
+  authors = well.authors;
   connected = well.connected;
   members = well.members;
   there = all_there (names_of s.members) s.subscriptions (map (storing_so safe) s.subscriptions) (λ name at. any_mapped (is_named name) (storing_so safe) (λ _. refl) s.subscriptions ∙ at) well.there;
@@ -107,9 +131,11 @@ well_stored s safe durable enough longer well = record {
 pub well_published : (s : State) (e : Entry) → e.position ≡ next_position s → is_full s ≡ false → s.durable ≤ length s.log → IsWellKept s → IsWellKept (with_message s e)
 well_published s e is room low well = record {
   ledgered = record {
-    entries = λ some. All-push (λ x. x.position.entry < s.ledger_size) s.log e (well.ledgered.entries some) (in_ledger s.ledger s.ledger_size (used_in s.ledger s.log) e.position is some);
+    entries = λ some. All-push (λ x. x.position.entry < s.ledger_size) s.log e (well.ledgered.entries some) (in_ledger s.ledger s.ledger_size (used_after s.ledger s.log) e.position is some);
     last_ledger = let at_most = within (2 ^ 62) e.position.ledger (ap (λ (p : Position). nat_lt (2 ^ 62) p.ledger) is ∙ (or_false (nat_le 1048576 (length s.log)) (nat_lt (2 ^ 62) (next_position s).ledger) room).1) in omega arith;
   };
+  authors = well.authors;
+  gone = record { at_most = well.gone.at_most; another = λ _. let longer = length-append s.log (e ∷ []) in omega (arith, longer) };
   connected = well.connected;
   members = well.members;
   there = well.there;
@@ -133,6 +159,8 @@ well_published s e is room low well = record {
 pub well_connected : (s : State) (p : Producer) → p.number ≡ s.next_producer → is_connected s p.name ≡ false → IsWellKept s → IsWellKept (with_producer s p)
 well_connected s p is new well = record {
   ledgered = well.ledgered;
+  gone = well.gone;
+  authors = well.authors;
   connected = record {
     numbers = given_pushed (λ (q : Producer). q.number) s.next_producer s.producers p is well.connected.numbers;
     names = names_pushed s.producers p new well.connected.names;
@@ -148,6 +176,8 @@ well_connected s p is new well = record {
 pub well_disconnected : (s : State) (q : Producer → Bool) → IsWellKept s → IsWellKept (record s { producers = removed q s.producers })
 well_disconnected s q well = record {
   ledgered = well.ledgered;
+  gone = well.gone;
+  authors = well.authors;
   connected = record {
     numbers = given_removed (λ (p : Producer). p.number) s.next_producer q s.producers well.connected.numbers;
     names = names_removed q s.producers well.connected.names;

@@ -1,5 +1,5 @@
 -- Each step keeps what is well kept, and so does each run.
-use Rattle.std.proofs.Common.{◌≡◌, ℕ, ◌+◌, ◌<◌, ◌≤◌, List, [], ◌∷◌, map, length, min, max, Some, None, Option, Bool, true, false, refl, ap, ◌∙◌, sym, subst, arith, inl, inr, true≢false}
+use Rattle.std.proofs.Common.{◌≡◌, ℕ, ◌+◌, ◌<◌, ◌≤◌, List, [], ◌∷◌, map, length, max, Some, None, Option, Bool, true, false, refl, ap, ◌∙◌, sym, subst, arith, inl, inr, true≢false}
 use Rattle.std.specs.Prelude.{◌^◌, ◌&&◌, nat_lt, nat_le, not, is_some, if◌then◌else◌}
 use Rattle.std.specs.List.{IsDistinct, find, filter, count_by, list_any}
 use Rattle.std.specs.List.Sorted.{IsStrictlySortedBy}
@@ -18,9 +18,9 @@ use Rattle.position_core.specs.declared.fault.Fault.TheVariants.{ProducerBusy, N
 use Rattle.position_core.specs.Position.{position_cmp, same_position}
 use Rattle.delivery_machine.specs.Shares.{no_shares}
 use Rattle.delivery_machine.specs.State.{State, Member, Subscription, DeadLetter, fresh}
-use Rattle.delivery_machine.specs.Words.{count_of, is_named, is_member, is_producer, is_connected, is_live, has_member, has_position, next_position, visible, emptied, active_at}
+use Rattle.delivery_machine.specs.Words.{known, count_of, is_named, is_member, is_producer, is_connected, is_live, has_member, has_position, next_position, visible, emptied, active_at}
 use Rattle.delivery_machine.specs.Refusals.{refusal_of, adding_refused, publishing_refused, acking_refused, nacking_refused, dropping_refused, is_full, is_duplicate}
-use Rattle.delivery_machine.specs.Producing.{IsGiven, auto_name, with_message, message_of}
+use Rattle.delivery_machine.specs.Producing.{durable_to, IsGiven, auto_name, with_message, message_of}
 use Rattle.delivery_machine.specs.Joining.{permitted, without_member}
 use Rattle.delivery_machine.specs.Acknowledging.{Acks, positions_up_to}
 use Rattle.delivery_machine.specs.Delivering.{Dispatches}
@@ -28,13 +28,14 @@ use Rattle.delivery_machine.specs.Ticking.{Ticks, is_due, pending_positions, pen
 use Rattle.delivery_machine.specs.Seeking.{length_before, length_before_time, first_live}
 use Rattle.delivery_machine.specs.Dying.{dying_at, is_to_die, first_safe}
 use Rattle.delivery_machine.specs.WellFormed.{has_message, HaveOrdinals, NamesRise, IsSound, IsSoundSubscription}
+use Rattle.delivery_machine.specs.Trimming.{Trims}
 use Rattle.delivery_machine.specs.Run.{Run, Answers, Takes}
 use Rattle.delivery_machine.specs.Snapshot.{Snapshot, KeptSubscription, restarted, subscription_from}
 use Rattle.delivery_machine.specs.Laws.{IsBeginning}
 use Rattle.delivery_machine.specs.declared.event.Event.{Event}
-use Rattle.delivery_machine.specs.declared.event.Event.TheVariants.{AddProducer, DropProducer, Publish, Stored, StoredTo, Progress, Subscribe, Leave, Permit, Ack, AckUpTo, Nack, Tick, Seek, SeekTime, Skip, DropSubscription, Stats, Dispatch, Collect, DeadNext, DeadDone}
+use Rattle.delivery_machine.specs.declared.event.Event.TheVariants.{AddProducer, DropProducer, Publish, Stored, StoredTo, Progress, Subscribe, Leave, Permit, Ack, AckUpTo, Nack, Tick, Seek, SeekTime, Skip, DropSubscription, Stats, Trim, SetRetention, Dispatch, Collect, DeadNext, DeadDone}
 use Rattle.delivery_machine.specs.declared.reply.Reply.{Reply}
-use Rattle.delivery_machine.specs.declared.reply.Reply.TheVariants.{Sent, Idle, Quiet, Rewound, Released, Died}
+use Rattle.delivery_machine.specs.declared.reply.Reply.TheVariants.{Sent, Idle, Quiet, Rewound, Released, Died, Trimmed, Untrimmed}
 use Rattle.delivery_machine.proofs.RunSteps.{split, Run-keeps}
 use Rattle.delivery_machine.proofs.Deciding.{or_false}
 use Rattle.delivery_machine.proofs.Among.{contained_mapped}
@@ -51,8 +52,10 @@ use Rattle.delivery_machine.proofs.Named.{each_from_all}
 use Rattle.delivery_machine.proofs.Ordinals.{letters_mapped, once_ordinals}
 use Rattle.delivery_machine.proofs.Formed.{IsFormed, ArePending, formed_begun}
 use Rattle.delivery_machine.proofs.Uncollected.{none_out}
-use Rattle.delivery_machine.proofs.WellKept.{IsWellKept, letters, well_stored, well_published, well_connected, well_disconnected}
+use Rattle.delivery_machine.proofs.WellKept.{IsWellKept, letters, well_stored, well_retaining, well_published, well_connected, well_disconnected}
 use Rattle.delivery_machine.proofs.WellTaken.{AreLogged, well_acknowledged, well_redelivered, well_died, well_moved, well_sought, well_taken_over}
+use Rattle.delivery_machine.proofs.Trimmed.{are_going}
+use Rattle.delivery_machine.proofs.WellTrimmed.{well_trimmed}
 use Rattle.delivery_machine.proofs.SharesSeated.{AreShared}
 use Rattle.delivery_machine.proofs.SharesReached.{step_shared, beginning_shared}
 use Rattle.delivery_machine.proofs.WellSeated.{well_nacked, well_sent, well_members, well_joined, well_left, well_dropped}
@@ -64,7 +67,7 @@ settled t u is well = subst IsWellKept (sym is) well
 
 given_new : (s : State) (asked : Option (List ℕ)) (name : List ℕ) (auto : Option ℕ) → IsGiven s asked name auto → adding_refused s asked ≡ None → is_connected s name ≡ false
 given_new s (Some asked) name auto is allowed = ap (is_connected s) is.0 ∙ not_refused (is_connected s asked) ProducerBusy _ allowed
-given_new s None name auto is allowed = ap (is_connected s) is.2 ∙ (or_false (is_connected s (auto_name is.0)) (list_any _ s.log) is.1.0).0
+given_new s None name auto is allowed = ap (is_connected s) is.2 ∙ (or_false (is_connected s (auto_name is.0)) (list_any _ (known s)) is.1.0).0
 
 -- what is acknowledged is visible
 ack_logged : (s : State) (consumer : ℕ) (position : Position) → acking_refused s consumer position ≡ None → AreLogged s (position ∷ [])
@@ -154,6 +157,11 @@ drop_well : (s : State) (name : List ℕ) (o : Option Subscription) → find (is
 drop_well s name None found allowed = cc
 drop_well s name (Some sub) found allowed = (sub, found)
 
+trims_well : (s : State) (keep before most : ℕ) (reply : Reply) (t : State) → Trims s keep before most reply t → IsKeptInOrder s → IsWellKept s → IsWellKept t
+trims_well s keep before most (Trimmed gone) t h order well = settled t _ h.2 (well_trimmed s _ (are_going s keep before most h.0) well)
+trims_well s keep before most Untrimmed t h order well = settled t s h.1 well
+trims_well s keep before most reply t h order well = absurd h
+
 takes_well : (s : State) (event : Event) (reply : Reply) (t : State) → refusal_of s event ≡ None → Takes s event reply t → IsKeptInOrder s → IsWellKept s → IsWellKept t
 takes_well s (AddProducer name base) reply t allowed h order well = settled t _ h.3.1 (well_connected s _ refl (given_new s name h.0 h.1 h.2 allowed) well)
 takes_well s (DropProducer producer) reply t allowed h order well = settled t _ h.1 (well_disconnected s (is_producer producer) well)
@@ -162,7 +170,7 @@ takes_well s (Publish producer sequence body now) reply t allowed h order well =
     publish_well s (message_of s p sequence body now) t (is_duplicate s p sequence) (sym (ap (publishing_refused s sequence) found) ∙ allowed) refl h.1 order.all.durable well)
 takes_well s Stored reply t allowed h order well = settled t _ h.1 (well_stored s (λ sub. length sub.dead) (length s.log) (λ sub _. omega arith) order.all.durable well)
 takes_well s (StoredTo count ordinal) reply t allowed h order well =
-    settled t _ h.1 (well_stored s (λ sub. max sub.safe (count_by (λ d. nat_lt d.ordinal ordinal) sub.dead)) (max s.durable (min count (length s.log)))
+    settled t _ h.1 (well_stored s (λ sub. max sub.safe (count_by (λ d. nat_lt d.ordinal ordinal) sub.dead)) (durable_to s count)
     (λ sub low. let less = count_by-le-length (λ (d : DeadLetter). nat_lt d.ordinal ordinal) sub.dead in omega arith) (omega arith) well)
 takes_well s Progress reply t allowed h order well = settled t s h.1 well
 takes_well s (Subscribe name kind level flow ack_timeout nack_delay max_redeliver dead_topic initial ranges) reply t allowed h order well =
@@ -186,6 +194,8 @@ takes_well s (DropSubscription name) reply t allowed h order well =
     let there = drop_well s name (find (is_named name) s.subscriptions) refl allowed in
     settled t _ h.1 (well_dropped s name there.0 there.1 (nobody_there s name (find (is_named name) s.subscriptions) allowed) well)
 takes_well s (Stats name) reply t allowed h order well = some_elim (find (is_named name) s.subscriptions) _ (IsWellKept t) h (λ sub found h. settled t s h.1 well)
+takes_well s (Trim keep before most) reply t allowed h order well = trims_well s keep before most reply t h order well
+takes_well s (SetRetention retention) reply t allowed h order well = settled t _ h.1 (well_retaining s retention well)
 takes_well s (Dispatch name now) reply t allowed h order well =
     some_elim (find (is_named name) s.subscriptions) _ (IsWellKept t) h (λ sub found h. dispatch_well s name now sub reply t found h well)
 takes_well s (Collect consumer) reply t allowed h order well = settled t _ h.1 (well_members s (is_member consumer) emptied (λ _. refl) (λ _. refl) (λ m d at. absurd (none_out d at)) well)
@@ -207,6 +217,8 @@ well_fresh : (name : TopicName) (ledger_size : ℕ) → IsWellKept (fresh name l
 unfolding IsStrictlySortedBy IsDistinct
 well_fresh name ledger_size = record {
   ledgered = record { entries = λ some. All-nil (λ e. e.position.entry < ledger_size); last_ledger = omega arith };
+  authors = record { names = tt; indexes = none_given 0 };
+  gone = record { at_most = omega arith; another = λ some. absurd (omega (arith, some)) };
   connected = record { numbers = none_given 1; names = tt };
   members = none_given 1;
   there = tt;
@@ -220,6 +232,8 @@ well_restarted : (kept : Snapshot) → IsSound kept → IsWellKept (restarted ke
 unfolding IsDistinct
 well_restarted kept sound = record {
   ledgered = record { entries = sound.log.entries; last_ledger = omega arith };
+  gone = sound.gone;
+  authors = sound.authors;
   connected = record { numbers = none_given 1; names = tt };
   members = none_given 1;
   there = tt;

@@ -75,7 +75,7 @@ well_nacked s m consumer position due allowed well =
       ordinals = ordinals_stay s.next_ordinal m.subscription (holding position held) s.subscriptions (λ k sub. omega arith) well.ordinals;
       uncollected = uncollected_held s.log s.members s.subscriptions m.subscription position held was well.uncollected;
     }) well in
-    record { ledgered = after.ledgered; connected = after.connected; members = after.members; there = after.there; named = after.named; ordinals = after.ordinals; each = after.each; uncollected = after.uncollected }
+    record { ledgered = after.ledgered; gone = after.gone; authors = after.authors; connected = after.connected; members = after.members; there = after.there; named = after.named; ordinals = after.ordinals; each = after.each; uncollected = after.uncollected }
   where
     held : Held
     held = record { consumer = consumer; due = due }
@@ -135,6 +135,8 @@ pub well_members : (s : State) (q : Member → Bool) (f : Member → Member) →
     → IsWellKept s → IsWellKept (record s { members = changed q f s.members })
 well_members s q f numbers names fewer well = record {
   ledgered = well.ledgered;
+  gone = well.gone;
+  authors = well.authors;
   connected = well.connected;
   members = subst (AreGiven s.next_consumer) (sym (keys_changed (λ (m : Member). m.number) q f numbers s.members)) well.members;
   there = subst (λ (ns : List (List ℕ)). AllThere ns s.subscriptions) (sym (keys_changed (λ (m : Member). m.subscription) q f names s.members)) well.there;
@@ -152,6 +154,8 @@ well_pushed : (s : State) (m : Member) (subs : List Subscription) → m.number �
     → IsWellKept s → IsWellKept (record s { subscriptions = subs; members = s.members ++ m ∷ []; next_consumer = s.next_consumer + 1 })
 well_pushed s m subs is none keeps there named ordinals each holds well = record {
   ledgered = well.ledgered;
+  gone = well.gone;
+  authors = well.authors;
   connected = well.connected;
   members = given_pushed (λ (m : Member). m.number) s.next_consumer s.members m is well.members;
   there = subst (λ (ns : List (List ℕ)). AllThere ns subs) (sym (map-append (λ (m : Member). m.subscription) s.members (m ∷ []))) (one_more (names_of s.members) (all_there (names_of s.members) s.subscriptions subs keeps well.there));
@@ -198,6 +202,8 @@ well_joined s kind ranges initial m is none well = by (find (is_named m.subscrip
 pub well_left : (s : State) (consumer : ℕ) (m : Member) → find (is_member consumer) s.members ≡ Some m → IsWellKept s → IsWellKept (without_member s consumer m.subscription)
 well_left s consumer m found well = record {
   ledgered = well.ledgered;
+  gone = well.gone;
+  authors = well.authors;
   connected = well.connected;
   members = given_removed (λ (m : Member). m.number) s.next_consumer (is_member consumer) s.members well.members;
   there = each_key_removed (λ (m : Member). m.subscription) (λ name. is_there (changed (is_named m.subscription) (leaving consumer) s.subscriptions) name ≡ true) (is_member consumer) s.members
@@ -232,6 +238,8 @@ well_dropped s n sub found nobody well =
     let none = none_at n s.members nobody in
     record {
       ledgered = well.ledgered;
+      gone = well.gone;
+      authors = well.authors;
       connected = well.connected;
       members = well.members;
       there = still_there n s.subscriptions sub found s.members none well.there;

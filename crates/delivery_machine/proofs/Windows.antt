@@ -1,6 +1,6 @@
 -- At a consumer that is pushed to, no more messages are pending than the size of its window.
 use Rattle.std.proofs.Common.{◌≡◌, ℕ, ◌<◌, ◌≤◌, List, [], ◌∷◌, ◌++◌, Some, Bool, true, false, refl, ap, ◌∙◌, sym, subst, arith, inl, inr, Contains}
-use Rattle.std.specs.Prelude.{◌==◌, nat_lt}
+use Rattle.std.specs.Prelude.{◌==◌, nat_lt, drop}
 use Rattle.std.specs.List.{find}
 use Rattle.std.specs.FinMap as map_of
 use Rattle.std.proofs.lemmas.Bool.Decides.{nat_tests}
@@ -32,7 +32,7 @@ use Rattle.delivery_machine.proofs.Shrinking.{Shrinks}
 use Rattle.delivery_machine.proofs.FlowSteps.{Moves, Moves.stays, Moves.appends, Moves.joins, Moves.leaves, Moves.permits, Moves.sends, Sends, granting, spending}
 use Rattle.delivery_machine.proofs.FlowStepped.{moves}
 use Rattle.delivery_machine.proofs.Numbers.{IsNumbered, numbered, beginning_empty, beginning_numbered}
-use Rattle.delivery_machine.proofs.Counting.{held_at, held_idle, held_part, held_more, held_beside, held_appended}
+use Rattle.delivery_machine.proofs.Counting.{held_at, held_idle, held_part, held_more, held_beside, held_appended, held_dropped}
 
 -- the messages that are pending at the seat's consumer fit into its window
 abbrev Fits : List Entry → List Subscription → Seat → Type 0
@@ -54,6 +54,13 @@ fits_shrunk log before after x shrinks fits size is sub found = elim (shrinks x.
       omega arith
   | inr idle ↦ let none = held_idle log sub.pending x.number (λ p h at. absurd (idle p h at)) in omega arith
 ]
+
+-- where the first messages go
+fits_dropped : (n : ℕ) (log : List Entry) (subs : List Subscription) (x : Seat) → Fits log subs x → Fits (drop n log) subs x
+fits_dropped n log subs x fits size is sub found =
+    let was = fits size is sub found in
+    let less = held_dropped n log sub.pending x.number in
+    omega arith
 
 -- ---- a message is appended
 
@@ -166,8 +173,8 @@ fits_so log log' subs subs' xs xs' a b c all =
 
 fitted : (s : State) (event : Event) (reply : Reply) (t : State) → Moves s event reply t → IsKept s → IsNumbered s → IsFitting s → IsFitting t
 fitted s event reply t (stays m) kept rises fitting =
-    fits_so s.log t.log t.subscriptions t.subscriptions (seats s.members) (seats t.members) m.log_as refl m.members_as
-    (λ x found. fits_shrunk s.log s.subscriptions t.subscriptions x m.shrinks (fitting x found))
+    fits_so (drop m.trims s.log) t.log t.subscriptions t.subscriptions (seats s.members) (seats t.members) m.log_as refl m.members_as
+    (λ x found. fits_dropped m.trims s.log t.subscriptions x (fits_shrunk s.log s.subscriptions t.subscriptions x m.shrinks (fitting x found)))
 fitted s event reply t (appends m) kept rises fitting =
     fits_so (s.log ++ m.e ∷ []) t.log s.subscriptions t.subscriptions (seats s.members) (seats t.members) m.log_as m.subscriptions_as m.members_as
     (λ x found. appended_fits s m.e x (λ y at same. next_is_new s kept.rising y at (same ∙ m.next)) kept (fitting x found))

@@ -4,9 +4,9 @@ use Rattle.position_core.specs.Numbers.{ProducerNumber, ConsumerNumber}
 use Rattle.delivery_machine.specs.State.{State}
 use Rattle.delivery_machine.specs.Words.{removed}
 use Rattle.delivery_machine.specs.declared.event.Event.{Event}
-use Rattle.delivery_machine.specs.declared.event.Event.TheVariants.{Stored, StoredTo, DropProducer, Leave, Ack, AckUpTo, Seek, SeekTime, Skip, DropSubscription, DeadDone}
+use Rattle.delivery_machine.specs.declared.event.Event.TheVariants.{Stored, StoredTo, DropProducer, Leave, Ack, AckUpTo, Seek, SeekTime, Skip, DropSubscription, SetRetention, DeadDone}
 use Rattle.delivery_machine.specs.declared.reply.Reply.{Reply}
-use Rattle.delivery_machine.specs.declared.reply.Reply.TheVariants.{ProducerAdded, Published, Subscribed, Done, Released, Rewound, Died}
+use Rattle.delivery_machine.specs.declared.reply.Reply.TheVariants.{ProducerAdded, Published, Subscribed, Done, Released, Rewound, Died, Trimmed}
 
 -- ---- snapshots
 
@@ -18,6 +18,7 @@ is_kept_once_done (Seek name target) = true
 is_kept_once_done (SeekTime name time) = true
 is_kept_once_done (Skip name count) = true
 is_kept_once_done (DropSubscription name) = true
+is_kept_once_done (SetRetention retention) = true
 is_kept_once_done (DeadDone name ordinal) = true
 is_kept_once_done event = false
 
@@ -28,6 +29,7 @@ changes_snapshot event (Subscribed consumer) = true
 changes_snapshot event (Released position) = true
 changes_snapshot event (Rewound count) = true
 changes_snapshot event (Died position ordinal) = true
+changes_snapshot event (Trimmed gone) = true
 changes_snapshot event Done = is_kept_once_done event
 changes_snapshot event reply = false
 

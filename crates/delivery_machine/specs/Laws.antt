@@ -1,6 +1,6 @@
 -- Laws over every run: what a service relies on.
-use Rattle.std.specs.Prelude.{◌≡◌, ◌≢◌, ℕ, ◌+◌, ◌≤◌, ◌==◌, Bool, false, ◌&&◌, ◌||◌, List, [], ◌∷◌, ◌++◌, length, Some, ◌⊎◌, if◌then◌else◌, IsTrue}
-use Rattle.std.specs.List.{find, Contains}
+use Rattle.std.specs.Prelude.{codes, nat_eq, ◌≡◌, ◌≢◌, ℕ, ◌+◌, ◌≤◌, ◌==◌, Bool, false, ◌&&◌, ◌||◌, List, [], ◌∷◌, ◌++◌, map, length, Some, None, ◌⊎◌, if◌then◌else◌, IsTrue}
+use Rattle.std.specs.List.{All, Contains, filter, find, list_any, starts_with}
 use Rattle.std.specs.Option.{option_map_or}
 use Rattle.std.specs.Str.{bytes_eq}
 use Rattle.std.specs.FinSet as set
@@ -15,17 +15,18 @@ use Rattle.position_core.specs.declared.kind.Kind.TheVariants.{Exclusive, Shared
 use Rattle.position_core.specs.Position.{same_position}
 use Rattle.position_core.specs.Kind.{is_in_order}
 use Rattle.delivery_machine.specs.State.{State, Subscription, Member, fresh}
-use Rattle.delivery_machine.specs.Words.{is_named, is_member, is_held_by, hash_of, waits_with_hash, visible, pending_at, active_at}
+use Rattle.delivery_machine.specs.Words.{is_by, is_connected, known, signed, greatest_under, is_named, is_member, is_held_by, is_live, has_position, next_position, count_of, hash_of, waits_with_hash, visible, pending_at, active_at}
+use Rattle.delivery_machine.specs.Statistics.{mark_delete}
 use Rattle.delivery_machine.specs.Acknowledging.{is_one_of}
 use Rattle.delivery_machine.specs.Seeking.{first_live}
 use Rattle.delivery_machine.specs.Ticking.{pending_positions}
 use Rattle.delivery_machine.specs.Snapshot.{Snapshot, snapshot_of, restarted}
-use Rattle.delivery_machine.specs.Producing.{stored, stored_to}
+use Rattle.delivery_machine.specs.Producing.{had, stored, stored_to}
 use Rattle.delivery_machine.specs.declared.delivery.Delivery.{Delivery}
 use Rattle.delivery_machine.specs.WellFormed.{IsSound, IsWellFormed}
 use Rattle.delivery_machine.specs.Run.{Answers, Run}
 use Rattle.delivery_machine.specs.declared.event.Event.{Event}
-use Rattle.delivery_machine.specs.declared.event.Event.TheVariants.{Subscribe, Permit, Seek, SeekTime, DropSubscription, Dispatch}
+use Rattle.delivery_machine.specs.declared.event.Event.TheVariants.{Trim, Subscribe, Permit, Seek, SeekTime, DropSubscription, Dispatch}
 use Rattle.delivery_machine.specs.declared.reply.Reply.{Reply}
 use Rattle.delivery_machine.specs.declared.reply.Reply.TheVariants.{Subscribed, Done, Sent}
 
@@ -81,10 +82,10 @@ abbrev pub is_sent_at : List ℕ → Position → Event → Reply → Bool
 is_sent_at name position (Dispatch other now) (Sent consumer p count) = bytes_eq other name && same_position p position
 is_sent_at name position event reply = false
 
--- from whatever state a run goes on in which a message is acknowledged, the message is not sent again, unless the subscription is sought or dropped
+-- from whatever state that a run comes to, in which a message is acknowledged, the message is not sent again, unless the subscription is sought or dropped
 abbrev pub AcknowledgedStays : Type 0
 AcknowledgedStays =
-    (s : State) (events : List Event) (replies : List Reply) (t : State) → Run s events replies t
+    (s : State) (events : List Event) (replies : List Reply) (t : State) → IsReached s → Run s events replies t
     → (name : List ℕ) (position : Position) → IsTrue (is_acknowledged_at s name position)
     → some_answer (is_reset name) events replies ≡ false → some_answer (is_sent_at name position) events replies ≡ false
 
@@ -215,9 +216,50 @@ ReachedAreWellFormed = HoldsAlways IsWellFormed
 abbrev pub SnapshotsAreSound : Type 0
 SnapshotsAreSound = HoldsAlways (λ t. IsSound (snapshot_of t))
 
--- to store everything is to store up to the length of the log and the next ordinal
+-- to store everything is to store up to the last message that the topic has had, and up to the next ordinal
 abbrev pub StoredIsStoredTo : Type 0
-StoredIsStoredTo = HoldsAlways (λ t. stored t ≡ stored_to t (length t.log) t.next_ordinal)
+StoredIsStoredTo = HoldsAlways (λ t. stored t ≡ stored_to t (had t) t.next_ordinal)
+
+-- ---- trimming
+
+-- a subscription has all that it had: live messages, pending ones, how often each that stays was redelivered, dead letters and
+-- the message of each, and the position up to which all is acknowledged
+pub record HasAll (s t : State) (old new : Subscription) : Type 0 where
+  pub live : filter (is_live new) t.log ≡ filter (is_live old) s.log
+  pub shown : filter (is_live new) (visible t) ≡ filter (is_live old) (visible s)
+  pub pending : new.pending ≡ old.pending
+  pub counts : All (λ e. count_of new e.position ≡ count_of old e.position) t.log
+  pub dead : new.dead ≡ old.dead
+  pub safe : new.safe ≡ old.safe
+  pub letters : All (λ d. find (has_position d.position) t.log ≡ find (has_position d.position) s.log) old.dead
+  pub mark : mark_delete new t.log ≡ mark_delete old s.log
+
+-- each subscription has all that it had, members what they have not collected, and the next message comes at the same position, as
+-- the same of all messages; the last number under a name is the same where its producer is connected, moves dead letters or has a
+-- message that stays, and under any other name too, or there is none, as of a new one
+pub record LosesNothing (s t : State) : Type 0 where
+  pub subscriptions : (name : List ℕ) (old : Subscription) → find (is_named name) s.subscriptions ≡ Some old
+      → (new : Subscription) × (find (is_named name) t.subscriptions ≡ Some new) × HasAll s t old new
+  pub names : map (λ sub. sub.name) t.subscriptions ≡ map (λ sub. sub.name) s.subscriptions
+  pub members : t.members ≡ s.members
+  pub producers : t.producers ≡ s.producers
+  pub retention : t.retention ≡ s.retention
+  pub connected : (name : List ℕ) → IsTrue (is_connected s name) → greatest_under name (known t) ≡ greatest_under name (known s)
+  pub couriers : (name : List ℕ) → IsTrue (starts_with nat_eq name (codes "dlq/")) → greatest_under name (known t) ≡ greatest_under name (known s)
+  pub standing : (name : List ℕ) → IsTrue (list_any (is_by name) (map signed t.log)) → greatest_under name (known t) ≡ greatest_under name (known s)
+  pub numbers : (name : List ℕ)
+      → (greatest_under name (known t) ≡ greatest_under name (known s)) ⊎ (greatest_under name (known t) ≡ None)
+  pub next : next_position t ≡ next_position s
+  pub had_so_many : had t ≡ had s
+  pub durable : t.gone + t.durable ≡ s.gone + s.durable
+
+-- a trim loses nothing that anybody needs
+abbrev pub TrimsLoseNothing : Type 0
+TrimsLoseNothing = (s : State) (keep before most : ℕ) (reply : Reply) (t : State) → IsReached s → Answers s (Trim keep before most) reply t → LosesNothing s t
+
+-- all messages that the topic had are gone but one
+abbrev pub AreGone : Content → List Event → List Reply → State → Type 0
+AreGone body events replies s = (e : Entry) × (s.log ≡ e ∷ []) × (e.body ≡ body) × (s.gone ≡ 64)
 
 -- the message is pending in a Shared subscription at a consumer, and is what it has not collected
 abbrev pub IsPendingInShared : Content → List Event → List Reply → State → Type 0

@@ -10,6 +10,7 @@ pub mod Acknowledging
 pub mod Delivering
 pub mod Seeking
 pub mod Statistics
+pub mod Trimming
 pub mod Dying
 pub mod Ticking
 pub mod Run

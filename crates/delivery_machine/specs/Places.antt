@@ -1,5 +1,5 @@
 -- What a program keeps by place in the log, in the machine's words: the set of the positions that stand there.
-use Rattle.std.specs.Prelude.{◌≡◌, ℕ, suc, ◌<◌, ◌≤◌, Bool, true, cond, List, [], ◌∷◌, length, map, All}
+use Rattle.std.specs.Prelude.{◌≡◌, ℕ, suc, ◌<◌, ◌≤◌, Bool, true, cond, List, [], ◌∷◌, length, map, All, Option}
 use Rattle.std.specs.Ordering.{nat_cmp}
 use Rattle.std.specs.FinSet as set
 use Rattle.std.specs.FinMap as map_of
@@ -8,7 +8,8 @@ use Rattle.position_core.specs.declared.topic_name.TopicName.{TopicName}
 use Rattle.position_core.specs.declared.message.Entry.{Entry}
 use Rattle.position_core.specs.declared.kind.Kind.{Kind}
 use Rattle.position_core.specs.Position.{position_cmp}
-use Rattle.delivery_machine.specs.State.{DeadLetter}
+use Rattle.delivery_machine.specs.State.{Author, DeadLetter}
+use Rattle.delivery_machine.specs.declared.retention.Retention.{Retention}
 use Rattle.delivery_machine.specs.Snapshot.{KeptSubscription, Snapshot}
 use Rattle.delivery_machine.specs.WellFormed.{IsSound}
 
@@ -38,6 +39,9 @@ pub record KeptTopic : Type 0 where
   pub ledger_size : ℕ
   pub ledger : ℕ
   pub next_ordinal : ℕ
+  pub gone : ℕ
+  pub authors : List Author
+  pub retention : Option Retention
   pub log : List Entry
   pub subscriptions : List KeptPlaces
 
@@ -48,6 +52,9 @@ snapshot_in kept = record {
   ledger_size = kept.ledger_size;
   ledger = kept.ledger;
   next_ordinal = kept.next_ordinal;
+  gone = kept.gone;
+  authors = kept.authors;
+  retention = kept.retention;
   log = kept.log;
   subscriptions = map (kept_in kept.log) kept.subscriptions;
 }

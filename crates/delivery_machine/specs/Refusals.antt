@@ -14,13 +14,13 @@ use Rattle.position_core.specs.TopicName.{same_topic}
 use Rattle.position_core.specs.Flow.{granting_refused}
 use Rattle.position_core.specs.Numbers.{ProducerNumber, ConsumerNumber, Ordinal}
 use Rattle.delivery_machine.specs.State.{State, Producer, Member, Subscription}
-use Rattle.delivery_machine.specs.Words.{is_producer, is_named, has_member, has_subscription, has_kind, is_in_order_at, is_held_at, is_member, is_connected, members_of, last_sequence, next_position, has_position, visible}
+use Rattle.delivery_machine.specs.Words.{known, is_producer, is_named, has_member, has_subscription, has_kind, is_in_order_at, is_held_at, is_member, is_connected, members_of, last_sequence, next_position, has_position, visible}
 use Rattle.delivery_machine.specs.Dying.{is_next_letter}
 use Rattle.delivery_machine.specs.Shares.{mixes, asks_taken}
 use Rattle.delivery_machine.specs.declared.event.Target.{Target}
 use Rattle.delivery_machine.specs.declared.event.Target.TheVariants.{Earliest, Latest, At}
 use Rattle.delivery_machine.specs.declared.event.Event.{Event}
-use Rattle.delivery_machine.specs.declared.event.Event.TheVariants.{AddProducer, DropProducer, Publish, Stored, StoredTo, Progress, Subscribe, Leave, Permit, Ack, AckUpTo, Nack, Tick, Seek, SeekTime, Skip, DropSubscription, Stats, Dispatch, Collect, DeadNext, DeadDone}
+use Rattle.delivery_machine.specs.declared.event.Event.TheVariants.{AddProducer, DropProducer, Publish, Stored, StoredTo, Progress, Subscribe, Leave, Permit, Ack, AckUpTo, Nack, Tick, Seek, SeekTime, Skip, DropSubscription, Stats, Trim, SetRetention, Dispatch, Collect, DeadNext, DeadDone}
 
 -- a counter has given all its numbers, which end at 2^63-1
 abbrev pub is_used_up : ℕ → Bool
@@ -43,7 +43,7 @@ producer_refused s producer = if is_some (find (is_producer producer) s.producer
 
 -- a number that is not above the producer's last one was published before
 abbrev pub is_duplicate : State → Producer → ℤ → Bool
-is_duplicate s p sequence = int_le sequence (last_sequence s.log p.name p.base)
+is_duplicate s p sequence = int_le sequence (last_sequence (known s) p.name p.base)
 
 -- the log has all messages that it may have, or the next message's ledger would pass 2^62
 abbrev pub is_full : State → Bool
@@ -148,6 +148,8 @@ refusal_of s (SeekTime name time) = absence_refused s name
 refusal_of s (Skip name count) = absence_refused s name
 refusal_of s (DropSubscription name) = dropping_refused s name (find (is_named name) s.subscriptions)
 refusal_of s (Stats name) = absence_refused s name
+refusal_of s (Trim keep before most) = None
+refusal_of s (SetRetention retention) = None
 refusal_of s (Dispatch name now) = absence_refused s name
 refusal_of s (Collect consumer) = session_refused s consumer
 refusal_of s (DeadNext name) = absence_refused s name
@@ -173,6 +175,8 @@ takes_memory (SeekTime name time) = true
 takes_memory (Skip name count) = true
 takes_memory (DropSubscription name) = false
 takes_memory (Stats name) = false
+takes_memory (Trim keep before most) = true
+takes_memory (SetRetention retention) = false
 takes_memory (Dispatch name now) = true
 takes_memory (Collect consumer) = false
 takes_memory (DeadNext name) = true

@@ -13,9 +13,10 @@ use Rattle.delivery_machine.specs.Delivering.{Dispatches, Collects}
 use Rattle.delivery_machine.specs.Ticking.{Nacks, Ticks}
 use Rattle.delivery_machine.specs.Seeking.{Seeks, SeeksTime, Skips, Drops}
 use Rattle.delivery_machine.specs.Statistics.{ShowsStatistics}
+use Rattle.delivery_machine.specs.Trimming.{Trims, SetsRetention}
 use Rattle.delivery_machine.specs.Dying.{ShowsLetter, MovesLetter}
 use Rattle.delivery_machine.specs.declared.event.Event.{Event}
-use Rattle.delivery_machine.specs.declared.event.Event.TheVariants.{AddProducer, DropProducer, Publish, Stored, StoredTo, Progress, Subscribe, Leave, Permit, Ack, AckUpTo, Nack, Tick, Seek, SeekTime, Skip, DropSubscription, Stats, Dispatch, Collect, DeadNext, DeadDone}
+use Rattle.delivery_machine.specs.declared.event.Event.TheVariants.{AddProducer, DropProducer, Publish, Stored, StoredTo, Progress, Subscribe, Leave, Permit, Ack, AckUpTo, Nack, Tick, Seek, SeekTime, Skip, DropSubscription, Stats, Trim, SetRetention, Dispatch, Collect, DeadNext, DeadDone}
 use Rattle.delivery_machine.specs.declared.reply.Reply.{Reply}
 use Rattle.delivery_machine.specs.declared.reply.Reply.TheVariants.{Refused}
 
@@ -50,6 +51,8 @@ Takes s (SeekTime name time) r t = SeeksTime s name time r t
 Takes s (Skip name count) r t = IsSomeAnd (find (is_named name) s.subscriptions) (λ sub. Skips s name count sub r t)
 Takes s (DropSubscription name) r t = Drops s name r t
 Takes s (Stats name) r t = IsSomeAnd (find (is_named name) s.subscriptions) (λ sub. ShowsStatistics s name sub r t)
+Takes s (Trim keep before most) r t = Trims s keep before most r t
+Takes s (SetRetention retention) r t = SetsRetention s retention r t
 Takes s (Dispatch name now) r t = IsSomeAnd (find (is_named name) s.subscriptions) (λ sub. Dispatches s name now sub r t)
 Takes s (Collect consumer) r t = Collects s consumer r t
 Takes s (DeadNext name) r t = IsSomeAnd (find (is_named name) s.subscriptions) (λ sub. ShowsLetter s sub r t)

@@ -1,5 +1,5 @@
 -- Snapshots: what a store keeps of a topic, and the topic that goes on from it.
-use Rattle.std.specs.Prelude.{ℕ, ◌+◌, ◌^◌, min, List, [], map, length}
+use Rattle.std.specs.Prelude.{ℕ, ◌+◌, ◌^◌, min, List, [], map, length, Option}
 use Rattle.std.specs.FinSet as set
 use Rattle.std.specs.FinMap as map_of
 use Rattle.position_core.specs.declared.topic_name.TopicName.{TopicName}
@@ -7,7 +7,8 @@ use Rattle.position_core.specs.declared.message.Entry.{Entry}
 use Rattle.position_core.specs.declared.kind.Kind.{Kind}
 use Rattle.position_core.specs.Position.{position_cmp}
 use Rattle.delivery_machine.specs.Shares.{no_shares}
-use Rattle.delivery_machine.specs.State.{State, Subscription, DeadLetter}
+use Rattle.delivery_machine.specs.State.{State, Author, Subscription, DeadLetter}
+use Rattle.delivery_machine.specs.declared.retention.Retention.{Retention}
 
 -- what is kept of a subscription
 pub record KeptSubscription : Type 0 where
@@ -22,6 +23,9 @@ pub record Snapshot : Type 0 where
   pub ledger_size : ℕ
   pub ledger : ℕ
   pub next_ordinal : ℕ
+  pub gone : ℕ
+  pub authors : List Author
+  pub retention : Option Retention
   pub log : List Entry
   pub subscriptions : List KeptSubscription
 
@@ -34,6 +38,9 @@ snapshot_of s = record {
   ledger_size = s.ledger_size;
   ledger = s.ledger;
   next_ordinal = s.next_ordinal;
+  gone = s.gone;
+  authors = s.authors;
+  retention = s.retention;
   log = s.log;
   subscriptions = map kept_of s.subscriptions;
 }
@@ -60,6 +67,9 @@ restarted kept = record {
   next_ordinal = kept.next_ordinal;
   next_producer = 1;
   next_consumer = 1;
+  gone = kept.gone;
+  authors = kept.authors;
+  retention = kept.retention;
   log = kept.log;
   durable = length kept.log;
   producers = [];

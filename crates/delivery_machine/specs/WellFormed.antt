@@ -12,7 +12,7 @@ use Rattle.position_core.specs.declared.kind.Kind.TheVariants.{KeyShared}
 use Rattle.position_core.specs.Kind.{same_kind}
 use Rattle.position_core.specs.Position.{position_cmp, same_position}
 use Rattle.position_core.specs.Name.{name_order}
-use Rattle.delivery_machine.specs.State.{State, Member, DeadLetter, Subscription}
+use Rattle.delivery_machine.specs.State.{State, Author, Member, DeadLetter, Subscription}
 use Rattle.delivery_machine.specs.Words.{has_position, has_subscription, is_member, is_live, is_held_at, members_of, visible}
 use Rattle.delivery_machine.specs.Shares.{is_share_of}
 use Rattle.delivery_machine.specs.Ticking.{most_count}
@@ -63,12 +63,22 @@ pub record HaveOrdinals (next : ℕ) (dead : List DeadLetter) : Type 0 where
 abbrev pub NamesRise : List (List ℕ) → Type 0
 NamesRise names = IsStrictlySortedBy name_order names
 
+-- at most 2^62 messages are gone, and where any is, another stays
+pub record IsGoneWell (gone : ℕ) (log : List Entry) : Type 0 where
+  pub at_most : gone ≤ 2 ^ 62
+  pub another : 0 < gone → 0 < length log
+
 -- ---- states
 
 -- numbers that were given in turn: each is above those before it, and the next above them all
 pub record AreGiven (next : ℕ) (numbers : List ℕ) : Type 0 where
   pub rising : IsStrictlyIncreasing numbers
   pub below : All (λ n. n < next) numbers
+
+-- each name is remembered once, in the order of their last messages, and these are gone
+pub record AreAuthors (gone : ℕ) (authors : List Author) : Type 0 where
+  pub names : IsDistinct bytes_eq (map (λ a. a.name) authors)
+  pub indexes : AreGiven gone (map (λ a. a.index) authors)
 
 -- a live message that is visible, pending at a member of the subscription
 pub record IsPendingWell (s : State) (sub : Subscription) (position : Position) (consumer : ℕ) : Type 0 where
@@ -91,6 +101,8 @@ IsSentWell s m = All (λ d. Contains s.log d.message × IsTrue (is_held_at s m.s
 
 pub record IsWellFormed (s : State) : Type 0 where
   pub log : IsWellFormedLog s.ledger_size s.ledger s.log
+  pub gone : IsGoneWell s.gone s.log
+  pub authors : AreAuthors s.gone s.authors
   pub durable : s.durable ≤ length s.log
   pub producers : AreGiven s.next_producer (map (λ p. p.number) s.producers)
   pub producer_names : IsDistinct bytes_eq (map (λ p. p.name) s.producers)
@@ -110,6 +122,8 @@ pub record IsSoundSubscription (log : List Entry) (sub : KeptSubscription) : Typ
 
 pub record IsSound (kept : Snapshot) : Type 0 where
   pub log : IsWellFormedLog kept.ledger_size kept.ledger kept.log
+  pub gone : IsGoneWell kept.gone kept.log
+  pub authors : AreAuthors kept.gone kept.authors
   pub names : NamesRise (map (λ sub. sub.name) kept.subscriptions)
   pub subscriptions : All (IsSoundSubscription kept.log) kept.subscriptions
   pub ordinals : HaveOrdinals kept.next_ordinal (flat_map (λ sub. sub.dead) kept.subscriptions)

@@ -1,5 +1,5 @@
 -- What the rules speak of: who is there, the log, live and waiting messages, room, hashes, the active member, eligible pairs.
-use Rattle.std.specs.Prelude.{◌≡◌, ℕ, ◌+◌, ◌≤◌, ◌==◌, nat_lt, Bool, false, not, ◌&&◌, ◌||◌, List, [], ◌∷◌, map, take, ℤ, Option, Some, None, is_some, if◌then◌else◌, IsTrue}
+use Rattle.std.specs.Prelude.{◌≡◌, ℕ, ◌+◌, ◌≤◌, ◌==◌, nat_lt, Bool, false, not, ◌&&◌, ◌||◌, List, [], ◌∷◌, ◌++◌, map, take, ℤ, Option, Some, None, is_some, if◌then◌else◌, IsTrue}
 use Rattle.std.specs.List.{filter, count_by, list_any, find, All, Contains}
 use Rattle.std.specs.Option.{option_map, option_map_or, option_and_then, unwrap_or}
 use Rattle.std.specs.Int.{int_max}
@@ -16,7 +16,7 @@ use Rattle.position_core.specs.Kind.{same_kind, is_in_order}
 use Rattle.position_core.specs.Flow.{flow_has_room}
 use Rattle.position_core.specs.Numbers.{ProducerNumber, ConsumerNumber}
 use Rattle.murmur_core.specs.Sticky.{sticky_hash}
-use Rattle.delivery_machine.specs.State.{State, Producer, Member, Subscription}
+use Rattle.delivery_machine.specs.State.{State, Author, Producer, Member, Subscription}
 use Rattle.delivery_machine.specs.Shares.{owner_of}
 
 -- ---- lists
@@ -81,20 +81,45 @@ is_connected s name = list_any (λ p. bytes_eq p.name name) s.producers
 
 -- ---- the log
 
-abbrev pub is_by : List ℕ → Entry → Bool
-is_by name e = bytes_eq e.producer name
+-- a sequence number under a producer's name
+pub record Signed : Type 0 where
+  pub name : List ℕ
+  pub sequence : ℤ
+
+abbrev pub signed : Entry → Signed
+signed e = record { name = e.producer; sequence = e.sequence }
+
+abbrev pub signed_by : Author → Signed
+signed_by a = record { name = a.name; sequence = a.sequence }
+
+-- what is known of the numbers of all messages: what is remembered of those that are gone, and those of the log
+abbrev pub known : State → List Signed
+known s = map signed_by s.authors ++ map signed s.log
+
+abbrev pub is_by : List ℕ → Signed → Bool
+is_by name n = bytes_eq n.name name
 
 abbrev pub greatest : List ℤ → Option ℤ
 greatest numbers = best_by int_max numbers
 
--- the greatest sequence number of the producer's messages, or the base where there are none
-abbrev pub last_sequence : List Entry → List ℕ → ℤ → ℤ
-last_sequence log name base = unwrap_or (greatest (map (λ e. e.sequence) (filter (is_by name) log))) base
+-- the greatest of the numbers under the name
+abbrev pub greatest_under : List ℕ → List Signed → Option ℤ
+greatest_under name numbers = greatest (map (λ n. n.sequence) (filter (is_by name) numbers))
+
+-- the greatest sequence number that is known under the name, or the base where there is none
+abbrev pub last_sequence : List Signed → List ℕ → ℤ → ℤ
+last_sequence numbers name base = unwrap_or (greatest_under name numbers) base
+
+-- how many entries of the ledger are used, where the last message of the log is the last that was published
+abbrev pub used_after : ℕ → List Entry → ℕ
+used_after ledger [] = 0
+used_after ledger (e ∷ []) = if e.position.ledger == ledger then e.position.entry + 1 else 0
+used_after ledger (e ∷ f ∷ log) = used_after ledger (f ∷ log)
 
 -- a full ledger makes the next message begin the next ledger
 abbrev pub next_position : State → Position
 next_position s =
-    let used = count_by (λ e. e.position.ledger == s.ledger) s.log in
+    let used = used_after s.ledger s.log in
     if nat_lt used s.ledger_size
     then record { ledger = s.ledger; entry = used }
     else record { ledger = s.ledger + 1; entry = 0 }

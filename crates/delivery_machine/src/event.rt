@@ -1,6 +1,7 @@
 // What may be asked of a topic.
 ghost use Rattle.std.specs.Prelude.{◌≡◌, ◌↔◌, IsTrue};
 
+use crate::retention::Retention;
 use position_core::{
     Base, Body, ConsumerNumber, Flow, Kind, Level, Millis, Moment, Ordinal, Permits, Position,
     ProducerName, ProducerNumber, Ranges, RedeliverLimit, SkipLength, SubscriptionName, TopicName,
@@ -47,8 +48,8 @@ pub enum Event {
     },
     /// The store holds all that the log has.
     Stored,
-    /// The store holds the first messages of the log, so many, and the deaths below the ordinal: what
-    /// a snapshot had that was taken before, while the topic went on.
+    /// The store holds the first messages that the topic ever had, so many, and the deaths below the
+    /// ordinal: what a snapshot had that was taken before, while the topic went on.
     StoredTo {
         length: u64,
         ordinal: Ordinal,
@@ -121,6 +122,19 @@ pub enum Event {
     /// How far the subscription is.
     Stats {
         subscription: SubscriptionName,
+    },
+    /// The first messages of the log go, at most `most` and in whole sixty-fours, that are stored, are
+    /// not later than `before`, and that every subscription has done with. The last that might go
+    /// stays, and so do the last `keep` of the log. Where no subscription is, none go.
+    Trim {
+        keep: u64,
+        before: Moment,
+        most: u64,
+    },
+    /// What the topic keeps of the messages that every subscription has done with; without one it
+    /// keeps what its broker does. Nothing goes by it until it is asked to trim.
+    SetRetention {
+        retention: Option<Retention>,
     },
     /// Sends one message of the subscription, where one may be sent.
     Dispatch {
@@ -254,6 +268,10 @@ impl Event {
                 matches!(other, Event::DropSubscription { subscription: s } if subscription.is(s)),
             Event::Stats { subscription } =>
                 matches!(other, Event::Stats { subscription: s } if subscription.is(s)),
+            Event::Trim { keep, before, most } =>
+                matches!(other, Event::Trim { keep: k, before: b, most: m } if keep == k && before == b && most == m),
+            Event::SetRetention { retention } =>
+                matches!(other, Event::SetRetention { retention: r } if retention == r),
             Event::Dispatch { subscription, now } =>
                 matches!(other, Event::Dispatch { subscription: s, now: n } if subscription.is(s) && now == n),
             Event::Collect { consumer } =>

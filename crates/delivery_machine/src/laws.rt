@@ -1,8 +1,9 @@
 // Laws over every run: each holds of whatever a topic was asked, in any order.
-ghost use Rattle.delivery_machine.specs.Laws.{MayCome, AcknowledgedStays, IsSentAndAcknowledged, PermitsAndWindowsBound, PermitsAndWindowsMayBeUsed, OrderAtActive, ArePendingInOrder, OneHashAtOneConsumer, ArePendingInKeyShared, ReachedAreWellFormed, IsPendingInShared, SnapshotsAreSound, StoredIsStoredTo};
+ghost use Rattle.delivery_machine.specs.Laws.{MayCome, AcknowledgedStays, IsSentAndAcknowledged, PermitsAndWindowsBound, PermitsAndWindowsMayBeUsed, OrderAtActive, ArePendingInOrder, OneHashAtOneConsumer, ArePendingInKeyShared, ReachedAreWellFormed, IsPendingInShared, SnapshotsAreSound, StoredIsStoredTo, TrimsLoseNothing, AreGone};
 ghost use Rattle.delivery_machine.specs.ShareSets.{SharesAreSets};
 
-/// What a subscription has acknowledged it is not sent again, until it is sought or dropped.
+/// From every state that a topic comes to: what a subscription has acknowledged it is not sent again,
+/// until it is sought or dropped, also once the message is gone.
 pub fn l1()
     ensures { AcknowledgedStays }
 {}
@@ -71,4 +72,15 @@ pub fn stored_is_stored_to()
 /// which hashes it takes has those until it leaves; then they are nobody's.
 pub fn shares_are_sets()
     ensures { SharesAreSets }
+{}
+
+/// A trim takes nothing that anybody needs: what is live, pending or dead, redelivery counts, what is
+/// not collected, how far a subscription is, and where the next message comes are as they were.
+pub fn trims_lose_nothing()
+    ensures { TrimsLoseNothing }
+{}
+
+/// The law above speaks of something: sixty-four messages may go.
+pub fn trims_lose_nothing_example()
+    ensures { MayCome AreGone }
 {}

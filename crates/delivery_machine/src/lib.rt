@@ -1,6 +1,7 @@
 //! The delivery machine: what may be asked of a topic, what it answers, and the rules that tie them.
 #![tactic(auto)]
 
+mod author;
 mod counts;
 mod dead_letter;
 mod delivery;
@@ -8,11 +9,13 @@ mod event;
 mod kept_subscription;
 pub mod laws;
 mod reply;
+mod retention;
 mod runs;
 mod saved;
 mod snapshot;
 mod topic;
 
+pub use author::Author;
 pub use counts::{Counted, Counts, Times};
 pub use dead_letter::DeadLetter;
 pub use delivery::{Deliveries, Delivery, is_one_of};
@@ -24,6 +27,7 @@ pub use position_core::{
     RedeliverLimit, SkipLength, SubscriptionName, TopicName,
 };
 pub use reply::Reply;
+pub use retention::{KeptAge, KeptMessages, Retention};
 pub use runs::run;
 pub use saved::{Opened, Saved};
 pub use snapshot::Snapshot;

@@ -5,7 +5,7 @@ ghost use Rattle.delivery_machine.specs.declared.delivery.Delivery.{Delivery};
 
 use crate::delivery::Deliveries;
 use position_core::{
-    ConsumerNumber, Fault, Kind, Message, Ordinal, Position, ProducerNumber, TopicName,
+    ConsumerNumber, Fault, Kind, Message, Moment, Ordinal, Position, ProducerNumber, TopicName,
 };
 use std::alloc::AllocError;
 
@@ -19,18 +19,18 @@ pub enum Reply {
         auto: Option<u64>,
         last: i64,
     },
-    /// `length` is that of the log with the message.
+    /// `length` is how many messages the topic has had, with this one.
     Published {
         position: Position,
         length: u64,
     },
-    /// The sequence number is not above the last one. `length` is that of the log.
+    /// The sequence number is not above the last one. `length` is how many messages the topic has had.
     Duplicate {
         length: u64,
     },
     /// So many messages are stored.
     Durable(u64),
-    /// So many messages of the log are stored.
+    /// So many messages are stored, of so many that the topic has had.
     Progress {
         durable: u64,
         length: u64,
@@ -64,7 +64,8 @@ pub enum Reply {
     /// Nothing is due.
     Quiet,
     /// How many consumers are at the subscription; the last message up to which all are
-    /// acknowledged; how many messages are acknowledged, live, pending, and dead letters.
+    /// acknowledged; how many messages of the log are acknowledged, live, pending, and dead letters.
+    /// Of the topic: how many messages are gone, and when the first that is kept was published.
     Stats {
         kind: Kind,
         members: u64,
@@ -73,7 +74,13 @@ pub enum Reply {
         live: u64,
         pending: u64,
         dead: u64,
+        gone: u64,
+        oldest: Option<Moment>,
     },
+    /// Messages went: so many are gone by now, of all that the topic has had.
+    Trimmed(u64),
+    /// None may go.
+    Untrimmed,
     /// The first dead letter whose death is stored, and the topic that it goes to.
     Dead {
         message: Message,
@@ -163,6 +170,8 @@ impl Reply {
                 live,
                 pending,
                 dead,
+                gone,
+                oldest,
             } => Ok(Reply::Stats {
                 kind: *kind,
                 members: *members,
@@ -171,7 +180,11 @@ impl Reply {
                 live: *live,
                 pending: *pending,
                 dead: *dead,
+                gone: *gone,
+                oldest: *oldest,
             }),
+            Reply::Trimmed(gone) => Ok(Reply::Trimmed(*gone)),
+            Reply::Untrimmed => Ok(Reply::Untrimmed),
             Reply::Dead {
                 message,
                 target,
@@ -225,8 +238,12 @@ impl Reply {
                 live,
                 pending,
                 dead,
+                gone,
+                oldest,
             } =>
-                matches!(other, Reply::Stats { kind: k, members: m, mark_delete: p, acknowledged: a, live: l, pending: n, dead: d } if kind == k && members == m && mark_delete == p && acknowledged == a && live == l && pending == n && dead == d),
+                matches!(other, Reply::Stats { kind: k, members: m, mark_delete: p, acknowledged: a, live: l, pending: n, dead: d, gone: g, oldest: o } if kind == k && members == m && mark_delete == p && acknowledged == a && live == l && pending == n && dead == d && gone == g && oldest == o),
+            Reply::Trimmed(gone) => matches!(other, Reply::Trimmed(g) if gone == g),
+            Reply::Untrimmed => matches!(other, Reply::Untrimmed),
             Reply::Dead {
                 message,
                 target,

@@ -3,7 +3,9 @@ ghost use Rattle.std.specs.Prelude.{◌≡◌};
 ghost use Rattle.log_pieces.specs.Pieces.{joined};
 ghost use Rattle.delivery_machine.specs.Places.{MayRestart};
 
+use crate::author::Author;
 use crate::kept_subscription::KeptSubscription;
+use crate::retention::Retention;
 use log_pieces::Pieces;
 use position_core::{LedgerSize, Ordinal, TopicName};
 use std::alloc::AllocError;
@@ -17,6 +19,9 @@ pub struct Snapshot {
     ledger_size: LedgerSize,
     ledger: u64,
     next_ordinal: Ordinal,
+    gone: u64,
+    authors: Vec<Author>,
+    retention: Option<Retention>,
     log: Pieces,
     subscriptions: Vec<KeptSubscription>,
 }
@@ -28,6 +33,9 @@ impl Drop for Snapshot {
             ledger_size: _,
             ledger: _,
             next_ordinal: _,
+            gone: _,
+            authors: _,
+            retention: _,
             log: _,
             subscriptions: _,
         } = self;
@@ -49,6 +57,9 @@ impl Model for Snapshot {
       ledger_size = k.ledger_size;
       ledger = k.ledger;
       next_ordinal = k.next_ordinal;
+      gone = k.gone;
+      authors = k.authors.items;
+      retention = k.retention;
       log = joined k.log;
       subscriptions = k.subscriptions.items;
     } };
@@ -58,6 +69,9 @@ impl Model for Snapshot {
       ledger_size = k.ledger_size;
       ledger = k.ledger;
       next_ordinal = k.next_ordinal;
+      gone = k.gone;
+      authors = k.authors.items;
+      retention = k.retention;
       log = joined k.log;
       subscriptions = k.subscriptions.items;
     }) };
@@ -70,17 +84,23 @@ impl Snapshot {
         ledger_size: LedgerSize,
         ledger: u64,
         next_ordinal: Ordinal,
+        gone: u64,
+        authors: Vec<Author>,
+        retention: Option<Retention>,
         log: Pieces,
         subscriptions: Vec<KeptSubscription>,
     ) -> Self
-        requires { MayRestart (record { name = name; ledger_size = ledger_size; ledger = ledger; next_ordinal = next_ordinal; log = joined log; subscriptions = subscriptions.items }) }
-        ensures { result ≡ record { name = name; ledger_size = ledger_size; ledger = ledger; next_ordinal = next_ordinal; log = joined log; subscriptions = subscriptions.items } }
+        requires { MayRestart (record { name = name; ledger_size = ledger_size; ledger = ledger; next_ordinal = next_ordinal; gone = gone; authors = authors.items; retention = retention; log = joined log; subscriptions = subscriptions.items }) }
+        ensures { result ≡ record { name = name; ledger_size = ledger_size; ledger = ledger; next_ordinal = next_ordinal; gone = gone; authors = authors.items; retention = retention; log = joined log; subscriptions = subscriptions.items } }
     {
         Snapshot {
             name,
             ledger_size,
             ledger,
             next_ordinal,
+            gone,
+            authors,
+            retention,
             log,
             subscriptions,
         }
@@ -111,6 +131,27 @@ impl Snapshot {
         self.next_ordinal
     }
 
+    /// How many messages stood before the log, and were taken out of it.
+    pub fn gone(&self) -> u64
+        ensures { result ≡ self.now.gone }
+    {
+        self.gone
+    }
+
+    /// Who wrote them, in the order of their last messages.
+    pub fn authors(&self) -> &[Author]
+        ensures { result.now ≡ self.now.authors }
+    {
+        &self.authors
+    }
+
+    /// The topic's own rule of what is kept, where it has one.
+    pub fn retention(&self) -> Option<Retention>
+        ensures { result ≡ self.now.retention }
+    {
+        self.retention
+    }
+
     pub fn log(&self) -> &Pieces
         ensures value { joined result.now ≡ self.now.log }
         ensures restarts { MayRestart self.now }
@@ -131,6 +172,7 @@ impl Clone for Snapshot {
 
     fn clone(&self) -> Result<Self, AllocError> {
         let name = self.name.clone()?;
+        let authors = self.authors.clone()?;
         let log = self.log.clone()?;
         let subscriptions = self.subscriptions.clone()?;
         Ok(Snapshot {
@@ -138,6 +180,9 @@ impl Clone for Snapshot {
             ledger_size: self.ledger_size,
             ledger: self.ledger,
             next_ordinal: self.next_ordinal,
+            gone: self.gone,
+            authors,
+            retention: self.retention,
             log,
             subscriptions,
         })

@@ -8,6 +8,7 @@ ghost use Rattle.delivery_machine.specs.Run.{Answers};
 use crate::delivery::Deliveries;
 use crate::event::Event;
 use crate::reply::Reply;
+use crate::retention::Retention;
 use position_core::{ConsumerNumber, Fault};
 
 /// A topic, however it is kept.
@@ -23,4 +24,8 @@ pub trait Topic {
     fn out_copy(&self, consumer: ConsumerNumber) -> Result<Deliveries, Fault>
         ensures ok { IfOk result (λ copies. copies ≡ out_of (state self.now) consumer) }
         ensures err { IfErr result (λ fault. fault ≡ NoMemory) };
+
+    /// The topic's own rule of what is kept, where it has one.
+    fn retention(&self) -> Option<Retention>
+        ensures { result ≡ (state self.now).retention };
 }

@@ -1,5 +1,5 @@
 -- What a log keeps of its messages stays true as it grows, and as it goes on in the next ledger.
-use Rattle.std.proofs.Common.{◌≡◌, ℕ, ◌+◌, ◌-◌, ◌<◌, ◌≤◌, ◌^◌, Bool, true, false, cond, List, [], ◌∷◌, ◌++◌, length, take, refl, ap, sym, ◌∙◌, subst, inl, inr, arith, nat_lt}
+use Rattle.std.proofs.Common.{◌≡◌, ℕ, ◌+◌, ◌-◌, ◌<◌, ◌≤◌, ◌^◌, Bool, true, false, cond, List, [], ◌∷◌, ◌++◌, length, take, drop, refl, ap, sym, ◌∙◌, subst, inl, inr, arith, nat_lt}
 use Rattle.std.specs.Prelude.{◌==◌, ◌⊎◌, nat_le}
 use Rattle.std.specs.List.{AllByRecursion}
 use Rattle.std.specs.List.Sorted.{IsStrictlySortedBy}
@@ -9,14 +9,14 @@ use Rattle.std.proofs.Math.Seq.{take-append_seam}
 use Rattle.std.proofs.lemmas.Bool.{cases_lt}
 use Rattle.std.proofs.lemmas.Bool.Decides.{nat_tests}
 use Rattle.std.proofs.lemmas.List.Elements.{All-nil, All-weaker, All-push, recursion_from_All}
-use Rattle.std.proofs.lemmas.List.Sums.{sum_by_push, sum_by-cons}
 use Rattle.position_core.specs.declared.position.Position.{Position}
 use Rattle.position_core.specs.declared.message.Entry.{Entry}
 use Rattle.position_core.specs.Position.{position_cmp}
-use Rattle.entry_log.specs.Log.{used_in, position_after}
+use Rattle.delivery_machine.specs.Words.{used_after}
+use Rattle.entry_log.specs.Log.{position_after}
 use Rattle.log_pieces.specs.Pieces.{front}
 use Rattle.entry_log.specs.Kept.{IsAt, is_before}
-use Rattle.delivery_machine.proofs.Rising.{sorted_push, before_next}
+use Rattle.delivery_machine.proofs.Rising.{sorted_push, before_next, used_last, used_dropped, sorted_dropped, all_dropped}
 use Rattle.delivery_machine.proofs.Deciding.{within}
 
 -- ---- a log without messages
@@ -27,16 +27,14 @@ at_none = record { rising = tt; before = All-nil (λ e. is_before 0 0 e.position
 
 -- ---- the next ledger
 
-not_there : (ledger used : ℕ) (p : Position) → is_before ledger used p ≡ true → cond {A = ℕ} (p.ledger == ledger + 1) 1 0 ≡ 0
+not_there : (ledger used : ℕ) (p : Position) → is_before ledger used p ≡ true → cond {A = ℕ} (p.ledger == ledger + 1) (p.entry + 1) 0 ≡ 0
 not_there ledger used p low = grind (arith, nat_tests)
 
 -- the next ledger has no messages
-none_above : (ledger used : ℕ) (log : List Entry) → AllByRecursion (λ e. is_before ledger used e.position ≡ true) log → used_in (ledger + 1) log ≡ 0
+none_above : (ledger used : ℕ) (log : List Entry) → AllByRecursion (λ e. is_before ledger used e.position ≡ true) log → used_after (ledger + 1) log ≡ 0
 none_above ledger used [] all = refl
-none_above ledger used (e ∷ log) all =
-    let no = not_there ledger used e.position all.0 in
-    let rest = none_above ledger used log all.1 in
-    sum_by-cons (λ x. cond {A = ℕ} (x.position.ledger == ledger + 1) 1 0) e log ∙ omega (arith, no, rest)
+none_above ledger used (e ∷ []) all = not_there ledger used e.position all.0
+none_above ledger used (e ∷ f ∷ log) all = none_above ledger used (f ∷ log) all.1
 
 raised : (ledger used : ℕ) (p : Position) → is_before ledger used p ≡ true → is_before (ledger + 1) 0 p ≡ true
 raised ledger used p low = grind (arith, nat_tests)
@@ -86,58 +84,43 @@ next_is ledger used size q is = by (nat_lt used size) is
     by true e = inl (ap (λ (p : Position). p.ledger) e, ap (λ (p : Position). p.entry) e)
     by false e = inr (ap (λ (p : Position). p.ledger) e, ap (λ (p : Position). p.entry) e)
 
--- how many are in the message's ledger with it
-abbrev with_it : ℕ → ℕ → Position → ℕ
-with_it ledger used q = cond {A = ℕ} (q.ledger == ledger) (used + 1) 1
-
-still_before : (ledger used : ℕ) (q p : Position) → IsNext ledger used q → is_before ledger used p ≡ true → is_before q.ledger (with_it ledger used q) p ≡ true
+still_before : (ledger used : ℕ) (q p : Position) → IsNext ledger used q → is_before ledger used p ≡ true → is_before q.ledger (q.entry + 1) p ≡ true
 still_before ledger used q p (inl same) low = let l = same.0 in grind (arith, nat_tests)
 still_before ledger used q p (inr next) low = let l = next.0 in grind (arith, nat_tests)
 
-itself_before : (ledger used : ℕ) (q : Position) → IsNext ledger used q → is_before q.ledger (with_it ledger used q) q ≡ true
+itself_before : (ledger used : ℕ) (q : Position) → IsNext ledger used q → is_before q.ledger (q.entry + 1) q ≡ true
 itself_before ledger used q (inl same) = let l = same.0 in let n = same.1 in grind (arith, nat_tests)
 itself_before ledger used q (inr next) = let l = next.0 in let n = next.1 in grind (arith, nat_tests)
 
-one_more : (n : ℕ) (log : List Entry) (e : Entry) → e.position.ledger ≡ n → used_in n (log ++ e ∷ []) ≡ used_in n log + 1
-one_more n log e is =
-    let one : cond {A = ℕ} (e.position.ledger == n) 1 0 ≡ 1 = grind (arith, nat_tests) in
-    sum_by_push (λ x. cond {A = ℕ} (x.position.ledger == n) 1 0) log e ∙ ap (λ (m : ℕ). used_in n log + m) one
+with_itself : (q : Position) → q.entry + 1 ≡ cond {A = ℕ} (q.ledger == q.ledger) (q.entry + 1) 0
+with_itself q = grind (arith, nat_tests)
 
-in_it : (ledger used : ℕ) (q : Position) → q.ledger ≡ ledger → with_it ledger used q ≡ used + 1
-in_it ledger used q is = grind (arith, nat_tests)
-
-in_next : (ledger used : ℕ) (q : Position) → q.ledger ≡ ledger + 1 → with_it ledger used q ≡ 1
-in_next ledger used q is = grind (arith, nat_tests)
-
-counted_with : (log : List Entry) (ledger used : ℕ) (e : Entry) → IsAt log ledger used → IsNext ledger used e.position → with_it ledger used e.position ≡ used_in e.position.ledger (log ++ e ∷ [])
-counted_with log ledger used e at (inl same) =
-    let more = one_more e.position.ledger log e refl in
-    let so_far : used_in e.position.ledger log ≡ used_in ledger log = ap (λ (n : ℕ). used_in n log) same.0 in
-    let this = in_it ledger used e.position same.0 in
-    omega (arith, more, so_far, this, at.counted)
-counted_with log ledger used e at (inr next) =
-    let more = one_more e.position.ledger log e refl in
-    let none : used_in e.position.ledger log ≡ 0 = ap (λ (n : ℕ). used_in n log) next.0 ∙ none_above ledger used log (recursion_from_All (λ x. is_before ledger used x.position ≡ true) log at.before) in
-    let this = in_next ledger used e.position next.0 in
-    omega (arith, more, none, this)
-
-appended_here : (log : List Entry) (ledger used size : ℕ) (e : Entry) → IsAt log ledger used → e.position ≡ position_after ledger used size → nat_lt (2 ^ 62) e.position.ledger ≡ false → IsAt (log ++ e ∷ []) e.position.ledger (with_it ledger used e.position)
+appended_here : (log : List Entry) (ledger used size : ℕ) (e : Entry) → IsAt log ledger used → e.position ≡ position_after ledger used size → nat_lt (2 ^ 62) e.position.ledger ≡ false → IsAt (log ++ e ∷ []) e.position.ledger (e.position.entry + 1)
 appended_here log ledger used size e at is room =
     let next = next_is ledger used size e.position is in
     let low = within (2 ^ 62) e.position.ledger room in
     let B : Entry → Type 0 = λ x. is_before ledger used x.position ≡ true in
     let P : Entry → Type 0 = λ x. position_cmp x.position e.position ≡ Less in
-    let Q : Entry → Type 0 = λ x. is_before e.position.ledger (with_it ledger used e.position) x.position ≡ true in
+    let Q : Entry → Type 0 = λ x. is_before e.position.ledger (e.position.entry + 1) x.position ≡ true in
     record {
       rising = sorted_push position_cmp (λ x. x.position) log e at.rising
           (recursion_from_All P log (All-weaker B P (λ x b. subst (λ (p : Position). position_cmp x.position p ≡ Less) (sym is) (before_next ledger used size x.position b)) log at.before));
       before = All-push Q log e (All-weaker B Q (λ x b. still_before ledger used e.position x.position next b) log at.before) (itself_before ledger used e.position next);
-      counted = counted_with log ledger used e at next;
+      counted = with_itself e.position ∙ sym (used_last e.position.ledger log e);
       bounded = omega (arith, low);
     }
 
 -- after the next message, which may be the first of the next ledger
-pub appended_at : (log : List Entry) (ledger used size l u : ℕ) (e : Entry) → IsAt log ledger used → e.position ≡ position_after ledger (used_in ledger log) size → nat_lt (2 ^ 62) e.position.ledger ≡ false → l ≡ e.position.ledger → u ≡ with_it ledger used e.position → IsAt (log ++ e ∷ []) l u
+pub appended_at : (log : List Entry) (ledger used size l u : ℕ) (e : Entry) → IsAt log ledger used → e.position ≡ position_after ledger (used_after ledger log) size → nat_lt (2 ^ 62) e.position.ledger ≡ false → l ≡ e.position.ledger → u ≡ e.position.entry + 1 → IsAt (log ++ e ∷ []) l u
 appended_at log ledger used size l u e at is room same_ledger same_used =
     let next : e.position ≡ position_after ledger used size = is ∙ ap (λ (n : ℕ). position_after ledger n size) (sym at.counted) in
-    same_at (log ++ e ∷ []) e.position.ledger (with_it ledger used e.position) l u (appended_here log ledger used size e at next room) same_ledger same_used
+    same_at (log ++ e ∷ []) e.position.ledger (e.position.entry + 1) l u (appended_here log ledger used size e at next room) same_ledger same_used
+
+-- ---- the front leaves
+pub at_dropped : (n : ℕ) (log : List Entry) (ledger used : ℕ) → n < length log → IsAt log ledger used → IsAt (drop n log) ledger used
+at_dropped n log ledger used low at = record {
+  rising = sorted_dropped n log at.rising;
+  before = all_dropped (λ e. is_before ledger used e.position ≡ true) n log at.before;
+  counted = at.counted ∙ sym (used_dropped ledger n log low);
+  bounded = at.bounded;
+}

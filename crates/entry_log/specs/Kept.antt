@@ -4,7 +4,7 @@ use Rattle.std.specs.List.Sorted.{IsStrictlySortedBy}
 use Rattle.position_core.specs.declared.position.Position.{Position}
 use Rattle.position_core.specs.declared.message.Entry.{Entry}
 use Rattle.position_core.specs.Position.{position_cmp}
-use Rattle.entry_log.specs.Log.{used_in}
+use Rattle.delivery_machine.specs.Words.{used_after}
 use Rattle.log_pieces.specs.Pieces.{Parts, joined, front}
 use Rattle.entry_log.specs.declared.open_ledger.OpenLedger.{OpenLedger}
 
@@ -12,11 +12,11 @@ use Rattle.entry_log.specs.declared.open_ledger.OpenLedger.{OpenLedger}
 abbrev pub is_before : ℕ → ℕ → Position → Bool
 is_before ledger used p = nat_lt p.ledger ledger || (p.ledger == ledger && nat_lt p.entry used)
 
--- positions rise, all before the entry `used` of the ledger, which is how many messages the ledger has
+-- positions rise, all before the entry `used` of the ledger, which comes after the last message
 pub record IsAt (log : List Entry) (ledger used : ℕ) : Type 0 where
   pub rising : IsStrictlySortedBy position_cmp (map (λ e. e.position) log)
   pub before : All (λ e. is_before ledger used e.position ≡ true) log
-  pub counted : used ≡ used_in ledger log
+  pub counted : used ≡ used_after ledger log
   pub bounded : ledger ≤ 2 ^ 62 + 1
 
 -- without its last message the log has the ledger that was open

@@ -1,14 +1,15 @@
 // The log of a topic.
-ghost use Rattle.std.specs.Prelude.{◌≡◌, ◌<◌, ◌≤◌, ◌+◌, ◌^◌, ℕ, None, false, length, map, nat_le, slice_get, IfOk, OnOk, OnErr, is_some, All};
+ghost use Rattle.std.specs.Prelude.{◌≡◌, ◌<◌, ◌≤◌, ◌+◌, ◌^◌, None, false, length, map, nat_le, slice_get, IfOk, OnOk, OnErr, is_some, All};
 ghost use Rattle.std.specs.Option.{option_copied};
 ghost use Rattle.std.specs.List.{position_or_len};
 ghost use Rattle.std.specs.List.Sorted.{IsStrictlySortedBy};
-ghost use Rattle.position_core.specs.Position.{position_cmp, same_position};
+ghost use Rattle.position_core.specs.Position.{position_cmp};
 ghost use Rattle.delivery_machine.specs.State.{State};
 ghost use Rattle.delivery_machine.specs.Words.{next_position};
 ghost use Rattle.delivery_machine.specs.Refusals.{is_full};
 ghost use Rattle.delivery_machine.specs.Producing.{with_message};
-ghost use Rattle.entry_log.specs.Log.{IsLogOf, empty_log, next_in, is_full_log, appended, popped, rolled};
+ghost use Rattle.delivery_machine.specs.Trimming.{trimmed};
+ghost use Rattle.entry_log.specs.Log.{IsLogOf, empty_log, next_in, is_full_log, appended, popped, rolled, without_first};
 ghost use Rattle.log_pieces.specs.Pieces.{index_of, joined};
 
 use crate::open_ledger::{LAST_LEDGER, OpenLedger};
@@ -115,26 +116,41 @@ impl EntryLog {
         self.pieces.get(index)
     }
 
-    /// Where the message stands, if it is in the open ledger, or if all ledgers before its own are full.
+    /// Where the message stands, if it is in the open ledger, or if all ledgers from the first message's up
+    /// to its own are full.
     fn likely_index(&self, at: Position) -> usize {
-        let before = if at.ledger == self.current.ledger {
-            (self.pieces.count() as u64).saturating_sub(self.current.used)
-        } else {
-            at.ledger.saturating_mul(u64::from(self.ledger_size.get()))
-        };
-        before.saturating_add(at.entry) as usize
+        if at.ledger == self.current.ledger {
+            let end = self.pieces.count() as u64;
+            return end
+                .saturating_add(at.entry)
+                .saturating_sub(self.current.used) as usize;
+        }
+        match self.pieces.get(0) {
+            Some(first) => self.entries_between(first.position(), at) as usize,
+            None => 0,
+        }
     }
 
-    /// The index of the message at the position. Takes constant time where no ledger before its own was left
-    /// before it was full, or where its own is open, and else the logarithm of the log's length.
+    /// How many positions there are from the one up to the other, where all ledgers are full.
+    fn entries_between(&self, from: Position, to: Position) -> u64 {
+        let ledgers = to.ledger.saturating_sub(from.ledger);
+        ledgers
+            .saturating_mul(u64::from(self.ledger_size.get()))
+            .saturating_add(to.entry)
+            .saturating_sub(from.entry)
+    }
+
+    /// The index of the message at the position. Takes constant time where no ledger from the first message's
+    /// up to its own was left before it was full, or where its own is open, and else the logarithm of the
+    /// log's length.
     pub fn index_of(&self, at: Position) -> Option<usize>
         ensures { result ≡ index_of at self.now.log }
     {
         self.pieces.index_near(at, self.likely_index(at))
     }
 
-    /// How many messages stand before the first that is not earlier than the time. Takes the logarithm of
-    /// the log's length, and goes through 1,024 messages at most.
+    /// How many messages stand before the first that is not earlier than the time. Takes a step for each
+    /// 1,024 messages, and goes through 2,048 at most.
     pub fn count_earlier(&self, time: Moment) -> usize
         ensures { result ≡ position_or_len (λ e. nat_le time e.time) self.now.log }
     {
@@ -165,7 +181,7 @@ impl EntryLog {
         ensures err { OnErr result (self.new ≡ self.old) }
         ensures machine { OnOk result ((s : State) → IsLogOf self.old s → IsLogOf self.new (with_message s message)) }
     {
-        let current = self.current.with(message.position());
+        let current = OpenLedger::after(self.current.next(self.ledger_size));
         self.pieces.push(alloc, message)?;
         self.undo = Some(self.current);
         self.current = current;
@@ -185,6 +201,16 @@ impl EntryLog {
         self.current = before;
         self.undo = None;
         true
+    }
+
+    /// Takes the first messages out, so many. The last one of all stays. Takes no memory.
+    pub fn drop_front(&mut self, count: usize)
+        requires { count < length self.old.log }
+        ensures value { self.new ≡ without_first count self.old }
+        ensures machine { (s : State) → IsLogOf self.old s → IsLogOf self.new (trimmed count s) }
+    {
+        self.pieces.drop_front(count);
+        self.undo = None;
     }
 
     /// Further messages go into the next ledger.

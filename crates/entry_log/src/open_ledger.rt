@@ -1,5 +1,5 @@
 // How far a ledger is filled.
-ghost use Rattle.std.specs.Prelude.{◌≡◌, ◌+◌, ◌<◌, ◌≤◌, ◌^◌, ◌==◌, min, if◌then◌else◌};
+ghost use Rattle.std.specs.Prelude.{◌≡◌, ◌+◌, ◌<◌, ◌≤◌, ◌^◌, min};
 ghost use Rattle.entry_log.specs.Log.{position_after};
 
 use position_core::{LedgerSize, Position};
@@ -7,7 +7,7 @@ use position_core::{LedgerSize, Position};
 /// The last ledger of a message is 2^62.
 pub(crate) const LAST_LEDGER: u64 = 1 << 62;
 
-/// The ledger that is written to, and how many messages of the log are in it.
+/// The ledger that is written to, and how many messages it has had.
 #[derive(Clone, Copy)]
 pub(crate) struct OpenLedger {
     pub(crate) ledger: u64,
@@ -18,7 +18,8 @@ impl OpenLedger {
     /// Where the next message goes.
     pub(crate) fn next(self, ledger_size: LedgerSize) -> Position
         requires { self.ledger + 1 < 2 ^ 64 }
-        ensures { result ≡ position_after self.ledger self.used ledger_size }
+        ensures value { result ≡ position_after self.ledger self.used ledger_size }
+        ensures small { result.entry < 2 ^ 32 }
     {
         if self.used < u64::from(ledger_size.get()) {
             Position {
@@ -34,19 +35,14 @@ impl OpenLedger {
     }
 
     /// The open ledger after a message at the position.
-    pub(crate) fn with(self, position: Position) -> OpenLedger
-        requires { self.used + 1 < 2 ^ 64 }
+    pub(crate) fn after(position: Position) -> OpenLedger
+        requires { position.entry + 1 < 2 ^ 64 }
         ensures ledger { result.ledger ≡ position.ledger }
-        ensures used { result.used ≡ (if position.ledger == self.ledger then self.used + 1 else 1) }
+        ensures used { result.used ≡ position.entry + 1 }
     {
-        let used = if position.ledger == self.ledger {
-            self.used + 1
-        } else {
-            1
-        };
         OpenLedger {
             ledger: position.ledger,
-            used,
+            used: position.entry + 1,
         }
     }
 

@@ -7,13 +7,15 @@ use Rattle.delivery_machine.specs.State.{State, Subscription}
 use Rattle.delivery_machine.specs.Words.{is_producer, is_named}
 use Rattle.delivery_machine.specs.Refusals.{is_duplicate}
 use Rattle.delivery_machine.specs.Words.{next_position}
+use Rattle.delivery_machine.specs.Producing.{had}
 use Rattle.delivery_machine.specs.Delivering.{Dispatches}
 use Rattle.delivery_machine.specs.Ticking.{Ticks}
+use Rattle.delivery_machine.specs.Trimming.{Trims}
 use Rattle.delivery_machine.specs.Run.{Step, Takes}
 use Rattle.delivery_machine.specs.declared.event.Event.{Event}
 use Rattle.delivery_machine.specs.declared.event.Event.TheVariants as event
 use Rattle.delivery_machine.specs.declared.reply.Reply.{Reply}
-use Rattle.delivery_machine.specs.declared.reply.Reply.TheVariants.{Published, Duplicate, Sent, Idle, Quiet, Rewound, Released, Died, Refused}
+use Rattle.delivery_machine.specs.declared.reply.Reply.TheVariants.{Published, Duplicate, Sent, Idle, Quiet, Rewound, Released, Died, Trimmed, Untrimmed, Refused}
 use Rattle.delivery_machine.proofs.Firsts.{some_elim}
 use Rattle.journal_lines.specs.Short.{is_long, is_long_reply}
 
@@ -36,10 +38,15 @@ dispatched s name now sub (Sent consumer position count) t h = refl
 dispatched s name now sub Idle t h = refl
 dispatched s name now sub reply t h = absurd h
 
+trimmed : (s : State) (keep before most : ℕ) (r : Reply) (t : State) → Trims s keep before most r t → is_long_reply r ≡ false
+trimmed s keep before most (Trimmed gone) t h = refl
+trimmed s keep before most Untrimmed t h = refl
+trimmed s keep before most reply t h = absurd h
+
 taken : (s : State) (e : Event) (r : Reply) (t : State) → Takes s e r t → is_long e ≡ false → is_long_reply r ≡ false
 taken s (event.AddProducer name base) r t h short = absurd (true≢false short)
 taken s (event.DropProducer producer) r t h short = is_short r _ h.0 refl
-taken s (event.Publish producer sequence body now) r t h short = some_elim (find (is_producer producer) s.producers) _ _ h (λ p found h. published (next_position s) (length s.log) r (is_duplicate s p sequence) h.0)
+taken s (event.Publish producer sequence body now) r t h short = some_elim (find (is_producer producer) s.producers) _ _ h (λ p found h. published (next_position s) (had s) r (is_duplicate s p sequence) h.0)
 taken s event.Stored r t h short = is_short r _ h.0 refl
 taken s (event.StoredTo count ordinal) r t h short = is_short r _ h.0 refl
 taken s event.Progress r t h short = is_short r _ h.0 refl
@@ -55,6 +62,8 @@ taken s (event.SeekTime subscription time) r t h short = absurd (true≢false sh
 taken s (event.Skip subscription count) r t h short = absurd (true≢false short)
 taken s (event.DropSubscription subscription) r t h short = absurd (true≢false short)
 taken s (event.Stats subscription) r t h short = absurd (true≢false short)
+taken s (event.Trim keep before most) r t h short = trimmed s keep before most r t h
+taken s (event.SetRetention retention) r t h short = absurd (true≢false short)
 taken s (event.Dispatch subscription now) r t h short = some_elim (find (is_named subscription) s.subscriptions) _ _ h (λ sub found h. dispatched s subscription now sub r t h)
 taken s (event.Collect consumer) r t h short = is_short r _ h.0 refl
 taken s (event.DeadNext subscription) r t h short = absurd (true≢false short)

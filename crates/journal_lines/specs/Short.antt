@@ -6,8 +6,8 @@ use Rattle.delivery_machine.specs.declared.reply.Reply.{Reply}
 use Rattle.delivery_machine.specs.declared.reply.Reply.TheVariants as reply
 use Rattle.journal_lines.specs.declared.short.ShortEvent.{ShortEvent}
 use Rattle.journal_lines.specs.declared.short.ShortEvent.TheVariants as event_in
-use Rattle.journal_lines.specs.declared.short.ShortReply.{ShortReply}
-use Rattle.journal_lines.specs.declared.short.ShortReply.TheVariants as reply_in
+use Rattle.journal_lines.specs.declared.short_reply.ShortReply.{ShortReply}
+use Rattle.journal_lines.specs.declared.short_reply.ShortReply.TheVariants as reply_in
 
 -- an event that comes seldom, or has long names
 abbrev pub is_long : Event → Bool
@@ -18,6 +18,7 @@ is_long (event.SeekTime subscription time) = true
 is_long (event.Skip subscription count) = true
 is_long (event.DropSubscription subscription) = true
 is_long (event.Stats subscription) = true
+is_long (event.SetRetention retention) = true
 is_long (event.DeadNext subscription) = true
 is_long (event.DeadDone subscription ordinal) = true
 is_long event = false
@@ -26,7 +27,7 @@ is_long event = false
 abbrev pub is_long_reply : Reply → Bool
 is_long_reply (reply.ProducerAdded producer auto last) = true
 is_long_reply (reply.Subscribed consumer) = true
-is_long_reply (reply.Stats kind members mark_delete acknowledged live pending dead) = true
+is_long_reply (reply.Stats kind members mark_delete acknowledged live pending dead gone oldest) = true
 is_long_reply (reply.Dead message target ordinal) = true
 is_long_reply reply.NoDead = true
 is_long_reply reply = false
@@ -44,6 +45,7 @@ event_of (event_in.Ack consumer position) = event.Ack consumer position
 event_of (event_in.AckUpTo consumer position) = event.AckUpTo consumer position
 event_of (event_in.Nack consumer position now) = event.Nack consumer position now
 event_of (event_in.Tick subscription now) = event.Tick subscription now
+event_of (event_in.Trim keep before most) = event.Trim keep before most
 event_of (event_in.Dispatch subscription now) = event.Dispatch subscription now
 event_of (event_in.Collect consumer) = event.Collect consumer
 
@@ -61,4 +63,6 @@ reply_of (reply_in.Released position) = reply.Released position
 reply_of (reply_in.Died position ordinal) = reply.Died position ordinal
 reply_of (reply_in.Rewound count) = reply.Rewound count
 reply_of reply_in.Quiet = reply.Quiet
+reply_of (reply_in.Trimmed gone) = reply.Trimmed gone
+reply_of reply_in.Untrimmed = reply.Untrimmed
 reply_of (reply_in.Refused value) = reply.Refused value

@@ -2,7 +2,8 @@
 ghost use Rattle.std.specs.Prelude.{◌≡◌, ◌↔◌, IsTrue};
 ghost use Rattle.journal_lines.specs.Calls.{event_in, reply_in};
 
-use crate::short::{ShortEvent, ShortReply};
+use crate::short::ShortEvent;
+use crate::short_reply::ShortReply;
 use delivery_machine::{Event, Reply};
 
 /// An event and its reply, whole.

@@ -4,5 +4,6 @@
 mod call;
 mod line;
 mod short;
+mod short_reply;
 
 pub use line::{Draft, Line};

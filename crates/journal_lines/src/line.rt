@@ -4,7 +4,8 @@ ghost use Rattle.journal_lines.specs.Short.{is_long, is_long_reply};
 ghost use Rattle.journal_lines.specs.Lines.{line};
 
 use crate::call::{Asked, Call, LongCall};
-use crate::short::{ShortEvent, ShortReply, is_long};
+use crate::short::{ShortEvent, is_long};
+use crate::short_reply::ShortReply;
 use delivery_machine::{Event, Reply};
 use std::alloc::{AllocError, Global};
 use std::marker::Model;

@@ -1,10 +1,10 @@
-// Events and replies that are kept in short: those that come often, and those that take no memory.
+// Events that are kept in short: those that come often, and those that take no memory.
 ghost use Rattle.std.specs.Prelude.{◌≡◌, ◌↔◌, IsTrue, false};
-ghost use Rattle.journal_lines.specs.Short.{is_long, is_long_reply, event_of, reply_of};
+ghost use Rattle.journal_lines.specs.Short.{is_long, event_of};
 
 use delivery_machine::{
-    Body, ConsumerNumber, Deliveries, Event, Fault, Moment, Ordinal, Permits, Position,
-    ProducerNumber, Reply, SubscriptionName,
+    Body, ConsumerNumber, Event, Moment, Ordinal, Permits, Position, ProducerNumber,
+    SubscriptionName,
 };
 
 /// Whether the event is not kept in short.
@@ -19,6 +19,7 @@ pub(crate) fn is_long(event: &Event) -> bool
         | Event::Skip { .. }
         | Event::DropSubscription { .. }
         | Event::Stats { .. }
+        | Event::SetRetention { .. }
         | Event::DeadNext { .. }
         | Event::DeadDone { .. } => true,
         Event::DropProducer { .. }
@@ -32,6 +33,7 @@ pub(crate) fn is_long(event: &Event) -> bool
         | Event::AckUpTo { .. }
         | Event::Nack { .. }
         | Event::Tick { .. }
+        | Event::Trim { .. }
         | Event::Dispatch { .. }
         | Event::Collect { .. } => false,
     }
@@ -79,6 +81,11 @@ pub(crate) enum ShortEvent {
         subscription: SubscriptionName,
         now: Moment,
     },
+    Trim {
+        keep: u64,
+        before: Moment,
+        most: u64,
+    },
     Dispatch {
         subscription: SubscriptionName,
         now: Moment,
@@ -86,43 +93,6 @@ pub(crate) enum ShortEvent {
     Collect {
         consumer: ConsumerNumber,
     },
-}
-
-/// A reply in short.
-#[derive(Drop)]
-pub(crate) enum ShortReply {
-    Published {
-        position: Position,
-        length: u64,
-    },
-    Duplicate {
-        length: u64,
-    },
-    Durable(u64),
-    Progress {
-        durable: u64,
-        length: u64,
-    },
-    Done,
-    Sent {
-        consumer: ConsumerNumber,
-        position: Position,
-        count: u32,
-    },
-    Idle,
-    Copies(Deliveries),
-    Released {
-        position: Position,
-    },
-    Died {
-        position: Position,
-        ordinal: Ordinal,
-    },
-    Rewound {
-        count: u64,
-    },
-    Quiet,
-    Refused(Fault),
 }
 
 impl ShortEvent {
@@ -160,6 +130,7 @@ impl ShortEvent {
                 now,
             },
             Event::Tick { subscription, now } => ShortEvent::Tick { subscription, now },
+            Event::Trim { keep, before, most } => ShortEvent::Trim { keep, before, most },
             Event::Dispatch { subscription, now } => ShortEvent::Dispatch { subscription, now },
             Event::Collect { consumer } => ShortEvent::Collect { consumer },
 
@@ -170,6 +141,7 @@ impl ShortEvent {
             | Event::Skip { .. }
             | Event::DropSubscription { .. }
             | Event::Stats { .. }
+            | Event::SetRetention { .. }
             | Event::DeadNext { .. }
             | Event::DeadDone { .. } => unreachable!(),
         }
@@ -209,79 +181,12 @@ impl ShortEvent {
                 matches!(other, Event::Nack { consumer: c, position: p, now: n } if consumer == c && position == p && now == n),
             ShortEvent::Tick { subscription, now } =>
                 matches!(other, Event::Tick { subscription: s, now: n } if subscription.is(s) && now == n),
+            ShortEvent::Trim { keep, before, most } =>
+                matches!(other, Event::Trim { keep: k, before: b, most: m } if keep == k && before == b && most == m),
             ShortEvent::Dispatch { subscription, now } =>
                 matches!(other, Event::Dispatch { subscription: s, now: n } if subscription.is(s) && now == n),
             ShortEvent::Collect { consumer } =>
                 matches!(other, Event::Collect { consumer: c } if consumer == c),
-        }
-    }
-}
-
-impl ShortReply {
-    pub(crate) fn of(reply: Reply) -> ShortReply
-        requires { is_long_reply reply ≡ false }
-        ensures { reply_of result ≡ reply }
-    {
-        match reply {
-            Reply::Published { position, length } => ShortReply::Published { position, length },
-            Reply::Duplicate { length } => ShortReply::Duplicate { length },
-            Reply::Durable(value) => ShortReply::Durable(value),
-            Reply::Progress { durable, length } => ShortReply::Progress { durable, length },
-            Reply::Done => ShortReply::Done,
-            Reply::Sent {
-                consumer,
-                position,
-                count,
-            } => ShortReply::Sent {
-                consumer,
-                position,
-                count,
-            },
-            Reply::Idle => ShortReply::Idle,
-            Reply::Copies(value) => ShortReply::Copies(value),
-            Reply::Released { position } => ShortReply::Released { position },
-            Reply::Died { position, ordinal } => ShortReply::Died { position, ordinal },
-            Reply::Rewound { count } => ShortReply::Rewound { count },
-            Reply::Quiet => ShortReply::Quiet,
-            Reply::Refused(value) => ShortReply::Refused(value),
-
-            Reply::ProducerAdded { .. }
-            | Reply::Subscribed { .. }
-            | Reply::Stats { .. }
-            | Reply::Dead { .. }
-            | Reply::NoDead => unreachable!(),
-        }
-    }
-
-    /// Whether it is the reply.
-    pub(crate) fn is(&self, other: &Reply) -> bool
-        ensures { IsTrue result ↔ reply_of self.now ≡ other.now }
-    {
-        match self {
-            ShortReply::Published { position, length } =>
-                matches!(other, Reply::Published { position: p, length: l } if position == p && length == l),
-            ShortReply::Duplicate { length } =>
-                matches!(other, Reply::Duplicate { length: l } if length == l),
-            ShortReply::Durable(value) => matches!(other, Reply::Durable(o) if value == o),
-            ShortReply::Progress { durable, length } =>
-                matches!(other, Reply::Progress { durable: u, length: l } if durable == u && length == l),
-            ShortReply::Done => matches!(other, Reply::Done),
-            ShortReply::Sent {
-                consumer,
-                position,
-                count,
-            } =>
-                matches!(other, Reply::Sent { consumer: c, position: p, count: k } if consumer == c && position == p && count == k),
-            ShortReply::Idle => matches!(other, Reply::Idle),
-            ShortReply::Copies(value) => matches!(other, Reply::Copies(o) if value.are(o)),
-            ShortReply::Released { position } =>
-                matches!(other, Reply::Released { position: p } if position == p),
-            ShortReply::Died { position, ordinal } =>
-                matches!(other, Reply::Died { position: p, ordinal: o } if position == p && ordinal == o),
-            ShortReply::Rewound { count } =>
-                matches!(other, Reply::Rewound { count: k } if count == k),
-            ShortReply::Quiet => matches!(other, Reply::Quiet),
-            ShortReply::Refused(value) => matches!(other, Reply::Refused(o) if value == o),
         }
     }
 }

@@ -173,11 +173,11 @@ finish first fields last before after is e = rw (e, is) (sym (whole_object (firs
 pub leading_two : (text : List ℕ) (a b : List ℕ × Json) (first second : List ℕ) → first ≡ text ++ leading (a ∷ []) → second ≡ first ++ leading (b ∷ []) → second ≡ text ++ leading (a ∷ b ∷ [])
 leading_two text a b first second e₁ e₂ = rw (e₂, e₁) (append_assoc text (leading (a ∷ [])) (leading (b ∷ [])) ∙ ap (λ s. text ++ s) (sym (leading-append (a ∷ []) (b ∷ []))))
 
-pub leading_four : (text : List ℕ) (a b c d : List ℕ × Json) (first second third fourth : List ℕ) → first ≡ text ++ leading (a ∷ []) → second ≡ first ++ leading (b ∷ []) → third ≡ second ++ leading (c ∷ [])
-    → fourth ≡ third ++ leading (d ∷ []) → fourth ≡ text ++ leading (a ∷ b ∷ c ∷ d ∷ [])
-leading_four text a b c d first second third fourth e₁ e₂ e₃ e₄ =
-    leading_two second c d third fourth e₃ e₄
-    ∙ rw (leading_two text a b first second e₁ e₂) (append_assoc text (leading (a ∷ b ∷ [])) (leading (c ∷ d ∷ [])) ∙ ap (λ s. text ++ s) (sym (leading-append (a ∷ b ∷ []) (c ∷ d ∷ []))))
+pub leading_three_parts : (text : List ℕ) (a b c : Fields) (first second third : List ℕ) → first ≡ text ++ leading a → second ≡ first ++ leading b → third ≡ second ++ leading c → third ≡ text ++ leading (a ++ (b ++ c))
+leading_three_parts text a b c first second third e₁ e₂ e₃ =
+    rw (e₃, e₂, e₁)
+    (append_assoc (text ++ leading a) (leading b) (leading c) ∙ append_assoc text (leading a) (leading b ++ leading c)
+    ∙ ap (λ s. text ++ s) (ap (λ s. leading a ++ s) (sym (leading-append b c)) ∙ sym (leading-append a (b ++ c))))
 
 pub brace_after : (text field first second : List ℕ) → first ≡ text ++ field → second ≡ first ++ codes "}" → second ≡ text ++ (field ++ codes "}")
 brace_after text field first second e₁ e₂ = rw (e₂, e₁) (append_assoc text field (codes "}"))

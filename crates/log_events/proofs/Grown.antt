@@ -16,7 +16,7 @@ use Rattle.delivery_machine.specs.Run.{Answers}
 use Rattle.delivery_machine.specs.declared.event.Event.{Event}
 use Rattle.delivery_machine.specs.declared.reply.Reply.TheVariants.{Published}
 use Rattle.dedup_core.specs.Sequences.{AgreesWith}
-use Rattle.topic_log.specs.Written.{Written, written_in}
+use Rattle.topic_log.specs.Written.{all_of, Written, written_in}
 use Rattle.topic_subscriptions.specs.Placed.{IsPlacedIn, IsRising, Placed, sub_in}
 use Rattle.topic_subscriptions.proofs.Grown.{grown_in, grown_placed, new_is_alive}
 use Rattle.topic_subscriptions.proofs.Links.{earlier}
@@ -63,7 +63,7 @@ module _ (served : Served) (w : Written) (e : Entry) (settled : IsSettled served
       (All-contains (IsWellFormedIn (state_in served)) (state_in served).subscriptions sub well.subscriptions
       (k, slice_get_within (state_in served).subscriptions k sub at, get_or_from_slice_get (state_in served).subscriptions k sub sub at))
 
-  pub bound_grown : IsRising w.log.log → AgreesWith w.log.log w.numbers → IsBound (with_log served w)
+  pub bound_grown : IsRising w.log.log → AgreesWith (all_of w) w.numbers → IsBound (with_log served w)
   bound_grown rises agrees = record {
     numbers = agrees;
     tied = subst (λ (log : List Entry). All (IsPlacedIn log served.parts.members.members) served.parts.subscriptions.items) (sym log_is) tied;
@@ -84,9 +84,12 @@ module _ (served : Served) (w : Written) (e : Entry) (settled : IsSettled served
       tied = λ k d lt. grown_placed (log_of served.parts) e served.parts.members.members (get_or served.parts.subscriptions.items k d) rising (alive k d lt) (settled.bound.tied k d lt)
 
   -- the answer, as it is given
-  pub published : (event : Event) (position : Position) (count : ℕ) → position ≡ e.position → count ≡ length w.log.log → Answers (state_in served) event (Published e.position (length (log_of served.parts) + 1)) (with_message (state_in served) e)
+  pub published : (event : Event) (position : Position) (count : ℕ) → position ≡ e.position → count ≡ w.gone + length w.log.log → Answers (state_in served) event (Published e.position (served.parts.log.gone + length (log_of served.parts) + 1)) (with_message (state_in served) e)
       → Answers (state_in served) event (Published position count) (state_in (with_log served w))
   published event position count here many answers =
       subst (λ (q : Position). Answers (state_in served) event (Published q count) (state_in (with_log served w))) (sym here)
-      (subst (λ (n : ℕ). Answers (state_in served) event (Published e.position n) (state_in (with_log served w))) (sym (many ∙ ap length log_is ∙ length-append (log_of served.parts) (e ∷ [])))
-      (subst (λ (s : State). Answers (state_in served) event (Published e.position (length (log_of served.parts) + 1)) s) (sym grown) answers))
+      (subst (λ (n : ℕ). Answers (state_in served) event (Published e.position n) (state_in (with_log served w))) (sym many_more)
+      (subst (λ (s : State). Answers (state_in served) event (Published e.position (served.parts.log.gone + length (log_of served.parts) + 1)) s) (sym grown) answers))
+    where
+      many_more : count ≡ served.parts.log.gone + length (log_of served.parts) + 1
+      many_more = omega (arith, many, ap (λ (s : State). s.gone) is, ap length log_is ∙ length-append (log_of served.parts) (e ∷ []))

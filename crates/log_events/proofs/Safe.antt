@@ -1,5 +1,5 @@
 -- A topic's messages are stored, and deaths.
-use Rattle.std.proofs.Common.{◌≡◌, ℕ, ◌≤◌, List, [], ◌∷◌, map, length, All, get_or, refl, ap, ap₂, ◌∙◌, sym, subst}
+use Rattle.std.proofs.Common.{◌≡◌, ℕ, ◌-◌, ◌≤◌, List, [], ◌∷◌, map, length, All, get_or, refl, ap, ap₂, ◌∙◌, sym, subst}
 use Rattle.std.specs.Prelude.{min, max}
 use Rattle.std.specs.Vec.{with_items}
 use Rattle.std.proofs.lemmas.List.{length-map, with_items_is}
@@ -12,7 +12,7 @@ use Rattle.dispatchers.specs.Told.{AreTold}
 use Rattle.dispatchers.specs.declared.dispatch.Dispatch.{Dispatch}
 use Rattle.dispatchers.proofs.Agreed.{told_kept}
 use Rattle.dispatchers.proofs.Quiet.{kept_stored, kept_stored_to}
-use Rattle.topic_log.specs.Written.{Written}
+use Rattle.topic_log.specs.Written.{all_of, Written}
 use Rattle.topic_subscriptions.specs.Placed.{IsPlacedIn, Placed, all_safe_in, safe_below_in, sub_in}
 use Rattle.topic_subscriptions.proofs.Changes.{stored_below_in, stored_below_placed, stored_in, stored_placed}
 use Rattle.topic_parts.specs.Parts.{AreTied, log_of, state_of}
@@ -47,6 +47,9 @@ module _ (durable : ℕ) (f : Placed → Placed) (g : Subscription → Subscript
         ledger_size = w.log.ledger_size;
         ledger = w.log.ledger;
         next_producer = w.next_producer;
+        gone = w.gone;
+        authors = w.authors;
+        retention = w.retention;
         log = w.log.log;
         durable = w.durable;
         producers = w.producers;
@@ -62,8 +65,8 @@ module _ (durable : ℕ) (f : Placed → Placed) (g : Subscription → Subscript
       (All-map (IsPlacedIn (log_of old) old.members.members) f old.subscriptions.items (λ k d lt. placed (get_or old.subscriptions.items k d) (tied k d lt)))))
 
 -- the numbers are the same
-pub numbers_stay : (old new : Written) (durable : ℕ) → new ≡ record old { durable = durable } → AgreesWith old.log.log old.numbers → AgreesWith new.log.log new.numbers
-numbers_stay old new durable is agrees = subst (λ (w : Written). AgreesWith w.log.log w.numbers) (sym is) agrees
+pub numbers_stay : (old new : Written) (durable : ℕ) → new ≡ record old { durable = durable } → AgreesWith (all_of old) old.numbers → AgreesWith (all_of new) new.numbers
+numbers_stay old new durable is agrees = subst (λ (w : Written). AgreesWith (all_of w) w.numbers) (sym is) agrees
 
 module _ (old new : Parts) (is : IsStored (length (log_of old)) all_safe_in old new) where
   pub all_stored : state_of new ≡ stored (state_of old)
@@ -76,13 +79,13 @@ module _ (old new : Parts) (is : IsStored (length (log_of old)) all_safe_in old 
   told_stored ds within told =
       subst (λ (s : State). AreTold ds s) (sym all_stored) (told_kept ds (state_of old) (stored (state_of old)) told (kept_stored (state_of old) within))
 
-module _ (old new : Parts) (count ordinal : ℕ) (is : IsStored (max old.log.durable (min count (length (log_of old)))) (safe_below_in ordinal) old new) where
+module _ (old new : Parts) (count ordinal : ℕ) (is : IsStored (max old.log.durable (min (count - old.log.gone) (length (log_of old)))) (safe_below_in ordinal) old new) where
   pub first_stored : state_of new ≡ stored_to (state_of old) count ordinal
-  first_stored = state_is (max old.log.durable (min count (length (log_of old)))) (safe_below_in ordinal) (storing_below ordinal) old new is (λ p. stored_below_in (log_of old) p ordinal)
+  first_stored = state_is (max old.log.durable (min (count - old.log.gone) (length (log_of old)))) (safe_below_in ordinal) (storing_below ordinal) old new is (λ p. stored_below_in (log_of old) p ordinal)
 
   pub tied_stored_to : AreTied old → AreTied new
   tied_stored_to tied =
-      tied_is (max old.log.durable (min count (length (log_of old)))) (safe_below_in ordinal) (storing_below ordinal) old new is (λ p placed. stored_below_placed (log_of old) old.members.members p ordinal placed) tied
+      tied_is (max old.log.durable (min (count - old.log.gone) (length (log_of old)))) (safe_below_in ordinal) (storing_below ordinal) old new is (λ p placed. stored_below_placed (log_of old) old.members.members p ordinal placed) tied
 
   pub told_stored_to : (ds : List Dispatch) → AreTold ds (state_of old) → AreTold ds (state_of new)
   told_stored_to ds told =

@@ -4,9 +4,9 @@ ghost use Rattle.delivery_machine.specs.State.{State};
 ghost use Rattle.delivery_machine.specs.Run.{Answers};
 ghost use Rattle.delivery_machine.specs.Producing.{with_message};
 ghost use Rattle.delivery_machine.specs.declared.event.Event.TheVariants.{Publish};
-ghost use Rattle.dedup_core.specs.Sequences.{AgreesWith, IsAbove};
+ghost use Rattle.dedup_core.specs.Sequences.{AgreesWith};
 ghost use Rattle.entry_log.specs.Log.{is_full_log, next_in};
-ghost use Rattle.topic_log.specs.Written.{written_in};
+ghost use Rattle.topic_log.specs.Written.{all_of, written_in};
 ghost use Rattle.topic_served.specs.Served.{IsBound, IsSettled, state_in};
 
 use delivery_machine::Reply;
@@ -17,13 +17,12 @@ use topic_served::Served;
 
 /// Puts the message at the end, and notes its number. The log stays as it was where there is no memory.
 fn append(log: &mut TopicLog, message: Message) -> Result<(), AllocError>
-    requires agrees { AgreesWith log.old.log.log log.old.numbers }
+    requires agrees { AgreesWith (all_of log.old) log.old.numbers }
     requires room { is_full_log log.old.log ≡ false }
     requires next { message.position ≡ next_in log.old.log }
-    requires above { IsAbove log.old.log.log message.producer message.sequence }
     ensures ok { OnOk result ((s : State) → written_in log.new s ≡ with_message (written_in log.old s) message) }
     ensures err { OnErr result ((s : State) → written_in log.new s ≡ written_in log.old s) }
-    ensures agrees { AgreesWith log.new.log.log log.new.numbers }
+    ensures agrees { AgreesWith (all_of log.new) log.new.numbers }
 {
     let sequence = message.entry().sequence;
     let Ok(name) = message.entry().producer.clone() else {
@@ -60,10 +59,13 @@ pub fn publish(
     };
     let position = message.position();
     match append(&mut served.parts.log, message) {
-        Ok(()) => Reply::Published {
-            position,
-            length: served.parts.log.len() as u64,
-        },
+        Ok(()) => {
+            let _length = served.parts.log.len();
+            Reply::Published {
+                position,
+                length: served.parts.log.had(),
+            }
+        }
         Err(_) => Reply::Refused(Fault::NoMemory),
     }
 }

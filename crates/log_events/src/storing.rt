@@ -36,7 +36,7 @@ pub fn stored(served: &mut Served) -> Reply
 {
     served.parts.log.store();
     store_all(&mut served.parts.subscriptions);
-    Reply::Durable(served.parts.log.len() as u64)
+    Reply::Durable(served.parts.log.had())
 }
 
 /// The first messages are stored, so many, and the deaths below the ordinal, with all that were. Takes no
@@ -48,7 +48,8 @@ pub fn stored_to(served: &mut Served, length: u64, ordinal: Ordinal) -> Reply
 {
     served.parts.log.store_to(length);
     store_all_to(&mut served.parts.subscriptions, ordinal);
-    Reply::Durable(served.parts.log.durable() as u64)
+    let _length = served.parts.log.len();
+    Reply::Durable(served.parts.log.gone() + served.parts.log.durable() as u64)
 }
 
 /// How much of the log is stored. Takes no memory.

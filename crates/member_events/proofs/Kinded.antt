@@ -20,7 +20,7 @@ use Rattle.std.proofs.lemmas.Option.{get_or_from_slice_get, same_Some}
 use Rattle.position_core.specs.declared.ranges.HashRange.{HashRange}
 use Rattle.delivery_machine.specs.Shares.{Shares, is_share_of, no_shares}
 use Rattle.dispatchers.specs.Happening.{OthersKept}
-use Rattle.topic_log.specs.Written.{Written}
+use Rattle.topic_log.specs.Written.{all_of, Written}
 use Rattle.topic_subscriptions.specs.Placed.{IsPlacedIn, Placed, is_placed, sub_in}
 use Rattle.topic_subscriptions.proofs.Changes.{still_live}
 use Rattle.topic_parts.specs.declared.parts.Parts.{Parts}
@@ -118,7 +118,7 @@ module _ (t : Parts) (place : ℕ) (name : List ℕ) (kind : Kind) (x y : Placed
 
 pub bound_stays : (c : Served) (new : Parts) (ds : Vec Dispatch _) → StaysAs c.parts new → ds.items ≡ c.dispatchers.items → IsBound c → IsBound (record { parts = new; dispatchers = ds })
 bound_stays c new ds stays same bound = record {
-  numbers = subst (λ (w : Written). AgreesWith w.log.log w.numbers) (sym (ap (λ (p : Parts). p.log) stays.rest)) bound.numbers;
+  numbers = subst (λ (w : Written). AgreesWith (all_of w) w.numbers) (sym (ap (λ (p : Parts). p.log) stays.rest)) bound.numbers;
   tied = same_ties c.parts new stays bound.tied;
   told = subst₂ (λ (xs : List Dispatch) (u : State). AreTold xs u) (sym same) (sym (same_state c.parts new stays)) bound.told;
 }

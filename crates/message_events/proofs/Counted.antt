@@ -20,7 +20,7 @@ use Rattle.position_core.specs.declared.fault.Fault.TheVariants.{NoSuchSubscript
 use Rattle.delivery_machine.specs.Refusals.{absence_refused}
 use Rattle.delivery_machine.specs.Run.{Answers}
 use Rattle.delivery_machine.specs.declared.event.Event.TheVariants.{Stats as StatsEvent}
-use Rattle.delivery_machine.specs.Statistics.{ShowsStatistics, mark_delete}
+use Rattle.delivery_machine.specs.Statistics.{ShowsStatistics, mark_delete, oldest}
 use Rattle.delivery_machine.specs.declared.reply.Reply.{Reply}
 use Rattle.delivery_machine.specs.declared.reply.Reply.TheVariants.{Stats}
 use Rattle.delivery_machine.proofs.Behind.{same_name}
@@ -134,8 +134,8 @@ module _ (log : List Entry) (members : List Member) (p : Placed) (rising : IsRis
 pub as_many_members : (log : List Entry) (members : List Member) (p : Placed) → IsPlacedIn log members p → length p.line ≡ length (filter (is_at p.name) members)
 as_many_members log members p placed = ap length placed.line ∙ length-map (filter (is_at p.name) members) (λ (m : Member). m.number)
 
-pub stats_are : {k l : Kind} {m n a b c d e f g h : ℕ} {p q : Option Position} → k ≡ l → m ≡ n → p ≡ q → a ≡ b → c ≡ d → e ≡ f → g ≡ h → ◌≡◌ {A = Reply} (Stats k m p a c e g) (Stats l n q b d f h)
-stats_are kind members mark acknowledged live pending dead = cc
+pub stats_are : {k l : Kind} {m n a b c d e f g h i j : ℕ} {p q : Option Position} {s t : Option ℕ} → k ≡ l → m ≡ n → p ≡ q → a ≡ b → c ≡ d → e ≡ f → g ≡ h → i ≡ j → s ≡ t → ◌≡◌ {A = Reply} (Stats k m p a c e g i s) (Stats l n q b d f h j t)
+stats_are kind members mark acknowledged live pending dead gone oldest = cc
 
 pub name_there : (subs : List Placed) (name : List ℕ) (place : ℕ) (x : Placed) → Some place ≡ position (is_placed name) subs → x ≡ get_or subs place x → x.name ≡ name
 name_there subs name place x there at = same_name x.name name (ap (is_placed name) at ∙ (position-Some (is_placed name) subs place x (sym there)).1)
@@ -149,6 +149,8 @@ shown s name sub =
     (count_by (is_live sub) (visible s))
     (count_by (λ e. map_of.contains_key sub.pending e.position) s.log)
     (length sub.dead)
+    s.gone
+    (oldest s.log)
 
 pub shown_answers : (s : State) (name : List ℕ) (sub : Subscription) (r : Reply) → find (is_named name) s.subscriptions ≡ Some sub → ShowsStatistics s name sub r s → Answers s (StatsEvent name) r s
 shown_answers s name sub r found shows = subst (λ (q : Reply). Answers s (StatsEvent name) q s) (sym shows.0) (allowed, holds)

@@ -1,14 +1,14 @@
 // How far a subscription is.
 ghost use Rattle.std.specs.Prelude.{◌≡◌};
 ghost use Rattle.delivery_machine.specs.Run.{Answers};
-ghost use Rattle.delivery_machine.specs.Statistics.{ShowsStatistics, mark_delete};
+ghost use Rattle.delivery_machine.specs.Statistics.{ShowsStatistics, mark_delete, oldest};
 ghost use Rattle.delivery_machine.specs.declared.event.Event.TheVariants.{Stats};
 ghost use Rattle.topic_subscriptions.specs.Placed.{IsPlacedIn, sub_in};
 ghost use Rattle.topic_parts.specs.Parts.{log_of, state_of};
 ghost use Rattle.topic_served.specs.Served.{IsSettled, state_in};
 
 use delivery_machine::Reply;
-use position_core::{Fault, Position, SubscriptionName};
+use position_core::{Fault, Moment, Position, SubscriptionName};
 use topic_parts::Parts;
 use topic_served::Served;
 use topic_subscriptions::Subscription;
@@ -29,6 +29,16 @@ fn mark_delete(parts: &Parts, subscription: &Subscription) -> Option<Position>
     }
 }
 
+/// When the first message that is kept was published.
+fn oldest(parts: &Parts) -> Option<Moment>
+    ensures { result ≡ oldest (log_of parts.now) }
+{
+    match parts.log.get(0) {
+        Some(message) => Some(message.entry().time),
+        None => None,
+    }
+}
+
 /// The statistics of one of the topic's subscriptions.
 fn shown(parts: &Parts, subscription: &Subscription) -> Reply
     requires { IsPlacedIn (log_of parts.now) parts.now.members.members subscription.now }
@@ -43,6 +53,8 @@ fn shown(parts: &Parts, subscription: &Subscription) -> Reply
         live: subscription.number_live_below(parts.log.durable() as u64),
         pending: subscription.number_pending() as u64,
         dead: subscription.number_of_dead() as u64,
+        gone: parts.log.gone(),
+        oldest: oldest(parts),
     }
 }
 

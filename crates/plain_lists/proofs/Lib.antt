@@ -1,2 +1,4 @@
 pub mod Undone
 pub mod Free
+pub mod Greatest
+pub mod Signing

@@ -1,6 +1,7 @@
 //! The parts of the plain topic: producers, members and subscriptions as lists, and their updates.
 #![tactic(auto)]
 
+mod authors;
 mod auto;
 mod kept;
 mod letter;
@@ -9,7 +10,9 @@ mod members;
 mod producer;
 mod subscription;
 mod subscriptions;
+mod trimming;
 
+pub use authors::{greatest_of, raised, remember_all};
 pub use auto::{auto_name, least_free};
 pub use member::{Member, Terms};
 pub use members::{empty_at, leave_out_at, member_at, place_of_member, take_member};
@@ -18,3 +21,4 @@ pub use subscription::Subscription;
 pub use subscriptions::{
     drop_subscription, place_for, place_of_subscription, store_all, store_all_to, subscription_at,
 };
+pub use trimming::{forget_messages, is_done};

@@ -1,5 +1,5 @@
-pub mod Greatest
 pub mod Active
 pub mod Turns
 pub mod Hashes
+mod Last
 mod Marks

@@ -1,4 +1,3 @@
-pub mod Raised
 pub mod Members
 pub mod Due
 pub mod Turn

@@ -1,34 +1,26 @@
 // What is found by looking through the log.
-ghost use Rattle.std.specs.Prelude.{◌≡◌, ◌==◌};
+ghost use Rattle.std.specs.Prelude.{◌≡◌, ◌+◌, ◌++◌, map};
 ghost use Rattle.std.specs.List.{count_by, find};
-ghost use Rattle.std.specs.Option.{option_copied};
+ghost use Rattle.std.specs.Option.{option_copied, option_map_or};
 ghost use Rattle.position_core.specs.Flow.{flow_has_room};
-ghost use Rattle.delivery_machine.specs.Words.{has_position, has_room_in, is_by, is_waiting, last_sequence, pending_in};
-ghost use Rattle.plain_queries.specs.Raised.{raised};
+ghost use Rattle.delivery_machine.specs.Words.{has_position, has_room_in, is_by, is_waiting, last_sequence, pending_in, signed, signed_by, used_after};
 
-use plain_lists::{Member, Subscription};
+use delivery_machine::Author;
+use plain_lists::{Member, Subscription, greatest_of, raised};
 use position_core::{ConsumerNumber, Flow, Message, Position, ProducerName};
 
 fn is_by(message: &Message, name: &ProducerName) -> bool
-    ensures { result ≡ is_by name.now message.now }
+    ensures { result ≡ is_by name.now (signed message.now) }
 {
     message.entry().producer.is(name)
 }
 
-fn raised(greatest: Option<i64>, number: i64) -> i64
-    ensures { result ≡ raised greatest number }
+/// The greatest sequence number that is known under the name, by what is remembered and by the log, or
+/// the base where there is none.
+pub fn last_sequence(authors: &[Author], log: &[Message], name: &ProducerName, base: i64) -> i64
+    ensures { result ≡ last_sequence (map signed_by authors.now ++ map signed log.now) name.now base }
 {
-    match greatest {
-        Some(greatest) => greatest.max(number),
-        None => number,
-    }
-}
-
-/// The greatest sequence number of the producer's messages, or the base where there are none.
-pub fn last_sequence(log: &[Message], name: &ProducerName, base: i64) -> i64
-    ensures { result ≡ last_sequence log.now name.now base }
-{
-    let mut last = None;
+    let mut last = greatest_of(authors, name);
     for message in log {
         if is_by(message, name) {
             last = Some(raised(last, message.entry().sequence));
@@ -40,13 +32,16 @@ pub fn last_sequence(log: &[Message], name: &ProducerName, base: i64) -> i64
     }
 }
 
-/// How many messages of the log are of the ledger.
-pub fn used_in(log: &[Message], ledger: u64) -> usize
-    ensures { result ≡ count_by (λ e. e.position.ledger == ledger) log.now }
+/// The entry of the last message, where it is of the ledger.
+pub fn last_entry(log: &[Message], ledger: u64) -> Option<u64>
+    ensures { used_after ledger log.now ≡ option_map_or (λ entry. entry + 1) result 0 }
 {
-    log.iter()
-        .filter(|message| message.position().ledger == ledger)
-        .count()
+    let last = log.last()?.position();
+    if last.ledger == ledger {
+        Some(last.entry)
+    } else {
+        None
+    }
 }
 
 /// The message at the position.

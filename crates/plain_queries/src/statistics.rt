@@ -4,10 +4,10 @@ ghost use Rattle.std.specs.List.{count_by};
 ghost use Rattle.std.specs.FinSet as set;
 ghost use Rattle.std.specs.FinMap as map_of;
 ghost use Rattle.delivery_machine.specs.Words.{is_live};
-ghost use Rattle.delivery_machine.specs.Statistics.{mark_delete};
+ghost use Rattle.delivery_machine.specs.Statistics.{mark_delete, oldest};
 
 use plain_lists::Subscription;
-use position_core::{Message, Position};
+use position_core::{Message, Moment, Position};
 
 /// The last message of the log up to which all are acknowledged.
 pub fn mark_delete(log: &[Message], subscription: &Subscription) -> Option<Position>
@@ -49,4 +49,11 @@ pub fn number_pending(log: &[Message], subscription: &Subscription) -> usize
     log.iter()
         .filter(|message| subscription.is_pending(message))
         .count()
+}
+
+/// When the first message was published.
+pub fn oldest(log: &[Message]) -> Option<Moment>
+    ensures { result ≡ oldest log.now }
+{
+    log.first().map(|message| message.entry().time)
 }

@@ -5,6 +5,7 @@ use Rattle.std.specs.List.{filter, find, list_any}
 use Rattle.std.specs.FinSet as set
 use Rattle.std.specs.Cmp.{eq_by_cmp_equiv, Equal-is}
 use Rattle.std.proofs.lemmas.List.Folds.{list_any-append}
+use Rattle.std.proofs.lemmas.Map.Views.{any-filter_same}
 use Rattle.delivery_machine.specs.Acknowledging.{is_one_of}
 use Rattle.delivery_machine.specs.Words.{is_held_by, changed}
 use Rattle.delivery_machine.specs.Ticking.{recounted, counted_again}
@@ -130,6 +131,24 @@ added ps qs = set.same_set positions_total exact_positions _ _ (λ p.
     ∙ sym (set.contains-union positions_total _ _ p
     ∙ ap (λ b. b || set.contains (set.from_list {R = position_cmp} qs) p) (set.contains-from_list positions_total ps p)
     ∙ ap (λ b. list_any (same_position p) ps || b) (set.contains-from_list positions_total qs p)))
+
+kept_apart : (p q : Position) (qs : List Position) → same_position p q ≡ true → is_one_of qs q ≡ is_one_of qs p
+kept_apart p q qs t = ap (is_one_of qs) (sym (same p q t))
+
+pub left_out : (ps qs : List Position) → set.from_list {R = position_cmp} (filter (λ p. not (is_one_of qs p)) ps) ≡ set.difference (set.from_list ps) (set.from_list qs)
+left_out ps qs = set.same_set positions_total exact_positions _ _ (λ p.
+    set.contains-from_list positions_total (filter (λ q. not (is_one_of qs q)) ps) p
+    ∙ any-filter_same (same_position p) (λ q. not (is_one_of qs q)) (not (is_one_of qs p)) (λ q t. ap not (kept_apart p q qs t)) ps
+    ∙ either_order (not (is_one_of qs p)) (list_any (same_position p) ps)
+    ∙ sym (set.contains-difference positions_total _ _ p
+    ∙ ap (λ b. b && not (set.contains (set.from_list {R = position_cmp} qs) p)) (set.contains-from_list positions_total ps p)
+    ∙ ap (λ b. list_any (same_position p) ps && not b) (set.contains-from_list positions_total qs p)))
+  where
+    either_order : (a b : Bool) → (a && b) ≡ (b && a)
+    either_order true true = refl
+    either_order true false = refl
+    either_order false true = refl
+    either_order false false = refl
 
 -- ---- a value instead of another
 

@@ -9,4 +9,4 @@ mod table;
 
 pub use counts::CountTable;
 pub use pending::PendingTable;
-pub use positions::{PositionSet, positions_up_to};
+pub use positions::{PositionSet, positions_of, positions_up_to};

@@ -1,5 +1,6 @@
 // Sets that are searched from their first element on.
-ghost use Rattle.std.specs.Prelude.{◌≡◌, ◌++◌, OnOk, OnErr, IfOk, length, map};
+ghost use Rattle.std.specs.Prelude.{◌≡◌, ◌++◌, not, OnOk, OnErr, IfOk, length, map};
+ghost use Rattle.std.specs.List.{filter};
 ghost use Rattle.std.specs.FinSet as set;
 ghost use Rattle.delivery_machine.specs.Acknowledging.{is_one_of, positions_up_to};
 ghost use Rattle.delivery_machine.specs.Places.{AreBelow, positions_at};
@@ -81,9 +82,22 @@ impl PositionSet {
         self.items.extend_from_slice(positions)?;
         Ok(())
     }
+
+    pub fn leave_out(&mut self, positions: &[Position])
+        ensures { self.new ≡ set.difference self.old (set.from_list positions.now) }
+    {
+        leave_out(&mut self.items, positions);
+    }
 }
 
-fn positions_of(alloc: Global, log: &[Message]) -> Result<Vec<Position>, AllocError>
+fn leave_out(items: &mut Vec<Position>, positions: &[Position])
+    ensures { items.new.items ≡ filter (λ p. not (is_one_of positions.now p)) items.old.items }
+{
+    items.retain(|position| !is_one_of(positions, *position));
+}
+
+/// The positions of the messages, in their order.
+pub fn positions_of(alloc: Global, log: &[Message]) -> Result<Vec<Position>, AllocError>
     ensures { IfOk result (λ ps. ps.items ≡ map (λ e. e.position) log.now) }
 {
     let mut positions = Vec::new(alloc);

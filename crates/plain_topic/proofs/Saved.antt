@@ -1,5 +1,5 @@
 -- Snapshots of a topic's lists, and the lists that go on from one.
-use Rattle.std.proofs.Common.{◌≡◌, ℕ, ◌+◌, ◌<◌, ◌^◌, List, [], ◌∷◌, ◌++◌, Some, length, map, get_or, take, refl, sym, ap, ap₂, ◌∙◌, subst}
+use Rattle.std.proofs.Common.{◌≡◌, ℕ, ◌+◌, ◌<◌, ◌^◌, List, [], ◌∷◌, ◌++◌, Option, Some, length, map, get_or, take, refl, sym, ap, ap₂, ◌∙◌, subst}
 use Rattle.std.specs.Prelude.{min, slice_get}
 use Rattle.std.specs.List.{All}
 use Rattle.std.specs.List.Sorted.{IsStrictlySortedBy}
@@ -9,7 +9,8 @@ use Rattle.std.proofs.lemmas.Option.{slice_get_within, slice_get-get_or}
 use Rattle.position_core.specs.Position.{position_cmp}
 use Rattle.position_core.specs.declared.topic_name.TopicName.{TopicName}
 use Rattle.position_core.specs.declared.message.Entry.{Entry}
-use Rattle.delivery_machine.specs.State.{State, Subscription, Producer, Member}
+use Rattle.delivery_machine.specs.declared.retention.Retention.{Retention}
+use Rattle.delivery_machine.specs.State.{State, Author, Subscription, Producer, Member}
 use Rattle.delivery_machine.specs.Snapshot.{KeptSubscription, kept_of, snapshot_of, subscription_from, restarted}
 use Rattle.delivery_machine.specs.Places.{KeptPlaces, KeptTopic, kept_in, snapshot_in}
 use Rattle.delivery_machine.specs.WellFormed.{IsSound, IsSoundSubscription}
@@ -57,14 +58,17 @@ map-twice : {A B C : Type 0} (f : A → B) (g : B → C) (xs : List A) → map (
 map-twice f g [] = refl
 map-twice f g (x ∷ xs) = ap (λ ys. g (f x) ∷ ys) (map-twice f g xs)
 
-abbrev pub going : TopicName → ℕ → ℕ → ℕ → ℕ → ℕ → ℕ → List Entry → List Producer → List Member → List Subscription → State
-going name size ledger ordinal producer consumer durable log producers members subs = record {
+abbrev pub going : TopicName → ℕ → ℕ → ℕ → ℕ → ℕ → ℕ → List Author → Option Retention → ℕ → List Entry → List Producer → List Member → List Subscription → State
+going name size ledger ordinal producer consumer gone authors retention durable log producers members subs = record {
   name = name;
   ledger_size = size;
   ledger = ledger;
   next_ordinal = ordinal;
   next_producer = producer;
   next_consumer = consumer;
+  gone = gone;
+  authors = authors;
+  retention = retention;
   log = log;
   durable = durable;
   producers = producers;
@@ -72,11 +76,11 @@ going name size ledger ordinal producer consumer durable log producers members s
   subscriptions = subs;
 }
 
-pub goes_on : (kept : KeptTopic) (name : TopicName) (size ledger ordinal producer consumer durable : ℕ) (log : List Entry) (producers : List Producer) (members : List Member) (subs : List Subscription)
+pub goes_on : (kept : KeptTopic) (name : TopicName) (size ledger ordinal producer consumer gone : ℕ) (authors : List Author) (retention : Option Retention) (durable : ℕ) (log : List Entry) (producers : List Producer) (members : List Member) (subs : List Subscription)
     → name ≡ kept.name → size ≡ kept.ledger_size → ledger ≡ min (kept.ledger + 1) (2 ^ 62 + 1) → ordinal ≡ kept.next_ordinal → producer ≡ 1 → consumer ≡ 1
-    → log ≡ kept.log → durable ≡ length log → producers ≡ [] → members ≡ [] → subs ≡ map (λ k. subscription_from (kept_in log k)) kept.subscriptions
-    → going name size ledger ordinal producer consumer durable log producers members subs ≡ restarted (snapshot_in kept)
-goes_on kept name size ledger ordinal producer consumer durable log producers members subs name_is size_is ledger_is ordinal_is producer_is consumer_is log_is durable_is producers_is members_is subs_is =
+    → gone ≡ kept.gone → authors ≡ kept.authors → retention ≡ kept.retention → log ≡ kept.log → durable ≡ length log → producers ≡ [] → members ≡ [] → subs ≡ map (λ k. subscription_from (kept_in log k)) kept.subscriptions
+    → going name size ledger ordinal producer consumer gone authors retention durable log producers members subs ≡ restarted (snapshot_in kept)
+goes_on kept name size ledger ordinal producer consumer gone authors retention durable log producers members subs name_is size_is ledger_is ordinal_is producer_is consumer_is gone_is authors_is retention_is log_is durable_is producers_is members_is subs_is =
     let all : subs ≡ map subscription_from (map (kept_in kept.log) kept.subscriptions) = subs_is ∙ ap (λ (ls : List Entry). map (λ k. subscription_from (kept_in ls k)) kept.subscriptions) log_is ∙ map-twice (kept_in kept.log) subscription_from kept.subscriptions in
     let long : durable ≡ length kept.log = durable_is ∙ ap length log_is in
-    cc (name_is, size_is, ledger_is, ordinal_is, producer_is, consumer_is, log_is, long, producers_is, members_is, all)
+    cc (name_is, size_is, ledger_is, ordinal_is, producer_is, consumer_is, gone_is, authors_is, retention_is, log_is, long, producers_is, members_is, all)

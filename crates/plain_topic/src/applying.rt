@@ -1,6 +1,6 @@
 // The lists as a topic: each event by its own method.
 use crate::lists::Lists;
-use delivery_machine::{Deliveries, Event, Reply, Topic};
+use delivery_machine::{Deliveries, Event, Reply, Retention, Topic};
 use plain_lists::Terms;
 use position_core::{ConsumerNumber, Fault};
 
@@ -68,6 +68,8 @@ impl Topic for Lists {
             } => self.skip(subscription, *count),
             Event::DropSubscription { subscription } => self.drop_subscription(subscription),
             Event::Stats { subscription } => self.stats(subscription),
+            Event::Trim { keep, before, most } => self.trim(*keep, *before, *most),
+            Event::SetRetention { retention } => self.set_retention(*retention),
             Event::Dispatch { subscription, now } => self.dispatch(subscription, *now),
             Event::Collect { consumer } => self.collect(*consumer),
             Event::DeadNext { subscription } => self.dead_next(subscription),
@@ -80,5 +82,9 @@ impl Topic for Lists {
 
     fn out_copy(&self, consumer: ConsumerNumber) -> Result<Deliveries, Fault> {
         self.out_of(consumer)
+    }
+
+    fn retention(&self) -> Option<Retention> {
+        self.retention
     }
 }

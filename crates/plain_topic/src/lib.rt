@@ -16,5 +16,6 @@ mod seeking;
 mod statistics;
 mod taking_over;
 mod ticking;
+mod trimming;
 
 pub use plain::PlainTopic;

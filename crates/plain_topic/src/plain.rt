@@ -4,7 +4,7 @@ ghost use Rattle.position_core.specs.declared.fault.Fault.TheVariants.{NoMemory}
 ghost use Rattle.delivery_machine.specs.State.{fresh};
 
 use crate::lists::Lists;
-use delivery_machine::{Deliveries, Event, Opened, Reply, Saved, Snapshot, Topic};
+use delivery_machine::{Deliveries, Event, Opened, Reply, Retention, Saved, Snapshot, Topic};
 use position_core::{ConsumerNumber, Fault, LedgerSize, TopicName};
 use std::alloc::Global;
 use std::marker::Model;
@@ -57,6 +57,10 @@ impl Topic for PlainTopic {
 
     fn out_copy(&self, consumer: ConsumerNumber) -> Result<Deliveries, Fault> {
         self.lists.out_of(consumer)
+    }
+
+    fn retention(&self) -> Option<Retention> {
+        self.lists.retention
     }
 }
 

@@ -2,12 +2,12 @@
 ghost use Rattle.std.specs.Prelude.{◌≡◌, ◌++◌, IfOk, OnOk, map};
 
 use crate::lists::Lists;
-use delivery_machine::Reply;
+use delivery_machine::{Author, Reply};
 use plain_lists::{
     Producer, auto_name, drop_producer, is_connected, least_free, producer_at, store_all,
     store_all_to,
 };
-use plain_queries::{last_sequence, used_in};
+use plain_queries::{last_entry, last_sequence};
 use position_core::{
     Base, Body, Entry, Fault, Message, Moment, Ordinal, Position, ProducerName, ProducerNumber,
 };
@@ -21,6 +21,15 @@ fn connected_names(alloc: Global, producers: &[Producer]) -> Result<Vec<Producer
         names.push(producer.name().clone()?)?;
     }
     Ok(names)
+}
+
+fn add_authors(names: &mut Vec<ProducerName>, authors: &[Author]) -> Result<(), AllocError>
+    ensures { OnOk result (names.new.items ≡ names.old.items ++ map (λ a. a.name) authors.now) }
+{
+    for author in authors {
+        names.push(author.name.clone()?)?;
+    }
+    Ok(())
 }
 
 fn add_writers(names: &mut Vec<ProducerName>, log: &[Message]) -> Result<(), AllocError>
@@ -85,11 +94,13 @@ impl Lists {
         None
     }
 
-    /// The names of the connected producers, and of those that wrote the log.
+    /// The names of the connected producers, those that are remembered, and those of the producers of
+    /// the log.
     fn names_used(&self) -> Result<Vec<ProducerName>, AllocError>
         ensures { IfOk result (λ names. names.items ≡ names_used (state_of self.now)) }
     {
         let mut names = connected_names(self.alloc, &self.producers)?;
+        add_authors(&mut names, &self.authors)?;
         add_writers(&mut names, &self.log)?;
         Ok(names)
     }
@@ -139,7 +150,7 @@ impl Lists {
             return Reply::Refused(Fault::NoMemory);
         };
         let producer = self.next_producer;
-        let last = last_sequence(&self.log, &name, base.number());
+        let last = last_sequence(&self.authors, &self.log, &name, base.number());
         if self.connect(name, base).is_err() {
             return Reply::Refused(Fault::NoMemory);
         }
@@ -163,17 +174,20 @@ impl Lists {
     fn next_position(&self) -> Position
         ensures { result ≡ next_position (state_of self.now) }
     {
-        let used = used_in(&self.log, self.ledger) as u64;
-        if used < u64::from(self.ledger_size.get()) {
-            Position {
+        let last_in_ledger = u64::from(self.ledger_size.get()) - 1;
+        match last_entry(&self.log, self.ledger) {
+            None => Position {
                 ledger: self.ledger,
-                entry: used,
-            }
-        } else {
-            Position {
+                entry: 0,
+            },
+            Some(entry) if entry < last_in_ledger => Position {
+                ledger: self.ledger,
+                entry: entry + 1,
+            },
+            Some(_) => Position {
                 ledger: self.ledger + 1,
                 entry: 0,
-            }
+            },
         }
     }
 
@@ -192,13 +206,14 @@ impl Lists {
     ) -> Reply
         ensures { Answers (state_of self.old) (Publish producer sequence body.now now) result (state_of self.new) }
     {
-        let length = self.log.len() as u64;
+        let length = self.had();
         let full = self.is_full();
         let position = self.next_position();
         let Some(sender) = producer_at(&self.producers, producer) else {
             return Reply::Refused(Fault::NoSession);
         };
-        if sequence <= last_sequence(&self.log, sender.name(), sender.base().number()) {
+        let base = sender.base().number();
+        if sequence <= last_sequence(&self.authors, &self.log, sender.name(), base) {
             return Reply::Duplicate { length };
         }
         if full {
@@ -223,24 +238,25 @@ impl Lists {
     {
         self.durable = self.log.len();
         store_all(&mut self.subscriptions);
-        Reply::Durable(self.durable as u64)
+        Reply::Durable(self.had())
     }
 
     pub(crate) fn stored_to(&mut self, length: u64, ordinal: Ordinal) -> Reply
         ensures { Answers (state_of self.old) (StoredTo length ordinal) result (state_of self.new) }
     {
-        let kept = length.min(self.log.len() as u64) as usize;
+        let kept = length.saturating_sub(self.gone);
+        let kept = kept.min(self.log.len() as u64) as usize;
         self.durable = self.durable.max(kept);
         store_all_to(&mut self.subscriptions, ordinal);
-        Reply::Durable(self.durable as u64)
+        Reply::Durable(self.gone + self.durable as u64)
     }
 
     pub(crate) fn progress(&self) -> Reply
         ensures { Answers (state_of self.now) Progress result (state_of self.now) }
     {
         Reply::Progress {
-            durable: self.durable as u64,
-            length: self.log.len() as u64,
+            durable: self.gone + self.durable as u64,
+            length: self.had(),
         }
     }
 }

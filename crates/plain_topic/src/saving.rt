@@ -9,12 +9,22 @@ ghost use Rattle.delivery_machine.specs.State.{Subscription};
 ghost use Rattle.delivery_machine.specs.WellFormed.{IsSoundSubscription};
 
 use crate::lists::Lists;
-use delivery_machine::{KeptSubscription, Snapshot};
+use delivery_machine::{Author, KeptSubscription, Snapshot};
 use log_pieces::Pieces;
 use plain_lists::Subscription;
 use position_core::Message;
 use std::alloc::{AllocError, Global};
 use topic_restart::ledger_after;
+
+pub(crate) fn authors_of(alloc: Global, authors: &[Author]) -> Result<Vec<Author>, AllocError>
+    ensures { IfOk result (λ copies. copies.items ≡ authors.now) }
+{
+    let mut copies = Vec::new(alloc);
+    for author in authors {
+        copies.push(author.clone()?)?;
+    }
+    Ok(copies)
+}
 
 fn in_pieces(alloc: Global, log: &[Message]) -> Result<Pieces, AllocError>
     requires { length log.now ≤ 1048576 }
@@ -87,6 +97,7 @@ impl Lists {
         ensures { IfOk result (λ kept. snapshot_in kept ≡ snapshot_of (state_of self.now)) }
     {
         let name = self.name.clone()?;
+        let authors = authors_of(self.alloc, &self.authors)?;
         let log = in_pieces(self.alloc, &self.log)?;
         let subscriptions = kept_of_all(self.alloc, &self.subscriptions, &self.log)?;
         Ok(Snapshot::of(
@@ -94,6 +105,9 @@ impl Lists {
             self.ledger_size,
             self.ledger,
             self.next_ordinal,
+            self.gone,
+            authors,
+            self.retention,
             log,
             subscriptions,
         ))
@@ -105,6 +119,7 @@ impl Lists {
         ensures reached { IfOk result (λ lists. IsReached (state_of lists)) }
     {
         let name = snapshot.name().clone()?;
+        let authors = authors_of(alloc, snapshot.authors())?;
         let log = out_of_pieces(alloc, snapshot.log())?;
         let subscriptions = all_from_kept(alloc, snapshot.subscriptions(), &log)?;
         let durable = log.len();
@@ -116,6 +131,9 @@ impl Lists {
             next_ordinal: snapshot.next_ordinal(),
             next_producer: 1,
             next_consumer: 1,
+            gone: snapshot.gone(),
+            authors,
+            retention: snapshot.retention(),
             log,
             durable,
             producers: Vec::new(alloc),

@@ -2,7 +2,9 @@
 use crate::lists::Lists;
 use delivery_machine::Reply;
 use plain_lists::subscription_at;
-use plain_queries::{count_at, mark_delete, number_acknowledged, number_live, number_pending};
+use plain_queries::{
+    count_at, mark_delete, number_acknowledged, number_live, number_pending, oldest,
+};
 use position_core::{Fault, SubscriptionName};
 
 impl Lists {
@@ -25,6 +27,8 @@ impl Lists {
             live: number_live(self.visible(), subscription) as u64,
             pending: number_pending(&self.log, subscription) as u64,
             dead: subscription.number_of_dead() as u64,
+            gone: self.gone,
+            oldest: oldest(&self.log),
         }
     }
 }

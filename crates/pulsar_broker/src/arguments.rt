@@ -1,4 +1,5 @@
 // What the program's arguments ask for.
+use delivery_machine::{KeptAge, KeptMessages, Retention};
 
 /// What is to be served, and where.
 #[derive(Clone, Copy, Debug, PartialEq, Eq)]
@@ -10,11 +11,17 @@ pub struct Asked<'a> {
     pub workers: u32,
     /// After how many connections to end, at most 2^61.
     pub connections: Option<u64>,
+    /// What a topic keeps that has no rule of its own.
+    pub keep: Retention,
 }
 
 const MOST_WORKERS: u64 = 256;
 
 const MOST_CONNECTIONS: u64 = 2_305_843_009_213_693_952;
+
+const MOST_MESSAGES: u64 = 1_048_576;
+
+const MOST_MILLIS: u64 = 253_402_300_799_999;
 
 /// A decimal number with neither a sign nor leading zeros, up to a limit.
 fn number(word: &str, most: u64) -> Option<u64> {
@@ -37,8 +44,28 @@ fn workers(word: &str) -> Option<u32> {
     }
 }
 
-/// What the words after the program's name ask for. None where they are wrong.
-pub fn read_arguments(words: &[String]) -> Option<Asked<'_>> {
+fn messages(word: &str) -> Option<Retention> {
+    let count = u32::try_from(number(word, MOST_MESSAGES)?).ok()?;
+    Some(Retention::Messages(KeptMessages::new(count)?))
+}
+
+fn age(word: &str) -> Option<Retention> {
+    Some(Retention::Age(KeptAge::new(number(word, MOST_MILLIS)?)?))
+}
+
+/// What a rule says to keep: `all`, so many messages, or those of so many milliseconds, as `86400000ms`.
+fn rule(word: &str) -> Option<Retention> {
+    if word == "all" {
+        return Some(Retention::All);
+    }
+    match word.strip_suffix("ms") {
+        Some(millis) => age(millis),
+        None => messages(word),
+    }
+}
+
+/// What the words ask for, but for what is kept.
+fn read_others(words: &[String], keep: Retention) -> Option<Asked<'_>> {
     let (database, address, count, connections) = match words {
         [database, address, count] => (database, address, count, None),
         [database, address, count, connections] => (
@@ -54,5 +81,17 @@ pub fn read_arguments(words: &[String]) -> Option<Asked<'_>> {
         address: address.as_str(),
         workers: workers(count.as_str())?,
         connections,
+        keep,
     })
+}
+
+/// What the words after the program's name ask for. None where they are wrong. Without a rule all is kept.
+pub fn read_arguments(words: &[String]) -> Option<Asked<'_>> {
+    let Some((last, others)) = words.split_last() else {
+        return None;
+    };
+    match last.as_str().strip_prefix("keep=") {
+        Some(word) => read_others(others, rule(word)?),
+        None => read_others(words, Retention::All),
+    }
 }

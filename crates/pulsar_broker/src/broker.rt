@@ -104,7 +104,7 @@ fn serve_named<
     let Some(terms) = terms() else {
         return Fate::CannotServe;
     };
-    let directory = Directory::open(alloc, keeper, terms);
+    let directory = Directory::open(alloc, keeper, terms, asked.keep);
     let place: Place<TopicCore, S, J, Open> = Place::new(directory, Open);
     let Ok(place) = Arc::new(alloc, place) else {
         return Fate::CannotServe;

@@ -1,4 +1,4 @@
-//! Serves topics over WebSockets: `pulsar_broker <database> <address> <workers> [connections]`.
+//! Serves topics over WebSockets: `pulsar_broker <database> <address> <workers> [connections] [keep=<rule>]`.
 #![tactic(auto)]
 
 mod arguments;

@@ -15,7 +15,7 @@ use Rattle.delivery_machine.specs.declared.delivery.Delivery.{Delivery}
 use Rattle.delivery_machine.specs.declared.event.Event.{Event}
 use Rattle.delivery_machine.specs.declared.event.Event.TheVariants.{AddProducer}
 use Rattle.delivery_machine.specs.declared.reply.Reply.{Reply}
-use Rattle.delivery_machine.specs.declared.reply.Reply.TheVariants.{ProducerAdded, Published, Duplicate, Durable, Progress, Subscribed, Done, Sent, Idle, Copies, Released, Died, Rewound, Quiet, Stats, Dead, NoDead, Refused}
+use Rattle.delivery_machine.specs.declared.reply.Reply.TheVariants.{ProducerAdded, Published, Duplicate, Durable, Progress, Subscribed, Done, Sent, Idle, Copies, Released, Died, Rewound, Quiet, Stats, Dead, NoDead, Trimmed, Untrimmed, Refused}
 use Rattle.replay_lines.specs.Payloads.{payload_text}
 
 -- ---- names
@@ -101,9 +101,11 @@ reply_text event (Released position) = codes "released " ++ text_of position
 reply_text event (Died position ordinal) = codes "died " ++ text_of position ++ codes " " ++ decimal ordinal
 reply_text event (Rewound count) = codes "rewound " ++ decimal count
 reply_text event Quiet = codes "quiet"
-reply_text event (Stats kind members mark_delete acknowledged live pending dead) =
+reply_text event (Stats kind members mark_delete acknowledged live pending dead gone oldest) =
     subscription_text kind members mark_delete ++ counts_text acknowledged live pending dead
 reply_text event (Dead message target ordinal) =
     codes "dead " ++ decimal ordinal ++ codes " " ++ text_of message.position ++ codes " " ++ target_text target
 reply_text event NoDead = codes "nodead"
+reply_text event (Trimmed gone) = codes "trimmed " ++ decimal gone
+reply_text event Untrimmed = codes "untrimmed"
 reply_text event (Refused fault) = refused_text fault

@@ -295,6 +295,8 @@ pub fn append_reply(out: &mut String, event: &Event, reply: &Reply) -> Result<()
             live,
             pending,
             dead,
+            gone: _,
+            oldest: _,
         } => append_stats(
             out,
             *kind,
@@ -311,6 +313,8 @@ pub fn append_reply(out: &mut String, event: &Event, reply: &Reply) -> Result<()
             ordinal,
         } => append_dead(out, message, target, *ordinal),
         Reply::NoDead => out.push_str("nodead"),
+        Reply::Trimmed(gone) => append_counted(out, "trimmed ", *gone),
+        Reply::Untrimmed => out.push_str("untrimmed"),
         Reply::Refused(fault) => append_refused(out, *fault),
     }
 }

@@ -50,6 +50,7 @@ found_by_text commands.Dispatch = refl
 found_by_text commands.Collect = refl
 found_by_text commands.DeadNext = refl
 found_by_text commands.DeadDone = refl
+found_by_text commands.Trim = refl
 found_by_text commands.Restart = refl
 
 one_command : (c d : Command) → command_text c ≡ command_text d → c ≡ d
@@ -213,6 +214,14 @@ one_line_of this commands.DeadDone words a b h k =
     let name = at_place IsNameWord one_name h.0 k.0 v h.2 k.2 h.5 k.5 in
     let ordinal = at_place IsNumber one_number_at h.1 k.1 w h.3 k.3 h.6 k.6 in
     cc (h.7, k.7, name, ordinal)
+one_line_of this commands.Trim words a b h k =
+    let v : h.0 ≡ k.0 = cc (h.6, k.6) in
+    let w : h.1 ≡ k.1 = cc (h.6, k.6) in
+    let x : h.2 ≡ k.2 = cc (h.6, k.6) in
+    let keep = at_place IsNumber one_number_at h.0 k.0 v h.3 k.3 h.7 k.7 in
+    let before = at_place IsMoment one_moment h.1 k.1 w h.4 k.4 h.8 k.8 in
+    let most = at_place IsNumber one_number_at h.2 k.2 x h.5 k.5 h.9 k.9 in
+    cc (h.10, k.10, keep, before, most)
 one_line_of this commands.Restart words a b h k = h.1 ∙ sym k.1
 
 -- ---- the whole line

@@ -5,7 +5,7 @@ use Rattle.position_core.specs.declared.position.Position.{Position}
 use Rattle.position_core.specs.declared.body.Content.{Content}
 use Rattle.position_core.specs.Id.{IsIdOf}
 use Rattle.delivery_machine.specs.declared.event.Event.{Event}
-use Rattle.delivery_machine.specs.declared.event.Event.TheVariants.{AddProducer, DropProducer, Publish, Stored, Progress, Subscribe, Leave, Permit, Ack, AckUpTo, Nack, Tick, Seek, SeekTime, Skip, DropSubscription, Stats, Dispatch, Collect, DeadNext, DeadDone}
+use Rattle.delivery_machine.specs.declared.event.Event.TheVariants.{AddProducer, DropProducer, Publish, Stored, Progress, Subscribe, Leave, Permit, Ack, AckUpTo, Nack, Tick, Seek, SeekTime, Skip, DropSubscription, Stats, Dispatch, Collect, DeadNext, DeadDone, Trim}
 use Rattle.position_core.specs.declared.kind.Kind.{Kind}
 use Rattle.position_core.specs.declared.ranges.HashRange.{HashRange}
 use Rattle.position_core.specs.Kind.{same_kind}
@@ -56,6 +56,7 @@ command_text commands.Dispatch = codes "dispatch"
 command_text commands.Collect = codes "collect"
 command_text commands.DeadNext = codes "deadnext"
 command_text commands.DeadDone = codes "deaddone"
+command_text commands.Trim = codes "trim"
 command_text commands.Restart = codes "restart"
 
 abbrev pub IsKind : List ℕ → Kind → Type 0
@@ -196,6 +197,10 @@ IsLineOf this commands.DeadDone words line =
     (s n : List ℕ) × (name : List ℕ) × (ordinal : ℕ) × (words ≡ s ∷ n ∷ [])
     × IsNameWord s name × IsNumber n ordinal
     × (line ≡ lines.Event (DeadDone name ordinal))
+IsLineOf this commands.Trim words line =
+    (k n m : List ℕ) × (keep before most : ℕ) × (words ≡ k ∷ n ∷ m ∷ [])
+    × IsNumber k keep × IsMoment n before × IsNumber m most
+    × (line ≡ lines.Event (Trim keep before most))
 IsLineOf this commands.Restart words line = (words ≡ []) × (line ≡ lines.Restart)
 
 -- none of the words is empty, and with the command they stand for the line

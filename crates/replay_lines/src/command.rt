@@ -29,11 +29,12 @@ pub enum Command {
     Collect,
     DeadNext,
     DeadDone,
+    Trim,
     Restart,
 }
 
 /// Each command, in the order in which they are tried.
-const ALL: [Command; 22] = [
+const ALL: [Command; 23] = [
     Command::Producer,
     Command::DropProducer,
     Command::Publish,
@@ -55,6 +56,7 @@ const ALL: [Command; 22] = [
     Command::Collect,
     Command::DeadNext,
     Command::DeadDone,
+    Command::Trim,
     Command::Restart,
 ];
 
@@ -86,6 +88,7 @@ impl Command {
             Command::Collect => b"collect",
             Command::DeadNext => b"deadnext",
             Command::DeadDone => b"deaddone",
+            Command::Trim => b"trim",
             Command::Restart => b"restart",
         }
     }

@@ -73,6 +73,16 @@ pub fn read_progress(words: Words<'_>) -> Result<Line, Unread>
     Ok(Line::Event(Event::Progress))
 }
 
+pub fn read_trim(words: Words<'_>) -> Result<Line, Unread>
+    ensures { (this : TopicName) → Reads (Complete this Command.Trim words.entry) result }
+{
+    let (keep, before, most) = words.three()?;
+    let keep = read_number(keep)?;
+    let before = read_moment(before)?;
+    let most = read_number(most)?;
+    Ok(Line::Event(Event::Trim { keep, before, most }))
+}
+
 pub fn read_restart(words: Words<'_>) -> Result<Line, Unread>
     ensures { (this : TopicName) → Reads (Complete this Command.Restart words.entry) result }
 {

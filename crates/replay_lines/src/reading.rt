@@ -11,6 +11,7 @@ use crate::dying::{read_dead_done, read_dead_next};
 use crate::joining::{read_leave, read_permit, read_subscribe};
 use crate::producing::{
     read_drop_producer, read_producer, read_progress, read_publish, read_restart, read_stored,
+    read_trim,
 };
 use crate::seeking::{read_drop_subscription, read_seek, read_seek_time, read_skip, read_stats};
 use crate::words::{Unread, Words};
@@ -62,6 +63,7 @@ fn read_rest(
         Command::Collect => read_collect(words),
         Command::DeadNext => read_dead_next(alloc, words),
         Command::DeadDone => read_dead_done(alloc, words),
+        Command::Trim => read_trim(words),
         Command::Restart => read_restart(words),
     }
 }

@@ -1,23 +1,24 @@
 -- Rows of messages that were redelivered.
 use Rattle.std.proofs.Common.{◌≡◌, ℕ, List, [], ◌∷◌, ◌++◌, map, refl, ap, sym, ◌∙◌, subst, append-nil, Bor}
+use Rattle.std.specs.Prelude.{IsTrue}
 use Rattle.std.specs.FinMap as map_of
 use Rattle.std.specs.List.{All, AllByRecursion}
 use Rattle.std.proofs.lemmas.Grind.{flat_map-append}
 use Rattle.std.proofs.lemmas.List.{map-append}
 use Rattle.std.proofs.lemmas.List.Elements.{All-from_recursion, recursion_from_All}
 use Rattle.position_core.specs.declared.position.Position.{Position}
-use Rattle.position_core.specs.declared.message.Entry.{Entry}
 use Rattle.position_core.specs.Position.{positions_total}
 use Rattle.delivery_machine.specs.declared.counts.Counted.{Counted}
 use Rattle.delivery_machine.specs.Places.{KeptPlaces, KeptTopic, MayRestart, kept_in}
-use Rattle.delivery_machine.specs.WellFormed.{IsSoundSubscription}
+use Rattle.delivery_machine.specs.WellFormed.{IsSoundSubscription, has_message}
 use Rattle.row_forms.specs.declared.change.CountRow.{CountRow}
 use Rattle.row_forms.specs.declared.change.Difference.{Difference}
 use Rattle.row_forms.specs.declared.side.Side.{Side}
 use Rattle.row_forms.specs.declared.side.Side.TheVariants.{Gone, New, Both}
 use Rattle.row_forms.specs.Changes.{IsDifference, count_cells}
-use Rattle.row_forms.specs.Forms.{count_row, count_rows, place_in}
-use Rattle.row_forms.specs.Parts.{AreCountedIn, ExtendsByCounts, ExtendsByEntries, IsCountedIn, IsLonger}
+use Rattle.row_forms.specs.Forms.{Span, count_row, count_rows, place_in}
+use Rattle.row_forms.specs.Places.{number_of}
+use Rattle.row_forms.specs.Parts.{AreCountedIn, ExtendsByCounts, ExtendsByEntries, IsCountedIn, IsLater, IsRising}
 use Rattle.row_forms.specs.Sides.{new_of, old_of}
 use Rattle.row_forms.proofs.Differences.{IsJoined, extends-append, extends_in_all, nothing_more}
 use Rattle.row_forms.proofs.MapEntries.{all_entries}
@@ -29,12 +30,15 @@ entry_of counted = (counted.position, counted.times)
 
 -- ---- a count's row
 
-pub count_is : (row : CountRow) (sub : List ℕ) (log : List Entry) (counted : Position × ℕ) → row.sub ≡ sub → row.place ≡ place_in log counted.0 → row.times ≡ counted.1 → (topic : List ℕ) → count_cells topic row ≡ count_row topic sub log counted
+pub count_is : (row : CountRow) (sub : List ℕ) (log : Span) (counted : Position × ℕ) → row.sub ≡ sub → number_of row.place ≡ place_in log counted.0 → row.times ≡ counted.1 → (topic : List ℕ) → count_cells topic row ≡ count_row topic sub log counted
 count_is row sub log counted name place times topic = rw (name, place, times) refl
 
--- a message of the old log that is counted as often has the same row
-pub count_same : (sub : List ℕ) (was log : List Entry) (old new : Position × ℕ) → IsLonger was log → IsCountedIn was old → old.0 ≡ new.0 → old.1 ≡ new.1 → (topic : List ℕ) → count_row topic sub was old ≡ count_row topic sub log new
-count_same sub was log old new (more, longer) there position times topic = rw (longer, ← position, ← times, place_stays was more old.0 there) refl
+-- a message of both logs that is counted as often has the same row
+pub count_same : (sub : List ℕ) (was log : Span) (old new : Position × ℕ) → IsRising was.log → IsRising log.log → IsLater was log → IsCountedIn was.log old → IsCountedIn log.log new → old.0 ≡ new.0 → old.1 ≡ new.1
+    → (topic : List ℕ) → count_row topic sub was old ≡ count_row topic sub log new
+count_same sub was log old new rising after later there here position times topic =
+    let now : IsCountedIn log.log old = subst (λ (p : Position). IsTrue (has_message log.log p)) (sym position) here in
+    rw (← position, ← times, place_stays was log old.0 rising after later there now) refl
 
 -- ---- the parts of a walk
 
@@ -67,7 +71,7 @@ new_entries (Both old new) = refl
 
 -- ---- one after another
 
-module _ (sub : List ℕ) (was log : List Entry) where
+module _ (sub : List ℕ) (was log : Span) where
   pub no_entry_more : (d : Difference CountRow) → ExtendsByEntries sub was log [] [] d d
   no_entry_more d = nothing_more count_cells (λ topic. map (count_row topic sub was)) (λ topic. map (count_row topic sub log)) d (λ topic. refl) (λ topic. refl)
 
@@ -75,10 +79,10 @@ module _ (sub : List ℕ) (was log : List Entry) where
       → ExtendsByEntries sub was log (olds ++ olds2) (news ++ news2) d f
   entries-append = extends-append count_cells (λ topic. map (count_row topic sub was)) (λ topic. map (count_row topic sub log)) (λ topic. map-append (count_row topic sub was)) (λ topic. map-append (count_row topic sub log))
 
-pub counts_joined : (log : List Entry) → IsJoined (λ topic. count_rows topic log)
+pub counts_joined : (log : Span) → IsJoined (λ topic. count_rows topic log)
 counts_joined log topic first second = flat_map-append (λ (sub : KeptPlaces). map (count_row topic sub.name log) (map_of.entries sub.counts)) first second
 
-module _ (was log : List Entry) where
+module _ (was log : Span) where
   pub no_count_more : (d : Difference CountRow) → ExtendsByCounts was log [] [] d d
   no_count_more d = nothing_more count_cells (λ topic. count_rows topic was) (λ topic. count_rows topic log) d (λ topic. refl) (λ topic. refl)
 
@@ -112,3 +116,6 @@ counted_in kept may = All-from_recursion (AreCountedIn kept.log) kept.subscripti
     each : (subs : List KeptPlaces) → AllByRecursion (IsSoundSubscription kept.log) (map (kept_in kept.log) subs) → AllByRecursion (AreCountedIn kept.log) subs
     each [] sound = tt
     each (sub ∷ subs) sound = (all_entries positions_total (λ position times. IsCountedIn kept.log (position, times)) sub.counts (λ position times is. (sound.0.counted position times is).message), each subs sound.1)
+
+pub rising_in : (kept : KeptTopic) → MayRestart kept → IsRising kept.log
+rising_in kept may = may.sound.log.positions

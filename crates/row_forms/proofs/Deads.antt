@@ -10,18 +10,19 @@ use Rattle.position_core.specs.TopicName.{topic_text}
 use Rattle.row_forms.specs.declared.change.DeadRow.{DeadRow}
 use Rattle.row_forms.specs.declared.change.Difference.{Difference}
 use Rattle.row_forms.specs.Changes.{IsDifference, dead_cells}
-use Rattle.row_forms.specs.Forms.{dead_row, dead_rows, place_in}
+use Rattle.row_forms.specs.Forms.{Span, dead_row, dead_rows, place_in}
+use Rattle.row_forms.specs.Places.{number_of}
 use Rattle.row_forms.specs.Parts.{ExtendsByDeads, ExtendsByLetters, IsSameLetter}
 use Rattle.row_forms.proofs.Differences.{IsJoined, extends-append, extends_in_all, nothing_more}
 
-pub letter_is : (row : DeadRow) (sub : List ℕ) (log : List Entry) (d : DeadLetter) → row.sub ≡ sub → row.ordinal ≡ d.ordinal → row.place ≡ place_in log d.position → string_bytes row.target ≡ topic_text d.target
+pub letter_is : (row : DeadRow) (sub : List ℕ) (log : Span) (d : DeadLetter) → row.sub ≡ sub → row.ordinal ≡ d.ordinal → number_of row.place ≡ place_in log d.position → string_bytes row.target ≡ topic_text d.target
     → (topic : List ℕ) → dead_cells topic row ≡ dead_row topic sub log d
 letter_is row sub log d name ordinal place target topic = rw (name, ordinal, place, target) refl
 
-pub letter_same : (sub : List ℕ) (was log : List Entry) (old new : DeadLetter) → IsSameLetter was log old new → (topic : List ℕ) → dead_row topic sub was old ≡ dead_row topic sub log new
+pub letter_same : (sub : List ℕ) (was log : Span) (old new : DeadLetter) → IsSameLetter was log old new → (topic : List ℕ) → dead_row topic sub was old ≡ dead_row topic sub log new
 letter_same sub was log old new same topic = rw (same.ordinal, same.place, same.target) refl
 
-module _ (sub : List ℕ) (was log : List Entry) where
+module _ (sub : List ℕ) (was log : Span) where
   pub no_letter_more : (d : Difference DeadRow) → ExtendsByLetters sub was log [] [] d d
   no_letter_more d = nothing_more dead_cells (λ topic. map (dead_row topic sub was)) (λ topic. map (dead_row topic sub log)) d (λ topic. refl) (λ topic. refl)
 
@@ -29,10 +30,10 @@ module _ (sub : List ℕ) (was log : List Entry) where
       → ExtendsByLetters sub was log (olds ++ olds2) (news ++ news2) d f
   letters-append = extends-append dead_cells (λ topic. map (dead_row topic sub was)) (λ topic. map (dead_row topic sub log)) (λ topic. map-append (dead_row topic sub was)) (λ topic. map-append (dead_row topic sub log))
 
-pub rows-append : (log : List Entry) → IsJoined (λ topic. dead_rows topic log)
+pub rows-append : (log : Span) → IsJoined (λ topic. dead_rows topic log)
 rows-append log topic first second = flat_map-append (λ (sub : KeptPlaces). map (dead_row topic sub.name log) sub.dead) first second
 
-module _ (was log : List Entry) where
+module _ (was log : Span) where
   pub no_dead_more : (d : Difference DeadRow) → ExtendsByDeads was log [] [] d d
   no_dead_more d = nothing_more dead_cells (λ topic. dead_rows topic was) (λ topic. dead_rows topic log) d (λ topic. refl) (λ topic. refl)
 

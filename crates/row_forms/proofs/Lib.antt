@@ -1,4 +1,6 @@
 pub mod Acks
+pub mod Authors
+pub mod BelowPlaces
 pub mod Counts
 pub mod Deads
 pub mod Differences

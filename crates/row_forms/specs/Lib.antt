@@ -3,6 +3,7 @@ pub mod Schema
 pub mod Cells
 pub mod Properties
 pub mod Forms
+pub mod Places
 pub mod Standing
 pub mod Changes
 pub mod Sides

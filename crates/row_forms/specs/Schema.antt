@@ -53,6 +53,12 @@ dead_table tree = table_of (codes "dead") tree (required (codes "topic") Text �
 abbrev pub redelivery_table : ℕ → Table
 redelivery_table tree = table_of (codes "redelivery") tree (required (codes "topic") Text ∷ required (codes "sub") Text ∷ required (codes "idx") Integer ∷ required (codes "times") Integer ∷ []) (1 ∷ 2 ∷ 3 ∷ [])
 
+abbrev pub author_table : ℕ → Table
+author_table tree = table_of (codes "author") tree (required (codes "topic") Text ∷ required (codes "idx") Integer ∷ required (codes "producer") Text ∷ required (codes "sequence") Integer ∷ []) (1 ∷ 2 ∷ [])
+
+abbrev pub retention_table : ℕ → Table
+retention_table tree = table_of (codes "retention") tree (required (codes "topic") Text ∷ required (codes "gone") Integer ∷ required (codes "kind") Integer ∷ required (codes "amount") Integer ∷ []) (1 ∷ [])
+
 abbrev pub schema_0 : Schema
 schema_0 = record { tables = []; indexes = []; views = [] }
 
@@ -78,3 +84,10 @@ schema_6 = record { tables = meta_table 0 ∷ topic_table 1 ∷ entry_table 3 �
 -- and the seven of version 2
 abbrev pub schema_7 : Schema
 schema_7 = record { tables = meta_table 0 ∷ topic_table 1 ∷ entry_table 3 ∷ sub_table 5 ∷ ack_table 7 ∷ dead_table 9 ∷ redelivery_table 11 ∷ []; indexes = index_of (codes "sqlite_autoindex_topic_1") 2 1 (1 ∷ []) ∷ index_of (codes "sqlite_autoindex_entry_1") 4 3 (1 ∷ 2 ∷ []) ∷ index_of (codes "sqlite_autoindex_sub_1") 6 5 (1 ∷ 2 ∷ []) ∷ index_of (codes "sqlite_autoindex_ack_1") 8 7 (1 ∷ 2 ∷ 3 ∷ []) ∷ index_of (codes "sqlite_autoindex_dead_1") 10 9 (1 ∷ 2 ∷ 3 ∷ []) ∷ index_of (codes "sqlite_autoindex_redelivery_1") 12 11 (1 ∷ 2 ∷ 3 ∷ []) ∷ []; views = [] }
+
+abbrev pub schema_8 : Schema
+schema_8 = record { tables = meta_table 0 ∷ topic_table 1 ∷ entry_table 3 ∷ sub_table 5 ∷ ack_table 7 ∷ dead_table 9 ∷ redelivery_table 11 ∷ author_table 13 ∷ []; indexes = index_of (codes "sqlite_autoindex_topic_1") 2 1 (1 ∷ []) ∷ index_of (codes "sqlite_autoindex_entry_1") 4 3 (1 ∷ 2 ∷ []) ∷ index_of (codes "sqlite_autoindex_sub_1") 6 5 (1 ∷ 2 ∷ []) ∷ index_of (codes "sqlite_autoindex_ack_1") 8 7 (1 ∷ 2 ∷ 3 ∷ []) ∷ index_of (codes "sqlite_autoindex_dead_1") 10 9 (1 ∷ 2 ∷ 3 ∷ []) ∷ index_of (codes "sqlite_autoindex_redelivery_1") 12 11 (1 ∷ 2 ∷ 3 ∷ []) ∷ index_of (codes "sqlite_autoindex_author_1") 14 13 (1 ∷ 2 ∷ []) ∷ []; views = [] }
+
+-- and the nine of version 3
+abbrev pub schema_9 : Schema
+schema_9 = record { tables = meta_table 0 ∷ topic_table 1 ∷ entry_table 3 ∷ sub_table 5 ∷ ack_table 7 ∷ dead_table 9 ∷ redelivery_table 11 ∷ author_table 13 ∷ retention_table 15 ∷ []; indexes = index_of (codes "sqlite_autoindex_topic_1") 2 1 (1 ∷ []) ∷ index_of (codes "sqlite_autoindex_entry_1") 4 3 (1 ∷ 2 ∷ []) ∷ index_of (codes "sqlite_autoindex_sub_1") 6 5 (1 ∷ 2 ∷ []) ∷ index_of (codes "sqlite_autoindex_ack_1") 8 7 (1 ∷ 2 ∷ 3 ∷ []) ∷ index_of (codes "sqlite_autoindex_dead_1") 10 9 (1 ∷ 2 ∷ 3 ∷ []) ∷ index_of (codes "sqlite_autoindex_redelivery_1") 12 11 (1 ∷ 2 ∷ 3 ∷ []) ∷ index_of (codes "sqlite_autoindex_author_1") 14 13 (1 ∷ 2 ∷ []) ∷ index_of (codes "sqlite_autoindex_retention_1") 16 15 (1 ∷ []) ∷ []; views = [] }

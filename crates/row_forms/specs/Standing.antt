@@ -5,7 +5,7 @@ use Rattle.position_core.specs.TopicName.{topic_text}
 use Rattle.sqlite.specs.Tree.{Trees}
 use Rattle.sqlite.specs.Order.{Row}
 use Rattle.delivery_machine.specs.Places.{KeptTopic}
-use Rattle.row_forms.specs.Cells.{TOPIC, ENTRY, SUB, ACK, DEAD, REDELIVERY, bodies, of_topic}
+use Rattle.row_forms.specs.Cells.{TOPIC, ENTRY, SUB, ACK, DEAD, REDELIVERY, AUTHOR, RETENTION, bodies, of_topic}
 use Rattle.row_forms.specs.Forms.{TopicRows, AreRowsOf, no_rows}
 
 -- the rows of the topic in the table are these, in any order
@@ -20,6 +20,8 @@ pub record Has (topic : List ℕ) (rows : TopicRows) (db : Trees) : Type 0 where
   pub acks : HasIn ACK topic rows.acks db
   pub deads : HasIn DEAD topic rows.deads db
   pub counts : HasIn REDELIVERY topic rows.counts db
+  pub authors : HasIn AUTHOR topic rows.authors db
+  pub retentions : HasIn RETENTION topic rows.retentions db
 
 -- the topic's rows are those of what is kept of it
 abbrev pub Stands : KeptTopic → Trees → Type 0
@@ -41,6 +43,8 @@ pub record Same (topic : List ℕ) (old new : Trees) : Type 0 where
   pub acks : SameIn ACK topic old new
   pub deads : SameIn DEAD topic old new
   pub counts : SameIn REDELIVERY topic old new
+  pub authors : SameIn AUTHOR topic old new
+  pub retentions : SameIn RETENTION topic old new
 
 -- the rows of all topics but these are the same in both
 abbrev pub KeepsOthers : List (List ℕ) → Trees → Trees → Type 0

@@ -1,6 +1,8 @@
 // What has to change in the database for a topic's rows to become those of another snapshot of it.
 ghost use Rattle.std.specs.Prelude.{◌≡◌, [], ◌∷◌, ◌++◌, OnOk};
 
+use crate::places::Place;
+use delivery_machine::Author;
 use position_core::{Kind, Ordinal, SubscriptionName};
 use std::alloc::{AllocError, Global};
 
@@ -15,9 +17,9 @@ pub struct SubRow {
 #[derive(Drop)]
 pub struct AckRow {
     pub sub: SubscriptionName,
-    pub first: u64,
+    pub first: Place,
     /// The last place of the run.
-    pub last: u64,
+    pub last: Place,
 }
 
 /// A dead letter's row.
@@ -25,7 +27,7 @@ pub struct AckRow {
 pub struct DeadRow {
     pub sub: SubscriptionName,
     pub ordinal: Ordinal,
-    pub place: u64,
+    pub place: Place,
     pub target: String,
 }
 
@@ -33,8 +35,18 @@ pub struct DeadRow {
 #[derive(Drop)]
 pub struct CountRow {
     pub sub: SubscriptionName,
-    pub place: u64,
+    pub place: Place,
     pub times: u32,
+}
+
+/// The row of a topic of which messages are gone, or that has a rule of its own of what is kept.
+#[derive(Clone, Copy, PartialEq, Eq)]
+pub struct RetentionRow {
+    pub gone: u64,
+    /// 0 where the topic has no rule of its own, 1 for all, 2 for so many messages, 3 for so many milliseconds.
+    pub kind: u32,
+    /// How many of them; else 0.
+    pub amount: u64,
 }
 
 /// Which rows of a table go, and which come.
@@ -44,16 +56,21 @@ pub struct Difference<R: Drop> {
     pub news: Vec<R>,
 }
 
-/// Which rows of a topic go, and which come. Messages only come: those from the place `from` on.
+/// Which rows of a topic go, and which come.
 #[derive(Drop)]
 pub struct Change {
     /// Whether the topic's own row becomes another.
     pub topic: bool,
+    /// How many messages go, the first ones.
+    pub went: u64,
+    /// Messages come from this index of the log on.
     pub from: usize,
     pub subs: Difference<SubRow>,
     pub acks: Difference<AckRow>,
     pub deads: Difference<DeadRow>,
     pub counts: Difference<CountRow>,
+    pub authors: Difference<Author>,
+    pub retentions: Difference<RetentionRow>,
 }
 
 impl<R: Drop> Difference<R> {

@@ -1,22 +1,21 @@
 // What changes of the rows of messages that were redelivered.
 ghost use Rattle.std.specs.Prelude.{◌≡◌, All, map, IfOk, OnOk};
-ghost use Rattle.log_pieces.specs.Pieces.{joined};
 ghost use Rattle.row_forms.specs.Forms.{place_in};
-ghost use Rattle.row_forms.specs.Parts.{AreCountedIn, CountsDiffer, ExtendsByCounts, ExtendsByEntries, IsCountedIn, IsLonger, IsRising};
+ghost use Rattle.row_forms.specs.Parts.{AreCountedIn, CountsDiffer, ExtendsByCounts, ExtendsByEntries, IsCountedIn, IsLater, IsRising};
+ghost use Rattle.row_forms.specs.Places.{number_of, seen};
 ghost use Rattle.row_forms.specs.Sides.{IsOfOneKey, new_of, old_of};
 
 use crate::change::{CountRow, Difference};
-use crate::places::{Logs, place_in};
+use crate::places::{Kept, Logs, place_in};
 use crate::side::{Side, Walk};
 use delivery_machine::{Counted, KeptSubscription};
-use log_pieces::Pieces;
 use position_core::SubscriptionName;
 use std::alloc::{AllocError, Global};
 
-fn row_of(sub: &SubscriptionName, counted: &Counted, log: &Pieces) -> Result<CountRow, AllocError>
-    requires { IsRising (joined log.now) }
+fn row_of(sub: &SubscriptionName, counted: &Counted, log: Kept<'_>) -> Result<CountRow, AllocError>
+    requires { IsRising (seen log).log }
     ensures sub { IfOk result (λ row. row.sub ≡ sub.now) }
-    ensures place { IfOk result (λ row. row.place ≡ place_in (joined log.now) counted.now.position) }
+    ensures place { IfOk result (λ row. number_of row.place ≡ place_in (seen log.entry) counted.now.position) }
     ensures times { IfOk result (λ row. row.times ≡ counted.now.times) }
 {
     Ok(CountRow {
@@ -33,12 +32,13 @@ fn add_count(
     logs: Logs<'_>,
     side: Side<&Counted>,
 ) -> Result<(), AllocError>
-    requires was { IsRising (joined logs.was.now) }
-    requires now { IsRising (joined logs.now.now) }
-    requires longer { IsLonger (joined logs.was.now) (joined logs.now.now) }
-    requires there { All (IsCountedIn (joined logs.was.now)) (old_of (λ c. (c.now.position, c.now.times)) side) }
+    requires was { IsRising (seen logs.was).log }
+    requires now { IsRising (seen logs.now).log }
+    requires later { IsLater (seen logs.was) (seen logs.now) }
+    requires there { All (IsCountedIn (seen logs.was).log) (old_of (λ c. (c.now.position, c.now.times)) side) }
+    requires here { All (IsCountedIn (seen logs.now).log) (new_of (λ c. (c.now.position, c.now.times)) side) }
     requires key { IsOfOneKey (λ old new. old.now.position ≡ new.now.position) side }
-    ensures { OnOk result (ExtendsByEntries sub.now (joined logs.entry.was.now) (joined logs.entry.now.now) (old_of (λ c. (c.now.position, c.now.times)) side.entry) (new_of (λ c. (c.now.position, c.now.times)) side.entry) difference.old difference.new) }
+    ensures { OnOk result (ExtendsByEntries sub.now (seen logs.entry.was) (seen logs.entry.now) (old_of (λ c. (c.now.position, c.now.times)) side.entry) (new_of (λ c. (c.now.position, c.now.times)) side.entry) difference.old difference.new) }
 {
     match side {
         Side::Gone(old) => difference.goes(row_of(sub, old, logs.was)?),
@@ -62,11 +62,12 @@ fn add_counts(
     olds: &[Counted],
     news: &[Counted],
 ) -> Result<(), AllocError>
-    requires was { IsRising (joined logs.was.now) }
-    requires now { IsRising (joined logs.now.now) }
-    requires longer { IsLonger (joined logs.was.now) (joined logs.now.now) }
-    requires there { All (IsCountedIn (joined logs.was.now)) (map (λ c. (c.position, c.times)) olds.now) }
-    ensures { OnOk result (ExtendsByEntries sub.now (joined logs.entry.was.now) (joined logs.entry.now.now) (map (λ c. (c.position, c.times)) olds.now) (map (λ c. (c.position, c.times)) news.now) difference.old difference.new) }
+    requires was { IsRising (seen logs.was).log }
+    requires now { IsRising (seen logs.now).log }
+    requires later { IsLater (seen logs.was) (seen logs.now) }
+    requires there { All (IsCountedIn (seen logs.was).log) (map (λ c. (c.position, c.times)) olds.now) }
+    requires here { All (IsCountedIn (seen logs.now).log) (map (λ c. (c.position, c.times)) news.now) }
+    ensures { OnOk result (ExtendsByEntries sub.now (seen logs.entry.was) (seen logs.entry.now) (map (λ c. (c.position, c.times)) olds.now) (map (λ c. (c.position, c.times)) news.now) difference.old difference.new) }
 {
     let mut walk = Walk::of(olds, news);
     'sides: while let Some(side) = walk.next() {
@@ -80,12 +81,13 @@ fn add(
     logs: Logs<'_>,
     side: Side<&KeptSubscription>,
 ) -> Result<(), AllocError>
-    requires was { IsRising (joined logs.was.now) }
-    requires now { IsRising (joined logs.now.now) }
-    requires longer { IsLonger (joined logs.was.now) (joined logs.now.now) }
-    requires there { All (AreCountedIn (joined logs.was.now)) (old_of (λ sub. sub.now) side) }
+    requires was { IsRising (seen logs.was).log }
+    requires now { IsRising (seen logs.now).log }
+    requires later { IsLater (seen logs.was) (seen logs.now) }
+    requires there { All (AreCountedIn (seen logs.was).log) (old_of (λ sub. sub.now) side) }
+    requires here { All (AreCountedIn (seen logs.now).log) (new_of (λ sub. sub.now) side) }
     requires key { IsOfOneKey (λ old new. old.now.name ≡ new.now.name) side }
-    ensures { OnOk result (ExtendsByCounts (joined logs.entry.was.now) (joined logs.entry.now.now) (old_of (λ sub. sub.now) side.entry) (new_of (λ sub. sub.now) side.entry) difference.old difference.new) }
+    ensures { OnOk result (ExtendsByCounts (seen logs.entry.was) (seen logs.entry.now) (old_of (λ sub. sub.now) side.entry) (new_of (λ sub. sub.now) side.entry) difference.old difference.new) }
 {
     match side {
         Side::Gone(old) => add_counts(difference, &old.name, logs, old.counts.as_slice(), &[]),
@@ -108,11 +110,12 @@ pub(crate) fn count_difference(
     olds: &[KeptSubscription],
     news: &[KeptSubscription],
 ) -> Result<Difference<CountRow>, AllocError>
-    requires was { IsRising (joined logs.was.now) }
-    requires now { IsRising (joined logs.now.now) }
-    requires longer { IsLonger (joined logs.was.now) (joined logs.now.now) }
-    requires there { All (AreCountedIn (joined logs.was.now)) olds.now }
-    ensures { IfOk result (CountsDiffer (joined logs.entry.was.now) (joined logs.entry.now.now) olds.now news.now) }
+    requires was { IsRising (seen logs.was).log }
+    requires now { IsRising (seen logs.now).log }
+    requires later { IsLater (seen logs.was) (seen logs.now) }
+    requires there { All (AreCountedIn (seen logs.was).log) olds.now }
+    requires here { All (AreCountedIn (seen logs.now).log) news.now }
+    ensures { IfOk result (CountsDiffer (seen logs.entry.was) (seen logs.entry.now) olds.now news.now) }
 {
     let mut difference = Difference::none(alloc);
     let mut walk = Walk::of(olds, news);

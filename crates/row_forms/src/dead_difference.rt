@@ -1,17 +1,16 @@
 // What changes of the rows of dead letters.
 ghost use Rattle.std.specs.Prelude.{◌≡◌, string_bytes, IfOk, OnOk, IsTrue};
 ghost use Rattle.position_core.specs.TopicName.{topic_text};
-ghost use Rattle.log_pieces.specs.Pieces.{joined};
 ghost use Rattle.row_forms.specs.Forms.{place_in};
 ghost use Rattle.row_forms.specs.Parts.{DeadsDiffer, ExtendsByDeads, ExtendsByLetters, IsRising, IsSameLetter};
+ghost use Rattle.row_forms.specs.Places.{number_of, seen};
 ghost use Rattle.row_forms.specs.Sides.{IsOfOneKey, new_of, old_of};
 
 use crate::change::{DeadRow, Difference};
-use crate::places::{Logs, place_in};
+use crate::places::{Kept, Logs, place_in};
 use crate::side::{Side, Walk};
 use crate::texts::topic_text;
 use delivery_machine::{DeadLetter, KeptSubscription};
-use log_pieces::Pieces;
 use position_core::SubscriptionName;
 use std::alloc::{AllocError, Global};
 
@@ -19,12 +18,12 @@ fn row_of(
     alloc: Global,
     sub: &SubscriptionName,
     letter: &DeadLetter,
-    log: &Pieces,
+    log: Kept<'_>,
 ) -> Result<DeadRow, AllocError>
-    requires { IsRising (joined log.now) }
+    requires { IsRising (seen log).log }
     ensures sub { IfOk result (λ row. row.sub ≡ sub.now) }
     ensures ordinal { IfOk result (λ row. row.ordinal ≡ letter.now.ordinal) }
-    ensures place { IfOk result (λ row. row.place ≡ place_in (joined log.now) letter.now.position) }
+    ensures place { IfOk result (λ row. number_of row.place ≡ place_in (seen log.entry) letter.now.position) }
     ensures target { IfOk result (λ row. string_bytes row.target ≡ topic_text letter.now.target) }
 {
     Ok(DeadRow {
@@ -37,12 +36,12 @@ fn row_of(
 
 /// Whether both have one row.
 fn is_same(logs: Logs<'_>, old: &DeadLetter, new: &DeadLetter) -> bool
-    requires was { IsRising (joined logs.was.now) }
-    requires now { IsRising (joined logs.now.now) }
-    ensures { IsTrue result → IsSameLetter (joined logs.entry.was.now) (joined logs.entry.now.now) old.now new.now }
+    requires was { IsRising (seen logs.was).log }
+    requires now { IsRising (seen logs.now).log }
+    ensures { IsTrue result → IsSameLetter (seen logs.entry.was) (seen logs.entry.now) old.now new.now }
 {
     old.ordinal == new.ordinal
-        && place_in(logs.was, old.position) == place_in(logs.now, new.position)
+        && place_in(logs.was, old.position).is(place_in(logs.now, new.position))
         && old.target.is(&new.target)
 }
 
@@ -53,9 +52,9 @@ fn add_letter(
     logs: Logs<'_>,
     side: Side<&DeadLetter>,
 ) -> Result<(), AllocError>
-    requires was { IsRising (joined logs.was.now) }
-    requires now { IsRising (joined logs.now.now) }
-    ensures { OnOk result (ExtendsByLetters sub.now (joined logs.entry.was.now) (joined logs.entry.now.now) (old_of (λ d. d.now) side.entry) (new_of (λ d. d.now) side.entry) difference.old difference.new) }
+    requires was { IsRising (seen logs.was).log }
+    requires now { IsRising (seen logs.now).log }
+    ensures { OnOk result (ExtendsByLetters sub.now (seen logs.entry.was) (seen logs.entry.now) (old_of (λ d. d.now) side.entry) (new_of (λ d. d.now) side.entry) difference.old difference.new) }
 {
     match side {
         Side::Gone(old) => difference.goes(row_of(alloc, sub, old, logs.was)?),
@@ -80,9 +79,9 @@ fn add_letters(
     olds: &[DeadLetter],
     news: &[DeadLetter],
 ) -> Result<(), AllocError>
-    requires was { IsRising (joined logs.was.now) }
-    requires now { IsRising (joined logs.now.now) }
-    ensures { OnOk result (ExtendsByLetters sub.now (joined logs.entry.was.now) (joined logs.entry.now.now) olds.now news.now difference.old difference.new) }
+    requires was { IsRising (seen logs.was).log }
+    requires now { IsRising (seen logs.now).log }
+    ensures { OnOk result (ExtendsByLetters sub.now (seen logs.entry.was) (seen logs.entry.now) olds.now news.now difference.old difference.new) }
 {
     let mut walk = Walk::of(olds, news);
     'sides: while let Some(side) = walk.next() {
@@ -97,10 +96,10 @@ fn add(
     logs: Logs<'_>,
     side: Side<&KeptSubscription>,
 ) -> Result<(), AllocError>
-    requires was { IsRising (joined logs.was.now) }
-    requires now { IsRising (joined logs.now.now) }
+    requires was { IsRising (seen logs.was).log }
+    requires now { IsRising (seen logs.now).log }
     requires key { IsOfOneKey (λ old new. old.now.name ≡ new.now.name) side }
-    ensures { OnOk result (ExtendsByDeads (joined logs.entry.was.now) (joined logs.entry.now.now) (old_of (λ sub. sub.now) side.entry) (new_of (λ sub. sub.now) side.entry) difference.old difference.new) }
+    ensures { OnOk result (ExtendsByDeads (seen logs.entry.was) (seen logs.entry.now) (old_of (λ sub. sub.now) side.entry) (new_of (λ sub. sub.now) side.entry) difference.old difference.new) }
 {
     match side {
         Side::Gone(old) => add_letters(alloc, difference, &old.name, logs, &old.dead, &[]),
@@ -117,9 +116,9 @@ pub(crate) fn dead_difference(
     olds: &[KeptSubscription],
     news: &[KeptSubscription],
 ) -> Result<Difference<DeadRow>, AllocError>
-    requires was { IsRising (joined logs.was.now) }
-    requires now { IsRising (joined logs.now.now) }
-    ensures { IfOk result (DeadsDiffer (joined logs.entry.was.now) (joined logs.entry.now.now) olds.now news.now) }
+    requires was { IsRising (seen logs.was).log }
+    requires now { IsRising (seen logs.now).log }
+    ensures { IfOk result (DeadsDiffer (seen logs.entry.was) (seen logs.entry.now) olds.now news.now) }
 {
     let mut difference = Difference::none(alloc);
     let mut walk = Walk::of(olds, news);

@@ -2,7 +2,7 @@
 ghost use Rattle.std.specs.Prelude.{◌≡◌, ◌++◌, [], IfSome, IfNone};
 ghost use Rattle.row_forms.specs.Sides.{IsOfOneKey, new_of, old_of};
 
-use delivery_machine::{Counted, DeadLetter, KeptSubscription};
+use delivery_machine::{Author, Counted, DeadLetter, KeptSubscription};
 use std::cmp::Ordering;
 
 /// What comes first in two lists: it stands in one of them alone, or one of its key stands in each.
@@ -48,6 +48,16 @@ impl Keyed for Counted {
 
     fn order(&self, other: &Self) -> Ordering {
         self.position.cmp(&other.position)
+    }
+}
+
+impl Keyed for Author {
+    ghost use Rattle.std.specs.Prelude.{⊤};
+
+    ghost same_key = { λ old new. ⊤ };
+
+    fn order(&self, other: &Self) -> Ordering {
+        self.index.cmp(&other.index)
     }
 }
 

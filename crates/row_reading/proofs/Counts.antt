@@ -1,5 +1,5 @@
 -- Counts and their rows.
-use Rattle.std.proofs.Common.{◌≡◌, ℕ, Bool, true, false, cond, List, [], ◌∷◌, ◌++◌, map, length, pos, Some, refl, ap, sym, ◌∙◌, subst}
+use Rattle.std.proofs.Common.{◌≡◌, ℕ, ◌+◌, arith, Bool, true, false, cond, List, [], ◌∷◌, ◌++◌, map, length, pos, Some, refl, ap, sym, ◌∙◌, subst}
 use Rattle.std.specs.List.{AllByRecursion}
 use Rattle.std.specs.FinMap as map_of
 use Rattle.std.specs.FinMap.Entries as entries_of
@@ -21,7 +21,7 @@ use Rattle.delivery_machine.specs.State.{DeadLetter}
 use Rattle.delivery_machine.specs.WellFormed.{AreCountsOf, has_message}
 use Rattle.delivery_machine.proofs.Entries.{all_below}
 use Rattle.delivery_machine.proofs.Tended.{position_is}
-use Rattle.row_forms.specs.Forms.{count_row, place_in}
+use Rattle.row_forms.specs.Forms.{Span, count_row, index_in, place_in}
 use Rattle.row_forms.specs.Parts.{IsRising}
 use Rattle.row_forms.proofs.MapEntries.{all_entries}
 use Rattle.row_reading.specs.Reading.{AreDeadAt, BeginsWithCounts, IsCountAt, MayCount, put}
@@ -32,27 +32,28 @@ use Rattle.row_reading.proofs.PlacesRead.{one_place, stands_at_place}
 
 -- ---- a row
 
-pub count_cells_are : (sub : List ℕ) (log : List Entry) (row : Row) (counted : Position × ℕ) → IsCountAt sub log row counted → row ≡ Words sub ∷ Int (pos (place_in log counted.0)) ∷ Int (pos counted.1) ∷ []
-count_cells_are sub log row counted shown = let here : Words [] ∷ row ≡ count_row [] sub log counted = shown [] in cc
+pub count_cells_are : (sub : List ℕ) (span : Span) (row : Row) (counted : Position × ℕ) → IsCountAt sub span row counted → row ≡ Words sub ∷ Int (pos (place_in span counted.0)) ∷ Int (pos counted.1) ∷ []
+count_cells_are sub span row counted shown = let here : Words [] ∷ row ≡ count_row [] sub span counted = shown [] in cc
 
-pub count_shown : (sub : List ℕ) (log : List Entry) (row : Row) (position : Position) (place times : ℕ) → length row ≡ 3 → column row 0 ≡ Words sub → column row 1 ≡ Int (pos place) → column row 2 ≡ Int (pos times) → place ≡ place_in log position
-    → IsCountAt sub log row (position, times)
-count_shown sub log row position place times long named stands counts is topic = ap (λ (r : Row). Words topic ∷ r) (three row long) ∙ rw (named, stands, counts, is) refl
+pub count_shown : (sub : List ℕ) (span : Span) (row : Row) (position : Position) (place times : ℕ) → length row ≡ 3 → column row 0 ≡ Words sub → column row 1 ≡ Int (pos (span.gone + place)) → column row 2 ≡ Int (pos times) → place ≡ index_in span.log position
+    → IsCountAt sub span row (position, times)
+count_shown sub span row position place times long named stands counts is topic = ap (λ (r : Row). Words topic ∷ r) (three row long) ∙ rw (named, stands, counts, is) refl
 
 -- the message that is counted is of the log
 abbrev pub IsOfLog : List Entry → Position × ℕ → Type 0
 IsOfLog log counted = has_message log counted.0 ≡ true
 
 -- a row is that of one count
-pub one_count : (topic sub : List ℕ) (log : List Entry) (x y : Position × ℕ) → IsOfLog log x → IsOfLog log y → count_row topic sub log x ≡ count_row topic sub log y → x ≡ y
-one_count topic sub log x y here there e =
-    let place : place_in log x.0 ≡ place_in log y.0 = cc in
+pub one_count : (topic sub : List ℕ) (span : Span) (x y : Position × ℕ) → IsOfLog span.log x → IsOfLog span.log y → count_row topic sub span x ≡ count_row topic sub span y → x ≡ y
+one_count topic sub span x y here there e =
+    let places : span.gone + index_in span.log x.0 ≡ span.gone + index_in span.log y.0 = cc in
+    let place : index_in span.log x.0 ≡ index_in span.log y.0 = omega (arith, places) in
     let times : x.1 ≡ y.1 = cc in
-    pair_is x y (one_place log x.0 y.0 here there place) times
+    pair_is x y (one_place span.log x.0 y.0 here there place) times
 
 -- a row shows one message
-pub same_count : (sub : List ℕ) (log : List Entry) (row : Row) (x y : Position × ℕ) → IsOfLog log x → IsOfLog log y → IsCountAt sub log row x → IsCountAt sub log row y → x.0 ≡ y.0
-same_count sub log row x y here there one other = ap (λ (c : Position × ℕ). c.0) (one_count [] sub log x y here there (sym (one []) ∙ other []))
+pub same_count : (sub : List ℕ) (span : Span) (row : Row) (x y : Position × ℕ) → IsOfLog span.log x → IsOfLog span.log y → IsCountAt sub span row x → IsCountAt sub span row y → x.0 ≡ y.0
+same_count sub span row x y here there one other = ap (λ (c : Position × ℕ). c.0) (one_count [] sub span x y here there (sym (one []) ∙ other []))
 
 -- ---- one more count
 
@@ -65,19 +66,19 @@ put_last {R = R} total k v (e ∷ es) below =
 abbrev Counts : Type 0
 Counts = map_of.FinMap position_cmp ℕ
 
-pub none_begins : (sub : List ℕ) (log : List Entry) (rows : List Row) → BeginsWithCounts sub log map_of.empty rows rows
-none_begins sub log rows topic = ap (λ es. map (count_row topic sub log) es ++ put topic rows) (sym (nil_from_length (map_of.entries map_of.empty) (sym (map_of.len-entries map_of.empty) ∙ map_of.len-empty position_cmp ℕ)))
+pub none_begins : (sub : List ℕ) (span : Span) (rows : List Row) → BeginsWithCounts sub span map_of.empty rows rows
+none_begins sub span rows topic = ap (λ es. map (count_row topic sub span) es ++ put topic rows) (sym (nil_from_length (map_of.entries map_of.empty) (sym (map_of.len-entries map_of.empty) ∙ map_of.len-empty position_cmp ℕ)))
 
 entries_more : (counts : Counts) (position : Position) (times : ℕ) → IsAfterAll counts position → map_of.entries (map_of.insert counts position times) ≡ map_of.entries counts ++ (position, times) ∷ []
 entries_more counts position times after =
     map_of.entries-insert positions_total counts position times
     ∙ put_last positions_total position times (map_of.entries counts) (all_below positions_total position (map_of.keys counts) (λ q there. after q (map_of.contains_key-keys counts q ∙ there)))
 
-pub counts_more : (sub : List ℕ) (log : List Entry) (counts : Counts) (position : Position) (times : ℕ) (rows rest after : List Row) (row : Row) → BeginsWithCounts sub log counts rows rest → rest ≡ row ∷ after → IsCountAt sub log row (position, times)
-    → IsAfterAll counts position → BeginsWithCounts sub log (map_of.insert counts position times) rows after
-counts_more sub log counts position times rows rest after row so_far next shown last topic =
-    one_more (count_row topic sub log) (map_of.entries counts) (position, times) topic rows rest after row (so_far topic) next (shown topic)
-    ∙ ap (λ es. map (count_row topic sub log) es ++ put topic after) (sym (entries_more counts position times last))
+pub counts_more : (sub : List ℕ) (span : Span) (counts : Counts) (position : Position) (times : ℕ) (rows rest after : List Row) (row : Row) → BeginsWithCounts sub span counts rows rest → rest ≡ row ∷ after → IsCountAt sub span row (position, times)
+    → IsAfterAll counts position → BeginsWithCounts sub span (map_of.insert counts position times) rows after
+counts_more sub span counts position times rows rest after row so_far next shown last topic =
+    one_more (count_row topic sub span) (map_of.entries counts) (position, times) topic rows rest after row (so_far topic) next (shown topic)
+    ∙ ap (λ es. map (count_row topic sub span) es ++ put topic after) (sym (entries_more counts position times last))
 
 -- ---- which messages may be counted
 

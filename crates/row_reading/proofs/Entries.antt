@@ -33,17 +33,16 @@ entry_shown row place e long at ledger entry producer sequence time key properti
 -- ---- one more message
 
 -- the row after the messages that came is that of the next one
-pub row_goes_on : (log : List Entry) (row : Row) (e : Entry) → IsEntryAt (length log) row e → GoOn log (row ∷ []) (log ++ e ∷ [])
-row_goes_on log row e shown topic =
-    let one : Words topic ∷ row ≡ entry_row topic (0 + length log) e = shown topic ∙ ap (λ n. entry_row topic n e) (omega arith) in
-    ap (λ r. entry_rows topic 0 log ++ r ∷ []) one ∙ sym (rows_from topic 0 log (e ∷ []))
+pub row_goes_on : (gone : ℕ) (log : List Entry) (row : Row) (e : Entry) → IsEntryAt (gone + length log) row e → GoOn gone log (row ∷ []) (log ++ e ∷ [])
+row_goes_on gone log row e shown topic =
+    ap (λ r. entry_rows topic gone log ++ r ∷ []) (shown topic) ∙ sym (rows_from topic gone log (e ∷ []))
 
 -- one row more goes on where the others did
-pub rows_go_on : (came log more : List Entry) (rows : List Row) (i : ℕ) (row : Row) → i < length rows → row ≡ get_or rows i row → GoOn came (take i rows) log → GoOn log (row ∷ []) more → GoOn came (take (i + 1) rows) more
-rows_go_on came log more rows i row low at so_far next topic =
-    ap (λ l. entry_rows topic 0 came ++ put topic l) (take_more rows i row low ∙ ap (λ r. take i rows ++ r ∷ []) (sym at))
-    ∙ ap (λ l. entry_rows topic 0 came ++ l) (map-append (λ (r : Row). Words topic ∷ r) (take i rows) (row ∷ []))
-    ∙ sym (append_assoc (entry_rows topic 0 came) (put topic (take i rows)) (put topic (row ∷ [])))
+pub rows_go_on : (gone : ℕ) (came log more : List Entry) (rows : List Row) (i : ℕ) (row : Row) → i < length rows → row ≡ get_or rows i row → GoOn gone came (take i rows) log → GoOn gone log (row ∷ []) more → GoOn gone came (take (i + 1) rows) more
+rows_go_on gone came log more rows i row low at so_far next topic =
+    ap (λ l. entry_rows topic gone came ++ put topic l) (take_more rows i row low ∙ ap (λ r. take i rows ++ r ∷ []) (sym at))
+    ∙ ap (λ l. entry_rows topic gone came ++ l) (map-append (λ (r : Row). Words topic ∷ r) (take i rows) (row ∷ []))
+    ∙ sym (append_assoc (entry_rows topic gone came) (put topic (take i rows)) (put topic (row ∷ [])))
     ∙ ap (λ l. l ++ put topic (row ∷ [])) (so_far topic)
     ∙ next topic
 

@@ -22,7 +22,7 @@ use Rattle.delivery_machine.specs.State.{DeadLetter}
 use Rattle.delivery_machine.specs.Places.{KeptPlaces, positions_at}
 use Rattle.delivery_machine.specs.WellFormed.{AreCountsOf, NamesRise}
 use Rattle.delivery_machine.proofs.Ordinals.{once_distinct}
-use Rattle.row_forms.specs.Forms.{AreAckRows, count_rows, dead_rows, kind_number, sub_row, sub_rows}
+use Rattle.row_forms.specs.Forms.{AreAckRows, Span, count_rows, dead_rows, kind_number, sub_row, sub_rows}
 use Rattle.row_reading.specs.Reading.{ArePast, BeginWithCounts, BeginsWithAcks, BeginsWithCounts, BeginsWithDeads, BeginsWithLetters, BeginsWithRuns, IsReadable, IsReadableSub, IsSubOf, OrdinalsCame, ShowSubs, put}
 use Rattle.row_reading.proofs.Letters.{counted}
 use Rattle.row_reading.proofs.NextLetters.{never_came}
@@ -37,12 +37,12 @@ use Rattle.row_reading.proofs.FirstSub.{Begins, begins, counts_of, letters_of, o
 -- ---- what is left
 
 -- the rows that are left are those of the subscriptions after those that were read
-pub record AreLeft (topic : List ℕ) (log : List Entry) (all done : List KeptPlaces) (acks deads counts : List Row) : Type 0 where
+pub record AreLeft (topic : List ℕ) (span : Span) (all done : List KeptPlaces) (acks deads counts : List Row) : Type 0 where
   pub more : List KeptPlaces
   pub is : all ≡ done ++ more
-  pub runs : AreAckRows topic more (put topic acks)
-  pub letters : put topic deads ≡ dead_rows topic log more
-  pub counted : put topic counts ≡ count_rows topic log more
+  pub runs : AreAckRows topic span.gone more (put topic acks)
+  pub letters : put topic deads ≡ dead_rows topic span more
+  pub counted : put topic counts ≡ count_rows topic span more
 
 same_rest : (xs us vs : List Row) → xs ++ us ≡ xs ++ vs → us ≡ vs
 same_rest [] us vs e = e
@@ -77,16 +77,16 @@ names_after [] sub others rise = rise.0
 names_after (x ∷ xs) sub others rise = names_after xs sub others rise.1
 
 -- the next subscription, with its rows
-pub record IsNextSub (topic : List ℕ) (log : List Entry) (all done : List KeptPlaces) (row : Row) (acks deads counts : List Row) : Type 0 where
+pub record IsNextSub (topic : List ℕ) (span : Span) (all done : List KeptPlaces) (row : Row) (acks deads counts : List Row) : Type 0 where
   pub sub : KeptPlaces
   pub others : List KeptPlaces
   pub is : all ≡ done ++ sub ∷ others
   pub shown : (t : List ℕ) → Words t ∷ row ≡ sub_row t sub
-  pub begins : Begins topic log sub others acks deads counts
+  pub begins : Begins topic span sub others acks deads counts
 
-pub the_next : (own : TopicName) (log : List Entry) (next : ℕ) (topic : List ℕ) (all done : List KeptPlaces) (rows acks deads counts left_acks left_deads left_counts : List Row) (i : ℕ) (row : Row) → ShowSubs own log next topic all rows acks deads counts
-    → AreLeft topic log all done left_acks left_deads left_counts → i < length rows → row ≡ get_or rows i row → put topic (take i rows) ≡ sub_rows topic done → IsNextSub topic log all done row left_acks left_deads left_counts
-the_next own log next topic all done rows acks deads counts left_acks left_deads left_counts i row show left low at so_far =
+pub the_next : (own : TopicName) (span : Span) (next : ℕ) (topic : List ℕ) (all done : List KeptPlaces) (rows acks deads counts left_acks left_deads left_counts : List Row) (i : ℕ) (row : Row) → ShowSubs own span next topic all rows acks deads counts
+    → AreLeft topic span all done left_acks left_deads left_counts → i < length rows → row ≡ get_or rows i row → put topic (take i rows) ≡ sub_rows topic done → IsNextSub topic span all done row left_acks left_deads left_counts
+the_next own span next topic all done rows acks deads counts left_acks left_deads left_counts i row show left low at so_far =
     let n = next_sub topic rows i row done left.more low at so_far (show.shown ∙ ap (sub_rows topic) left.is) in
     let is : all ≡ done ++ n.0 ∷ n.1 = left.is ∙ ap (λ l. done ++ l) n.2 in
     record {
@@ -94,7 +94,7 @@ the_next own log next topic all done rows acks deads counts left_acks left_deads
       others = n.1;
       is = is;
       shown = λ t. own_moves topic t row n.0 n.3;
-      begins = begins topic log n.0 n.1 left_acks left_deads left_counts (subst (λ l. AreAckRows topic l (put topic left_acks)) n.2 left.runs) (left.letters ∙ ap (dead_rows topic log) n.2) (left.counted ∙ ap (count_rows topic log) n.2)
+      begins = begins topic span n.0 n.1 left_acks left_deads left_counts (subst (λ l. AreAckRows topic span.gone l (put topic left_acks)) n.2 left.runs) (left.letters ∙ ap (dead_rows topic span) n.2) (left.counted ∙ ap (count_rows topic span) n.2)
           (names_after done n.0 n.1 (subst (λ l. NamesRise (map (λ (s : KeptPlaces). s.name) l)) is show.names));
     }
 
@@ -102,36 +102,36 @@ one_kind_shown : (row : Row) (a b : KeptPlaces) → row ≡ Words a.name ∷ Int
 one_kind_shown row a b x y = (cc, cc)
 
 -- the rows of one subscription are the first ones, and then those of others follow
-pub record IsRead (log : List Entry) (row : Row) (sub : KeptPlaces) (acks deads counts after_acks after_deads after_counts : List Row) : Type 0 where
+pub record IsRead (span : Span) (row : Row) (sub : KeptPlaces) (acks deads counts after_acks after_deads after_counts : List Row) : Type 0 where
   pub shown : (t : List ℕ) → Words t ∷ row ≡ sub_row t sub
-  pub runs : BeginsWithAcks (sub ∷ []) acks after_acks
+  pub runs : BeginsWithAcks span.gone (sub ∷ []) acks after_acks
   pub past_runs : ArePast sub.name after_acks
-  pub letters : BeginsWithDeads log (sub ∷ []) deads after_deads
+  pub letters : BeginsWithDeads span (sub ∷ []) deads after_deads
   pub past_letters : ArePast sub.name after_deads
-  pub counted : BeginWithCounts log (sub ∷ []) counts after_counts
+  pub counted : BeginWithCounts span (sub ∷ []) counts after_counts
   pub past_counted : ArePast sub.name after_counts
 
 -- where the next one was read, what is left is that of the others
-pub left_more : (own : TopicName) (log : List Entry) (next : ℕ) (topic : List ℕ) (all done : List KeptPlaces) (row : Row) (acks deads counts after_acks after_deads after_counts : List Row) (sub : KeptPlaces) → All (IsReadableSub own log next set.empty) all
-    → IsNextSub topic log all done row acks deads counts → IsRead log row sub acks deads counts after_acks after_deads after_counts → IsSubOf own log next sub → AreLeft topic log all (done ++ sub ∷ []) after_acks after_deads after_counts
-left_more own log next topic all done row acks deads counts after_acks after_deads after_counts sub each n read sound =
+pub left_more : (own : TopicName) (span : Span) (next : ℕ) (topic : List ℕ) (all done : List KeptPlaces) (row : Row) (acks deads counts after_acks after_deads after_counts : List Row) (sub : KeptPlaces) → All (IsReadableSub own span.log next set.empty) all
+    → IsNextSub topic span all done row acks deads counts → IsRead span row sub acks deads counts after_acks after_deads after_counts → IsSubOf own span.log next sub → AreLeft topic span all (done ++ sub ∷ []) after_acks after_deads after_counts
+left_more own span next topic all done row acks deads counts after_acks after_deads after_counts sub each n read sound =
     let k : KeptPlaces = n.sub in
     let cells = one_kind_shown row k sub (own_row row k n.shown) (own_row row sub read.shown) in
     let name : k.name ≡ sub.name = cells.0 in
     let b = n.begins in
-    let readable : IsReadableSub own log next set.empty k = all_at (IsReadableSub own log next set.empty) done k n.others (subst (AllByRecursion (IsReadableSub own log next set.empty)) n.is (recursion_from_All (IsReadableSub own log next set.empty) all each)) in
-    let of_k : AllByRecursion (IsOneOf log) k.dead = all_weaker (IsReadable own log next) (IsOneOf log) (λ d r. (r.message, r.letter.named)) k.dead (recursion_from_All (IsReadable own log next) k.dead readable.letters.each) in
-    let sub_runs : BeginsWithRuns k.name sub.acknowledged acks after_acks = subst (λ m. BeginsWithRuns m sub.acknowledged acks after_acks) (sym name) (runs_of sub acks after_acks read.runs) in
-    let sub_letters : BeginsWithLetters k.name log sub.dead deads after_deads = subst (λ m. BeginsWithLetters m log sub.dead deads after_deads) (sym name) (letters_of log sub deads after_deads read.letters) in
-    let sub_counts : BeginsWithCounts k.name log sub.counts counts after_counts = subst (λ m. BeginsWithCounts m log sub.counts counts after_counts) (sym name) (counts_of log sub counts after_counts read.counted) in
-    let places = one_reading k.name k.acknowledged sub.acknowledged acks b.later_acks after_acks b.runs b.past_runs sub_runs (subst (λ m. ArePast m after_acks) (sym name) read.past_runs) in
-    let dead = one_letters k.name log k.dead sub.dead deads b.later_deads after_deads of_k (of_letters own log next sub.dead sound.dead sound.letters) b.letters b.past_letters sub_letters (subst (λ m. ArePast m after_deads) (sym name) read.past_letters) in
-    let counted = one_counting k.name log k.counts sub.counts counts b.later_counts after_counts (of_counts log k readable.counted) (of_counts log sub sound.counted) b.counted b.past_counted sub_counts (subst (λ m. ArePast m after_counts) (sym name) read.past_counted) in
+    let readable : IsReadableSub own span.log next set.empty k = all_at (IsReadableSub own span.log next set.empty) done k n.others (subst (AllByRecursion (IsReadableSub own span.log next set.empty)) n.is (recursion_from_All (IsReadableSub own span.log next set.empty) all each)) in
+    let of_k : AllByRecursion (IsOneOf span.log) k.dead = all_weaker (IsReadable own span.log next) (IsOneOf span.log) (λ d r. (r.message, r.letter.named)) k.dead (recursion_from_All (IsReadable own span.log next) k.dead readable.letters.each) in
+    let sub_runs : BeginsWithRuns k.name span.gone sub.acknowledged acks after_acks = subst (λ m. BeginsWithRuns m span.gone sub.acknowledged acks after_acks) (sym name) (runs_of span.gone sub acks after_acks read.runs) in
+    let sub_letters : BeginsWithLetters k.name span sub.dead deads after_deads = subst (λ m. BeginsWithLetters m span sub.dead deads after_deads) (sym name) (letters_of span sub deads after_deads read.letters) in
+    let sub_counts : BeginsWithCounts k.name span sub.counts counts after_counts = subst (λ m. BeginsWithCounts m span sub.counts counts after_counts) (sym name) (counts_of span sub counts after_counts read.counted) in
+    let places = one_reading span.gone k.name k.acknowledged sub.acknowledged acks b.later_acks after_acks b.runs b.past_runs sub_runs (subst (λ m. ArePast m after_acks) (sym name) read.past_runs) in
+    let dead = one_letters k.name span k.dead sub.dead deads b.later_deads after_deads of_k (of_letters own span.log next sub.dead sound.dead sound.letters) b.letters b.past_letters sub_letters (subst (λ m. ArePast m after_deads) (sym name) read.past_letters) in
+    let counted = one_counting k.name span k.counts sub.counts counts b.later_counts after_counts (of_counts span.log k readable.counted) (of_counts span.log sub sound.counted) b.counted b.past_counted sub_counts (subst (λ m. ArePast m after_counts) (sym name) read.past_counted) in
     let same : k ≡ sub = sub_is k.name sub.name k.kind sub.kind k.acknowledged sub.acknowledged k.counts sub.counts k.dead sub.dead name (one_kind k.kind sub.kind cells.1) places.0 counted.0 dead.0 in
     record {
       more = n.others;
       is = n.is ∙ ap (λ (s : KeptPlaces). done ++ s ∷ n.others) same ∙ sym (append_assoc done (sub ∷ []) n.others);
-      runs = subst (λ rows. AreAckRows topic n.others (put topic rows)) places.1 b.other_runs;
+      runs = subst (λ rows. AreAckRows topic span.gone n.others (put topic rows)) places.1 b.other_runs;
       letters = ap (put topic) (sym dead.1) ∙ b.other_letters;
       counted = ap (put topic) (sym counted.1) ∙ b.other_counted;
     }
@@ -200,14 +200,14 @@ pub rises_so_far : (all xs ys : List KeptPlaces) → all ≡ xs ++ ys → NamesR
 rises_so_far all xs ys is rise = rises_first xs ys (subst (λ l. NamesRise (map (λ (s : KeptPlaces). s.name) l)) is rise)
 
 -- where all rows were read, nothing is left
-pub none_left : (own : TopicName) (log : List Entry) (next : ℕ) (topic : List ℕ) (all done : List KeptPlaces) (rows acks deads counts left_acks left_deads left_counts : List Row) → ShowSubs own log next topic all rows acks deads counts
-    → AreLeft topic log all done left_acks left_deads left_counts → put topic rows ≡ sub_rows topic done → (done ≡ all) × (left_acks ≡ []) × (left_deads ≡ []) × (left_counts ≡ [])
-none_left own log next topic all done rows acks deads counts left_acks left_deads left_counts show left whole =
+pub none_left : (own : TopicName) (span : Span) (next : ℕ) (topic : List ℕ) (all done : List KeptPlaces) (rows acks deads counts left_acks left_deads left_counts : List Row) → ShowSubs own span next topic all rows acks deads counts
+    → AreLeft topic span all done left_acks left_deads left_counts → put topic rows ≡ sub_rows topic done → (done ≡ all) × (left_acks ≡ []) × (left_deads ≡ []) × (left_counts ≡ [])
+none_left own span next topic all done rows acks deads counts left_acks left_deads left_counts show left whole =
     let both : sub_rows topic done ++ [] ≡ sub_rows topic done ++ sub_rows topic left.more = append-nil (sub_rows topic done) ∙ sym whole ∙ show.shown ∙ ap (sub_rows topic) left.is ∙ map-append (sub_row topic) done left.more in
     let none : left.more ≡ [] = nothing left.more (same_rest (sub_rows topic done) [] (sub_rows topic left.more) both) in
-    let acks_none : put topic left_acks ≡ [] = subst (λ l. AreAckRows topic l (put topic left_acks)) none left.runs in
-    let deads_none : put topic left_deads ≡ [] = left.letters ∙ ap (dead_rows topic log) none in
-    let counts_none : put topic left_counts ≡ [] = left.counted ∙ ap (count_rows topic log) none in
+    let acks_none : put topic left_acks ≡ [] = subst (λ l. AreAckRows topic span.gone l (put topic left_acks)) none left.runs in
+    let deads_none : put topic left_deads ≡ [] = left.letters ∙ ap (dead_rows topic span) none in
+    let counts_none : put topic left_counts ≡ [] = left.counted ∙ ap (count_rows topic span) none in
     (sym (left.is ∙ ap (λ l. done ++ l) none ∙ append-nil done), uncovered topic left_acks [] acks_none, uncovered topic left_deads [] deads_none, uncovered topic left_counts [] counts_none)
   where
     nothing : (ms : List KeptPlaces) → [] ≡ sub_rows topic ms → ms ≡ []

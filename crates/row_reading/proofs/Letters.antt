@@ -21,7 +21,7 @@ use Rattle.delivery_machine.specs.WellFormed.{AreDeadLettersOf, has_message}
 use Rattle.delivery_machine.proofs.Letters.{dead_pushed}
 use Rattle.delivery_machine.proofs.Ordinals.{distinct_once, times}
 use Rattle.delivery_machine.proofs.Tended.{position_is}
-use Rattle.row_forms.specs.Forms.{dead_row, place_in}
+use Rattle.row_forms.specs.Forms.{Span, dead_row, index_in, place_in}
 use Rattle.row_reading.specs.Reading.{AreDeadAt, BeginsWithLetters, IsLetterAt, OrdinalsCame, times_in}
 use Rattle.row_reading.proofs.Beginnings.{one_more}
 use Rattle.row_reading.proofs.Columns.{four}
@@ -29,43 +29,43 @@ use Rattle.row_reading.proofs.PlacesRead.{apart_places}
 
 -- ---- one more letter
 
-pub letters_more : (sub : List ℕ) (log : List Entry) (ds : List DeadLetter) (d : DeadLetter) (rows rest after : List Row) (row : Row) → BeginsWithLetters sub log ds rows rest → rest ≡ row ∷ after
-    → ((topic : List ℕ) → Words topic ∷ row ≡ dead_row topic sub log d) → BeginsWithLetters sub log (ds ++ d ∷ []) rows after
-letters_more sub log ds d rows rest after row h next shown topic = one_more (dead_row topic sub log) ds d topic rows rest after row (h topic) next (shown topic)
+pub letters_more : (sub : List ℕ) (span : Span) (ds : List DeadLetter) (d : DeadLetter) (rows rest after : List Row) (row : Row) → BeginsWithLetters sub span ds rows rest → rest ≡ row ∷ after
+    → ((topic : List ℕ) → Words topic ∷ row ≡ dead_row topic sub span d) → BeginsWithLetters sub span (ds ++ d ∷ []) rows after
+letters_more sub span ds d rows rest after row h next shown topic = one_more (dead_row topic sub span) ds d topic rows rest after row (h topic) next (shown topic)
 
 -- the place of each letter's message is in the set
 abbrev pub HavePlaces : List Entry → set.FinSet nat_cmp → List DeadLetter → Type 0
-HavePlaces log places ds = All (λ d. set.contains places (place_in log d.position) ≡ true) ds
+HavePlaces log places ds = All (λ d. set.contains places (index_in log d.position) ≡ true) ds
 
 contains_inserted : (s t : set.FinSet nat_cmp) (k n : ℕ) → t ≡ set.insert s k → set.contains t n ≡ (n == k || set.contains s n)
 contains_inserted s t k n is = ap (λ u. set.contains u n) is ∙ set.contains-insert nat_cmp_total s k n ∙ ap (λ b. b || set.contains s n) (unsigned_tied n k)
 
-pub places_more : (log : List Entry) (s t : set.FinSet nat_cmp) (ds : List DeadLetter) (d : DeadLetter) (place : ℕ) → HavePlaces log s ds → t ≡ set.insert s place → place ≡ place_in log d.position → HavePlaces log t (ds ++ d ∷ [])
+pub places_more : (log : List Entry) (s t : set.FinSet nat_cmp) (ds : List DeadLetter) (d : DeadLetter) (place : ℕ) → HavePlaces log s ds → t ≡ set.insert s place → place ≡ index_in log d.position → HavePlaces log t (ds ++ d ∷ [])
 places_more log s t ds d place have is at =
-    All-push (λ x. set.contains t (place_in log x.position) ≡ true) ds d
-    (All-weaker (λ x. set.contains s (place_in log x.position) ≡ true) (λ x. set.contains t (place_in log x.position) ≡ true) (λ x there. contains_inserted s t place (place_in log x.position) is ∙ or_second _ _ there) ds have)
-    (contains_inserted s t place (place_in log d.position) is ∙ or_first _ _ (itself (place_in log d.position) (sym at)))
+    All-push (λ x. set.contains t (index_in log x.position) ≡ true) ds d
+    (All-weaker (λ x. set.contains s (index_in log x.position) ≡ true) (λ x. set.contains t (index_in log x.position) ≡ true) (λ x there. contains_inserted s t place (index_in log x.position) is ∙ or_second _ _ there) ds have)
+    (contains_inserted s t place (index_in log d.position) is ∙ or_first _ _ (itself (index_in log d.position) (sym at)))
   where
     itself : (n : ℕ) → n ≡ place → (n == place) ≡ true
     itself n e = grind (arith, nat_tests)
 
 -- where its place is new, no letter is of its message
-not_dead : (log : List Entry) (s : set.FinSet nat_cmp) (ds : List DeadLetter) (d : DeadLetter) (place : ℕ) → HavePlaces log s ds → set.contains s place ≡ false → place ≡ place_in log d.position → list_any (λ x. same_position x.position d.position) ds ≡ false
-not_dead log s ds d place have new at = each ds (recursion_from_All (λ x. set.contains s (place_in log x.position) ≡ true) ds have)
+not_dead : (log : List Entry) (s : set.FinSet nat_cmp) (ds : List DeadLetter) (d : DeadLetter) (place : ℕ) → HavePlaces log s ds → set.contains s place ≡ false → place ≡ index_in log d.position → list_any (λ x. same_position x.position d.position) ds ≡ false
+not_dead log s ds d place have new at = each ds (recursion_from_All (λ x. set.contains s (index_in log x.position) ≡ true) ds have)
   where
-    other : (x : DeadLetter) (b : Bool) → same_position x.position d.position ≡ b → set.contains s (place_in log x.position) ≡ true → b ≡ false
+    other : (x : DeadLetter) (b : Bool) → same_position x.position d.position ≡ b → set.contains s (index_in log x.position) ≡ true → b ≡ false
     other x true same there =
-        let e : place_in log x.position ≡ place = ap (place_in log) (position_is x.position d.position same) ∙ sym at in
+        let e : index_in log x.position ≡ place = ap (index_in log) (position_is x.position d.position same) ∙ sym at in
         let both : set.contains s place ≡ true = ap (set.contains s) (sym e) ∙ there in
         sym both ∙ new
     other x false same there = refl
 
-    each : (xs : List DeadLetter) → AllByRecursion (λ x. set.contains s (place_in log x.position) ≡ true) xs → list_any (λ x. same_position x.position d.position) xs ≡ false
+    each : (xs : List DeadLetter) → AllByRecursion (λ x. set.contains s (index_in log x.position) ≡ true) xs → list_any (λ x. same_position x.position d.position) xs ≡ false
     each [] all = refl
     each (x ∷ xs) all = ap (λ b. b || list_any (λ y. same_position y.position d.position) xs) (other x (same_position x.position d.position) refl all.0) ∙ each xs all.1
 
 pub dead_more : (log : List Entry) (s : set.FinSet nat_cmp) (ds : List DeadLetter) (d : DeadLetter) (place least : ℕ) → AreDeadLettersOf log ds → HavePlaces log s ds → All (λ x. x.ordinal < least) ds
-    → has_message log d.position ≡ true → set.contains s place ≡ false → place ≡ place_in log d.position → least ≤ d.ordinal → AreDeadLettersOf log (ds ++ d ∷ [])
+    → has_message log d.position ≡ true → set.contains s place ≡ false → place ≡ index_in log d.position → least ≤ d.ordinal → AreDeadLettersOf log (ds ++ d ∷ [])
 dead_more log s ds d place least all have below there new at above =
     dead_pushed log ds d there (not_dead log s ds d place have new at)
     (recursion_from_All (λ x. x.ordinal < d.ordinal) ds (All-weaker (λ x. x.ordinal < least) (λ x. x.ordinal < d.ordinal) (λ x low. omega arith) ds below)) all
@@ -121,19 +121,20 @@ came_once ds new came = distinct_once ds (λ n. once n (set.contains new n) (cam
 
 -- ---- a row that shows a letter
 
-pub letter_row : (sub : List ℕ) (log : List Entry) (row : Row) (d : DeadLetter) → IsLetterAt sub log row d → row ≡ Words sub ∷ Int (pos d.ordinal) ∷ Int (pos (place_in log d.position)) ∷ Words (topic_text d.target) ∷ []
-letter_row sub log row d shown = let here : Words [] ∷ row ≡ dead_row [] sub log d = shown [] in cc
+pub letter_row : (sub : List ℕ) (span : Span) (row : Row) (d : DeadLetter) → IsLetterAt sub span row d → row ≡ Words sub ∷ Int (pos d.ordinal) ∷ Int (pos (place_in span d.position)) ∷ Words (topic_text d.target) ∷ []
+letter_row sub span row d shown = let here : Words [] ∷ row ≡ dead_row [] sub span d = shown [] in cc
 
 -- a row shows one ordinal and one place
-pub same_cells : (sub : List ℕ) (log : List Entry) (row : Row) (d e : DeadLetter) → IsLetterAt sub log row d → IsLetterAt sub log row e → (d.ordinal ≡ e.ordinal) × (place_in log d.position ≡ place_in log e.position)
-same_cells sub log row d e one other =
-    let a = letter_row sub log row d one in
-    let b = letter_row sub log row e other in
-    (cc (a, b), cc (a, b))
+pub same_cells : (sub : List ℕ) (span : Span) (row : Row) (d e : DeadLetter) → IsLetterAt sub span row d → IsLetterAt sub span row e → (d.ordinal ≡ e.ordinal) × (index_in span.log d.position ≡ index_in span.log e.position)
+same_cells sub span row d e one other =
+    let a = letter_row sub span row d one in
+    let b = letter_row sub span row e other in
+    let places : span.gone + index_in span.log d.position ≡ span.gone + index_in span.log e.position = cc (a, b) in
+    (cc (a, b), omega (arith, places))
 
-pub letter_shown : (sub : List ℕ) (log : List Entry) (row : Row) (p : Position) (target : TopicName) (ordinal place : ℕ) → length row ≡ 4 → column row 0 ≡ Words sub → column row 1 ≡ Int (pos ordinal) → column row 2 ≡ Int (pos place)
-    → column row 3 ≡ Words (topic_text target) → place ≡ place_in log p → IsLetterAt sub log row (record { position = p; target = target; ordinal = ordinal })
-letter_shown sub log row p target ordinal place long named at stands goes is topic =
+pub letter_shown : (sub : List ℕ) (span : Span) (row : Row) (p : Position) (target : TopicName) (ordinal place : ℕ) → length row ≡ 4 → column row 0 ≡ Words sub → column row 1 ≡ Int (pos ordinal) → column row 2 ≡ Int (pos (span.gone + place))
+    → column row 3 ≡ Words (topic_text target) → place ≡ index_in span.log p → IsLetterAt sub span row (record { position = p; target = target; ordinal = ordinal })
+letter_shown sub span row p target ordinal place long named at stands goes is topic =
     ap (λ (r : Row). Words topic ∷ r) (four row long) ∙ rw (named, at, stands, goes, is) refl
 
 -- ---- what may come next
@@ -151,17 +152,17 @@ least_below_more (x ∷ xs) d n all = least_below_more xs d n all.1
 
 -- the set has no place but those of their messages
 abbrev pub HasNoOthers : List Entry → set.FinSet nat_cmp → List DeadLetter → Type 0
-HasNoOthers log places ds = (n : ℕ) → AllByRecursion (λ (x : DeadLetter). place_in log x.position ≡ n → ⊥) ds → set.contains places n ≡ false
+HasNoOthers log places ds = (n : ℕ) → AllByRecursion (λ (x : DeadLetter). index_in log x.position ≡ n → ⊥) ds → set.contains places n ≡ false
 
 pub no_others : (log : List Entry) → HasNoOthers log set.empty []
 no_others log n all = set.contains-empty nat_cmp n
 
-pub no_others_more : (log : List Entry) (s t : set.FinSet nat_cmp) (ds : List DeadLetter) (d : DeadLetter) → HasNoOthers log s ds → t ≡ set.insert s (place_in log d.position) → HasNoOthers log t (ds ++ d ∷ [])
+pub no_others_more : (log : List Entry) (s t : set.FinSet nat_cmp) (ds : List DeadLetter) (d : DeadLetter) → HasNoOthers log s ds → t ≡ set.insert s (index_in log d.position) → HasNoOthers log t (ds ++ d ∷ [])
 no_others_more log s t ds d others is n all =
     let parts = halves ds all in
-    contains_inserted s t (place_in log d.position) n is ∙ neither (n == place_in log d.position) (set.contains s n) (other (place_in log d.position) parts.1) (others n parts.0)
+    contains_inserted s t (index_in log d.position) n is ∙ neither (n == index_in log d.position) (set.contains s n) (other (index_in log d.position) parts.1) (others n parts.0)
   where
-    halves : (xs : List DeadLetter) → AllByRecursion (λ (x : DeadLetter). place_in log x.position ≡ n → ⊥) (xs ++ d ∷ []) → AllByRecursion (λ (x : DeadLetter). place_in log x.position ≡ n → ⊥) xs × (place_in log d.position ≡ n → ⊥)
+    halves : (xs : List DeadLetter) → AllByRecursion (λ (x : DeadLetter). index_in log x.position ≡ n → ⊥) (xs ++ d ∷ []) → AllByRecursion (λ (x : DeadLetter). index_in log x.position ≡ n → ⊥) xs × (index_in log d.position ≡ n → ⊥)
     halves [] all = (tt, all.0)
     halves (x ∷ xs) all = let rest = halves xs all.1 in ((all.0, rest.0), rest.1)
 
@@ -182,19 +183,19 @@ pub dead_at : (log : List Entry) (ds : List DeadLetter) (places : set.FinSet nat
 dead_at log ds places dead have others p there =
     by (list_any (λ d. same_position d.position p) ds) refl
   where
-    one : (xs : List DeadLetter) → AllByRecursion (λ d. set.contains places (place_in log d.position) ≡ true) xs → list_any (λ d. same_position d.position p) xs ≡ true → set.contains places (place_in log p) ≡ true
+    one : (xs : List DeadLetter) → AllByRecursion (λ d. set.contains places (index_in log d.position) ≡ true) xs → list_any (λ d. same_position d.position p) xs ≡ true → set.contains places (index_in log p) ≡ true
     one [] all any = absurd (cc)
     one (x ∷ xs) all any = elim (either (same_position x.position p) (list_any (λ d. same_position d.position p) xs) any) [
-      | inl same ↦ ap (λ q. set.contains places (place_in log q)) (sym (position_is x.position p same)) ∙ all.0
+      | inl same ↦ ap (λ q. set.contains places (index_in log q)) (sym (position_is x.position p same)) ∙ all.0
       | inr later ↦ one xs all.1 later
     ]
 
-    none : (xs : List DeadLetter) → AllByRecursion (λ d. IsTrue (has_message log d.position)) xs → list_any (λ d. same_position d.position p) xs ≡ false → AllByRecursion (λ d. place_in log d.position ≡ place_in log p → ⊥) xs
+    none : (xs : List DeadLetter) → AllByRecursion (λ d. IsTrue (has_message log d.position)) xs → list_any (λ d. same_position d.position p) xs ≡ false → AllByRecursion (λ d. index_in log d.position ≡ index_in log p → ⊥) xs
     none [] all e = tt
     none (x ∷ xs) all e =
         let parts = neither_of (same_position x.position p) (list_any (λ d. same_position d.position p) xs) e in
         (apart_places log x.position p all.0 there parts.0, none xs all.1 parts.1)
 
-    by : (b : Bool) → list_any (λ d. same_position d.position p) ds ≡ b → set.contains places (place_in log p) ≡ b
-    by true any = one ds (recursion_from_All (λ d. set.contains places (place_in log d.position) ≡ true) ds have) any
-    by false e = others (place_in log p) (none ds (recursion_from_All (λ d. IsTrue (has_message log d.position)) ds dead.messages) e)
+    by : (b : Bool) → list_any (λ d. same_position d.position p) ds ≡ b → set.contains places (index_in log p) ≡ b
+    by true any = one ds (recursion_from_All (λ d. set.contains places (index_in log d.position) ≡ true) ds have) any
+    by false e = others (index_in log p) (none ds (recursion_from_All (λ d. IsTrue (has_message log d.position)) ds dead.messages) e)

@@ -1,9 +1,12 @@
+pub mod Authors
+pub mod AuthorsRead
 pub mod AutoNames
 pub mod Beginnings
 pub mod Columns
 pub mod Counts
 pub mod Entries
 pub mod FirstSub
+pub mod Fronts
 pub mod LeftSubs
 pub mod Letters
 pub mod Limits
@@ -12,6 +15,7 @@ pub mod LimitsKept
 pub mod LimitsPublished
 pub mod LimitsReached
 pub mod LimitsRead
+pub mod LimitsTrimmed
 pub mod NextCounts
 pub mod NextEntries
 pub mod NextLetters

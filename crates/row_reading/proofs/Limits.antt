@@ -1,10 +1,10 @@
--- What every state of a run within limits keeps: of its log, its producers, its members and its subscriptions.
+-- What every state of a run within limits keeps: of its log, what is remembered of it, its producers, its members and its subscriptions.
 use Rattle.std.proofs.Common.{◌≡◌, ℕ, zero, suc, ◌+◌, ◌≤◌, List, [], ◌∷◌, ◌++◌, map, length, Some, Bool, true, false, cond, ap, ◌∙◌, sym, subst, subst₂, arith}
 use Rattle.std.specs.Prelude.{◌≤ℤ◌, ◌&&◌, negsuc, nat_lt, not}
 use Rattle.std.specs.List.{All, AllByRecursion, find, insert}
 use Rattle.std.specs.Str.{bytes_eq}
 use Rattle.std.proofs.lemmas.List.{length-map}
-use Rattle.std.proofs.lemmas.List.Elements.{All-from_recursion, All-push, recursion_from_All}
+use Rattle.std.proofs.lemmas.List.Elements.{All-contains, All-from_recursion, All-push, Contains-get_or, recursion_from_All}
 use Rattle.position_core.specs.declared.kind.Kind.{Kind}
 use Rattle.position_core.specs.declared.message.Entry.{Entry}
 use Rattle.position_core.specs.declared.topic_name.TopicName.{TopicName}
@@ -12,10 +12,11 @@ use Rattle.position_core.specs.Kind.{is_in_order}
 use Rattle.position_core.specs.TopicName.{same_topic}
 use Rattle.delivery_machine.specs.State.{DeadLetter, Member, Producer, State, Subscription}
 use Rattle.delivery_machine.specs.Words.{changed, is_named, removed}
+use Rattle.delivery_machine.proofs.Among.{contained_removed}
 use Rattle.delivery_machine.proofs.EachFirst.{EachFirst, each_changed, each_mapped}
 use Rattle.delivery_machine.proofs.Keyed.{keys_changed}
 use Rattle.row_reading.specs.Limits.{IsSubscriptionName, IsTopic}
-use Rattle.row_reading.specs.Reading.{IsLedgerSize, IsReadableMessage, IsText}
+use Rattle.row_reading.specs.Reading.{IsLedgerSize, IsReadableAuthor, IsReadableMessage, IsText, MayBeRule}
 
 -- ---- what is kept
 
@@ -66,6 +67,8 @@ pub record AreSeated (own : TopicName) (all : List Will) (subs : List Subscripti
 
 pub record KeepsLimits (s : State) : Type 0 where
   pub size : IsLedgerSize s.ledger_size
+  pub authors : All IsReadableAuthor s.authors
+  pub rule : MayBeRule s.retention
   pub log : IsLogWithin s.log
   pub producers : AreProducersWithin s.producers
   pub seated : AreSeated s.name (wills s.members) s.subscriptions
@@ -80,6 +83,9 @@ module _ {A : Type 0} where
       by : (b : Bool) → length (removed q xs) ≤ length xs → length (cond b xs (x ∷ removed q xs)) ≤ length (x ∷ xs)
       by true rest = omega arith
       by false rest = omega arith
+
+  pub all_removed : (P : A → Type 0) (q : A → Bool) (xs : List A) → All P xs → All P (removed q xs)
+  all_removed P q xs all k x low = All-contains P xs _ all (contained_removed q xs _ (Contains-get_or (removed q xs) k x low))
 
   pub length_inserted : (xs : List A) (i : ℕ) (y : A) → length (insert xs i y) ≡ length xs + 1
   length_inserted xs zero y = omega arith

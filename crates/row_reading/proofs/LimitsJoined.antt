@@ -135,6 +135,8 @@ module _ (s : State) (kind : Kind) (m : Member) (may : IsJoin s kind m) where
   pub limits_joined : (ranges : Option (List HashRange)) (initial : Initial) → IsSubscriptionName m.subscription → IsTopic m.dead_topic → KeepsLimits s → KeepsLimits (with_member s kind ranges initial m)
   limits_joined ranges initial named topic keeps = record {
     size = keeps.size;
+    authors = keeps.authors;
+    rule = keeps.rule;
     log = keeps.log;
     producers = keeps.producers;
     seated = subst (λ all. AreSeated s.name all (joined s m.subscription kind ranges m.number initial)) (sym (map-append will_of s.members (m ∷ []))) (seated_joined ranges initial named topic keeps.seated);
@@ -158,6 +160,8 @@ seated_fewer own consumer members subs seated = record {
 pub limits_left : (s : State) (consumer : ℕ) (n : List ℕ) → KeepsLimits s → KeepsLimits (without_member s consumer n)
 limits_left s consumer n keeps = record {
   size = keeps.size;
+  authors = keeps.authors;
+  rule = keeps.rule;
   log = keeps.log;
   producers = keeps.producers;
   seated = seated_changed s.name (wills (removed (is_member consumer) s.members)) n (leaving consumer) s.subscriptions (λ _. refl) (λ _. refl) (λ _ _ all. all)

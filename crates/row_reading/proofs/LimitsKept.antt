@@ -31,6 +31,8 @@ pub limits_changed : (s : State) (n : List ℕ) (f : Subscription → Subscripti
     → KeepsLimits (record s { subscriptions = changed (is_named n) f s.subscriptions; members = members; next_ordinal = next })
 limits_changed s n f members next change keeps = record {
   size = keeps.size;
+  authors = keeps.authors;
+  rule = keeps.rule;
   log = keeps.log;
   producers = keeps.producers;
   seated = subst (λ all. AreSeated s.name all (changed (is_named n) f s.subscriptions)) (sym change.wills)
@@ -104,6 +106,8 @@ pub limits_stored : (s : State) (safe : Subscription → ℕ) (durable : ℕ) �
     → KeepsLimits (record s { durable = durable; subscriptions = map (storing_so safe) s.subscriptions })
 limits_stored s safe durable keeps = record {
   size = keeps.size;
+  authors = keeps.authors;
+  rule = keeps.rule;
   log = keeps.log;
   producers = keeps.producers;
   seated = seated_mapped s.name (wills s.members) (storing_so safe) s.subscriptions (λ _. refl) (λ _. refl) (λ _. refl) keeps.seated;
@@ -112,6 +116,8 @@ limits_stored s safe durable keeps = record {
 pub limits_members : (s : State) (q : Member → Bool) (f : Member → Member) → ((m : Member) → will_of (f m) ≡ will_of m) → KeepsLimits s → KeepsLimits (record s { members = changed q f s.members })
 limits_members s q f same keeps = record {
   size = keeps.size;
+  authors = keeps.authors;
+  rule = keeps.rule;
   log = keeps.log;
   producers = keeps.producers;
   seated = subst (λ all. AreSeated s.name all s.subscriptions) (sym (keys_changed will_of q f same s.members)) keeps.seated;
@@ -121,6 +127,8 @@ limits_members s q f same keeps = record {
 pub limits_dropped : (s : State) (n : List ℕ) → AreNamed s.subscriptions → KeepsLimits s → KeepsLimits (record s { subscriptions = removed (is_named n) s.subscriptions })
 limits_dropped s n named keeps = record {
   size = keeps.size;
+  authors = keeps.authors;
+  rule = keeps.rule;
   log = keeps.log;
   producers = keeps.producers;
   seated = record {

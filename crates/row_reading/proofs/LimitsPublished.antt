@@ -6,20 +6,19 @@ use Rattle.std.specs.Int.{int_max}
 use Rattle.std.specs.Option.{option_map_or, unwrap_or}
 use Rattle.std.proofs.lemmas.Bool.Decides.{nat_tests}
 use Rattle.std.proofs.lemmas.Int.{clamps, ints}
-use Rattle.std.proofs.lemmas.List.Elements.{All-contains, All-filter, All-map, All-push, All-weaker, Contains-get_or, recursion_from_All}
+use Rattle.std.proofs.lemmas.List.Elements.{All-append, All-filter, All-map, All-push, All-weaker, recursion_from_All}
 use Rattle.position_core.specs.declared.body.Content.{Content}
-use Rattle.position_core.specs.declared.message.Entry.{Entry}
 use Rattle.position_core.specs.declared.fault.Fault.TheVariants.{ProducerBusy, TooMany, TopicFull}
 use Rattle.delivery_machine.specs.State.{Producer, State}
-use Rattle.delivery_machine.specs.Words.{greatest, is_by, last_sequence, next_position, removed}
+use Rattle.delivery_machine.specs.Words.{Signed, greatest, greatest_under, is_by, known, last_sequence, next_position, removed, signed, signed_by}
 use Rattle.delivery_machine.specs.Refusals.{adding_refused, is_busy, is_duplicate, is_full, is_used_up}
 use Rattle.delivery_machine.specs.Producing.{IsGiven, message_of, with_message, with_producer}
-use Rattle.delivery_machine.proofs.Among.{contained_removed}
+use Rattle.delivery_machine.specs.WellFormed.{AreAuthors}
 use Rattle.delivery_machine.proofs.Deciding.{or_false}
 use Rattle.delivery_machine.proofs.Kept.{not_refused, not_refused_next}
-use Rattle.row_reading.specs.Reading.{IsContent, IsReadableMessage, IsText}
+use Rattle.row_reading.specs.Reading.{IsContent, IsReadableAuthor, IsReadableMessage, IsText}
 use Rattle.row_reading.proofs.AutoNames.{auto_name_is_text}
-use Rattle.row_reading.proofs.Limits.{IsProducerWithin, KeepsLimits, length_removed}
+use Rattle.row_reading.proofs.Limits.{IsProducerWithin, KeepsLimits, all_removed, length_removed}
 
 -- ---- sequence numbers
 
@@ -34,14 +33,16 @@ greatest_from_zero (n ∷ numbers) all = by (greatest numbers) (greatest_from_ze
     by None rest = all.0
     by (Some other) rest = greater n other all.0 rest
 
-last_is_low : (log : List Entry) (name : List ℕ) (base : ℤ) → All IsReadableMessage log → negsuc 0 ≤ℤ base → negsuc 0 ≤ℤ last_sequence log name base
-last_is_low log name base all low = by (greatest (map (λ e. e.sequence) (filter (is_by name) log))) (greatest_from_zero (map (λ e. e.sequence) (filter (is_by name) log)) from_zero)
+abbrev IsFromZero : Signed → Type 0
+IsFromZero n = pos 0 ≤ℤ n.sequence
+
+last_is_low : (numbers : List Signed) (name : List ℕ) (base : ℤ) → All IsFromZero numbers → negsuc 0 ≤ℤ base → negsuc 0 ≤ℤ last_sequence numbers name base
+last_is_low numbers name base all low = by (greatest_under name numbers) (greatest_from_zero (map (λ n. n.sequence) (filter (is_by name) numbers)) from_zero)
   where
-    from_zero : AllByRecursion (λ n. pos 0 ≤ℤ n) (map (λ (e : Entry). e.sequence) (filter (is_by name) log))
+    from_zero : AllByRecursion (λ n. pos 0 ≤ℤ n) (map (λ (n : Signed). n.sequence) (filter (is_by name) numbers))
     from_zero =
-        recursion_from_All (λ n. pos 0 ≤ℤ n) (map (λ (e : Entry). e.sequence) (filter (is_by name) log))
-        (All-map (λ n. pos 0 ≤ℤ n) (λ (e : Entry). e.sequence) (filter (is_by name) log)
-        (All-weaker IsReadableMessage (λ e. pos 0 ≤ℤ e.sequence) (λ e is. is.sequence) (filter (is_by name) log) (All-filter (is_by name) IsReadableMessage log all)))
+        recursion_from_All (λ n. pos 0 ≤ℤ n) (map (λ (n : Signed). n.sequence) (filter (is_by name) numbers))
+        (All-map (λ n. pos 0 ≤ℤ n) (λ (n : Signed). n.sequence) (filter (is_by name) numbers) (All-filter (is_by name) IsFromZero numbers all))
 
     lower : (n : ℤ) → pos 0 ≤ℤ n → negsuc 0 ≤ℤ n
     lower n high = omega (arith, ints)
@@ -49,6 +50,12 @@ last_is_low log name base all low = by (greatest (map (λ e. e.sequence) (filter
     by : (o : Option ℤ) → IfSome o (λ n. pos 0 ≤ℤ n) → negsuc 0 ≤ℤ unwrap_or o base
     by None rest = low
     by (Some n) rest = lower n rest
+
+known_from_zero : (s : State) → KeepsLimits s → All IsFromZero (known s)
+known_from_zero s keeps =
+    All-append IsFromZero (map signed_by s.authors) (map signed s.log)
+    (All-map IsFromZero signed_by s.authors (All-weaker IsReadableAuthor (λ a. pos 0 ≤ℤ a.sequence) (λ a is. is.sequence) s.authors keeps.authors))
+    (All-map IsFromZero signed s.log (All-weaker IsReadableMessage (λ e. pos 0 ≤ℤ e.sequence) (λ e is. is.sequence) s.log keeps.log.each))
 
 -- what is above a number of -1 or more is 0 or more
 above_last : (sequence last : ℤ) → int_le sequence last ≡ false → negsuc 0 ≤ℤ last → pos 0 ≤ℤ sequence
@@ -60,10 +67,12 @@ published : (s : State) (p : Producer) (sequence : ℤ) (body : Content) (now : 
     → KeepsLimits (with_message s (message_of s p sequence body now))
 published s p sequence body now new room producer content time keeps = record {
   size = keeps.size;
+  authors = keeps.authors;
+  rule = keeps.rule;
   log = record {
     each = All-push IsReadableMessage s.log (message_of s p sequence body now) keeps.log.each (record {
       producer = producer.name;
-      sequence = above_last sequence (last_sequence s.log p.name p.base) new (last_is_low s.log p.name p.base keeps.log.each producer.base);
+      sequence = above_last sequence (last_sequence (known s) p.name p.base) new (last_is_low (known s) p.name p.base (known_from_zero s keeps) producer.base);
       time = time;
       content = content;
     });
@@ -88,10 +97,12 @@ limits_published s p sequence body now t false tested allowed is producer conten
 
 -- ---- producers
 
-pub limits_connected : (s : State) (asked : Option (List ℕ)) (name : List ℕ) (auto : Option ℕ) (base : ℤ) → adding_refused s asked ≡ None → IsGiven s asked name auto → IfSome asked (IsText 1 1280) → negsuc 0 ≤ℤ base → KeepsLimits s
+pub limits_connected : (s : State) (asked : Option (List ℕ)) (name : List ℕ) (auto : Option ℕ) (base : ℤ) → adding_refused s asked ≡ None → IsGiven s asked name auto → IfSome asked (IsText 1 1280) → negsuc 0 ≤ℤ base → s.gone ≤ 2 ^ 62 → AreAuthors s.gone s.authors → KeepsLimits s
     → KeepsLimits (with_producer s (record { number = s.next_producer; name = name; base = base }))
-limits_connected s asked name auto base allowed given asked_for low keeps = record {
+limits_connected s asked name auto base allowed given asked_for low gone authors keeps = record {
   size = keeps.size;
+  authors = keeps.authors;
+  rule = keeps.rule;
   log = keeps.log;
   producers = record {
     each = All-push IsProducerWithin s.producers (record { number = s.next_producer; name = name; base = base }) keeps.producers.each (record { name = text asked given asked_for; base = low });
@@ -108,14 +119,16 @@ limits_connected s asked name auto base allowed given asked_for low keeps = reco
 
     text : (o : Option (List ℕ)) → IsGiven s o name auto → IfSome o (IsText 1 1280) → IsText 1 1280 name
     text (Some other) given within = subst (IsText 1 1280) (sym given.0) within
-    text None given within = subst (IsText 1 1280) (sym given.2) (auto_name_is_text s given.0 given.1 (omega (arith, keeps.producers.few, keeps.log.few)))
+    text None given within = subst (IsText 1 1280) (sym given.2) (auto_name_is_text s given.0 given.1 gone authors (omega (arith, keeps.producers.few, keeps.log.few)))
 
 pub limits_disconnected : (s : State) (q : Producer → Bool) → KeepsLimits s → KeepsLimits (record s { producers = removed q s.producers })
 limits_disconnected s q keeps = record {
   size = keeps.size;
+  authors = keeps.authors;
+  rule = keeps.rule;
   log = keeps.log;
   producers = record {
-    each = λ k p low. All-contains IsProducerWithin s.producers _ keeps.producers.each (contained_removed q s.producers _ (Contains-get_or (removed q s.producers) k p low));
+    each = all_removed IsProducerWithin q s.producers keeps.producers.each;
     few = let fewer = length_removed q s.producers in omega (arith, fewer, keeps.producers.few);
   };
   seated = keeps.seated;

@@ -1,5 +1,5 @@
 -- Each step within limits keeps them, and so does each run.
-use Rattle.std.proofs.Common.{◌≡◌, ℕ, ◌+◌, List, [], ◌∷◌, Some, None, refl, ap, ◌∙◌, sym, subst, inl, inr, max, min, length}
+use Rattle.std.proofs.Common.{◌≡◌, ℕ, ◌+◌, List, [], ◌∷◌, Some, None, refl, ap, ◌∙◌, sym, subst, inl, inr, max, length}
 use Rattle.std.specs.Prelude.{nat_lt}
 use Rattle.std.specs.List.{AllByRecursion, count_by, find}
 use Rattle.std.proofs.lemmas.List.Elements.{All-contains}
@@ -12,14 +12,16 @@ use Rattle.delivery_machine.specs.Acknowledging.{Acks, positions_up_to}
 use Rattle.delivery_machine.specs.Delivering.{Dispatches, due_after, given}
 use Rattle.delivery_machine.specs.Dying.{dying_at, first_safe}
 use Rattle.delivery_machine.specs.Joining.{permitted, without_member}
+use Rattle.delivery_machine.specs.Producing.{durable_to}
 use Rattle.delivery_machine.specs.Seeking.{first_live, length_before, length_before_time}
 use Rattle.delivery_machine.specs.Ticking.{Ticks, pending_positions}
+use Rattle.delivery_machine.specs.Trimming.{Trims, going}
 use Rattle.delivery_machine.specs.Run.{Answers, Run, Takes}
 use Rattle.delivery_machine.specs.Laws.{IsReached}
 use Rattle.delivery_machine.specs.declared.event.Event.{Event}
-use Rattle.delivery_machine.specs.declared.event.Event.TheVariants.{AddProducer, DropProducer, Publish, Stored, StoredTo, Progress, Subscribe, Leave, Permit, Ack, AckUpTo, Nack, Tick, Seek, SeekTime, Skip, DropSubscription, Stats, Dispatch, Collect, DeadNext, DeadDone}
+use Rattle.delivery_machine.specs.declared.event.Event.TheVariants.{AddProducer, DropProducer, Publish, Stored, StoredTo, Progress, Subscribe, Leave, Permit, Ack, AckUpTo, Nack, Tick, Seek, SeekTime, Skip, DropSubscription, Stats, Trim, SetRetention, Dispatch, Collect, DeadNext, DeadDone}
 use Rattle.delivery_machine.specs.declared.reply.Reply.{Reply}
-use Rattle.delivery_machine.specs.declared.reply.Reply.TheVariants.{Sent, Idle, Quiet, Rewound, Released, Died}
+use Rattle.delivery_machine.specs.declared.reply.Reply.TheVariants.{Sent, Idle, Quiet, Rewound, Released, Died, Trimmed, Untrimmed}
 use Rattle.delivery_machine.proofs.Deciding.{turned}
 use Rattle.delivery_machine.proofs.Firsts.{found_contained, some_elim}
 use Rattle.delivery_machine.proofs.ReachedOn.{reached_step}
@@ -30,6 +32,7 @@ use Rattle.row_reading.proofs.Limits.{IsProducerWithin, KeepsLimits}
 use Rattle.row_reading.proofs.LimitsJoined.{dies_elsewhere, limits_joined, limits_left, may_join}
 use Rattle.row_reading.proofs.LimitsKept.{limits_acknowledged, limits_died, limits_dropped, limits_held, limits_members, limits_moved, limits_nacked, limits_redelivered, limits_sought, limits_stored, limits_taken_over}
 use Rattle.row_reading.proofs.LimitsPublished.{limits_connected, limits_disconnected, limits_published}
+use Rattle.row_reading.proofs.LimitsTrimmed.{limits_retaining, limits_trimmed}
 
 -- the new state is known
 settled : (t u : State) → t ≡ u → KeepsLimits u → KeepsLimits t
@@ -55,8 +58,13 @@ dispatch_within s name now sub (Sent consumer position count) t h keeps =
 dispatch_within s name now sub Idle t h keeps = settled t s h.1 keeps
 dispatch_within s name now sub reply t h keeps = absurd h
 
+trim_within : (s : State) (keep before most : ℕ) (reply : Reply) (t : State) → Trims s keep before most reply t → KeepsLimits s → KeepsLimits t
+trim_within s keep before most (Trimmed count) t h keeps = settled t _ h.2 (limits_trimmed s (going s keep before most) keeps)
+trim_within s keep before most Untrimmed t h keeps = settled t s h.1 keeps
+trim_within s keep before most reply t h keeps = absurd h
+
 takes_within : (s : State) (event : Event) (reply : Reply) (t : State) → refusal_of s event ≡ None → Takes s event reply t → IsWithinLimits event → IsAllKept s → KeepsLimits s → KeepsLimits t
-takes_within s (AddProducer name base) reply t allowed h within all keeps = settled t _ h.3.1 (limits_connected s name h.0 h.1 base allowed h.2 within.0 within.1 keeps)
+takes_within s (AddProducer name base) reply t allowed h within all keeps = settled t _ h.3.1 (limits_connected s name h.0 h.1 base allowed h.2 within.0 within.1 all.well.gone.at_most all.well.authors keeps)
 takes_within s (DropProducer producer) reply t allowed h within all keeps = settled t _ h.1 (limits_disconnected s (is_producer producer) keeps)
 takes_within s (Publish producer sequence body now) reply t allowed h within all keeps =
     some_elim (find (is_producer producer) s.producers) _ (KeepsLimits t) h (λ p found h.
@@ -64,7 +72,7 @@ takes_within s (Publish producer sequence body now) reply t allowed h within all
     (All-contains IsProducerWithin s.producers p keeps.producers.each (found_contained (is_producer producer) s.producers p found)) within.0 within.1 keeps)
 takes_within s Stored reply t allowed h within all keeps = settled t _ h.1 (limits_stored s (λ sub. length sub.dead) (length s.log) keeps)
 takes_within s (StoredTo count ordinal) reply t allowed h within all keeps =
-    settled t _ h.1 (limits_stored s (λ sub. max sub.safe (count_by (λ d. nat_lt d.ordinal ordinal) sub.dead)) (max s.durable (min count (length s.log))) keeps)
+    settled t _ h.1 (limits_stored s (λ sub. max sub.safe (count_by (λ d. nat_lt d.ordinal ordinal) sub.dead)) (durable_to s count) keeps)
 takes_within s Progress reply t allowed h within all keeps = settled t s h.1 keeps
 takes_within s (Subscribe name kind level flow ack_timeout nack_delay max_redeliver dead_topic initial ranges) reply t allowed h within all keeps =
     settled t _ h.1 (limits_taken_over _ name (active_at s name) (limits_joined s kind _ (may_join s kind _ ranges allowed) ranges initial within.0 within.1 keeps))
@@ -85,6 +93,8 @@ takes_within s (Skip name count) reply t allowed h within all keeps =
     some_elim (find (is_named name) s.subscriptions) _ (KeepsLimits t) h (λ sub found h. settled t _ h.1 (limits_acknowledged s name (first_live s sub count) keeps))
 takes_within s (DropSubscription name) reply t allowed h within all keeps = settled t _ h.1 (limits_dropped s name all.well.named keeps)
 takes_within s (Stats name) reply t allowed h within all keeps = some_elim (find (is_named name) s.subscriptions) _ (KeepsLimits t) h (λ sub found h. settled t s h.1 keeps)
+takes_within s (Trim keep before most) reply t allowed h within all keeps = trim_within s keep before most reply t h keeps
+takes_within s (SetRetention retention) reply t allowed h within all keeps = settled t _ h.1 (limits_retaining s retention within keeps)
 takes_within s (Dispatch name now) reply t allowed h within all keeps =
     some_elim (find (is_named name) s.subscriptions) _ (KeepsLimits t) h (λ sub found h. dispatch_within s name now sub reply t h keeps)
 takes_within s (Collect consumer) reply t allowed h within all keeps = settled t _ h.1 (limits_members s (is_member consumer) emptied (λ _. refl) keeps)

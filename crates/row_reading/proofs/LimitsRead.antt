@@ -12,7 +12,7 @@ use Rattle.delivery_machine.specs.WellFormed.{IsSound}
 use Rattle.delivery_machine.proofs.Named.{all_from_each, each_from_all}
 use Rattle.delivery_machine.proofs.ReachedOn.{reached_fresh, reached_restarted, reached_sound}
 use Rattle.row_reading.specs.Limits.{BeginsWithinLimits, IsSubscriptionName, IsWithinLimits, IsWithinLog, WhatRunsKeepIsRead}
-use Rattle.row_reading.specs.Reading.{IsLedgerSize, IsReadableMessage, IsReadBack}
+use Rattle.row_reading.specs.Reading.{IsLedgerSize, IsReadableAuthor, IsReadableMessage, IsReadBack, MayBeRule}
 use Rattle.row_reading.proofs.Limits.{IsLetterWithin, IsProducerWithin, IsSubWithin, KeepsLimits, all_seen, wills}
 use Rattle.row_reading.proofs.LimitsReached.{IsReachedWithin, all_kept, run_within}
 
@@ -21,6 +21,8 @@ use Rattle.row_reading.proofs.LimitsReached.{IsReachedWithin, all_kept, run_with
 limits_fresh : (name : TopicName) (ledger_size : ℕ) → IsLedgerSize ledger_size → KeepsLimits (fresh name ledger_size)
 limits_fresh name ledger_size size = record {
   size = size;
+  authors = All-nil IsReadableAuthor;
+  rule = tt;
   log = record { each = All-nil IsReadableMessage; few = omega arith };
   producers = record { each = All-nil IsProducerWithin; few = omega arith };
   seated = record { few = omega arith; targets = tt; each = λ name sub found. cc };
@@ -45,6 +47,8 @@ begun_within own sub within = record { name = within.name; letters = within.lett
 limits_restarted : (kept : KeptTopic) → IsReadBack kept → KeepsLimits (restarted (snapshot_in kept))
 limits_restarted kept read = record {
   size = read.size;
+  authors = λ k a low. record { name = read.authors k a low; sequence = read.told.remembered k a low };
+  rule = read.rule;
   log = record { each = read.messages; few = read.may.short };
   producers = record { each = All-nil IsProducerWithin; few = omega arith };
   seated = record {
@@ -85,16 +89,20 @@ read_back t at kept is within =
     let size : kept.ledger_size ≡ t.ledger_size = ap (λ (all : Snapshot). all.ledger_size) is in
     let as_many = ap (λ (all : Snapshot). length all.subscriptions) is in
     let subs = kept_subs_within t at kept is in
+    let authors : All IsReadableAuthor kept.authors = subst (All IsReadableAuthor) (sym (ap (λ (all : Snapshot). all.authors) is)) at.keeps.authors in
     let messages : All IsReadableMessage kept.log = subst (All IsReadableMessage) (sym log) at.keeps.log.each in
     record {
       may = record { sound = subst IsSound (sym is) (reached_sound t at.reached); short = subst (λ (l : List Entry). length l ≤ 1048576) (sym log) at.keeps.log.few; within = within };
       told = record {
         sequences = λ k e low. (messages k e low).sequence;
+        remembered = λ k a low. (authors k a low).sequence;
         few = omega (arith, as_many, length-map kept.subscriptions (kept_in kept.log), length-map t.subscriptions kept_of, at.keeps.seated.few);
         targets = λ k d low j e below. let letter = (subs k d low).letters j e below in (letter.0.0, letter.1);
       };
       size = subst IsLedgerSize (sym size) at.keeps.size;
       messages = messages;
+      authors = λ k a low. (authors k a low).name;
+      rule = subst MayBeRule (sym (ap (λ (all : Snapshot). all.retention) is)) at.keeps.rule;
       names = λ k d low. (subs k d low).name;
       texts = λ k d low j e below. ((subs k d low).letters j e below).0.1;
     }

@@ -53,19 +53,18 @@ pub record IsNextMessage (ledger_size ledger place : ℕ) (row : Row) (last : Op
   pub next : IsNext ledger_size ledger last e.position
 
 -- in a log that is read, the row after the messages that came is that of the next one
-pub next_message : (ledger_size ledger : ℕ) (topic : List ℕ) (came all : List Entry) (row : Row) (rest : List Row) (last : Option Position) → IsReadableLog ledger_size ledger all
-    → entry_rows topic 0 came ++ (Words topic ∷ row) ∷ rest ≡ entry_rows topic 0 all → IsLast last came → (e : Entry) × IsNextMessage ledger_size ledger (length came) row last e × (length came < length all)
-next_message size ledger topic came all row rest last read whole is_last =
-    let n = next_entry topic 0 came all (Words topic ∷ row) rest whole in
+pub next_message : (ledger_size ledger gone : ℕ) (topic : List ℕ) (came all : List Entry) (row : Row) (rest : List Row) (last : Option Position) → IsReadableLog ledger_size ledger all
+    → entry_rows topic gone came ++ (Words topic ∷ row) ∷ rest ≡ entry_rows topic gone all → IsLast last came → (e : Entry) × IsNextMessage ledger_size ledger (gone + length came) row last e × (length came < length all)
+next_message size ledger gone topic came all row rest last read whole is_last =
+    let n = next_entry topic gone came all (Words topic ∷ row) rest whole in
     let e : Entry = n.0 in
     let is : all ≡ came ++ e ∷ n.1 = n.2 in
-    let place : 0 + length came ≡ length came = omega arith in
     let ledgers = all_at (λ (x : Entry). (x.position.ledger ≤ ledger) × (x.position.ledger ≤ 2 ^ 62)) came e n.1 (subst (AllByRecursion (λ (x : Entry). (x.position.ledger ≤ ledger) × (x.position.ledger ≤ 2 ^ 62))) is (recursion_from_All _ all read.sound.ledgers)) in
     let some : 0 < size = omega (arith, read.size.0) in (
       e,
       record {
         readable = all_at IsReadableMessage came e n.1 (subst (AllByRecursion IsReadableMessage) is (recursion_from_All IsReadableMessage all read.each));
-        shown = entry_moves topic (length came) row e (n.3 ∙ ap (λ k. entry_row topic k e) place);
+        shown = entry_moves topic (gone + length came) row e n.3;
         next = record {
           after = is_last e.position (lower_before came e n.1 (subst (λ l. IsStrictlySortedBy position_cmp (map (λ (x : Entry). x.position) l)) is read.sound.positions));
           within = ledgers.0;
@@ -81,11 +80,11 @@ joined_left a b c d e rest whole first second is =
     ap (λ l. l ++ (d ++ rest)) (sym first) ∙ append_assoc a b (d ++ rest) ∙ ap (λ l. a ++ l) (sym (append_assoc b d rest) ∙ ap (λ l. l ++ rest) second) ∙ is
 
 -- of the rows after those that came, those from this one on are left
-pub rows_left : (topic : List ℕ) (came log : List Entry) (rows rest whole : List Row) (i : ℕ) (row : Row) → i < length rows → row ≡ get_or rows i row → GoOn came (take i rows) log → entry_rows topic 0 came ++ (put topic rows ++ rest) ≡ whole
-    → entry_rows topic 0 log ++ (Words topic ∷ row) ∷ (put topic (drop (suc i) rows) ++ rest) ≡ whole
-rows_left topic came log rows rest whole i row low at so_far is =
+pub rows_left : (gone : ℕ) (topic : List ℕ) (came log : List Entry) (rows rest whole : List Row) (i : ℕ) (row : Row) → i < length rows → row ≡ get_or rows i row → GoOn gone came (take i rows) log → entry_rows topic gone came ++ (put topic rows ++ rest) ≡ whole
+    → entry_rows topic gone log ++ (Words topic ∷ row) ∷ (put topic (drop (suc i) rows) ++ rest) ≡ whole
+rows_left gone topic came log rows rest whole i row low at so_far is =
     let split : take i rows ++ row ∷ drop (suc i) rows ≡ rows = ap (λ (l : List Row). take i rows ++ l) (ap (λ (r : Row). r ∷ drop (suc i) rows) at ∙ sym (drop-cons rows i row low)) ∙ take-append-drop i rows in
-    joined_left (entry_rows topic 0 came) (put topic (take i rows)) (entry_rows topic 0 log) (put topic (row ∷ drop (suc i) rows)) (put topic rows) rest whole (so_far topic)
+    joined_left (entry_rows topic gone came) (put topic (take i rows)) (entry_rows topic gone log) (put topic (row ∷ drop (suc i) rows)) (put topic rows) rest whole (so_far topic)
     (sym (map-append (λ (r : Row). Words topic ∷ r) (take i rows) (row ∷ drop (suc i) rows)) ∙ ap (put topic) split) is
 
 as_many : (topic : List ℕ) (from : ℕ) (log : List Entry) → length (entry_rows topic from log) ≡ length log
@@ -93,7 +92,7 @@ as_many topic from [] = refl
 as_many topic from (e ∷ log) = ap suc (as_many topic (from + 1) log)
 
 -- as many messages came as there were rows
-pub many_more : (came log : List Entry) (rows : List Row) → GoOn came rows log → length log ≡ length came + length rows
-many_more came log rows so =
+pub many_more : (gone : ℕ) (came log : List Entry) (rows : List Row) → GoOn gone came rows log → length log ≡ length came + length rows
+many_more gone came log rows so =
     let each = ap length (so []) in
-    omega (arith, each, length-append (entry_rows [] 0 came) (put [] rows), length-map rows (λ (r : Row). Words [] ∷ r), as_many [] 0 came, as_many [] 0 log)
+    omega (arith, each, length-append (entry_rows [] gone came) (put [] rows), length-map rows (λ (r : Row). Words [] ∷ r), as_many [] gone came, as_many [] gone log)

@@ -14,11 +14,10 @@ use Rattle.std.proofs.lemmas.Map.Keys.{sorted_from_strictly_increasing}
 use Rattle.sqlite.specs.declared.types.Value.TheVariants.{Text as Words}
 use Rattle.sqlite.specs.Order.{Row, column}
 use Rattle.position_core.specs.declared.topic_name.TopicName.{TopicName}
-use Rattle.position_core.specs.declared.message.Entry.{Entry}
 use Rattle.position_core.specs.Position.{same_position}
 use Rattle.delivery_machine.specs.State.{DeadLetter}
 use Rattle.delivery_machine.specs.WellFormed.{AreDeadLettersOf, has_message}
-use Rattle.row_forms.specs.Forms.{dead_row, place_in}
+use Rattle.row_forms.specs.Forms.{Span, dead_row, index_in}
 use Rattle.row_reading.specs.Reading.{ArePast, AreReadable, BeginsWithLetters, IsLetterAt, IsLetterOf, IsReadable, OrdinalsCame, put, times_in}
 use Rattle.row_reading.proofs.Letters.{HasLeast, HasNoOthers}
 use Rattle.row_reading.proofs.Nexts.{all_at, next_is, past_first}
@@ -67,29 +66,29 @@ never_came s t n k came none fresh = by (set.contains t n) refl
 -- ---- the next letter
 
 -- the row shows a letter that is read, and may come after those that came
-pub record IsNextLetter (own : TopicName) (sub : List ℕ) (log : List Entry) (next least : ℕ) (places ordinals : set.FinSet nat_cmp) (row : Row) (d : DeadLetter) : Type 0 where
-  pub readable : IsReadable own log next d
-  pub shown : IsLetterAt sub log row d
+pub record IsNextLetter (own : TopicName) (sub : List ℕ) (span : Span) (next least : ℕ) (places ordinals : set.FinSet nat_cmp) (row : Row) (d : DeadLetter) : Type 0 where
+  pub readable : IsReadable own span.log next d
+  pub shown : IsLetterAt sub span row d
   pub above : least ≤ d.ordinal
-  pub new_place : set.contains places (place_in log d.position) ≡ false
+  pub new_place : set.contains places (index_in span.log d.position) ≡ false
   pub new_ordinal : set.contains ordinals d.ordinal ≡ false
 
-at_any : (sub : List ℕ) (log : List Entry) (row : Row) (d : DeadLetter) → Words [] ∷ row ≡ dead_row [] sub log d → IsLetterAt sub log row d
-at_any sub log row d is topic = cc
+at_any : (sub : List ℕ) (span : Span) (row : Row) (d : DeadLetter) → Words [] ∷ row ≡ dead_row [] sub span d → IsLetterAt sub span row d
+at_any sub span row d is topic = cc
 
-pub next_letter : (own : TopicName) (sub : List ℕ) (log : List Entry) (next least : ℕ) (places old ordinals : set.FinSet nat_cmp) (ds all : List DeadLetter) (rows rest after others : List Row) (row : Row)
-    → AreDeadLettersOf log ds → All (IsLetterOf own next) ds → HasLeast least ds → HasNoOthers log places ds → OrdinalsCame ds old ordinals → BeginsWithLetters sub log ds rows rest → rest ≡ row ∷ after → column row 0 ≡ Words sub
-    → AreReadable own log next old all → BeginsWithLetters sub log all rows others → ArePast sub others → (d : DeadLetter) × IsNextLetter own sub log next least places ordinals row d
-next_letter own sub log next least places old ordinals ds all rows rest after others row dead letters has_least no_others came so_far split named read whole none =
-    let each : AllByRecursion (IsReadable own log next) all = recursion_from_All (IsReadable own log next) all read.each in
-    let messages : AllByRecursion (λ (x : DeadLetter). has_message log x.position ≡ true) ds = recursion_from_All _ ds dead.messages in
-    let of_ds : AllByRecursion (IsOneOf log) ds = all_both (λ (x : DeadLetter). has_message log x.position ≡ true) _ ds messages (all_weaker (IsLetterOf own next) _ (λ x l. l.named) ds (recursion_from_All (IsLetterOf own next) ds letters)) in
-    let of_all : AllByRecursion (IsOneOf log) all = all_weaker (IsReadable own log next) (IsOneOf log) (λ x r. (r.message, r.letter.named)) all each in
-    let same : map (dead_row [] sub log) ds ++ (Words [] ∷ row) ∷ put [] after ≡ map (dead_row [] sub log) all ++ put [] others = ap (λ l. map (dead_row [] sub log) ds ++ put [] l) (sym split) ∙ sym (so_far []) ∙ whole [] in
-    let n = next_is (dead_row [] sub log) (IsOneOf log) (one_letter [] sub log) (λ (r : Row). column r 1 ≡ Words sub) (λ x. refl) ds all (Words [] ∷ row) (put [] after) (put [] others) of_ds of_all same named (past_first sub others none) in
+pub next_letter : (own : TopicName) (sub : List ℕ) (span : Span) (next least : ℕ) (places old ordinals : set.FinSet nat_cmp) (ds all : List DeadLetter) (rows rest after others : List Row) (row : Row)
+    → AreDeadLettersOf span.log ds → All (IsLetterOf own next) ds → HasLeast least ds → HasNoOthers span.log places ds → OrdinalsCame ds old ordinals → BeginsWithLetters sub span ds rows rest → rest ≡ row ∷ after → column row 0 ≡ Words sub
+    → AreReadable own span.log next old all → BeginsWithLetters sub span all rows others → ArePast sub others → (d : DeadLetter) × IsNextLetter own sub span next least places ordinals row d
+next_letter own sub span next least places old ordinals ds all rows rest after others row dead letters has_least no_others came so_far split named read whole none =
+    let each : AllByRecursion (IsReadable own span.log next) all = recursion_from_All (IsReadable own span.log next) all read.each in
+    let messages : AllByRecursion (λ (x : DeadLetter). has_message span.log x.position ≡ true) ds = recursion_from_All _ ds dead.messages in
+    let of_ds : AllByRecursion (IsOneOf span.log) ds = all_both (λ (x : DeadLetter). has_message span.log x.position ≡ true) _ ds messages (all_weaker (IsLetterOf own next) _ (λ x l. l.named) ds (recursion_from_All (IsLetterOf own next) ds letters)) in
+    let of_all : AllByRecursion (IsOneOf span.log) all = all_weaker (IsReadable own span.log next) (IsOneOf span.log) (λ x r. (r.message, r.letter.named)) all each in
+    let same : map (dead_row [] sub span) ds ++ (Words [] ∷ row) ∷ put [] after ≡ map (dead_row [] sub span) all ++ put [] others = ap (λ l. map (dead_row [] sub span) ds ++ put [] l) (sym split) ∙ sym (so_far []) ∙ whole [] in
+    let n = next_is (dead_row [] sub span) (IsOneOf span.log) (one_letter [] sub span) (λ (r : Row). column r 1 ≡ Words sub) (λ x. refl) ds all (Words [] ∷ row) (put [] after) (put [] others) of_ds of_all same named (past_first sub others none) in
     let d : DeadLetter = n.0 in
     let is : all ≡ ds ++ d ∷ n.1 = n.2 in
-    let readable : IsReadable own log next d = all_at (IsReadable own log next) ds d n.1 (subst (AllByRecursion (IsReadable own log next)) is each) in
+    let readable : IsReadable own span.log next d = all_at (IsReadable own span.log next) ds d n.1 (subst (AllByRecursion (IsReadable own span.log next)) is each) in
     let lower : AllByRecursion (λ (x : DeadLetter). x.ordinal < d.ordinal) ds =
     lower_before ds d n.1 (subst (λ xs. IsStrictlySortedBy nat_cmp (map (λ (x : DeadLetter). x.ordinal) xs)) is (sorted_from_strictly_increasing (map (λ (x : DeadLetter). x.ordinal) all) read.dead.ordinals)) in
     let apart : AllByRecursion (λ (x : DeadLetter). same_position x.position d.position ≡ false) ds = apart_before ds d n.1 (subst (λ xs. IsDistinct same_position (map (λ (x : DeadLetter). x.position) xs)) is read.dead.once) in
@@ -97,11 +96,11 @@ next_letter own sub log next least places old ordinals ds all rows rest after ot
       d,
       record {
         readable = readable;
-        shown = at_any sub log row d n.3;
+        shown = at_any sub span row d n.3;
         above = has_least d.ordinal lower;
-        new_place = no_others (place_in log d.position)
-            (all_weaker (λ (x : DeadLetter). (has_message log x.position ≡ true) × (same_position x.position d.position ≡ false)) (λ (x : DeadLetter). place_in log x.position ≡ place_in log d.position → ⊥)
-            (λ x both. apart_places log x.position d.position both.0 readable.message both.1) ds (all_both (λ (x : DeadLetter). has_message log x.position ≡ true) (λ (x : DeadLetter). same_position x.position d.position ≡ false) ds messages apart));
+        new_place = no_others (index_in span.log d.position)
+            (all_weaker (λ (x : DeadLetter). (has_message span.log x.position ≡ true) × (same_position x.position d.position ≡ false)) (λ (x : DeadLetter). index_in span.log x.position ≡ index_in span.log d.position → ⊥)
+            (λ x both. apart_places span.log x.position d.position both.0 readable.message both.1) ds (all_both (λ (x : DeadLetter). has_message span.log x.position ≡ true) (λ (x : DeadLetter). same_position x.position d.position ≡ false) ds messages apart));
         new_ordinal = never_came old ordinals d.ordinal (count_by (λ (x : DeadLetter). x.ordinal == d.ordinal) ds) (came d.ordinal) (none_of d.ordinal ds lower) fresh;
       },
     )

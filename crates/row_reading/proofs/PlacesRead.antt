@@ -20,13 +20,13 @@ use Rattle.delivery_machine.specs.WellFormed.{has_message}
 use Rattle.delivery_machine.proofs.Messages.{either_way, has_there}
 use Rattle.delivery_machine.proofs.Rising.{below_itself}
 use Rattle.delivery_machine.proofs.Tended.{position_is}
-use Rattle.row_forms.specs.Forms.{place_in}
+use Rattle.row_forms.specs.Forms.{index_in}
 use Rattle.row_forms.specs.Parts.{IsRising}
 use Rattle.row_forms.proofs.PlacesIn.{found_place}
 
 -- ---- the message at a place
 
-pub place_there : (log : List Entry) (place : ℕ) (m : Entry) → IsRising log → slice_get log place ≡ Some m → place ≡ place_in log m.position
+pub place_there : (log : List Entry) (place : ℕ) (m : Entry) → IsRising log → slice_get log place ≡ Some m → place ≡ index_in log m.position
 place_there log place m rising at =
     found_place log m.position place (sym (found log m.position place m rising at (tied_itself positions_total m.position)))
 
@@ -35,33 +35,33 @@ message_there log place m at =
     has_there log m.position (m, (place, slice_get_within log place m at, get_or_from_slice_get log place m m at), refl)
 
 -- a message of the log stands below its end
-pub place_below : (log : List Entry) (p : Position) → has_message log p ≡ true → place_in log p < length log
+pub place_below : (log : List Entry) (p : Position) → has_message log p ≡ true → index_in log p < length log
 place_below [] p there = absurd (cc)
 place_below (e ∷ log) p there = by (same_position e.position p) there (place_below log p)
   where
-    by : (b : Bool) → (b || has_message log p) ≡ true → (has_message log p ≡ true → place_in log p < length log) → (if b then 0 else place_in log p + 1) < length (e ∷ log)
+    by : (b : Bool) → (b || has_message log p) ≡ true → (has_message log p ≡ true → index_in log p < length log) → (if b then 0 else index_in log p + 1) < length (e ∷ log)
     by true there later = omega arith
     by false there later = let below = later there in omega arith
 
 -- the place that was read is that of the letter, and so below the log's end
-pub place_told : (log : List Entry) (p : Position) (place : ℕ) (v : Value) → v ≡ Int (pos (place_in log p)) → v ≡ Int (pos place) → place_in log p < length log → length log ≤ place → ⊥
-place_told log p place v at found below past = let same : place ≡ place_in log p = cc in absurd (omega (arith, same, below, past))
+pub place_told : (gone : ℕ) (log : List Entry) (p : Position) (place : ℕ) (v : Value) → v ≡ Int (pos (gone + index_in log p)) → v ≡ Int (pos (gone + place)) → index_in log p < length log → length log ≤ place → ⊥
+place_told gone log p place v at found below past = let same : gone + place ≡ gone + index_in log p = cc in absurd (omega (arith, same, below, past))
 
 -- messages that stand at one place are one
-pub one_place : (log : List Entry) (p q : Position) → has_message log p ≡ true → has_message log q ≡ true → place_in log p ≡ place_in log q → p ≡ q
+pub one_place : (log : List Entry) (p q : Position) → has_message log p ≡ true → has_message log q ≡ true → index_in log p ≡ index_in log q → p ≡ q
 one_place [] p q here there same = absurd (cc)
 one_place (e ∷ log) p q here there same = by (same_position e.position p) (same_position e.position q) refl refl here there same (one_place log p q)
   where
     by : (b c : Bool) → same_position e.position p ≡ b → same_position e.position q ≡ c → (b || has_message log p) ≡ true → (c || has_message log q) ≡ true
-        → (if b then 0 else place_in log p + 1) ≡ (if c then 0 else place_in log q + 1)
-        → (has_message log p ≡ true → has_message log q ≡ true → place_in log p ≡ place_in log q → p ≡ q) → p ≡ q
+        → (if b then 0 else index_in log p + 1) ≡ (if c then 0 else index_in log q + 1)
+        → (has_message log p ≡ true → has_message log q ≡ true → index_in log p ≡ index_in log q → p ≡ q) → p ≡ q
     by true true is_p is_q here there same later = sym (position_is e.position p is_p) ∙ position_is e.position q is_q
     by true false is_p is_q here there same later = absurd (omega (arith, same))
     by false true is_p is_q here there same later = absurd (omega (arith, same))
-    by false false is_p is_q here there same later = let places : place_in log p ≡ place_in log q = omega (arith, same) in later here there places
+    by false false is_p is_q here there same later = let places : index_in log p ≡ index_in log q = omega (arith, same) in later here there places
 
 -- and others stand at other places
-pub apart_places : (log : List Entry) (p q : Position) → has_message log p ≡ true → has_message log q ≡ true → same_position p q ≡ false → place_in log p ≡ place_in log q → ⊥
+pub apart_places : (log : List Entry) (p q : Position) → has_message log p ≡ true → has_message log q ≡ true → same_position p q ≡ false → index_in log p ≡ index_in log q → ⊥
 apart_places log p q here there apart same =
     let tied : same_position p q ≡ true = ap (same_position p) (sym (one_place log p q here there same)) ∙ ap is_eq (tied_itself positions_total p) in
     true≢false (sym tied ∙ apart)
@@ -78,7 +78,7 @@ comes_after p q (e ∷ log) above there = by (same_position e.position q) refl t
     by false is there later = later there
 
 -- places rise with positions
-pub place_rises : (log : List Entry) (p q : Position) → IsRising log → has_message log p ≡ true → has_message log q ≡ true → position_cmp p q ≡ Less → place_in log p < place_in log q
+pub place_rises : (log : List Entry) (p q : Position) → IsRising log → has_message log p ≡ true → has_message log q ≡ true → position_cmp p q ≡ Less → index_in log p < index_in log q
 unfolding IsStrictlySortedBy
 place_rises [] p q rise here there less = absurd (cc)
 place_rises (e ∷ log) p q rise here there less = by (same_position e.position p) (same_position e.position q) refl refl here there (place_rises log p q rise.1)
@@ -87,8 +87,8 @@ place_rises (e ∷ log) p q rise here there less = by (same_position e.position 
     before is there = below_itself positions_total p (positions_total.trans p q p less (subst (λ x. position_cmp x p ≡ Less) (position_is e.position q is) (comes_after e.position p log rise.0 there)))
 
     by : (b c : Bool) → same_position e.position p ≡ b → same_position e.position q ≡ c → (b || has_message log p) ≡ true → (c || has_message log q) ≡ true
-        → (has_message log p ≡ true → has_message log q ≡ true → position_cmp p q ≡ Less → place_in log p < place_in log q)
-        → (if b then 0 else place_in log p + 1) < (if c then 0 else place_in log q + 1)
+        → (has_message log p ≡ true → has_message log q ≡ true → position_cmp p q ≡ Less → index_in log p < index_in log q)
+        → (if b then 0 else index_in log p + 1) < (if c then 0 else index_in log q + 1)
     by true true is_p is_q here there later = absurd (below_itself positions_total p (subst (λ x. position_cmp p x ≡ Less) (sym (position_is e.position q is_q) ∙ position_is e.position p is_p) less))
     by true false is_p is_q here there later = omega arith
     by false true is_p is_q here there later = absurd (before is_q here)
@@ -110,7 +110,7 @@ among place p (e ∷ log) q there = by (p place) there (among (suc place) p log 
     ]
 
 -- where positions rise, a message is among those at some places where its own place is one of these
-listed_at : (place : ℕ) (p : ℕ → Bool) (log : List Entry) (q : Position) → IsRising log → has_message log q ≡ true → list_any (same_position q) (positions_from place p log) ≡ p (place + place_in log q)
+listed_at : (place : ℕ) (p : ℕ → Bool) (log : List Entry) (q : Position) → IsRising log → has_message log q ≡ true → list_any (same_position q) (positions_from place p log) ≡ p (place + index_in log q)
 unfolding IsStrictlySortedBy
 listed_at place p [] q rise there = absurd (cc)
 listed_at place p (e ∷ log) q rise there = by (same_position e.position q) refl there (listed_at (suc place) p log q rise.1)
@@ -130,12 +130,12 @@ listed_at place p (e ∷ log) q rise there = by (same_position e.position q) ref
     other is false = refl
 
     by : (b : Bool) → same_position e.position q ≡ b → (b || has_message log q) ≡ true
-        → (has_message log q ≡ true → list_any (same_position q) (positions_from (suc place) p log) ≡ p (suc place + place_in log q))
-        → list_any (same_position q) (cond (p place) (e.position ∷ positions_from (suc place) p log) (positions_from (suc place) p log)) ≡ p (place + (if b then 0 else place_in log q + 1))
+        → (has_message log q ≡ true → list_any (same_position q) (positions_from (suc place) p log) ≡ p (suc place + index_in log q))
+        → list_any (same_position q) (cond (p place) (e.position ∷ positions_from (suc place) p log) (positions_from (suc place) p log)) ≡ p (place + (if b then 0 else index_in log q + 1))
     by true is there later = here is (p place) ∙ ap p (omega arith)
     by false is there later = other is (p place) ∙ later there ∙ ap p (omega arith)
 
-pub stands_at_place : (log : List Entry) (places : set.FinSet nat_cmp) (p : Position) → IsRising log → has_message log p ≡ true → set.contains (positions_at log places) p ≡ set.contains places (place_in log p)
+pub stands_at_place : (log : List Entry) (places : set.FinSet nat_cmp) (p : Position) → IsRising log → has_message log p ≡ true → set.contains (positions_at log places) p ≡ set.contains places (index_in log p)
 stands_at_place log places p rise there =
     set.contains-from_list positions_total (positions_from 0 (set.contains places) log) p
     ∙ listed_at 0 (set.contains places) log p rise there

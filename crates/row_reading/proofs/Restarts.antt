@@ -10,15 +10,16 @@ use Rattle.position_core.specs.declared.message.Entry.{Entry}
 use Rattle.position_core.specs.declared.topic_name.TopicName.{TopicName}
 use Rattle.position_core.specs.Position.{positions_total}
 use Rattle.position_core.specs.TopicName.{same_topic, topic_text}
-use Rattle.delivery_machine.specs.State.{DeadLetter}
+use Rattle.delivery_machine.specs.State.{Author, DeadLetter}
 use Rattle.delivery_machine.specs.Snapshot.{KeptSubscription}
 use Rattle.delivery_machine.specs.Places.{AreBelow, KeptPlaces, KeptTopic, MayRestart, kept_in, positions_at, positions_from}
-use Rattle.delivery_machine.specs.WellFormed.{AreMessagesOf, HaveOrdinals, IsSoundSubscription, IsWellFormedLog, NamesRise}
+use Rattle.delivery_machine.specs.WellFormed.{AreAuthors, AreMessagesOf, HaveOrdinals, IsGoneWell, IsSoundSubscription, IsWellFormedLog, NamesRise}
 use Rattle.delivery_machine.proofs.Ordinals.{letters_mapped}
 use Rattle.row_tables.specs.declared.side_rows.SideRows.{SideRows}
-use Rattle.row_forms.specs.Forms.{AreAckRows, AreRowsOf, count_rows, dead_rows, sub_rows}
+use Rattle.row_forms.specs.Forms.{AreAckRows, AreRowsOf, Span, author_rows, count_rows, dead_rows, sub_rows}
+use Rattle.row_reading.specs.declared.retention_rows.Front.{Front}
 use Rattle.row_reading.specs.declared.topic_row.Head.{Head}
-use Rattle.row_reading.specs.Reading.{AreSubsOf, IsHeadIn, IsLetterOf, IsNamed, IsSubOf, put, rows_with}
+use Rattle.row_reading.specs.Reading.{AreSubsOf, IsFrontIn, IsHeadIn, IsLetterOf, IsNamed, IsSubOf, put, rows_with}
 use Rattle.row_reading.proofs.PlacesRead.{among}
 
 -- ---- what is acknowledged
@@ -33,10 +34,12 @@ pub same_names : (log : List Entry) (subs : List KeptPlaces) → map (λ (sub : 
 same_names log [] = refl
 same_names log (sub ∷ subs) = ap (λ names. sub.name ∷ names) (same_names log subs)
 
-pub may_restart : (own : TopicName) (kept : KeptTopic) → IsWellFormedLog kept.ledger_size kept.ledger kept.log → length kept.log ≤ 1048576 → AreSubsOf own kept.log kept.next_ordinal kept.subscriptions → MayRestart kept
-may_restart own kept log short subs = record {
+pub may_restart : (own : TopicName) (kept : KeptTopic) → IsWellFormedLog kept.ledger_size kept.ledger kept.log → IsGoneWell kept.gone kept.log → AreAuthors kept.gone kept.authors → length kept.log ≤ 1048576 → AreSubsOf own kept.log kept.next_ordinal kept.subscriptions → MayRestart kept
+may_restart own kept log gone authors short subs = record {
   sound = record {
     log = log;
+    gone = gone;
+    authors = authors;
     names = subst NamesRise (sym (same_names kept.log kept.subscriptions)) subs.names;
     subscriptions = All-map (IsSoundSubscription kept.log) (kept_in kept.log) kept.subscriptions
         (All-weaker (IsSubOf own kept.log kept.next_ordinal) (λ sub. IsSoundSubscription kept.log (kept_in kept.log sub))
@@ -48,19 +51,38 @@ may_restart own kept log short subs = record {
   within = All-weaker (IsSubOf own kept.log kept.next_ordinal) (λ (sub : KeptPlaces). AreBelow (length kept.log) sub.acknowledged) (λ sub is. is.within) kept.subscriptions subs.each;
 }
 
-abbrev pub of_parts : TopicName → Head → List Entry → List KeptPlaces → KeptTopic
-of_parts name head log subs = record { name = name; ledger_size = head.ledger_size; ledger = head.ledger; next_ordinal = head.next_ordinal; log = log; subscriptions = subs }
+abbrev pub of_parts : TopicName → Head → Front → List Author → List Entry → List KeptPlaces → KeptTopic
+of_parts name head front authors log subs = record {
+  name = name;
+  ledger_size = head.ledger_size;
+  ledger = head.ledger;
+  next_ordinal = head.next_ordinal;
+  gone = front.gone;
+  authors = authors;
+  retention = front.retention;
+  log = log;
+  subscriptions = subs;
+}
 
-pub rows_shown : (name : TopicName) (head : Head) (log : List Entry) (subs : List KeptPlaces) (sides : SideRows) → IsHeadIn sides.topics.items head → ((topic : List ℕ) → put topic sides.subs.items ≡ sub_rows topic subs)
-    → ((topic : List ℕ) → AreAckRows topic subs (put topic sides.acks.items)) → ((topic : List ℕ) → put topic sides.deads.items ≡ dead_rows topic log subs)
-    → ((topic : List ℕ) → put topic sides.counts.items ≡ count_rows topic log subs) → AreRowsOf (of_parts name head log subs) (rows_with (topic_text name) log sides)
-rows_shown name head log subs sides (row, one, is) own acks deads counts = record {
+-- what the rows beside the messages show of authors and subscriptions
+pub record AreShown (sides : SideRows) (span : Span) (authors : List Author) (subs : List KeptPlaces) : Type 0 where
+  pub authors_are : (topic : List ℕ) → put topic sides.authors.items ≡ author_rows topic authors
+  pub own : (topic : List ℕ) → put topic sides.subs.items ≡ sub_rows topic subs
+  pub acks : (topic : List ℕ) → AreAckRows topic span.gone subs (put topic sides.acks.items)
+  pub deads : (topic : List ℕ) → put topic sides.deads.items ≡ dead_rows topic span subs
+  pub counts : (topic : List ℕ) → put topic sides.counts.items ≡ count_rows topic span subs
+
+pub rows_shown : (name : TopicName) (head : Head) (front : Front) (authors : List Author) (log : List Entry) (subs : List KeptPlaces) (sides : SideRows) → IsHeadIn sides.topics.items head → IsFrontIn sides.retentions.items front
+    → AreShown sides (record { gone = front.gone; log = log }) authors subs → AreRowsOf (of_parts name head front authors log subs) (rows_with (topic_text name) (record { gone = front.gone; log = log }) sides)
+rows_shown name head front authors log subs sides (row, one, is) first shown = record {
   topics = ap (put (topic_text name)) one ∙ ap (λ (r : Row). (Words (topic_text name) ∷ r) ∷ []) is.shown;
   entries = refl;
-  subs = own (topic_text name);
-  acks = acks (topic_text name);
-  deads = deads (topic_text name);
-  counts = counts (topic_text name);
+  subs = shown.own (topic_text name);
+  acks = shown.acks (topic_text name);
+  deads = shown.deads (topic_text name);
+  counts = shown.counts (topic_text name);
+  authors = shown.authors_are (topic_text name);
+  retentions = first.shown (topic_text name);
 }
 
 -- every dead letter goes to another topic

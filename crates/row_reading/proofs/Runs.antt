@@ -19,15 +19,15 @@ ranges_more places runs start end are may = record {
   rise = rises_on runs start end are.rise (subst (λ s. MayFollow s start end) are.numbers may);
 }
 
-pub runs_more : (sub : List ℕ) (places more : set.FinSet nat_cmp) (rows rest after : List Row) (row : Row) (first last : ℕ) → BeginsWithRuns sub places rows rest → rest ≡ row ∷ after
-    → row ≡ Words sub ∷ Int (pos first) ∷ Int (pos last) ∷ [] → MayFollow places first (last + 1) → more ≡ set.union places (from_to first (last + 1)) → BeginsWithRuns sub more rows after
-runs_more sub places more rows rest after row first last h next shown may is = (
+pub runs_more : (gone : ℕ) (sub : List ℕ) (places more : set.FinSet nat_cmp) (rows rest after : List Row) (row : Row) (first last : ℕ) → BeginsWithRuns sub gone places rows rest → rest ≡ row ∷ after
+    → row ≡ Words sub ∷ Int (pos (gone + first)) ∷ Int (pos (gone + last)) ∷ [] → MayFollow places first (last + 1) → more ≡ set.union places (from_to first (last + 1)) → BeginsWithRuns sub gone more rows after
+runs_more gone sub places more rows rest after row first last h next shown may is = (
   h.0 ++ (first, last + 1) ∷ [],
   subst (λ s. AreRangesOf s (h.0 ++ (first, last + 1) ∷ [])) (sym is) (ranges_more places h.0 first (last + 1) h.1 may),
   λ topic.
-      let one : Words topic ∷ row ≡ ack_row topic sub (first, last + 1) =
-      ap (λ (r : Row). Words topic ∷ r) shown ∙ ap (λ n. Words topic ∷ Words sub ∷ Int (pos first) ∷ Int (pos n) ∷ []) (omega arith) in
-      one_more (ack_row topic sub) h.0 (first, last + 1) topic rows rest after row (h.2 topic) next one,
+      let one : Words topic ∷ row ≡ ack_row topic sub gone (first, last + 1) =
+      ap (λ (r : Row). Words topic ∷ r) shown ∙ ap (λ n. Words topic ∷ Words sub ∷ Int (pos (gone + first)) ∷ Int (pos (gone + n)) ∷ []) (omega arith) in
+      one_more (ack_row topic sub gone) h.0 (first, last + 1) topic rows rest after row (h.2 topic) next one,
 )
 
 pub below_more : (places more : set.FinSet nat_cmp) (count first last : ℕ) → ((place : ℕ) → set.contains places place ≡ true → place < count) → last < count → more ≡ set.union places (from_to first (last + 1))
@@ -45,5 +45,5 @@ nothing_below places count is place h =
     let not_there : set.contains {R = nat_cmp} set.empty place ≡ false = set.contains-empty nat_cmp place in
     absurd (cc)
 
-pub no_runs_yet : (sub : List ℕ) (places : set.FinSet nat_cmp) (rows : List Row) → places ≡ set.empty → BeginsWithRuns sub places rows rows
-no_runs_yet sub places rows is = ([], record { numbers = is; rise = tt }, λ topic. refl)
+pub no_runs_yet : (gone : ℕ) (sub : List ℕ) (places : set.FinSet nat_cmp) (rows : List Row) → places ≡ set.empty → BeginsWithRuns sub gone places rows rows
+no_runs_yet gone sub places rows is = ([], record { numbers = is; rise = tt }, λ topic. refl)

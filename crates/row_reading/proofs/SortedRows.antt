@@ -1,11 +1,9 @@
 -- Where a snapshot stands, the topic's rows as they are read are the snapshot's.
-use Rattle.std.proofs.Common.{◌≡◌, ℕ, suc, ◌+◌, ◌-◌, ◌<◌, ◌≤◌, true, false, not, inl, inr, List, [], ◌∷◌, map, filter, take, drop, length, pos, Ordering, Less, Equal, refl, ap, sym, subst, ◌∙◌, arith}
+use Rattle.std.proofs.Common.{◌≡◌, ℕ, ◌+◌, ◌-◌, ◌<◌, ◌≤◌, false, cond, not, inl, inr, List, [], ◌∷◌, map, filter, take, drop, length, pos, Ordering, Less, Equal, refl, ap, sym, subst, ◌∙◌, arith}
 use Rattle.std.specs.Prelude.{IsPermutation}
 use Rattle.std.specs.List.{AllByRecursion, list_any}
-use Rattle.std.specs.Ordering.{int_cmp, is_lt, on, ordering_then}
+use Rattle.std.specs.Ordering.{int_cmp, on, ordering_then}
 use Rattle.std.specs.Cmp.{tied_itself}
-use Rattle.std.proofs.Math.Seq.{drop-nil, take-nil}
-use Rattle.std.proofs.lemmas.Bool.{cases_lt}
 use Rattle.std.proofs.lemmas.Bool.Decides.{nat_tests}
 use Rattle.std.proofs.lemmas.Cmp.{nat_list_cmp_total, on_total}
 use Rattle.std.proofs.lemmas.List.Sorted.{IsPermutation-sym, IsPermutation-trans, list_any-IsPermutation}
@@ -19,17 +17,19 @@ use Rattle.position_core.specs.declared.position.Position.{Position}
 use Rattle.position_core.specs.declared.message.Entry.{Entry}
 use Rattle.position_core.specs.Name.{name_order}
 use Rattle.position_core.specs.TopicName.{topic_text}
-use Rattle.delivery_machine.specs.State.{DeadLetter}
+use Rattle.delivery_machine.specs.State.{Author, DeadLetter}
 use Rattle.delivery_machine.specs.Places.{KeptPlaces}
 use Rattle.row_tables.specs.Ordered.{AreSortedBy}
-use Rattle.row_tables.specs.Pieces.{ShowsWithin, has_others, is_below, is_within, messages_of}
+use Rattle.row_tables.specs.Pieces.{ShowsWithin, has_others, is_within, messages_of}
 use Rattle.row_tables.proofs.TableLemmas.{filter_twice}
-use Rattle.row_forms.specs.Cells.{ENTRY}
+use Rattle.row_forms.specs.Cells.{ENTRY, is_below, not_below}
 use Rattle.row_forms.specs.Standing.{HasIn}
-use Rattle.row_forms.specs.Forms.{AreAckRows, ack_row, count_row, count_rows, dead_row, dead_rows, entry_row, entry_rows, place_in, sub_rows}
+use Rattle.row_forms.specs.Forms.{AreAckRows, Span, ack_row, author_rows, count_row, count_rows, dead_row, dead_rows, entry_row, entry_rows, place_in, span_of, sub_rows}
+use Rattle.row_forms.proofs.BelowPlaces.{below_are, beyond_are, place_below, place_beyond}
 use Rattle.row_reading.specs.Reading.{put, rows_with}
 use Rattle.row_reading.specs.KeyOrder.{BelowByName, BelowByNumber, BelowByPlace, InOrder}
 use Rattle.row_reading.specs.ReadRows.{WhatStandsIsRead}
+use Rattle.row_reading.proofs.Authors.{authors_in_order}
 use Rattle.row_reading.proofs.Orders.{all_append}
 use Rattle.row_reading.proofs.SortedLists.{order_weaker, same_sorted, sorted_through}
 use Rattle.row_reading.proofs.OneSnapshot.{are_tellable, in_order_are_its, tellable_counts, tellable_deads}
@@ -102,98 +102,71 @@ subs_named : (topic : List ℕ) (subs : List KeptPlaces) → AllByRecursion HasN
 subs_named topic [] = tt
 subs_named topic (sub ∷ subs) = ((topic, sub.name, _, refl), subs_named topic subs)
 
-runs_numbered : (topic name : List ℕ) (runs : List (ℕ × ℕ)) → AllByRecursion HasNumber (map (ack_row topic name) runs)
-runs_numbered topic name [] = tt
-runs_numbered topic name (run ∷ runs) = ((topic, name, run.0, _, refl), runs_numbered topic name runs)
+runs_numbered : (gone : ℕ) (topic name : List ℕ) (runs : List (ℕ × ℕ)) → AllByRecursion HasNumber (map (ack_row topic name gone) runs)
+runs_numbered gone topic name [] = tt
+runs_numbered gone topic name (run ∷ runs) = ((topic, name, gone + run.0, _, refl), runs_numbered gone topic name runs)
 
-acks_numbered : (topic : List ℕ) (subs : List KeptPlaces) (rows : List Row) → AreAckRows topic subs rows → AllByRecursion HasNumber rows
-acks_numbered topic [] rows none = subst (AllByRecursion HasNumber) (sym none) tt
-acks_numbered topic (sub ∷ subs) rows (runs, others, are, more, is) =
-    subst (AllByRecursion HasNumber) (sym is) (all_append HasNumber (map (ack_row topic sub.name) runs) others (runs_numbered topic sub.name runs) (acks_numbered topic subs others more))
+acks_numbered : (gone : ℕ) (topic : List ℕ) (subs : List KeptPlaces) (rows : List Row) → AreAckRows topic gone subs rows → AllByRecursion HasNumber rows
+acks_numbered gone topic [] rows none = subst (AllByRecursion HasNumber) (sym none) tt
+acks_numbered gone topic (sub ∷ subs) rows (runs, others, are, more, is) =
+    subst (AllByRecursion HasNumber) (sym is) (all_append HasNumber (map (ack_row topic sub.name gone) runs) others (runs_numbered gone topic sub.name runs) (acks_numbered gone topic subs others more))
 
-letters_numbered : (topic name : List ℕ) (log : List Entry) (ds : List DeadLetter) → AllByRecursion HasNumber (map (dead_row topic name log) ds)
-letters_numbered topic name log [] = tt
-letters_numbered topic name log (d ∷ ds) = ((topic, name, d.ordinal, _, refl), letters_numbered topic name log ds)
+letters_numbered : (topic name : List ℕ) (span : Span) (ds : List DeadLetter) → AllByRecursion HasNumber (map (dead_row topic name span) ds)
+letters_numbered topic name span [] = tt
+letters_numbered topic name span (d ∷ ds) = ((topic, name, d.ordinal, _, refl), letters_numbered topic name span ds)
 
-deads_numbered : (topic : List ℕ) (log : List Entry) (subs : List KeptPlaces) → AllByRecursion HasNumber (dead_rows topic log subs)
-deads_numbered topic log [] = tt
-deads_numbered topic log (sub ∷ subs) =
-    all_append HasNumber (map (dead_row topic sub.name log) sub.dead) (dead_rows topic log subs) (letters_numbered topic sub.name log sub.dead) (deads_numbered topic log subs)
+deads_numbered : (topic : List ℕ) (span : Span) (subs : List KeptPlaces) → AllByRecursion HasNumber (dead_rows topic span subs)
+deads_numbered topic span [] = tt
+deads_numbered topic span (sub ∷ subs) =
+    all_append HasNumber (map (dead_row topic sub.name span) sub.dead) (dead_rows topic span subs) (letters_numbered topic sub.name span sub.dead) (deads_numbered topic span subs)
 
-counted_numbered : (topic name : List ℕ) (log : List Entry) (counts : List (Position × ℕ)) → AllByRecursion HasNumber (map (count_row topic name log) counts)
-counted_numbered topic name log [] = tt
-counted_numbered topic name log (c ∷ counts) = ((topic, name, place_in log c.0, _, refl), counted_numbered topic name log counts)
+counted_numbered : (topic name : List ℕ) (span : Span) (counts : List (Position × ℕ)) → AllByRecursion HasNumber (map (count_row topic name span) counts)
+counted_numbered topic name span [] = tt
+counted_numbered topic name span (c ∷ counts) = ((topic, name, place_in span c.0, _, refl), counted_numbered topic name span counts)
 
-counts_numbered : (topic : List ℕ) (log : List Entry) (subs : List KeptPlaces) → AllByRecursion HasNumber (count_rows topic log subs)
-counts_numbered topic log [] = tt
-counts_numbered topic log (sub ∷ subs) =
-    all_append HasNumber (map (count_row topic sub.name log) (map_of.entries sub.counts)) (count_rows topic log subs) (counted_numbered topic sub.name log (map_of.entries sub.counts)) (counts_numbered topic log subs)
+counts_numbered : (topic : List ℕ) (span : Span) (subs : List KeptPlaces) → AllByRecursion HasNumber (count_rows topic span subs)
+counts_numbered topic span [] = tt
+counts_numbered topic span (sub ∷ subs) =
+    all_append HasNumber (map (count_row topic sub.name span) (map_of.entries sub.counts)) (count_rows topic span subs) (counted_numbered topic sub.name span (map_of.entries sub.counts)) (counts_numbered topic span subs)
 
 -- ---- messages in pieces
 
-place_below : (topic : List ℕ) (place end : ℕ) (e : Entry) → place < end → is_below end (entry_row topic place e) ≡ true
-place_below topic place end e less = ap is_lt (numbers_below place end less)
-
-place_beyond : (topic : List ℕ) (place end : ℕ) (e : Entry) → end ≤ place → is_below end (entry_row topic place e) ≡ false
-place_beyond topic place end e more = ap is_lt (value_cmp-Int (pos place) (pos end)) ∙ ints
-  where
-    ints : is_lt (int_cmp (pos place) (pos end)) ≡ false
-    ints = grind (arith, nat_tests)
-
-below_are : (topic : List ℕ) (place end : ℕ) (log : List Entry) → filter (is_below end) (entry_rows topic place log) ≡ entry_rows topic place (take (end - place) log)
-below_are topic place end [] = ap (entry_rows topic place) (sym (take-nil (end - place)))
-below_are topic place end (e ∷ log) = elim (cases_lt place end) [
-  | inl less ↦
-      let next : end - place ≡ suc (end - (place + 1)) = omega (arith, less) in
-      rw (place_below topic place end e less, next) (ap (λ rows. entry_row topic place e ∷ rows) (below_are topic (place + 1) end log))
-  | inr more ↦
-      let none : end - place ≡ 0 = omega (arith, more) in
-      let none_later : end - (place + 1) ≡ 0 = omega (arith, more) in
-      rw (place_beyond topic place end e more, none) (below_are topic (place + 1) end log ∙ ap (λ n. entry_rows topic (place + 1) (take n log)) none_later)
-]
-
-beyond_are : (topic : List ℕ) (place from : ℕ) (log : List Entry) → filter (λ r. not (is_below from r)) (entry_rows topic place log) ≡ entry_rows topic (place + (from - place)) (drop (from - place) log)
-beyond_are topic place from [] = ap (entry_rows topic (place + (from - place))) (sym (drop-nil (from - place)))
-beyond_are topic place from (e ∷ log) = elim (cases_lt place from) [
-  | inl less ↦
-      let next : from - place ≡ suc (from - (place + 1)) = omega (arith, less) in
-      let same : place + 1 + (from - (place + 1)) ≡ place + suc (from - (place + 1)) = omega arith in
-      rw (place_below topic place from e less, next) (beyond_are topic (place + 1) from log ∙ ap (λ n. entry_rows topic n (drop (from - (place + 1)) log)) same)
-  | inr more ↦
-      let none : from - place ≡ 0 = omega (arith, more) in
-      let none_later : from - (place + 1) ≡ 0 = omega (arith, more) in
-      let same : place + 1 + 0 ≡ place + 1 = omega arith in
-      let here : place + 0 ≡ place = omega arith in
-      rw (place_beyond topic place from e more, none, here) (ap (λ rows. entry_row topic place e ∷ rows) (beyond_are topic (place + 1) from log ∙ ap (λ n. entry_rows topic (place + 1 + n) (drop n log)) none_later ∙ ap (λ n. entry_rows topic n log) same))
-]
+-- a message has a place
+placed : (topic : List ℕ) (place from : ℕ) (log : List Entry) → filter (λ r. not (is_below from r)) (entry_rows topic place log) ≡ not_below from (entry_rows topic place log)
+placed topic place from [] = refl
+placed topic place from (e ∷ log) = ap (λ rest. cond (not (is_below from (entry_row topic place e))) (entry_row topic place e ∷ rest) rest) (placed topic (place + 1) from log)
 
 -- the rows of messages in a range of places are those of that piece of the log
-pub piece_is : (topic : List ℕ) (from end : ℕ) (log : List Entry) → filter (is_within from end) (entry_rows topic 0 log) ≡ entry_rows topic from (take (end - from) (drop from log))
-piece_is topic from end log =
-    let none : from - 0 ≡ from = omega arith in
-    let here : 0 + from ≡ from = omega arith in
-    sym (filter_twice (is_below end) (λ r. not (is_below from r)) (entry_rows topic 0 log))
-    ∙ ap (filter (is_below end)) (beyond_are topic 0 from log ∙ ap (λ n. entry_rows topic (0 + n) (drop n log)) none ∙ ap (λ n. entry_rows topic n (drop from log)) here)
-    ∙ below_are topic from end (drop from log)
+pub piece_is : (topic : List ℕ) (gone from end : ℕ) (log : List Entry) → gone ≤ from → filter (is_within from end) (entry_rows topic gone log) ≡ entry_rows topic from (take (end - from) (drop (from - gone) log))
+piece_is topic gone from end log low =
+    let here : gone + (from - gone) ≡ from = omega (arith, low) in
+    sym (filter_twice (is_below end) (λ r. not (is_below from r)) (entry_rows topic gone log))
+    ∙ ap (filter (is_below end)) (placed topic gone from log ∙ beyond_are topic gone from log ∙ ap (λ n. entry_rows topic n (drop (from - gone) log)) here)
+    ∙ below_are topic from end (drop (from - gone) log)
 
-pub none_beyond : (topic : List ℕ) (place end : ℕ) (log : List Entry) → place + length log ≤ end → list_any (λ r. not (is_within 0 end r)) (entry_rows topic place log) ≡ false
-none_beyond topic place end [] within = refl
-none_beyond topic place end (e ∷ log) within = rw (place_beyond topic place 0 e (omega arith), place_below topic place end e (omega (arith, within))) (none_beyond topic (place + 1) end log (omega (arith, within)))
+pub none_beyond : (topic : List ℕ) (from place end : ℕ) (log : List Entry) → from ≤ place → place + length log ≤ end → list_any (λ r. not (is_within from end r)) (entry_rows topic place log) ≡ false
+none_beyond topic from place end [] low within = refl
+none_beyond topic from place end (e ∷ log) low within =
+    rw (place_beyond topic place from e low, place_below topic place end e (omega (arith, within))) (none_beyond topic from (place + 1) end log (omega (arith, low)) (omega (arith, within)))
 
 -- a piece of the topic's messages, in the order of their places, is that piece of the log
-pub piece_read : (topic : List ℕ) (log : List Entry) (db : Trees) (from end : ℕ) (rows : List Row) → HasIn ENTRY topic (entry_rows topic 0 log) db → ShowsWithin topic from end rows db → AreSortedBy 1 rows
-    → put topic rows ≡ entry_rows topic from (take (end - from) (drop from log))
-piece_read topic log db from end rows has shows sorted =
-    let piece : List Entry = take (end - from) (drop from log) in
+pub piece_read : (topic : List ℕ) (gone : ℕ) (log : List Entry) (db : Trees) (from end : ℕ) (rows : List Row) → gone ≤ from → HasIn ENTRY topic (entry_rows topic gone log) db → ShowsWithin topic from end rows db → AreSortedBy 1 rows
+    → put topic rows ≡ entry_rows topic from (take (end - from) (drop (from - gone) log))
+piece_read topic gone log db from end rows low has shows sorted =
+    let piece : List Entry = take (end - from) (drop (from - gone) log) in
     let those : IsPermutation (entry_rows topic from piece) (filter (is_within from end) (messages_of topic db)) =
-    subst (λ l. IsPermutation l (filter (is_within from end) (messages_of topic db))) (piece_is topic from end log) (IsPermutation-filter (is_within from end) (entry_rows topic 0 log) (messages_of topic db) has) in
+    subst (λ l. IsPermutation l (filter (is_within from end) (messages_of topic db))) (piece_is topic gone from end log low) (IsPermutation-filter (is_within from end) (entry_rows topic gone log) (messages_of topic db) has) in
     sym (read_are topic 1 (entry_rows topic from piece) rows (order_weaker BelowByPlace (BelowBy 1) HasPlace by_place _ (entries_placed topic from piece) (entries_in_order topic from piece)) sorted
     (IsPermutation-trans _ _ _ those (IsPermutation-sym _ _ shows)))
 
--- no message stands beyond the log
-pub none_others : (topic : List ℕ) (log : List Entry) (db : Trees) (end : ℕ) → HasIn ENTRY topic (entry_rows topic 0 log) db → length log ≤ end → has_others topic end db ≡ false
-none_others topic log db end has short =
-    sym (list_any-IsPermutation (λ r. not (is_within 0 end r)) (entry_rows topic 0 log) (messages_of topic db) has) ∙ none_beyond topic 0 end log (omega (arith, short))
+-- no message stands before or beyond the log
+pub none_others : (topic : List ℕ) (gone : ℕ) (log : List Entry) (db : Trees) (from end : ℕ) → HasIn ENTRY topic (entry_rows topic gone log) db → from ≤ gone → gone + length log ≤ end → has_others topic from end db ≡ false
+none_others topic gone log db from end has low short =
+    sym (list_any-IsPermutation (λ r. not (is_within from end r)) (entry_rows topic gone log) (messages_of topic db) has) ∙ none_beyond topic from gone end log low short
+
+authors_placed : (topic : List ℕ) (authors : List Author) → AllByRecursion HasPlace (author_rows topic authors)
+authors_placed topic [] = tt
+authors_placed topic (a ∷ authors) = ((topic, a.index, _, refl), authors_placed topic authors)
 
 -- ---- what is read
 
@@ -201,20 +174,22 @@ pub what_stands_is_read : WhatStandsIsRead
 what_stands_is_read kept db told (mine, are, has) =
     let topic : List ℕ = topic_text kept.name in
     let tell = are_tellable kept told in
-    let messages : HasIn ENTRY topic (entry_rows topic 0 kept.log) db = subst (λ l. HasIn ENTRY topic l db) are.entries has.entries in
+    let messages : HasIn ENTRY topic (entry_rows topic kept.gone kept.log) db = subst (λ l. HasIn ENTRY topic l db) are.entries has.entries in
     let subs = subs_in_order topic kept.subscriptions tell.names in
-    let acks = acks_in_order topic kept.subscriptions mine.acks tell.names are.acks in
-    let deads = tellable_deads topic kept.log kept.subscriptions tell in
-    let counts = tellable_counts topic kept.log kept.subscriptions tell in
+    let acks = acks_in_order kept.gone topic kept.subscriptions mine.acks tell.names are.acks in
+    let deads = tellable_deads topic (span_of kept) kept.subscriptions tell in
+    let counts = tellable_counts topic (span_of kept) kept.subscriptions tell in
+    let authors = authors_in_order topic kept.gone kept.authors told.may.sound.authors in
     record {
-      pieces = λ from end rows within shows sorted. piece_read topic kept.log db from end rows messages shows sorted;
-      others = λ end short. none_others topic kept.log db end messages short;
-      sides = λ sides these sorted. in_order_are_its kept (rows_with topic kept.log sides) db told (mine, are, has) (record { topics = these.topics; entries = messages; subs = these.subs; acks = these.acks; deads = these.deads; counts = these.counts }) record {
-        entries = entries_in_order topic 0 kept.log;
+      pieces = λ from end rows low within shows sorted. piece_read topic kept.gone kept.log db from end rows low messages shows sorted;
+      others = λ from end low short. none_others topic kept.gone kept.log db from end messages low short;
+      sides = λ sides these sorted. in_order_are_its kept (rows_with topic (span_of kept) sides) db told (mine, are, has) (record { topics = these.topics; entries = messages; subs = these.subs; acks = these.acks; deads = these.deads; counts = these.counts; authors = these.authors; retentions = these.retentions }) record {
+        entries = entries_in_order topic kept.gone kept.log;
         subs = subst (InOrder BelowByName) (read_are topic 1 _ sides.subs.items (order_weaker BelowByName (BelowBy 1) HasName by_name _ (subs_named topic kept.subscriptions) subs) sorted.subs (same _ _ _ _ are.subs has.subs these.subs)) subs;
-        acks = subst (InOrder BelowByNumber) (read_are topic 2 _ sides.acks.items (order_weaker BelowByNumber (BelowBy 2) HasNumber by_number _ (acks_numbered topic kept.subscriptions mine.acks are.acks) acks) sorted.acks (same _ _ _ _ refl has.acks these.acks)) acks;
-        deads = subst (InOrder BelowByNumber) (read_are topic 2 _ sides.deads.items (order_weaker BelowByNumber (BelowBy 2) HasNumber by_number _ (deads_numbered topic kept.log kept.subscriptions) deads) sorted.deads (same _ _ _ _ are.deads has.deads these.deads)) deads;
-        counts = subst (InOrder BelowByNumber) (read_are topic 2 _ sides.counts.items (order_weaker BelowByNumber (BelowBy 2) HasNumber by_number _ (counts_numbered topic kept.log kept.subscriptions) counts) sorted.counts (same _ _ _ _ are.counts has.counts these.counts)) counts;
+        acks = subst (InOrder BelowByNumber) (read_are topic 2 _ sides.acks.items (order_weaker BelowByNumber (BelowBy 2) HasNumber by_number _ (acks_numbered kept.gone topic kept.subscriptions mine.acks are.acks) acks) sorted.acks (same _ _ _ _ refl has.acks these.acks)) acks;
+        deads = subst (InOrder BelowByNumber) (read_are topic 2 _ sides.deads.items (order_weaker BelowByNumber (BelowBy 2) HasNumber by_number _ (deads_numbered topic (span_of kept) kept.subscriptions) deads) sorted.deads (same _ _ _ _ are.deads has.deads these.deads)) deads;
+        counts = subst (InOrder BelowByNumber) (read_are topic 2 _ sides.counts.items (order_weaker BelowByNumber (BelowBy 2) HasNumber by_number _ (counts_numbered topic (span_of kept) kept.subscriptions) counts) sorted.counts (same _ _ _ _ are.counts has.counts these.counts)) counts;
+        authors = subst (InOrder BelowByPlace) (read_are topic 1 _ sides.authors.items (order_weaker BelowByPlace (BelowBy 1) HasPlace by_place _ (authors_placed topic kept.authors) authors) sorted.authors (same _ _ _ _ are.authors has.authors these.authors)) authors;
       };
     }
   where

@@ -21,7 +21,7 @@ use Rattle.position_core.specs.Name.{name_order}
 use Rattle.delivery_machine.specs.State.{DeadLetter}
 use Rattle.delivery_machine.specs.Places.{KeptPlaces}
 use Rattle.delivery_machine.specs.WellFormed.{NamesRise}
-use Rattle.row_forms.specs.Forms.{AreAckRows, ack_row, count_row, count_rows, dead_row, dead_rows, kind_number, sub_row, sub_rows}
+use Rattle.row_forms.specs.Forms.{AreAckRows, Span, ack_row, count_row, count_rows, dead_row, dead_rows, kind_number, sub_row, sub_rows}
 use Rattle.row_forms.proofs.Acks.{join_rows, one_sub}
 use Rattle.row_forms.proofs.Counts.{counts_joined}
 use Rattle.row_forms.proofs.Deads.{rows-append}
@@ -48,54 +48,54 @@ one_name row name other kind second a b = cc
 
 -- ---- the rows of runs
 
-pub acks_of_one : (sub : KeptPlaces) (rows rest : List Row) → BeginsWithRuns sub.name sub.acknowledged rows rest → BeginsWithAcks (sub ∷ []) rows rest
-acks_of_one sub rows rest h topic = (map (ack_row topic sub.name) h.0, one_sub topic sub h.0 h.1, h.2 topic)
+pub acks_of_one : (gone : ℕ) (sub : KeptPlaces) (rows rest : List Row) → BeginsWithRuns sub.name gone sub.acknowledged rows rest → BeginsWithAcks gone (sub ∷ []) rows rest
+acks_of_one gone sub rows rest h topic = (map (ack_row topic sub.name gone) h.0, one_sub topic gone sub h.0 h.1, h.2 topic)
 
-pub no_acks_yet : (rows : List Row) → BeginsWithAcks [] rows rows
-no_acks_yet rows topic = ([], refl, refl)
+pub no_acks_yet : (gone : ℕ) (rows : List Row) → BeginsWithAcks gone [] rows rows
+no_acks_yet gone rows topic = ([], refl, refl)
 
-pub acks_then : (first second : List KeptPlaces) (rows middle rest : List Row) → BeginsWithAcks first rows middle → BeginsWithAcks second middle rest → BeginsWithAcks (first ++ second) rows rest
-acks_then first second rows middle rest h k topic =
+pub acks_then : (gone : ℕ) (first second : List KeptPlaces) (rows middle rest : List Row) → BeginsWithAcks gone first rows middle → BeginsWithAcks gone second middle rest → BeginsWithAcks gone (first ++ second) rows rest
+acks_then gone first second rows middle rest h k topic =
     let a = h topic in
     let b = k topic in
-    (a.0 ++ b.0, join_rows topic first second a.0 b.0 a.1 b.1, a.2 ∙ ap (λ l. a.0 ++ l) b.2 ∙ sym (append_assoc a.0 b.0 (put topic rest)))
+    (a.0 ++ b.0, join_rows topic gone first second a.0 b.0 a.1 b.1, a.2 ∙ ap (λ l. a.0 ++ l) b.2 ∙ sym (append_assoc a.0 b.0 (put topic rest)))
 
 -- rows of which a test says that there are none
 pub no_rows : (rows : List Row) (empty : Bool) → empty ≡ (length rows == 0) → empty ≡ true → rows ≡ []
 no_rows rows empty is holds = let none : length rows ≡ 0 = grind (arith, nat_tests) in nil_from_length rows none
 
-pub all_acks : (subs : List KeptPlaces) (rows rest : List Row) → BeginsWithAcks subs rows rest → rest ≡ [] → (topic : List ℕ) → AreAckRows topic subs (put topic rows)
-all_acks subs rows rest h none topic =
+pub all_acks : (gone : ℕ) (subs : List KeptPlaces) (rows rest : List Row) → BeginsWithAcks gone subs rows rest → rest ≡ [] → (topic : List ℕ) → AreAckRows topic gone subs (put topic rows)
+all_acks gone subs rows rest h none topic =
     let a = h topic in
-    subst (λ l. AreAckRows topic subs l) (sym (a.2 ∙ ap (λ l. a.0 ++ put topic l) none ∙ append-nil a.0)) a.1
+    subst (λ l. AreAckRows topic gone subs l) (sym (a.2 ∙ ap (λ l. a.0 ++ put topic l) none ∙ append-nil a.0)) a.1
 
 -- ---- the rows of dead letters
 
-pub deads_of_one : (log : List Entry) (sub : KeptPlaces) (rows rest : List Row) → BeginsWithLetters sub.name log sub.dead rows rest → BeginsWithDeads log (sub ∷ []) rows rest
-deads_of_one log sub rows rest h topic = h topic ∙ ap (λ l. l ++ put topic rest) (sym (append-nil (map (dead_row topic sub.name log) sub.dead)))
+pub deads_of_one : (span : Span) (sub : KeptPlaces) (rows rest : List Row) → BeginsWithLetters sub.name span sub.dead rows rest → BeginsWithDeads span (sub ∷ []) rows rest
+deads_of_one span sub rows rest h topic = h topic ∙ ap (λ l. l ++ put topic rest) (sym (append-nil (map (dead_row topic sub.name span) sub.dead)))
 
-pub deads_then : (log : List Entry) (first second : List KeptPlaces) (rows middle rest : List Row) → BeginsWithDeads log first rows middle → BeginsWithDeads log second middle rest → BeginsWithDeads log (first ++ second) rows rest
-deads_then log first second rows middle rest h k topic =
+pub deads_then : (span : Span) (first second : List KeptPlaces) (rows middle rest : List Row) → BeginsWithDeads span first rows middle → BeginsWithDeads span second middle rest → BeginsWithDeads span (first ++ second) rows rest
+deads_then span first second rows middle rest h k topic =
     h topic
-    ∙ ap (λ l. dead_rows topic log first ++ l) (k topic)
-    ∙ sym (ap (λ l. l ++ put topic rest) (rows-append log topic first second) ∙ append_assoc (dead_rows topic log first) (dead_rows topic log second) (put topic rest))
+    ∙ ap (λ l. dead_rows topic span first ++ l) (k topic)
+    ∙ sym (ap (λ l. l ++ put topic rest) (rows-append span topic first second) ∙ append_assoc (dead_rows topic span first) (dead_rows topic span second) (put topic rest))
 
-pub all_deads : (log : List Entry) (subs : List KeptPlaces) (rows rest : List Row) → BeginsWithDeads log subs rows rest → rest ≡ [] → (topic : List ℕ) → put topic rows ≡ dead_rows topic log subs
-all_deads log subs rows rest h none topic = h topic ∙ ap (λ l. dead_rows topic log subs ++ put topic l) none ∙ append-nil (dead_rows topic log subs)
+pub all_deads : (span : Span) (subs : List KeptPlaces) (rows rest : List Row) → BeginsWithDeads span subs rows rest → rest ≡ [] → (topic : List ℕ) → put topic rows ≡ dead_rows topic span subs
+all_deads span subs rows rest h none topic = h topic ∙ ap (λ l. dead_rows topic span subs ++ put topic l) none ∙ append-nil (dead_rows topic span subs)
 
 -- ---- the rows of counts
 
-pub counts_of_one : (log : List Entry) (sub : KeptPlaces) (rows rest : List Row) → BeginsWithCounts sub.name log sub.counts rows rest → BeginWithCounts log (sub ∷ []) rows rest
-counts_of_one log sub rows rest h topic = h topic ∙ ap (λ l. l ++ put topic rest) (sym (append-nil (map (count_row topic sub.name log) (map_of.entries sub.counts))))
+pub counts_of_one : (span : Span) (sub : KeptPlaces) (rows rest : List Row) → BeginsWithCounts sub.name span sub.counts rows rest → BeginWithCounts span (sub ∷ []) rows rest
+counts_of_one span sub rows rest h topic = h topic ∙ ap (λ l. l ++ put topic rest) (sym (append-nil (map (count_row topic sub.name span) (map_of.entries sub.counts))))
 
-pub counts_then : (log : List Entry) (first second : List KeptPlaces) (rows middle rest : List Row) → BeginWithCounts log first rows middle → BeginWithCounts log second middle rest → BeginWithCounts log (first ++ second) rows rest
-counts_then log first second rows middle rest h k topic =
+pub counts_then : (span : Span) (first second : List KeptPlaces) (rows middle rest : List Row) → BeginWithCounts span first rows middle → BeginWithCounts span second middle rest → BeginWithCounts span (first ++ second) rows rest
+counts_then span first second rows middle rest h k topic =
     h topic
-    ∙ ap (λ l. count_rows topic log first ++ l) (k topic)
-    ∙ sym (ap (λ l. l ++ put topic rest) (counts_joined log topic first second) ∙ append_assoc (count_rows topic log first) (count_rows topic log second) (put topic rest))
+    ∙ ap (λ l. count_rows topic span first ++ l) (k topic)
+    ∙ sym (ap (λ l. l ++ put topic rest) (counts_joined span topic first second) ∙ append_assoc (count_rows topic span first) (count_rows topic span second) (put topic rest))
 
-pub all_counts : (log : List Entry) (subs : List KeptPlaces) (rows rest : List Row) → BeginWithCounts log subs rows rest → rest ≡ [] → (topic : List ℕ) → put topic rows ≡ count_rows topic log subs
-all_counts log subs rows rest h none topic = h topic ∙ ap (λ l. count_rows topic log subs ++ put topic l) none ∙ append-nil (count_rows topic log subs)
+pub all_counts : (span : Span) (subs : List KeptPlaces) (rows rest : List Row) → BeginWithCounts span subs rows rest → rest ≡ [] → (topic : List ℕ) → put topic rows ≡ count_rows topic span subs
+all_counts span subs rows rest h none topic = h topic ∙ ap (λ l. count_rows topic span subs ++ put topic l) none ∙ append-nil (count_rows topic span subs)
 
 -- ---- names
 

@@ -26,7 +26,7 @@ use Rattle.ack_ranges.specs.Ranges.{Rise, RiseAbove}
 use Rattle.delivery_machine.specs.State.{DeadLetter}
 use Rattle.delivery_machine.specs.Places.{KeptPlaces}
 use Rattle.delivery_machine.specs.WellFormed.{AreDeadLettersOf, NamesRise, has_message}
-use Rattle.row_forms.specs.Forms.{AreAckRows, ack_row, dead_row, dead_rows, entry_row, entry_rows, key_cells, kind_number, place_in, sub_rows}
+use Rattle.row_forms.specs.Forms.{AreAckRows, Span, ack_row, dead_row, dead_rows, entry_row, entry_rows, index_in, key_cells, kind_number, sub_rows}
 use Rattle.row_forms.specs.Properties.{properties_text}
 use Rattle.row_reading.specs.Reading.{IsNamed}
 use Rattle.row_reading.specs.KeyOrder.{BelowByName, BelowByNumber, BelowByPlace, InOrder, name_in, whole_of}
@@ -102,9 +102,9 @@ pub entries_in_order : (topic : List ℕ) (from : ℕ) (log : List Entry) → In
 entries_in_order topic from [] = tt
 entries_in_order topic from (e ∷ log) = (after_place topic from (from + 1) log (omega arith), entries_in_order topic (from + 1) log)
 
-pub one_log : (topic : List ℕ) (xs ys : List Entry) → IsPermutation (entry_rows topic 0 xs) (entry_rows topic 0 ys) → xs ≡ ys
-one_log topic xs ys same =
-    same_log topic 0 xs ys (same_in_order BelowByPlace by_place_one_way (entry_rows topic 0 xs) (entry_rows topic 0 ys) (entries_in_order topic 0 xs) (entries_in_order topic 0 ys) same)
+pub one_log : (topic : List ℕ) (gone : ℕ) (xs ys : List Entry) → IsPermutation (entry_rows topic gone xs) (entry_rows topic gone ys) → xs ≡ ys
+one_log topic gone xs ys same =
+    same_log topic gone xs ys (same_in_order BelowByPlace by_place_one_way (entry_rows topic gone xs) (entry_rows topic gone ys) (entries_in_order topic gone xs) (entries_in_order topic gone ys) same)
 
 -- ---- subscriptions
 
@@ -135,53 +135,53 @@ subs_in_order topic (sub ∷ subs) rise = (names_after topic sub.name subs rise.
 
 -- ---- runs
 
-runs_after : (topic name : List ℕ) (low : ℕ) (runs : List (ℕ × ℕ)) → RiseAbove low runs → AllByRecursion (λ (r : Row). (name_in r ≡ name) × (low < whole_of (column r 2))) (map (ack_row topic name) runs)
-runs_after topic name low [] rise = tt
-runs_after topic name low (run ∷ runs) rise = (
-  (refl, rise.0),
-  all_weaker (λ (r : Row). (name_in r ≡ name) × (run.1 < whole_of (column r 2))) (λ (r : Row). (name_in r ≡ name) × (low < whole_of (column r 2)))
-      (λ r h. let higher : low < whole_of (column r 2) = omega (arith, h.1, rise.0, rise.1) in (h.0, higher)) (map (ack_row topic name) runs) (runs_after topic name run.1 runs rise.2),
+runs_after : (gone : ℕ) (topic name : List ℕ) (low : ℕ) (runs : List (ℕ × ℕ)) → RiseAbove low runs → AllByRecursion (λ (r : Row). (name_in r ≡ name) × (gone + low < whole_of (column r 2))) (map (ack_row topic name gone) runs)
+runs_after gone topic name low [] rise = tt
+runs_after gone topic name low (run ∷ runs) rise = (
+  (refl, omega (arith, rise.0)),
+  all_weaker (λ (r : Row). (name_in r ≡ name) × (gone + run.1 < whole_of (column r 2))) (λ (r : Row). (name_in r ≡ name) × (gone + low < whole_of (column r 2)))
+      (λ r h. let higher : gone + low < whole_of (column r 2) = omega (arith, h.1, rise.0, rise.1) in (h.0, higher)) (map (ack_row topic name gone) runs) (runs_after gone topic name run.1 runs rise.2),
 )
 
 -- the runs after one that ends there stand in order
-later_in_order : (topic name : List ℕ) (low : ℕ) (runs : List (ℕ × ℕ)) → RiseAbove low runs → InOrder BelowByNumber (map (ack_row topic name) runs)
-later_in_order topic name low [] rise = tt
-later_in_order topic name low (run ∷ runs) rise = (
-  all_weaker (λ (r : Row). (name_in r ≡ name) × (run.1 < whole_of (column r 2))) (λ (r : Row). BelowByNumber (ack_row topic name run) r)
-      (λ r h. let above : run.0 < whole_of (column r 2) = omega (arith, h.1, rise.1) in inr (sym h.0, above)) (map (ack_row topic name) runs) (runs_after topic name run.1 runs rise.2),
-  later_in_order topic name run.1 runs rise.2,
+later_in_order : (gone : ℕ) (topic name : List ℕ) (low : ℕ) (runs : List (ℕ × ℕ)) → RiseAbove low runs → InOrder BelowByNumber (map (ack_row topic name gone) runs)
+later_in_order gone topic name low [] rise = tt
+later_in_order gone topic name low (run ∷ runs) rise = (
+  all_weaker (λ (r : Row). (name_in r ≡ name) × (gone + run.1 < whole_of (column r 2))) (λ (r : Row). BelowByNumber (ack_row topic name gone run) r)
+      (λ r h. let above : gone + run.0 < whole_of (column r 2) = omega (arith, h.1, rise.1) in inr (sym h.0, above)) (map (ack_row topic name gone) runs) (runs_after gone topic name run.1 runs rise.2),
+  later_in_order gone topic name run.1 runs rise.2,
 )
 
-runs_in_order : (topic name : List ℕ) (runs : List (ℕ × ℕ)) → Rise runs → InOrder BelowByNumber (map (ack_row topic name) runs)
-runs_in_order topic name [] rise = tt
-runs_in_order topic name (run ∷ runs) rise = (
-  all_weaker (λ (r : Row). (name_in r ≡ name) × (run.1 < whole_of (column r 2))) (λ (r : Row). BelowByNumber (ack_row topic name run) r)
-      (λ r h. let above : run.0 < whole_of (column r 2) = omega (arith, h.1, rise.0) in inr (sym h.0, above)) (map (ack_row topic name) runs) (runs_after topic name run.1 runs rise.1),
-  later_in_order topic name run.1 runs rise.1,
+runs_in_order : (gone : ℕ) (topic name : List ℕ) (runs : List (ℕ × ℕ)) → Rise runs → InOrder BelowByNumber (map (ack_row topic name gone) runs)
+runs_in_order gone topic name [] rise = tt
+runs_in_order gone topic name (run ∷ runs) rise = (
+  all_weaker (λ (r : Row). (name_in r ≡ name) × (gone + run.1 < whole_of (column r 2))) (λ (r : Row). BelowByNumber (ack_row topic name gone run) r)
+      (λ r h. let above : gone + run.0 < whole_of (column r 2) = omega (arith, h.1, rise.0) in inr (sym h.0, above)) (map (ack_row topic name gone) runs) (runs_after gone topic name run.1 runs rise.1),
+  later_in_order gone topic name run.1 runs rise.1,
 )
 
 -- each row of runs is of that name
-pub runs_named : (topic name : List ℕ) (runs : List (ℕ × ℕ)) → AllByRecursion (λ (r : Row). name_in r ≡ name) (map (ack_row topic name) runs)
-runs_named topic name [] = tt
-runs_named topic name (run ∷ runs) = (refl, runs_named topic name runs)
+pub runs_named : (gone : ℕ) (topic name : List ℕ) (runs : List (ℕ × ℕ)) → AllByRecursion (λ (r : Row). name_in r ≡ name) (map (ack_row topic name gone) runs)
+runs_named gone topic name [] = tt
+runs_named gone topic name (run ∷ runs) = (refl, runs_named gone topic name runs)
 
-named_after : (topic name other : List ℕ) (runs : List (ℕ × ℕ)) → name_order name other ≡ Less → AllByRecursion (λ (r : Row). name_order name (name_in r) ≡ Less) (map (ack_row topic other) runs)
-named_after topic name other [] less = tt
-named_after topic name other (run ∷ runs) less = (less, named_after topic name other runs less)
+named_after : (gone : ℕ) (topic name other : List ℕ) (runs : List (ℕ × ℕ)) → name_order name other ≡ Less → AllByRecursion (λ (r : Row). name_order name (name_in r) ≡ Less) (map (ack_row topic other gone) runs)
+named_after gone topic name other [] less = tt
+named_after gone topic name other (run ∷ runs) less = (less, named_after gone topic name other runs less)
 
-pub acks_after : (topic name : List ℕ) (subs : List KeptPlaces) (rows : List Row) → AreAckRows topic subs rows → AllByRecursion (λ n. name_order name n ≡ Less) (map (λ (sub : KeptPlaces). sub.name) subs) → AllByRecursion (λ (r : Row). name_order name (name_in r) ≡ Less) rows
-acks_after topic name [] rows none all = subst (AllByRecursion (λ (r : Row). name_order name (name_in r) ≡ Less)) (sym none) tt
-acks_after topic name (sub ∷ subs) rows (runs, others, are, more, is) all =
+pub acks_after : (gone : ℕ) (topic name : List ℕ) (subs : List KeptPlaces) (rows : List Row) → AreAckRows topic gone subs rows → AllByRecursion (λ n. name_order name n ≡ Less) (map (λ (sub : KeptPlaces). sub.name) subs) → AllByRecursion (λ (r : Row). name_order name (name_in r) ≡ Less) rows
+acks_after gone topic name [] rows none all = subst (AllByRecursion (λ (r : Row). name_order name (name_in r) ≡ Less)) (sym none) tt
+acks_after gone topic name (sub ∷ subs) rows (runs, others, are, more, is) all =
     subst (AllByRecursion (λ (r : Row). name_order name (name_in r) ≡ Less)) (sym is)
-    (all_append (λ (r : Row). name_order name (name_in r) ≡ Less) (map (ack_row topic sub.name) runs) others (named_after topic name sub.name runs all.0) (acks_after topic name subs others more all.1))
+    (all_append (λ (r : Row). name_order name (name_in r) ≡ Less) (map (ack_row topic sub.name gone) runs) others (named_after gone topic name sub.name runs all.0) (acks_after gone topic name subs others more all.1))
 
-pub acks_in_order : (topic : List ℕ) (subs : List KeptPlaces) (rows : List Row) → NamesRise (map (λ (sub : KeptPlaces). sub.name) subs) → AreAckRows topic subs rows → InOrder BelowByNumber rows
+pub acks_in_order : (gone : ℕ) (topic : List ℕ) (subs : List KeptPlaces) (rows : List Row) → NamesRise (map (λ (sub : KeptPlaces). sub.name) subs) → AreAckRows topic gone subs rows → InOrder BelowByNumber rows
 unfolding IsStrictlySortedBy
-acks_in_order topic [] rows rise none = subst (InOrder BelowByNumber) (sym none) tt
-acks_in_order topic (sub ∷ subs) rows rise (runs, others, are, more, is) =
+acks_in_order gone topic [] rows rise none = subst (InOrder BelowByNumber) (sym none) tt
+acks_in_order gone topic (sub ∷ subs) rows rise (runs, others, are, more, is) =
     subst (InOrder BelowByNumber) (sym is)
-    (order_append BelowByNumber (map (ack_row topic sub.name) runs) others (runs_in_order topic sub.name runs are.rise) (acks_in_order topic subs others rise.1 more)
-    (apart_by_name sub.name (map (ack_row topic sub.name) runs) others (runs_named topic sub.name runs) (acks_after topic sub.name subs others more rise.0)))
+    (order_append BelowByNumber (map (ack_row topic sub.name gone) runs) others (runs_in_order gone topic sub.name runs are.rise) (acks_in_order gone topic subs others rise.1 more)
+    (apart_by_name sub.name (map (ack_row topic sub.name gone) runs) others (runs_named gone topic sub.name runs) (acks_after gone topic sub.name subs others more rise.0)))
 
 not_empty : (low : ℕ) (runs : List (ℕ × ℕ)) → RiseAbove low runs → AllByRecursion (λ (run : ℕ × ℕ). run.0 < run.1) runs
 not_empty low [] rise = tt
@@ -191,67 +191,69 @@ pub none_empty : (runs : List (ℕ × ℕ)) → Rise runs → AllByRecursion (λ
 none_empty [] rise = tt
 none_empty (run ∷ runs) rise = (rise.0, not_empty run.1 runs rise.1)
 
-pub one_run : (topic name : List ℕ) (x y : ℕ × ℕ) → x.0 < x.1 → y.0 < y.1 → ack_row topic name x ≡ ack_row topic name y → x ≡ y
-one_run topic name x y a b e =
-    let first : x.0 ≡ y.0 = cc in
-    let last : x.1 - 1 ≡ y.1 - 1 = cc in
-    let end : x.1 ≡ y.1 = omega (arith, a, b) in
+pub one_run : (gone : ℕ) (topic name : List ℕ) (x y : ℕ × ℕ) → x.0 < x.1 → y.0 < y.1 → ack_row topic name gone x ≡ ack_row topic name gone y → x ≡ y
+one_run gone topic name x y a b e =
+    let firsts : gone + x.0 ≡ gone + y.0 = cc in
+    let lasts : gone + (x.1 - 1) ≡ gone + (y.1 - 1) = cc in
+    let first : x.0 ≡ y.0 = omega (arith, firsts) in
+    let end : x.1 ≡ y.1 = omega (arith, a, b, lasts) in
     pair_is x y first end
 
-pub same_runs : (topic name : List ℕ) (xs ys : List (ℕ × ℕ)) → AllByRecursion (λ (run : ℕ × ℕ). run.0 < run.1) xs → AllByRecursion (λ (run : ℕ × ℕ). run.0 < run.1) ys → map (ack_row topic name) xs ≡ map (ack_row topic name) ys → xs ≡ ys
-same_runs topic name xs ys a b e = same_mapped (ack_row topic name) (λ (run : ℕ × ℕ). run.0 < run.1) (one_run topic name) xs ys a b e
+pub same_runs : (gone : ℕ) (topic name : List ℕ) (xs ys : List (ℕ × ℕ)) → AllByRecursion (λ (run : ℕ × ℕ). run.0 < run.1) xs → AllByRecursion (λ (run : ℕ × ℕ). run.0 < run.1) ys → map (ack_row topic name gone) xs ≡ map (ack_row topic name gone) ys → xs ≡ ys
+same_runs gone topic name xs ys a b e = same_mapped (ack_row topic name gone) (λ (run : ℕ × ℕ). run.0 < run.1) (one_run gone topic name) xs ys a b e
 
 -- ---- dead letters
 
 below_is : (a b : ℕ) → nat_cmp a b ≡ Less → a < b
 below_is a b less = ranked a b Less (sym less)
 
-letters_after : (topic name : List ℕ) (log : List Entry) (low : ℕ) (ds : List DeadLetter) → AllByRecursion (λ n. nat_cmp low n ≡ Less) (map (λ (d : DeadLetter). d.ordinal) ds)
-    → AllByRecursion (λ (r : Row). (name_in r ≡ name) × (low < whole_of (column r 2))) (map (dead_row topic name log) ds)
-letters_after topic name log low [] all = tt
-letters_after topic name log low (d ∷ ds) all = ((refl, below_is low d.ordinal all.0), letters_after topic name log low ds all.1)
+letters_after : (topic name : List ℕ) (span : Span) (low : ℕ) (ds : List DeadLetter) → AllByRecursion (λ n. nat_cmp low n ≡ Less) (map (λ (d : DeadLetter). d.ordinal) ds)
+    → AllByRecursion (λ (r : Row). (name_in r ≡ name) × (low < whole_of (column r 2))) (map (dead_row topic name span) ds)
+letters_after topic name span low [] all = tt
+letters_after topic name span low (d ∷ ds) all = ((refl, below_is low d.ordinal all.0), letters_after topic name span low ds all.1)
 
-letters_in_order : (topic name : List ℕ) (log : List Entry) (ds : List DeadLetter) → IsStrictlySortedBy nat_cmp (map (λ (d : DeadLetter). d.ordinal) ds) → InOrder BelowByNumber (map (dead_row topic name log) ds)
+letters_in_order : (topic name : List ℕ) (span : Span) (ds : List DeadLetter) → IsStrictlySortedBy nat_cmp (map (λ (d : DeadLetter). d.ordinal) ds) → InOrder BelowByNumber (map (dead_row topic name span) ds)
 unfolding IsStrictlySortedBy
-letters_in_order topic name log [] rise = tt
-letters_in_order topic name log (d ∷ ds) rise = (
-  all_weaker (λ (r : Row). (name_in r ≡ name) × (d.ordinal < whole_of (column r 2))) (λ (r : Row). BelowByNumber (dead_row topic name log d) r)
-      (λ r h. inr (sym h.0, h.1)) (map (dead_row topic name log) ds) (letters_after topic name log d.ordinal ds rise.0),
-  letters_in_order topic name log ds rise.1,
+letters_in_order topic name span [] rise = tt
+letters_in_order topic name span (d ∷ ds) rise = (
+  all_weaker (λ (r : Row). (name_in r ≡ name) × (d.ordinal < whole_of (column r 2))) (λ (r : Row). BelowByNumber (dead_row topic name span d) r)
+      (λ r h. inr (sym h.0, h.1)) (map (dead_row topic name span) ds) (letters_after topic name span d.ordinal ds rise.0),
+  letters_in_order topic name span ds rise.1,
 )
 
-pub letters_named : (topic name : List ℕ) (log : List Entry) (ds : List DeadLetter) → AllByRecursion (λ (r : Row). name_in r ≡ name) (map (dead_row topic name log) ds)
-letters_named topic name log [] = tt
-letters_named topic name log (d ∷ ds) = (refl, letters_named topic name log ds)
+pub letters_named : (topic name : List ℕ) (span : Span) (ds : List DeadLetter) → AllByRecursion (λ (r : Row). name_in r ≡ name) (map (dead_row topic name span) ds)
+letters_named topic name span [] = tt
+letters_named topic name span (d ∷ ds) = (refl, letters_named topic name span ds)
 
-letters_named_after : (topic name other : List ℕ) (log : List Entry) (ds : List DeadLetter) → name_order name other ≡ Less → AllByRecursion (λ (r : Row). name_order name (name_in r) ≡ Less) (map (dead_row topic other log) ds)
-letters_named_after topic name other log [] less = tt
-letters_named_after topic name other log (d ∷ ds) less = (less, letters_named_after topic name other log ds less)
+letters_named_after : (topic name other : List ℕ) (span : Span) (ds : List DeadLetter) → name_order name other ≡ Less → AllByRecursion (λ (r : Row). name_order name (name_in r) ≡ Less) (map (dead_row topic other span) ds)
+letters_named_after topic name other span [] less = tt
+letters_named_after topic name other span (d ∷ ds) less = (less, letters_named_after topic name other span ds less)
 
-pub deads_after : (topic name : List ℕ) (log : List Entry) (subs : List KeptPlaces) → AllByRecursion (λ n. name_order name n ≡ Less) (map (λ (sub : KeptPlaces). sub.name) subs) → AllByRecursion (λ (r : Row). name_order name (name_in r) ≡ Less) (dead_rows topic log subs)
-deads_after topic name log [] all = tt
-deads_after topic name log (sub ∷ subs) all =
-    all_append (λ (r : Row). name_order name (name_in r) ≡ Less) (map (dead_row topic sub.name log) sub.dead) (dead_rows topic log subs)
-    (letters_named_after topic name sub.name log sub.dead all.0) (deads_after topic name log subs all.1)
+pub deads_after : (topic name : List ℕ) (span : Span) (subs : List KeptPlaces) → AllByRecursion (λ n. name_order name n ≡ Less) (map (λ (sub : KeptPlaces). sub.name) subs) → AllByRecursion (λ (r : Row). name_order name (name_in r) ≡ Less) (dead_rows topic span subs)
+deads_after topic name span [] all = tt
+deads_after topic name span (sub ∷ subs) all =
+    all_append (λ (r : Row). name_order name (name_in r) ≡ Less) (map (dead_row topic sub.name span) sub.dead) (dead_rows topic span subs)
+    (letters_named_after topic name sub.name span sub.dead all.0) (deads_after topic name span subs all.1)
 
-pub deads_in_order : (topic : List ℕ) (log : List Entry) (subs : List KeptPlaces) → NamesRise (map (λ (sub : KeptPlaces). sub.name) subs) → AllByRecursion (λ (sub : KeptPlaces). AreDeadLettersOf log sub.dead) subs → InOrder BelowByNumber (dead_rows topic log subs)
+pub deads_in_order : (topic : List ℕ) (span : Span) (subs : List KeptPlaces) → NamesRise (map (λ (sub : KeptPlaces). sub.name) subs) → AllByRecursion (λ (sub : KeptPlaces). AreDeadLettersOf span.log sub.dead) subs → InOrder BelowByNumber (dead_rows topic span subs)
 unfolding IsStrictlySortedBy
-deads_in_order topic log [] rise dead = tt
-deads_in_order topic log (sub ∷ subs) rise dead =
-    order_append BelowByNumber (map (dead_row topic sub.name log) sub.dead) (dead_rows topic log subs)
-    (letters_in_order topic sub.name log sub.dead (sorted_from_strictly_increasing (map (λ (d : DeadLetter). d.ordinal) sub.dead) dead.0.ordinals)) (deads_in_order topic log subs rise.1 dead.1)
-    (apart_by_name sub.name (map (dead_row topic sub.name log) sub.dead) (dead_rows topic log subs) (letters_named topic sub.name log sub.dead) (deads_after topic sub.name log subs rise.0))
+deads_in_order topic span [] rise dead = tt
+deads_in_order topic span (sub ∷ subs) rise dead =
+    order_append BelowByNumber (map (dead_row topic sub.name span) sub.dead) (dead_rows topic span subs)
+    (letters_in_order topic sub.name span sub.dead (sorted_from_strictly_increasing (map (λ (d : DeadLetter). d.ordinal) sub.dead) dead.0.ordinals)) (deads_in_order topic span subs rise.1 dead.1)
+    (apart_by_name sub.name (map (dead_row topic sub.name span) sub.dead) (dead_rows topic span subs) (letters_named topic sub.name span sub.dead) (deads_after topic sub.name span subs rise.0))
 
 -- a letter of a message of the log, to a topic of three names
 abbrev pub IsOneOf : List Entry → DeadLetter → Type 0
 IsOneOf log d = (has_message log d.position ≡ true) × IsNamed d.target
 
-pub one_letter : (topic name : List ℕ) (log : List Entry) (x y : DeadLetter) → IsOneOf log x → IsOneOf log y → dead_row topic name log x ≡ dead_row topic name log y → x ≡ y
-one_letter topic name log x y a b e =
+pub one_letter : (topic name : List ℕ) (span : Span) (x y : DeadLetter) → IsOneOf span.log x → IsOneOf span.log y → dead_row topic name span x ≡ dead_row topic name span y → x ≡ y
+one_letter topic name span x y a b e =
     let ordinal : x.ordinal ≡ y.ordinal = cc in
-    let place : place_in log x.position ≡ place_in log y.position = cc in
+    let places : span.gone + index_in span.log x.position ≡ span.gone + index_in span.log y.position = cc in
+    let place : index_in span.log x.position ≡ index_in span.log y.position = omega (arith, places) in
     let text : topic_text x.target ≡ topic_text y.target = cc in
-    let position : x.position ≡ y.position = one_place log x.position y.position a.0 b.0 place in
+    let position : x.position ≡ y.position = one_place span.log x.position y.position a.0 b.0 place in
     let target : x.target ≡ y.target = one_topic x.target y.target a.1.tenant a.1.namespace b.1.tenant b.1.namespace text in
     letter_is x.position y.position x.target y.target x.ordinal y.ordinal position target ordinal
   where

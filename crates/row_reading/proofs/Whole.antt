@@ -1,6 +1,6 @@
 -- The rows of a snapshot that is read back, part by part.
-use Rattle.std.proofs.Common.{◌≡◌, ℕ, ◌<◌, false, List, [], ◌∷◌, ◌++◌, map, pos, length, refl, true, ap, sym, subst, ◌∙◌}
-use Rattle.std.specs.Prelude.{IsTrue, IsUtf8}
+use Rattle.std.proofs.Common.{◌≡◌, ℕ, ◌<◌, Bool, Option, false, List, [], ◌∷◌, ◌++◌, map, pos, length, refl, true, ap, sym, subst, ◌∙◌}
+use Rattle.std.specs.Prelude.{IsTrue, IsUtf8, ◌≤ℤ◌, ◌==◌, ◌&&◌, is_none, if◌then◌else◌}
 use Rattle.std.specs.FinSet as set
 use Rattle.std.specs.List.{All, AllByRecursion, flat_map}
 use Rattle.std.specs.Ordering.{nat_cmp}
@@ -11,15 +11,18 @@ use Rattle.position_core.specs.declared.topic_name.TopicName.{TopicName}
 use Rattle.position_core.specs.declared.message.Entry.{Entry}
 use Rattle.position_core.specs.Name.{is_name}
 use Rattle.position_core.specs.TopicName.{same_topic, topic_text}
-use Rattle.delivery_machine.specs.State.{DeadLetter}
+use Rattle.delivery_machine.specs.State.{Author, DeadLetter}
+use Rattle.delivery_machine.specs.declared.retention.Retention.{Retention}
 use Rattle.delivery_machine.specs.Snapshot.{KeptSubscription}
 use Rattle.delivery_machine.specs.Places.{AreBelow, KeptPlaces, KeptTopic, kept_in}
 use Rattle.delivery_machine.specs.WellFormed.{AreDeadLettersOf, HaveOrdinals, IsSoundSubscription, NamesRise, has_message}
 use Rattle.delivery_machine.proofs.Ordinals.{letters_mapped}
 use Rattle.row_tables.specs.declared.side_rows.SideRows.{SideRows}
-use Rattle.row_forms.specs.Forms.{AreAckRows, AreRowsOf, count_rows, dead_rows, entry_rows, sub_rows, topic_row}
+use Rattle.row_forms.specs.Forms.{AreAckRows, AreRowsOf, Span, author_rows, count_rows, dead_rows, entry_rows, retention_row, retention_rows, span_of, sub_rows, topic_row}
+use Rattle.row_reading.specs.declared.retention_rows.Front.{Front}
 use Rattle.row_reading.specs.declared.topic_row.Head.{Head}
-use Rattle.row_reading.specs.Reading.{IsHead, IsNamed, IsReadBack, IsReadable, IsReadableLog, IsReadableSub, ShowSubs, put, rows_with}
+use Rattle.row_reading.specs.Reading.{IsFrontIn, IsHead, IsNamed, IsReadBack, IsReadable, IsReadableLog, IsReadableSub, IsReadableAuthor, IsText, ShowAuthors, ShowSubs, put, rows_with}
+use Rattle.row_reading.proofs.Authors.{one_front}
 use Rattle.row_reading.proofs.Restarts.{same_names}
 use Rattle.row_reading.proofs.Told.{same_log}
 
@@ -116,12 +119,13 @@ pub readable_log : (kept : KeptTopic) → IsReadBack kept → IsReadableLog kept
 readable_log kept back = record { size = back.size; each = back.messages; sound = back.may.sound.log; short = back.may.short }
 
 -- the messages that were read are the snapshot's
-pub its_log : (kept : KeptTopic) (own : TopicName) (log : List Entry) (sides : SideRows) → kept.name ≡ own → AreRowsOf kept (rows_with (topic_text own) log sides) → log ≡ kept.log
-its_log kept own log sides name rows = same_log (topic_text own) 0 log kept.log (rows.entries ∙ ap (λ t. entry_rows (topic_text t) 0 kept.log) name)
+pub its_log : (kept : KeptTopic) (own : TopicName) (span : Span) (sides : SideRows) → kept.name ≡ own → span.gone ≡ kept.gone → AreRowsOf kept (rows_with (topic_text own) span sides) → span.log ≡ kept.log
+its_log kept own span sides name gone rows =
+    same_log (topic_text own) kept.gone span.log kept.log (ap (λ n. entry_rows (topic_text own) n span.log) (sym gone) ∙ rows.entries ∙ ap (λ t. entry_rows (topic_text t) kept.gone kept.log) name)
 
-pub show_subs : (kept : KeptTopic) (own : TopicName) (log : List Entry) (sides : SideRows) → IsReadBack kept → kept.name ≡ own → AreRowsOf kept (rows_with (topic_text own) log sides)
-    → ShowSubs own kept.log kept.next_ordinal (topic_text own) kept.subscriptions sides.subs.items sides.acks.items sides.deads.items sides.counts.items
-show_subs kept own log sides back name rows =
+pub show_subs : (kept : KeptTopic) (own : TopicName) (span : Span) (sides : SideRows) → IsReadBack kept → kept.name ≡ own → AreRowsOf kept (rows_with (topic_text own) span sides)
+    → ShowSubs own (span_of kept) kept.next_ordinal (topic_text own) kept.subscriptions sides.subs.items sides.acks.items sides.deads.items sides.counts.items
+show_subs kept own span sides back name rows =
     let subs : List KeptPlaces = kept.subscriptions in
     let targets : All (λ (sub : KeptPlaces). All (λ (d : DeadLetter). IsNamed d.target × (same_topic d.target own ≡ false)) sub.dead) subs =
     subst (λ t. All (λ (sub : KeptPlaces). All (λ (d : DeadLetter). IsNamed d.target × (same_topic d.target t ≡ false)) sub.dead) subs) name back.told.targets in
@@ -134,7 +138,41 @@ show_subs kept own log sides back name rows =
           (recursion_from_All _ subs targets) (recursion_from_All _ subs back.texts) (recursion_from_All _ (flat_map (λ (sub : KeptPlaces). sub.dead) subs) ordinals.below));
       ordinals = ordinals;
       shown = rows.subs ∙ ap (λ t. sub_rows (topic_text t) subs) name;
-      runs = subst (λ t. AreAckRows (topic_text t) subs (put (topic_text own) sides.acks.items)) name rows.acks;
-      letters = rows.deads ∙ ap (λ t. dead_rows (topic_text t) kept.log subs) name;
-      counted = rows.counts ∙ ap (λ t. count_rows (topic_text t) kept.log subs) name;
+      runs = subst (λ t. AreAckRows (topic_text t) kept.gone subs (put (topic_text own) sides.acks.items)) name rows.acks;
+      letters = rows.deads ∙ ap (λ t. dead_rows (topic_text t) (span_of kept) subs) name;
+      counted = rows.counts ∙ ap (λ t. count_rows (topic_text t) (span_of kept) subs) name;
     }
+
+-- ---- what is gone, and producers
+
+pub same_front : (kept : KeptTopic) (own : TopicName) (front : Front) (rows : List Row) → kept.name ≡ own → IsFrontIn rows front → put (topic_text own) rows ≡ retention_rows (topic_text kept.name) kept.gone kept.retention → (front.gone ≡ kept.gone) × (front.retention ≡ kept.retention)
+same_front kept own front rows name shown are =
+    one_front (topic_text own) front.gone kept.gone front.retention kept.retention (sym (shown.shown (topic_text own)) ∙ are ∙ ap (λ t. retention_rows (topic_text t) kept.gone kept.retention) name)
+
+retentions_move : (t u : List ℕ) (gone : ℕ) (rule : Option Retention) (rows : List Row) → put t rows ≡ retention_rows t gone rule → put u rows ≡ retention_rows u gone rule
+retentions_move t u gone rule rows are = by (gone == 0 && is_none rule) rows are
+  where
+    by : (b : Bool) (rs : List Row) → put t rs ≡ (if b then [] else retention_row t gone rule ∷ []) → put u rs ≡ (if b then [] else retention_row u gone rule ∷ [])
+    by true [] e = refl
+    by true (r ∷ rs) e = absurd (cc)
+    by false [] e = absurd (cc)
+    by false (r ∷ []) e = cc
+    by false (r ∷ s ∷ rs) e = absurd (cc)
+
+pub has_front : (kept : KeptTopic) (topic : List ℕ) (rows : List Row) → IsReadBack kept → put topic rows ≡ retention_rows topic kept.gone kept.retention → IsFrontIn rows (record { gone = kept.gone; retention = kept.retention })
+has_front kept topic rows back are = record {
+  shown = λ t. retentions_move topic t kept.gone kept.retention rows are;
+  at_most = back.may.sound.gone.at_most;
+  rule = back.rule;
+}
+
+authors_readable : (authors : List Author) → AllByRecursion (λ (a : Author). IsText 1 1280 a.name) authors → AllByRecursion (λ (a : Author). pos 0 ≤ℤ a.sequence) authors → AllByRecursion IsReadableAuthor authors
+authors_readable [] names sequences = tt
+authors_readable (a ∷ authors) names sequences = (record { name = names.0; sequence = sequences.0 }, authors_readable authors names.1 sequences.1)
+
+pub show_authors : (kept : KeptTopic) (own : TopicName) (rows : List Row) → IsReadBack kept → kept.name ≡ own → put (topic_text own) rows ≡ author_rows (topic_text kept.name) kept.authors → ShowAuthors kept.gone (topic_text own) kept.authors rows
+show_authors kept own rows back name are = record {
+  each = All-from_recursion IsReadableAuthor kept.authors (authors_readable kept.authors (recursion_from_All _ kept.authors back.authors) (recursion_from_All _ kept.authors back.told.remembered));
+  sound = back.may.sound.authors;
+  shown = are ∙ ap (λ t. author_rows (topic_text t) kept.authors) name;
+}

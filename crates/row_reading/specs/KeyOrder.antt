@@ -43,13 +43,14 @@ BelowByName r s = name_order (name_in r) (name_in s) ≡ Less
 abbrev pub BelowByNumber : Row → Row → Type 0
 BelowByNumber r s = (name_order (name_in r) (name_in s) ≡ Less) ⊎ ((name_in r ≡ name_in s) × (whole_of (column r 2) < whole_of (column s 2)))
 
--- messages stand in the order of their places, subscriptions of their names; runs, dead letters and counts of both
+-- messages and producers stand in the order of their places, subscriptions of their names; runs, dead letters and counts of both
 pub record InKeyOrder (rows : TopicRows) : Type 0 where
   pub entries : InOrder BelowByPlace rows.entries
   pub subs : InOrder BelowByName rows.subs
   pub acks : InOrder BelowByNumber rows.acks
   pub deads : InOrder BelowByNumber rows.deads
   pub counts : InOrder BelowByNumber rows.counts
+  pub authors : InOrder BelowByPlace rows.authors
 
 -- what stands of a topic in a database is, in the order of its keys, the rows of the snapshot
 abbrev pub InOrderAreIts : Type 0

@@ -9,9 +9,9 @@ use Rattle.delivery_machine.specs.Snapshot.{restarted, snapshot_of}
 use Rattle.delivery_machine.specs.Places.{AreBelow, KeptPlaces, KeptTopic, snapshot_in}
 use Rattle.delivery_machine.specs.Run.{Run}
 use Rattle.delivery_machine.specs.declared.event.Event.{Event}
-use Rattle.delivery_machine.specs.declared.event.Event.TheVariants.{AddProducer, Publish, Subscribe}
+use Rattle.delivery_machine.specs.declared.event.Event.TheVariants.{AddProducer, Publish, SetRetention, Subscribe}
 use Rattle.delivery_machine.specs.declared.reply.Reply.{Reply}
-use Rattle.row_reading.specs.Reading.{IsContent, IsLedgerSize, IsNamed, IsReadBack, IsText}
+use Rattle.row_reading.specs.Reading.{IsContent, IsLedgerSize, IsNamed, IsReadBack, IsText, MayBeRule}
 
 -- a topic with a name of UTF-8
 abbrev pub IsTopic : TopicName → Type 0
@@ -26,6 +26,7 @@ abbrev pub IsWithinLimits : Event → Type 0
 IsWithinLimits (AddProducer name base) = IfSome name (IsText 1 1280) × (negsuc 0 ≤ℤ base)
 IsWithinLimits (Publish producer sequence body now) = IsContent body × (now ≤ 253402300799999)
 IsWithinLimits (Subscribe name kind level flow ack_timeout nack_delay max_redeliver dead_topic initial ranges) = IsSubscriptionName name × IsTopic dead_topic
+IsWithinLimits (SetRetention retention) = MayBeRule retention
 IsWithinLimits event = Unit {0}
 
 -- a topic with nothing in it, or one that goes on from a snapshot that is read back

@@ -1,5 +1,5 @@
 -- Rows as they are read: each without the topic's text, which is put before it.
-use Rattle.std.specs.Prelude.{◌≡◌, ◌==◌, ℕ, ◌+◌, ◌^◌, ◌<◌, ◌≤◌, ◌≤ℤ◌, false, cond, ◌-◌, Option, option_map, slice_get, IfSome, IsTrue, IsUtf8, List, [], ◌∷◌, ◌++◌, map, length, pos}
+use Rattle.std.specs.Prelude.{◌≡◌, ◌==◌, ℕ, ◌+◌, ◌^◌, ◌<◌, ◌≤◌, ◌≤ℤ◌, false, cond, ◌-◌, Option, is_none, ◌&&◌, option_map, slice_get, IfSome, IsTrue, IsUtf8, List, [], ◌∷◌, ◌++◌, map, length, pos}
 use Rattle.std.specs.List.{All, count_by, flat_map, list_any}
 use Rattle.std.specs.FinSet as set
 use Rattle.std.specs.FinMap as map_of
@@ -14,14 +14,17 @@ use Rattle.position_core.specs.Name.{is_name}
 use Rattle.position_core.specs.TopicName.{same_topic, topic_text}
 use Rattle.position_core.specs.declared.body.Content.{Content}
 use Rattle.position_core.specs.declared.message.Entry.{Entry}
-use Rattle.delivery_machine.specs.State.{DeadLetter}
+use Rattle.delivery_machine.specs.State.{Author, DeadLetter}
+use Rattle.delivery_machine.specs.declared.retention.Retention.{Retention}
+use Rattle.delivery_machine.specs.declared.retention.Retention.TheVariants as rule
 use Rattle.delivery_machine.specs.Ticking.{most_count}
 use Rattle.delivery_machine.specs.Places.{AreBelow, KeptPlaces, KeptTopic, MayRestart, positions_at}
-use Rattle.delivery_machine.specs.WellFormed.{AreCountsOf, AreDeadLettersOf, HaveOrdinals, IsWellFormedLog, NamesRise, has_message}
+use Rattle.delivery_machine.specs.WellFormed.{AreAuthors, AreCountsOf, AreDeadLettersOf, HaveOrdinals, IsWellFormedLog, NamesRise, has_message}
 use Rattle.ack_ranges.specs.Ranges.{AreRangesOf}
 use Rattle.json_values.specs.Written.{AreProperties}
 use Rattle.row_tables.specs.declared.side_rows.SideRows.{SideRows}
-use Rattle.row_forms.specs.Forms.{TopicRows, AreAckRows, ack_row, count_row, count_rows, dead_row, dead_rows, entry_row, entry_rows, place_in, sub_rows}
+use Rattle.row_forms.specs.Forms.{TopicRows, AreAckRows, Span, ack_row, author_row, author_rows, count_row, count_rows, dead_row, dead_rows, entry_row, entry_rows, index_in, retention_rows, rule_cells, sub_rows}
+use Rattle.row_reading.specs.declared.retention_rows.Front.{Front}
 use Rattle.row_reading.specs.declared.topic_row.Head.{Head}
 
 -- the rows of the topic
@@ -37,6 +40,29 @@ pub record IsHead (row : Row) (head : Head) : Type 0 where
 -- the topic has one row of its own, and this is what it says
 abbrev pub IsHeadIn : List Row → Head → Type 0
 IsHeadIn rows head = (row : Row) × (rows ≡ row ∷ []) × IsHead row head
+
+-- a rule that a topic may have
+abbrev pub IsRule : Retention → Type 0
+IsRule rule.All = Unit {0}
+IsRule (rule.Messages count) = count ≤ 1048576
+IsRule (rule.Age millis) = millis ≤ 253402300799999
+
+-- none, or such a rule
+abbrev pub MayBeRule : Option Retention → Type 0
+MayBeRule retention = IfSome retention IsRule
+
+-- one row says so many are gone, or a rule, or both
+pub record IsRowOfFront (row : Row) (front : Front) : Type 0 where
+  pub shown : row ≡ Int (pos front.gone) ∷ rule_cells front.retention
+  pub says : (front.gone == 0 && is_none front.retention) ≡ false
+  pub at_most : front.gone ≤ 2 ^ 62
+  pub rule : MayBeRule front.retention
+
+-- what is read of the messages that are gone, and of the topic's own rule: there is one row where it says something, and else none
+pub record IsFrontIn (rows : List Row) (front : Front) : Type 0 where
+  pub shown : (topic : List ℕ) → put topic rows ≡ retention_rows topic front.gone front.retention
+  pub at_most : front.gone ≤ 2 ^ 62
+  pub rule : MayBeRule front.retention
 
 -- a size of ledgers that a topic may have
 abbrev pub IsLedgerSize : ℕ → Type 0
@@ -75,22 +101,22 @@ pub record IsReadableLog (ledger_size ledger : ℕ) (log : List Entry) : Type 0 
   pub sound : IsWellFormedLog ledger_size ledger log
   pub short : length log ≤ 1048576
 
--- the first messages are those, and the rows are those of the others
-abbrev pub GoOn : List Entry → List Row → List Entry → Type 0
-GoOn came rows log = (topic : List ℕ) → entry_rows topic 0 came ++ put topic rows ≡ entry_rows topic 0 log
+-- the first messages are those, and the rows are those of the others, where so many are gone before them
+abbrev pub GoOn : ℕ → List Entry → List Row → List Entry → Type 0
+GoOn gone came rows log = (topic : List ℕ) → entry_rows topic gone came ++ put topic rows ≡ entry_rows topic gone log
 
 -- the position of the last message, if there is one
 abbrev pub last_position : List Entry → Option Position
 last_position log = option_map (λ (e : Entry). e.position) (slice_get log (length log - 1))
 
--- the row of a run, given by its first place and its last
-abbrev pub IsRunAt : List ℕ → Row → ℕ → ℕ → Type 0
-IsRunAt sub row first last = row ≡ Words sub ∷ Int (pos first) ∷ Int (pos last) ∷ []
+-- the row of a run, given by the indexes of its first message and its last, where so many are gone before the log
+abbrev pub IsRunAt : List ℕ → ℕ → Row → ℕ → ℕ → Type 0
+IsRunAt sub gone row first last = row ≡ Words sub ∷ Int (pos (gone + first)) ∷ Int (pos (gone + last)) ∷ []
 
 -- the first rows are those of the subscription's runs, and others follow
-abbrev pub BeginsWithRuns : List ℕ → set.FinSet nat_cmp → List Row → List Row → Type 0
-BeginsWithRuns sub places rows rest =
-    (runs : List (ℕ × ℕ)) × AreRangesOf places runs × ((topic : List ℕ) → put topic rows ≡ map (ack_row topic sub) runs ++ put topic rest)
+abbrev pub BeginsWithRuns : List ℕ → ℕ → set.FinSet nat_cmp → List Row → List Row → Type 0
+BeginsWithRuns sub gone places rows rest =
+    (runs : List (ℕ × ℕ)) × AreRangesOf places runs × ((topic : List ℕ) → put topic rows ≡ map (ack_row topic sub gone) runs ++ put topic rest)
 
 -- the subscription's rows are past: the first one is another's, if there is one
 abbrev pub ArePast : List ℕ → List Row → Type 0
@@ -98,12 +124,12 @@ ArePast sub [] = Unit {0}
 ArePast sub (row ∷ rows) = column row 0 ≡ Words sub → ⊥
 
 -- the row of a dead letter of the subscription, where this is the log
-abbrev pub IsLetterAt : List ℕ → List Entry → Row → DeadLetter → Type 0
-IsLetterAt sub log row d = (topic : List ℕ) → Words topic ∷ row ≡ dead_row topic sub log d
+abbrev pub IsLetterAt : List ℕ → Span → Row → DeadLetter → Type 0
+IsLetterAt sub span row d = (topic : List ℕ) → Words topic ∷ row ≡ dead_row topic sub span d
 
 -- the first rows are those of the subscription's dead letters, and others follow
-abbrev pub BeginsWithLetters : List ℕ → List Entry → List DeadLetter → List Row → List Row → Type 0
-BeginsWithLetters sub log letters rows rest = (topic : List ℕ) → put topic rows ≡ map (dead_row topic sub log) letters ++ put topic rest
+abbrev pub BeginsWithLetters : List ℕ → Span → List DeadLetter → List Row → List Row → Type 0
+BeginsWithLetters sub span letters rows rest = (topic : List ℕ) → put topic rows ≡ map (dead_row topic sub span) letters ++ put topic rest
 
 -- a message at the position may come after the last one of a log
 pub record IsNext (ledger_size ledger : ℕ) (last : Option Position) (position : Position) : Type 0 where
@@ -148,39 +174,39 @@ pub record AreReadable (own : TopicName) (log : List Entry) (next : ℕ) (ordina
 
 -- ---- counts
 
--- the set has the place of a message of the log where the message died
+-- the set has the index of a message of the log where the message died
 abbrev pub AreDeadAt : List Entry → List DeadLetter → set.FinSet nat_cmp → Type 0
-AreDeadAt log dead places = (p : Position) → IsTrue (has_message log p) → set.contains places (place_in log p) ≡ list_any (λ d. same_position d.position p) dead
+AreDeadAt log dead places = (p : Position) → IsTrue (has_message log p) → set.contains places (index_in log p) ≡ list_any (λ d. same_position d.position p) dead
 
--- a message of the log that is neither acknowledged nor dead, by its place, and was redelivered: so often as may be counted
+-- a message of the log that is neither acknowledged nor dead, by its index, and was redelivered: so often as may be counted
 pub record MayCount (log : List Entry) (acknowledged dead : set.FinSet nat_cmp) (counted : Position × ℕ) : Type 0 where
   pub message : IsTrue (has_message log counted.0)
-  pub waits : set.contains acknowledged (place_in log counted.0) ≡ false
-  pub lives : set.contains dead (place_in log counted.0) ≡ false
+  pub waits : set.contains acknowledged (index_in log counted.0) ≡ false
+  pub lives : set.contains dead (index_in log counted.0) ≡ false
   pub redelivered : 0 < counted.1
   pub most : counted.1 ≤ most_count
 
 -- the row of a message of the subscription that was redelivered, where this is the log
-abbrev pub IsCountAt : List ℕ → List Entry → Row → Position × ℕ → Type 0
-IsCountAt sub log row counted = (topic : List ℕ) → Words topic ∷ row ≡ count_row topic sub log counted
+abbrev pub IsCountAt : List ℕ → Span → Row → Position × ℕ → Type 0
+IsCountAt sub span row counted = (topic : List ℕ) → Words topic ∷ row ≡ count_row topic sub span counted
 
 -- the first rows are those of the subscription's counts, and others follow
-abbrev pub BeginsWithCounts : List ℕ → List Entry → map_of.FinMap position_cmp ℕ → List Row → List Row → Type 0
-BeginsWithCounts sub log counts rows rest = (topic : List ℕ) → put topic rows ≡ map (count_row topic sub log) (map_of.entries counts) ++ put topic rest
+abbrev pub BeginsWithCounts : List ℕ → Span → map_of.FinMap position_cmp ℕ → List Row → List Row → Type 0
+BeginsWithCounts sub span counts rows rest = (topic : List ℕ) → put topic rows ≡ map (count_row topic sub span) (map_of.entries counts) ++ put topic rest
 
 -- ---- subscriptions
 
 -- the first rows are those of the subscriptions' runs, and others follow
-abbrev pub BeginsWithAcks : List KeptPlaces → List Row → List Row → Type 0
-BeginsWithAcks subs rows rest = (topic : List ℕ) → (first : List Row) × AreAckRows topic subs first × (put topic rows ≡ first ++ put topic rest)
+abbrev pub BeginsWithAcks : ℕ → List KeptPlaces → List Row → List Row → Type 0
+BeginsWithAcks gone subs rows rest = (topic : List ℕ) → (first : List Row) × AreAckRows topic gone subs first × (put topic rows ≡ first ++ put topic rest)
 
 -- the first rows are those of the subscriptions' dead letters, and others follow
-abbrev pub BeginsWithDeads : List Entry → List KeptPlaces → List Row → List Row → Type 0
-BeginsWithDeads log subs rows rest = (topic : List ℕ) → put topic rows ≡ dead_rows topic log subs ++ put topic rest
+abbrev pub BeginsWithDeads : Span → List KeptPlaces → List Row → List Row → Type 0
+BeginsWithDeads span subs rows rest = (topic : List ℕ) → put topic rows ≡ dead_rows topic span subs ++ put topic rest
 
 -- the first rows are those of the subscriptions' counts, and others follow
-abbrev pub BeginWithCounts : List Entry → List KeptPlaces → List Row → List Row → Type 0
-BeginWithCounts log subs rows rest = (topic : List ℕ) → put topic rows ≡ count_rows topic log subs ++ put topic rest
+abbrev pub BeginWithCounts : Span → List KeptPlaces → List Row → List Row → Type 0
+BeginWithCounts span subs rows rest = (topic : List ℕ) → put topic rows ≡ count_rows topic span subs ++ put topic rest
 
 -- a subscription that the topic may go on with: it acknowledged messages of the log, and its dead letters and counts are sound
 pub record IsSubOf (own : TopicName) (log : List Entry) (next : ℕ) (sub : KeptPlaces) : Type 0 where
@@ -204,14 +230,35 @@ pub record IsReadableSub (own : TopicName) (log : List Entry) (next : ℕ) (ordi
   pub letters : AreReadable own log next ordinals sub.dead
 
 -- rows of subscriptions that are read: their own, and those of their runs, of their dead letters and of their counts
-pub record ShowSubs (own : TopicName) (log : List Entry) (next : ℕ) (topic : List ℕ) (subs : List KeptPlaces) (rows acks deads counts : List Row) : Type 0 where
+pub record ShowSubs (own : TopicName) (span : Span) (next : ℕ) (topic : List ℕ) (subs : List KeptPlaces) (rows acks deads counts : List Row) : Type 0 where
   pub names : NamesRise (map (λ sub. sub.name) subs)
-  pub each : All (IsReadableSub own log next set.empty) subs
+  pub each : All (IsReadableSub own span.log next set.empty) subs
   pub ordinals : HaveOrdinals next (flat_map (λ sub. sub.dead) subs)
   pub shown : put topic rows ≡ sub_rows topic subs
-  pub runs : AreAckRows topic subs (put topic acks)
-  pub letters : put topic deads ≡ dead_rows topic log subs
-  pub counted : put topic counts ≡ count_rows topic log subs
+  pub runs : AreAckRows topic span.gone subs (put topic acks)
+  pub letters : put topic deads ≡ dead_rows topic span subs
+  pub counted : put topic counts ≡ count_rows topic span subs
+
+-- ---- producers of messages that are gone
+
+-- the row of such a producer
+abbrev pub IsAuthorAt : Row → Author → Type 0
+IsAuthorAt row a = (topic : List ℕ) → Words topic ∷ row ≡ author_row topic a
+
+-- one that is read: its name and its sequence number are within their limits
+pub record IsReadableAuthor (a : Author) : Type 0 where
+  pub name : IsText 1 1280 a.name
+  pub sequence : pos 0 ≤ℤ a.sequence
+
+-- the sequence number of each is 0 or more
+abbrev pub RememberFromZero : List Author → Type 0
+RememberFromZero authors = All (λ (a : Author). pos 0 ≤ℤ a.sequence) authors
+
+-- rows of producers that are read, where so many messages are gone
+pub record ShowAuthors (gone : ℕ) (topic : List ℕ) (authors : List Author) (rows : List Row) : Type 0 where
+  pub each : All IsReadableAuthor authors
+  pub sound : AreAuthors gone authors
+  pub shown : put topic rows ≡ author_rows topic authors
 
 -- ---- the whole
 
@@ -219,32 +266,41 @@ pub record ShowSubs (own : TopicName) (log : List Entry) (next : ℕ) (topic : L
 abbrev pub CountFromZero : List Entry → Type 0
 CountFromZero log = All (λ e. pos 0 ≤ℤ e.sequence) log
 
--- what was read of a topic so far: what its own row says, and its first messages
+-- what was read of a topic so far: what its own row says, what is gone, its rule, and its first messages
 pub record ReadSoFar : Type 0 where
   pub head : Head
+  pub front : Front
   pub log : List Entry
 
+-- its messages
+abbrev pub span_read : ReadSoFar → Span
+span_read so_far = record { gone = so_far.front.gone; log = so_far.log }
+
 -- a topic may have what was read so far
-pub record IsSoFar (head : Head) (log : List Entry) : Type 0 where
+pub record IsSoFar (head : Head) (front : Front) (log : List Entry) : Type 0 where
   pub ordinal : head.next_ordinal ≤ 2 ^ 62
+  pub gone : front.gone ≤ 2 ^ 62
   pub sound : IsWellFormedLog head.ledger_size head.ledger log
   pub sequences : CountFromZero log
   pub short : length log ≤ 1048576
 
 -- the rows of a topic with these messages, and with these rows beside them
-abbrev pub rows_with : List ℕ → List Entry → SideRows → TopicRows
-rows_with topic log sides = record {
+abbrev pub rows_with : List ℕ → Span → SideRows → TopicRows
+rows_with topic span sides = record {
   topics = put topic sides.topics.items;
-  entries = entry_rows topic 0 log;
+  entries = entry_rows topic span.gone span.log;
   subs = put topic sides.subs.items;
   acks = put topic sides.acks.items;
   deads = put topic sides.deads.items;
   counts = put topic sides.counts.items;
+  authors = put topic sides.authors.items;
+  retentions = put topic sides.retentions.items;
 }
 
 -- sequence numbers are 0 or more, subscriptions are at most 64, and dead letters go to other topics, which have names
 pub record MayBeTold (kept : KeptTopic) : Type 0 where
   pub sequences : CountFromZero kept.log
+  pub remembered : RememberFromZero kept.authors
   pub few : length kept.subscriptions ≤ 64
   pub targets : All (λ (sub : KeptPlaces). All (λ (d : DeadLetter). IsNamed d.target × (same_topic d.target kept.name ≡ false)) sub.dead) kept.subscriptions
 
@@ -254,5 +310,7 @@ pub record IsReadBack (kept : KeptTopic) : Type 0 where
   pub told : MayBeTold kept
   pub size : IsLedgerSize kept.ledger_size
   pub messages : All IsReadableMessage kept.log
+  pub authors : All (λ (a : Author). IsText 1 1280 a.name) kept.authors
+  pub rule : MayBeRule kept.retention
   pub names : All (λ (sub : KeptPlaces). IsTrue (is_name sub.name) × IsUtf8 sub.name) kept.subscriptions
   pub texts : All (λ (sub : KeptPlaces). All (λ (d : DeadLetter). IsUtf8 (topic_text d.target)) sub.dead) kept.subscriptions

@@ -20,6 +20,8 @@ pub record SameRows (rows others : TopicRows) : Type 0 where
   pub acks : IsPermutation rows.acks others.acks
   pub deads : IsPermutation rows.deads others.deads
   pub counts : IsPermutation rows.counts others.counts
+  pub authors : IsPermutation rows.authors others.authors
+  pub retentions : IsPermutation rows.retentions others.retentions
 
 -- a topic may go on from the snapshot, and the topics that its dead letters go to have names, so that rows tell them
 pub record IsTold (kept : KeptTopic) : Type 0 where

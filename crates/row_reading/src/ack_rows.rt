@@ -6,13 +6,14 @@ ghost use Rattle.sqlite.specs.Order.{Row};
 ghost use Rattle.delivery_machine.specs.Places.{AreBelow};
 ghost use Rattle.row_reading.specs.Reading.{ArePast, BeginsWithRuns, IsRunAt};
 
-use crate::cells::{is_text, whole_at};
+use crate::cells::is_text;
+use crate::places::index_at;
 use ack_ranges::AckSet;
 use position_core::SubscriptionName;
 use sqlite::Row;
 use std::alloc::{AllocError, Global};
 
-/// A run, from its first place to its last.
+/// A run, from the index of its first message to that of its last.
 #[derive(Clone, Copy)]
 struct Run {
     first: u64,
@@ -20,16 +21,16 @@ struct Run {
 }
 
 /// The run of the subscription that the row shows.
-fn run_in(row: &Row, name: &SubscriptionName, count: u64) -> Option<Run>
-    ensures shown { IfSome result (λ run. IsRunAt name.now row.now run.first run.last) }
+fn run_in(row: &Row, name: &SubscriptionName, gone: u64, count: u64) -> Option<Run>
+    ensures shown { IfSome result (λ run. IsRunAt name.now gone row.now run.first run.last) }
     ensures within { IfSome result (λ run. run.last < count) }
-    ensures all_read { IfNone result ((first last : ℕ) → IsRunAt name.now row.now first last → last < count → ⊥) }
+    ensures all_read { IfNone result ((first last : ℕ) → IsRunAt name.now gone row.now first last → last < count → ⊥) }
 {
     if row.column_count() != 3 || !is_text(row, 0, name.as_str()) {
         return None;
     }
-    let first = whole_at(row, 1)?;
-    let last = whole_at(row, 2)?;
+    let first = index_at(row, 1, gone)?;
+    let last = index_at(row, 2, gone)?;
     if last < count {
         Some(Run { first, last })
     } else {
@@ -37,19 +38,20 @@ fn run_in(row: &Row, name: &SubscriptionName, count: u64) -> Option<Run>
     }
 }
 
-/// The places in the runs of the subscription, whose rows are the first ones, and the rows that follow.
-/// None where a run is not below `count`, or not apart from the one before it.
+/// The indexes in the runs of the subscription, whose rows are the first ones, and the rows that follow, where `gone`
+/// messages are gone. None where a run is not below `count`, or not apart from the one before it.
 pub(crate) fn runs_in<'a>(
     alloc: Global,
     name: &SubscriptionName,
     rows: &'a [Row],
+    gone: u64,
     count: u64,
 ) -> Result<Option<(AckSet, &'a [Row])>, AllocError>
     requires { count < 2 ^ 63 }
-    ensures runs { IfOk result (λ found. IfSome found (λ r. BeginsWithRuns name.now r.0 rows.now r.1.now)) }
+    ensures runs { IfOk result (λ found. IfSome found (λ r. BeginsWithRuns name.now gone r.0 rows.now r.1.now)) }
     ensures below { IfOk result (λ found. IfSome found (λ r. AreBelow count r.0)) }
     ensures past { IfOk result (λ found. IfSome found (λ r. ArePast name.now r.1.now)) }
-    ensures all_read { IfOk result (λ found. IfNone found ((places : set.FinSet nat_cmp) (rest : List Row) → BeginsWithRuns name.now places rows.now rest → AreBelow count places → ArePast name.now rest → ⊥)) }
+    ensures all_read { IfOk result (λ found. IfNone found ((places : set.FinSet nat_cmp) (rest : List Row) → BeginsWithRuns name.now gone places rows.now rest → AreBelow count places → ArePast name.now rest → ⊥)) }
 {
     let mut places = AckSet::new(alloc);
     let mut rest = rows;
@@ -57,7 +59,7 @@ pub(crate) fn runs_in<'a>(
         if !is_text(row, 0, name.as_str()) {
             return Ok(Some((places, rest)));
         }
-        let Some(run) = run_in(row, name, count) else {
+        let Some(run) = run_in(row, name, gone, count) else {
             return Ok(None);
         };
         if !places.push_range(run.first, run.last + 1)? {

@@ -5,28 +5,27 @@ ghost use Rattle.sqlite.specs.declared.types.Value.TheVariants.{Int};
 ghost use Rattle.sqlite.specs.Order.{Row, column};
 ghost use Rattle.position_core.specs.declared.position.Position.{Position};
 ghost use Rattle.position_core.specs.Position.{position_cmp};
-ghost use Rattle.log_pieces.specs.Pieces.{joined};
 ghost use Rattle.delivery_machine.specs.Places.{positions_at};
 ghost use Rattle.delivery_machine.specs.State.{DeadLetter};
 ghost use Rattle.delivery_machine.specs.Ticking.{most_count};
 ghost use Rattle.delivery_machine.specs.WellFormed.{AreCountsOf};
 ghost use Rattle.row_forms.specs.Parts.{IsRising};
+ghost use Rattle.row_reading.specs.Places.{seen};
 ghost use Rattle.row_reading.specs.Reading.{AreDeadAt, ArePast, BeginsWithCounts, IsCountAt, MayCount};
 
 use crate::cells::{is_text, whole_at};
-use crate::places::position_of;
+use crate::places::{Kept, index_at, position_of};
 use ack_ranges::AckSet;
 use delivery_machine::{Counted, Counts, Times};
-use log_pieces::Pieces;
 use position_core::SubscriptionName;
 use sqlite::Row;
 use std::alloc::{AllocError, Global};
 
-/// What counts are read for: the log, and the places of the messages that the subscription acknowledged, and of
+/// What counts are read for: the log, and the indexes of the messages that the subscription acknowledged, and of
 /// those that died.
 #[derive(Clone, Copy)]
 pub(crate) struct Done<'a> {
-    pub(crate) log: &'a Pieces,
+    pub(crate) kept: Kept<'a>,
     pub(crate) acknowledged: &'a AckSet,
     pub(crate) dead: &'a AckSet,
 }
@@ -43,18 +42,18 @@ fn times_at(row: &Row, at: usize) -> Option<Times>
 
 /// The message that the row shows, and how often it was redelivered: none where the message is acknowledged or dead.
 fn counted_in(row: &Row, name: &SubscriptionName, done: Done<'_>) -> Option<Counted>
-    requires { IsRising (joined done.log.now) }
-    ensures shown { IfSome result (λ c. IsCountAt name.now (joined done.entry.log.now) row.now (c.position, c.times)) }
-    ensures may { IfSome result (λ c. MayCount (joined done.entry.log.now) done.entry.acknowledged.now done.entry.dead.now (c.position, c.times)) }
-    ensures all_read { IfNone result ((counted : Position × ℕ) → MayCount (joined done.entry.log.now) done.entry.acknowledged.now done.entry.dead.now counted → IsCountAt name.now (joined done.entry.log.now) row.now counted → ⊥) }
+    requires { IsRising (seen done.kept).log }
+    ensures shown { IfSome result (λ c. IsCountAt name.now (seen done.entry.kept) row.now (c.position, c.times)) }
+    ensures may { IfSome result (λ c. MayCount (seen done.entry.kept).log done.entry.acknowledged.now done.entry.dead.now (c.position, c.times)) }
+    ensures all_read { IfNone result ((counted : Position × ℕ) → MayCount (seen done.entry.kept).log done.entry.acknowledged.now done.entry.dead.now counted → IsCountAt name.now (seen done.entry.kept) row.now counted → ⊥) }
 {
     if row.column_count() != 3 || !is_text(row, 0, name.as_str()) {
         return None;
     }
-    let place = whole_at(row, 1)?;
-    let position = position_of(done.log, place)?;
+    let index = index_at(row, 1, done.kept.gone)?;
+    let position = position_of(done.kept.log, index)?;
     let times = times_at(row, 2)?;
-    if done.acknowledged.contains(place) || done.dead.contains(place) {
+    if done.acknowledged.contains(index) || done.dead.contains(index) {
         return None;
     }
     Some(Counted { position, times })
@@ -68,14 +67,14 @@ pub(crate) fn counts_in<'a>(
     rows: &'a [Row],
     done: Done<'_>,
 ) -> Result<Option<(Counts, &'a [Row])>, AllocError>
-    requires { IsRising (joined done.log.now) }
-    ensures rows { IfOk result (λ found. IfSome found (λ r. BeginsWithCounts name.now (joined done.entry.log.now) r.0 rows.now r.1.now)) }
-    ensures counted { IfOk result (λ found. IfSome found (λ r. (dead : List DeadLetter) → AreDeadAt (joined done.entry.log.now) dead done.entry.dead.now
-        → AreCountsOf (joined done.entry.log.now) (positions_at (joined done.entry.log.now) done.entry.acknowledged.now) dead r.0)) }
+    requires { IsRising (seen done.kept).log }
+    ensures rows { IfOk result (λ found. IfSome found (λ r. BeginsWithCounts name.now (seen done.entry.kept) r.0 rows.now r.1.now)) }
+    ensures counted { IfOk result (λ found. IfSome found (λ r. (dead : List DeadLetter) → AreDeadAt (seen done.entry.kept).log dead done.entry.dead.now
+        → AreCountsOf (seen done.entry.kept).log (positions_at (seen done.entry.kept).log done.entry.acknowledged.now) dead r.0)) }
     ensures past { IfOk result (λ found. IfSome found (λ r. ArePast name.now r.1.now)) }
-    ensures all_read { IfOk result (λ found. IfNone found ((dead : List DeadLetter) (counts : map_of.FinMap position_cmp ℕ) (rest : List Row) → AreDeadAt (joined done.entry.log.now) dead done.entry.dead.now
-        → AreCountsOf (joined done.entry.log.now) (positions_at (joined done.entry.log.now) done.entry.acknowledged.now) dead counts
-        → BeginsWithCounts name.now (joined done.entry.log.now) counts rows.now rest → ArePast name.now rest → ⊥)) }
+    ensures all_read { IfOk result (λ found. IfNone found ((dead : List DeadLetter) (counts : map_of.FinMap position_cmp ℕ) (rest : List Row) → AreDeadAt (seen done.entry.kept).log dead done.entry.dead.now
+        → AreCountsOf (seen done.entry.kept).log (positions_at (seen done.entry.kept).log done.entry.acknowledged.now) dead counts
+        → BeginsWithCounts name.now (seen done.entry.kept) counts rows.now rest → ArePast name.now rest → ⊥)) }
 {
     let mut counts = Counts::new(alloc);
     let mut rest = rows;

@@ -2,12 +2,12 @@
 ghost use Rattle.std.specs.Prelude.{◌≡◌, ◌≤◌, ◌∷◌, ◌++◌, ◌^◌, [], ℕ, List, length, map, IfNone, IfOk, IfSome, IsTrue};
 ghost use Rattle.std.specs.FinSet as set;
 ghost use Rattle.sqlite.specs.declared.types.Value.TheVariants.{Text as Words};
-ghost use Rattle.log_pieces.specs.Pieces.{joined};
 ghost use Rattle.sqlite.specs.Order.{Row};
 ghost use Rattle.delivery_machine.specs.Places.{KeptPlaces};
 ghost use Rattle.delivery_machine.specs.WellFormed.{NamesRise};
 ghost use Rattle.row_forms.specs.Forms.{AreAckRows, count_rows, dead_rows, sub_row, sub_rows};
 ghost use Rattle.row_forms.specs.Parts.{IsRising};
+ghost use Rattle.row_reading.specs.Places.{seen};
 ghost use Rattle.row_reading.specs.Reading.{ArePast, AreSubsOf, BeginWithCounts, BeginsWithAcks, BeginsWithCounts, BeginsWithDeads, BeginsWithLetters, BeginsWithRuns, IsReadableSub, IsSubOf, OrdinalsCame, ShowSubs, put};
 
 use crate::ack_rows::runs_in;
@@ -41,42 +41,43 @@ fn kept_in<'a>(
     deaths: Deaths<'_>,
     ordinals: &mut AckSet,
 ) -> Result<Option<(KeptSubscription, Left<'a>)>, AllocError>
-    requires rising { IsRising (joined deaths.log.now) }
-    requires short { length (joined deaths.log.now) ≤ 1048576 }
+    requires rising { IsRising (seen deaths.kept).log }
+    requires short { length (seen deaths.kept).log ≤ 1048576 }
     requires last { deaths.next_ordinal ≤ 2 ^ 62 }
     ensures row { IfOk result (λ found. IfSome found (λ r. (topic : List ℕ) → Words topic ∷ row.now ≡ sub_row topic r.0)) }
-    ensures acks { IfOk result (λ found. IfSome found (λ r. BeginsWithAcks (r.0 ∷ []) left.entry.acks.now r.1.acks.now)) }
-    ensures deads { IfOk result (λ found. IfSome found (λ r. BeginsWithDeads (joined deaths.entry.log.now) (r.0 ∷ []) left.entry.deads.now r.1.deads.now)) }
-    ensures counts { IfOk result (λ found. IfSome found (λ r. BeginWithCounts (joined deaths.entry.log.now) (r.0 ∷ []) left.entry.counts.now r.1.counts.now)) }
-    ensures sound { IfOk result (λ found. IfSome found (λ r. IsSubOf deaths.entry.topic.now (joined deaths.entry.log.now) deaths.entry.next_ordinal r.0)) }
+    ensures acks { IfOk result (λ found. IfSome found (λ r. BeginsWithAcks deaths.entry.kept.gone (r.0 ∷ []) left.entry.acks.now r.1.acks.now)) }
+    ensures deads { IfOk result (λ found. IfSome found (λ r. BeginsWithDeads (seen deaths.entry.kept) (r.0 ∷ []) left.entry.deads.now r.1.deads.now)) }
+    ensures counts { IfOk result (λ found. IfSome found (λ r. BeginWithCounts (seen deaths.entry.kept) (r.0 ∷ []) left.entry.counts.now r.1.counts.now)) }
+    ensures sound { IfOk result (λ found. IfSome found (λ r. IsSubOf deaths.entry.topic.now (seen deaths.entry.kept).log deaths.entry.next_ordinal r.0)) }
     ensures ordinals { IfOk result (λ found. IfSome found (λ r. OrdinalsCame r.0.dead ordinals.old ordinals.new)) }
     ensures past_acks { IfOk result (λ found. IfSome found (λ r. ArePast r.0.name r.1.acks.now)) }
     ensures past_deads { IfOk result (λ found. IfSome found (λ r. ArePast r.0.name r.1.deads.now)) }
     ensures past_counts { IfOk result (λ found. IfSome found (λ r. ArePast r.0.name r.1.counts.now)) }
-    ensures all_read { IfOk result (λ found. IfNone found ((sub : KeptPlaces) (acks deads counts : List Row) → IsReadableSub deaths.entry.topic.now (joined deaths.entry.log.now) deaths.entry.next_ordinal ordinals.old sub → ((topic : List ℕ) → Words topic ∷ row.now ≡ sub_row topic sub)
-        → BeginsWithRuns sub.name sub.acknowledged left.entry.acks.now acks → ArePast sub.name acks → BeginsWithLetters sub.name (joined deaths.entry.log.now) sub.dead left.entry.deads.now deads → ArePast sub.name deads
-        → BeginsWithCounts sub.name (joined deaths.entry.log.now) sub.counts left.entry.counts.now counts → ArePast sub.name counts → ⊥)) }
+    ensures all_read { IfOk result (λ found. IfNone found ((sub : KeptPlaces) (acks deads counts : List Row) → IsReadableSub deaths.entry.topic.now (seen deaths.entry.kept).log deaths.entry.next_ordinal ordinals.old sub → ((topic : List ℕ) → Words topic ∷ row.now ≡ sub_row topic sub)
+        → BeginsWithRuns sub.name deaths.entry.kept.gone sub.acknowledged left.entry.acks.now acks → ArePast sub.name acks → BeginsWithLetters sub.name (seen deaths.entry.kept) sub.dead left.entry.deads.now deads → ArePast sub.name deads
+        → BeginsWithCounts sub.name (seen deaths.entry.kept) sub.counts left.entry.counts.now counts → ArePast sub.name counts → ⊥)) }
 {
     let Some(sub) = sub_in(alloc, row)? else {
         return Ok(None);
     };
-    let count = deaths.log.count() as u64;
-    let Some((acknowledged, acks)) = runs_in(alloc, &sub.name, left.acks, count)? else {
+    let kept = deaths.kept;
+    let count = kept.log.count() as u64;
+    let Some((acknowledged, acks)) = runs_in(alloc, &sub.name, left.acks, kept.gone, count)? else {
         return Ok(None);
     };
-    let Some((dead, places, deads)) = letters_in(alloc, &sub.name, left.deads, deaths, ordinals)?
+    let Some((dead, indexes, deads)) = letters_in(alloc, &sub.name, left.deads, deaths, ordinals)?
     else {
         return Ok(None);
     };
     let done = Done {
-        log: deaths.log,
+        kept,
         acknowledged: &acknowledged,
-        dead: &places,
+        dead: &indexes,
     };
     let Some((counted, counts)) = counts_in(alloc, &sub.name, left.counts, done)? else {
         return Ok(None);
     };
-    let kept = KeptSubscription {
+    let found = KeptSubscription {
         name: sub.name,
         kind: sub.kind,
         acknowledged,
@@ -88,7 +89,7 @@ fn kept_in<'a>(
         deads,
         counts,
     };
-    Ok(Some((kept, after)))
+    Ok(Some((found, after)))
 }
 
 /// Whether the name is above those of the subscriptions.
@@ -139,17 +140,17 @@ fn put_subs(
     ordinals: &mut AckSet,
     subs: &mut Vec<KeptSubscription>,
 ) -> Result<bool, AllocError>
-    requires rising { IsRising (joined deaths.log.now) }
-    requires short { length (joined deaths.log.now) ≤ 1048576 }
+    requires rising { IsRising (seen deaths.kept).log }
+    requires short { length (seen deaths.kept).log ≤ 1048576 }
     requires last { deaths.next_ordinal ≤ 2 ^ 62 }
     requires empty { subs.old.items ≡ [] }
     requires no_ordinals { ordinals.old ≡ set.empty }
     ensures rows { IfOk result (λ whole. IsTrue whole → (topic : List ℕ) → put topic rows.now ≡ sub_rows topic subs.new.items) }
-    ensures acks { IfOk result (λ whole. IsTrue whole → (topic : List ℕ) → AreAckRows topic subs.new.items (put topic others.entry.acks.now)) }
-    ensures deads { IfOk result (λ whole. IsTrue whole → (topic : List ℕ) → put topic others.entry.deads.now ≡ dead_rows topic (joined deaths.entry.log.now) subs.new.items) }
-    ensures counts { IfOk result (λ whole. IsTrue whole → (topic : List ℕ) → put topic others.entry.counts.now ≡ count_rows topic (joined deaths.entry.log.now) subs.new.items) }
-    ensures sound { IfOk result (λ whole. IsTrue whole → AreSubsOf deaths.entry.topic.now (joined deaths.entry.log.now) deaths.entry.next_ordinal subs.new.items) }
-    ensures all_read { IfOk result (λ whole. (topic : List ℕ) (all : List KeptPlaces) → ShowSubs deaths.entry.topic.now (joined deaths.entry.log.now) deaths.entry.next_ordinal topic all rows.now others.entry.acks.now others.entry.deads.now others.entry.counts.now → IsTrue whole × (subs.new.items ≡ all)) }
+    ensures acks { IfOk result (λ whole. IsTrue whole → (topic : List ℕ) → AreAckRows topic deaths.entry.kept.gone subs.new.items (put topic others.entry.acks.now)) }
+    ensures deads { IfOk result (λ whole. IsTrue whole → (topic : List ℕ) → put topic others.entry.deads.now ≡ dead_rows topic (seen deaths.entry.kept) subs.new.items) }
+    ensures counts { IfOk result (λ whole. IsTrue whole → (topic : List ℕ) → put topic others.entry.counts.now ≡ count_rows topic (seen deaths.entry.kept) subs.new.items) }
+    ensures sound { IfOk result (λ whole. IsTrue whole → AreSubsOf deaths.entry.topic.now (seen deaths.entry.kept).log deaths.entry.next_ordinal subs.new.items) }
+    ensures all_read { IfOk result (λ whole. (topic : List ℕ) (all : List KeptPlaces) → ShowSubs deaths.entry.topic.now (seen deaths.entry.kept) deaths.entry.next_ordinal topic all rows.now others.entry.acks.now others.entry.deads.now others.entry.counts.now → IsTrue whole × (subs.new.items ≡ all)) }
 {
     let mut left = others;
     'subs: for row in rows {
@@ -173,16 +174,16 @@ pub(crate) fn subs_in(
     others: Left<'_>,
     deaths: Deaths<'_>,
 ) -> Result<Option<Vec<KeptSubscription>>, AllocError>
-    requires rising { IsRising (joined deaths.log.now) }
-    requires short { length (joined deaths.log.now) ≤ 1048576 }
+    requires rising { IsRising (seen deaths.kept).log }
+    requires short { length (seen deaths.kept).log ≤ 1048576 }
     requires last { deaths.next_ordinal ≤ 2 ^ 62 }
     ensures rows { IfOk result (λ found. IfSome found (λ subs. (topic : List ℕ) → put topic rows.now ≡ sub_rows topic subs.items)) }
-    ensures acks { IfOk result (λ found. IfSome found (λ subs. (topic : List ℕ) → AreAckRows topic subs.items (put topic others.entry.acks.now))) }
-    ensures deads { IfOk result (λ found. IfSome found (λ subs. (topic : List ℕ) → put topic others.entry.deads.now ≡ dead_rows topic (joined deaths.entry.log.now) subs.items)) }
-    ensures counts { IfOk result (λ found. IfSome found (λ subs. (topic : List ℕ) → put topic others.entry.counts.now ≡ count_rows topic (joined deaths.entry.log.now) subs.items)) }
-    ensures sound { IfOk result (λ found. IfSome found (λ subs. AreSubsOf deaths.entry.topic.now (joined deaths.entry.log.now) deaths.entry.next_ordinal subs.items)) }
+    ensures acks { IfOk result (λ found. IfSome found (λ subs. (topic : List ℕ) → AreAckRows topic deaths.entry.kept.gone subs.items (put topic others.entry.acks.now))) }
+    ensures deads { IfOk result (λ found. IfSome found (λ subs. (topic : List ℕ) → put topic others.entry.deads.now ≡ dead_rows topic (seen deaths.entry.kept) subs.items)) }
+    ensures counts { IfOk result (λ found. IfSome found (λ subs. (topic : List ℕ) → put topic others.entry.counts.now ≡ count_rows topic (seen deaths.entry.kept) subs.items)) }
+    ensures sound { IfOk result (λ found. IfSome found (λ subs. AreSubsOf deaths.entry.topic.now (seen deaths.entry.kept).log deaths.entry.next_ordinal subs.items)) }
     ensures few { IfOk result (λ found. IfSome found (λ subs. length subs.items ≤ 64)) }
-    ensures all_read { IfOk result (λ found. IfNone found ((topic : List ℕ) (all : List KeptPlaces) → length all ≤ 64 → ShowSubs deaths.entry.topic.now (joined deaths.entry.log.now) deaths.entry.next_ordinal topic all rows.now others.entry.acks.now others.entry.deads.now others.entry.counts.now → ⊥)) }
+    ensures all_read { IfOk result (λ found. IfNone found ((topic : List ℕ) (all : List KeptPlaces) → length all ≤ 64 → ShowSubs deaths.entry.topic.now (seen deaths.entry.kept) deaths.entry.next_ordinal topic all rows.now others.entry.acks.now others.entry.deads.now others.entry.counts.now → ⊥)) }
 {
     let mut subs = Vec::new(alloc);
     let mut ordinals = AckSet::new(alloc);

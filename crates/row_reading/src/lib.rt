@@ -2,6 +2,7 @@
 #![tactic(auto)]
 
 mod ack_rows;
+mod author_rows;
 mod cells;
 mod count_rows;
 mod dead_rows;
@@ -10,6 +11,7 @@ mod kept_subs;
 pub mod laws;
 mod log_reader;
 mod places;
+mod retention_rows;
 mod snapshot;
 mod sub_rows;
 mod topic_row;

@@ -1,14 +1,16 @@
 // A topic's messages, read from their rows piece by piece.
-ghost use Rattle.std.specs.Prelude.{◌≡◌, ◌<◌, ◌≤◌, ◌-◌, ◌++◌, ◌∷◌, [], ℕ, List, length, slice_get, IfNone, IfOk, IfSome, IsTrue};
+ghost use Rattle.std.specs.Prelude.{◌≡◌, ◌+◌, ◌<◌, ◌≤◌, ◌-◌, ◌^◌, ◌++◌, ◌∷◌, [], ℕ, List, length, slice_get, IfNone, IfOk, IfSome, IsTrue};
 ghost use Rattle.std.specs.Option.{option_copied};
 ghost use Rattle.sqlite.specs.Order.{Row};
 ghost use Rattle.position_core.specs.declared.message.Entry.{Entry};
 ghost use Rattle.log_pieces.specs.Pieces.{joined};
 ghost use Rattle.row_forms.specs.Forms.{entry_rows};
+ghost use Rattle.row_reading.specs.declared.retention_rows.Front.{Front};
 ghost use Rattle.row_reading.specs.declared.topic_row.Head.{Head};
-ghost use Rattle.row_reading.specs.Reading.{GoOn, IsEntryAt, IsHead, IsHeadIn, IsLedgerSize, IsNext, IsReadableLog, IsReadableMessage, last_position, put};
+ghost use Rattle.row_reading.specs.Reading.{GoOn, IsEntryAt, IsFrontIn, IsHead, IsHeadIn, IsLedgerSize, IsNext, IsReadableLog, IsReadableMessage, last_position, put};
 
 use crate::entry_rows::next_in;
+use crate::retention_rows::{Front, front_in};
 use crate::topic_row::{Head, head_of};
 use log_pieces::Pieces;
 use position_core::Message;
@@ -20,10 +22,12 @@ use std::marker::Model;
 /// How many messages a log has at most.
 const MOST: usize = 1_048_576;
 
-/// A topic of which the first messages were read. Contracts see what its own row says, and those messages.
+/// A topic of which the first messages were read. Contracts see what its own row says, how many messages are gone and the topic's
+/// rule, and those messages.
 #[derive(Drop)]
 pub struct LogReader {
     pub(crate) head: Head,
+    pub(crate) front: Front,
     pub(crate) log: Pieces,
 }
 
@@ -33,9 +37,9 @@ impl Model for LogReader {
 
     ghost Value = { ReadSoFar };
 
-    ghost view = { λ r. record { head = r.head; log = joined r.log } };
+    ghost view = { λ r. record { head = r.head; front = r.front; log = joined r.log } };
 
-    ghost invariant = { λ r. IsSoFar r.head (joined r.log) };
+    ghost invariant = { λ r. IsSoFar r.head r.front (joined r.log) };
 }
 
 /// What the topic's own row says, if there is one row.
@@ -56,17 +60,29 @@ fn last_of(log: &Pieces) -> Option<&Message>
 }
 
 impl LogReader {
-    /// Begins with the topic's own row; none where there is not one, or where it is not such a row.
+    /// Begins with the topic's own row, and with that of what is gone and of its rule; none where there is not one of the first, or
+    /// more than one of the second, or where they are not such rows.
     pub fn of(alloc: Global, sides: &SideRows) -> Option<LogReader>
         ensures shown { IfSome result (λ reader. IsHeadIn sides.now.topics.items reader.head) }
+        ensures front { IfSome result (λ reader. IsFrontIn sides.now.retentions.items reader.front) }
         ensures none_yet { IfSome result (λ reader. reader.log ≡ []) }
-        ensures all_read { IfNone result ((row : Row) (head : Head) → sides.now.topics.items ≡ row ∷ [] → IsHead row head → IsLedgerSize head.ledger_size → ⊥) }
+        ensures all_read { IfNone result ((row : Row) (head : Head) (front : Front) → sides.now.topics.items ≡ row ∷ [] → IsHead row head → IsLedgerSize head.ledger_size → IsFrontIn sides.now.retentions.items front → ⊥) }
     {
         let head = head_in(&sides.topics)?;
+        let front = front_in(&sides.retentions)?;
         Some(LogReader {
             head,
+            front,
             log: Pieces::new(alloc),
         })
+    }
+
+    /// How many messages are gone: the place of the first that stays.
+    pub fn gone(&self) -> u64
+        ensures value { result ≡ self.now.front.gone }
+        ensures at_most { result ≤ 2 ^ 62 }
+    {
+        self.front.gone
     }
 
     /// How many messages were read.
@@ -80,14 +96,16 @@ impl LogReader {
     /// Takes the row, if it is that of the next message.
     fn take_row(&mut self, alloc: Global, row: &Row) -> Result<bool, AllocError>
         ensures head { self.new.head ≡ self.old.head }
-        ensures rows { IfOk result (λ is_next. IsTrue is_next → GoOn self.old.log (row.now ∷ []) self.new.log) }
-        ensures all_read { IfOk result (λ is_next. (e : Entry) → IsReadableMessage e → IsEntryAt (length self.old.log) row.now e → IsNext self.old.head.ledger_size self.old.head.ledger (last_position self.old.log) e.position → length self.old.log < 1048576 → IsTrue is_next) }
+        ensures front { self.new.front ≡ self.old.front }
+        ensures rows { IfOk result (λ is_next. IsTrue is_next → GoOn self.old.front.gone self.old.log (row.now ∷ []) self.new.log) }
+        ensures all_read { IfOk result (λ is_next. (e : Entry) → IsReadableMessage e → IsEntryAt (self.old.front.gone + length self.old.log) row.now e → IsNext self.old.head.ledger_size self.old.head.ledger (last_position self.old.log) e.position → length self.old.log < 1048576 → IsTrue is_next) }
     {
-        let place = self.log.count();
-        if place >= MOST {
+        let count = self.log.count();
+        if count >= MOST {
             return Ok(false);
         }
-        match next_in(alloc, row, place as u64, last_of(&self.log), &self.head)? {
+        let place = self.front.gone + count as u64;
+        match next_in(alloc, row, place, last_of(&self.log), &self.head)? {
             Some(message) => {
                 self.log.push(alloc, message)?;
                 Ok(true)
@@ -100,8 +118,9 @@ impl LogReader {
     /// it has taken some of them.
     pub fn take(&mut self, alloc: Global, rows: &[Row]) -> Result<bool, AllocError>
         ensures head { self.new.head ≡ self.old.head }
-        ensures rows { IfOk result (λ whole. IsTrue whole → GoOn self.old.log rows.now self.new.log) }
-        ensures all_read { IfOk result (λ whole. (topic : List ℕ) (all : List Entry) (rest : List Row) → IsReadableLog self.old.head.ledger_size self.old.head.ledger all → entry_rows topic 0 self.old.log ++ (put topic rows.now ++ rest) ≡ entry_rows topic 0 all → IsTrue whole) }
+        ensures front { self.new.front ≡ self.old.front }
+        ensures rows { IfOk result (λ whole. IsTrue whole → GoOn self.old.front.gone self.old.log rows.now self.new.log) }
+        ensures all_read { IfOk result (λ whole. (topic : List ℕ) (all : List Entry) (rest : List Row) → IsReadableLog self.old.head.ledger_size self.old.head.ledger all → entry_rows topic self.old.front.gone self.old.log ++ (put topic rows.now ++ rest) ≡ entry_rows topic self.old.front.gone all → IsTrue whole) }
     {
         'rows: for row in rows {
             if !self.take_row(alloc, row)? {

@@ -3,7 +3,7 @@ use Rattle.std.proofs.Common.{◌≡◌, ◌≢◌, ℕ, ◌+◌, ◌-◌, ◌<�
 use Rattle.std.specs.List.Sorted.{IsPermutation}
 use Rattle.std.proofs.lemmas.List.{take_more, map-append, get_or-drop}
 use Rattle.std.proofs.lemmas.Option.{get_or_from_slice_get}
-use Rattle.std.proofs.lemmas.List.Sorted.{IsPermutation-trans, IsPermutation-append_right, IsPermutation-append_left, IsPermutation-append_comm}
+use Rattle.std.proofs.lemmas.List.Sorted.{IsPermutation-refl, IsPermutation-trans, IsPermutation-append_right, IsPermutation-append_left, IsPermutation-append_comm}
 use Rattle.sqlite_trees.proofs.ListLemmas.{all_both, all_of}
 use Rattle.sqlite.specs.Order.{Row}
 use Rattle.sqlite.specs.Tree.{Trees}
@@ -13,11 +13,12 @@ use Rattle.sqlite.specs.Held.{Held, state}
 use Rattle.sqlite.proofs.StateLemmas.{survives_then}
 use Rattle.sqlite.proofs.Callers.{survives_begin}
 use Rattle.sqlite_trees.specs.declared.store.Store.{Ghosts}
-use Rattle.row_forms.specs.Schema.{schema_7}
+use Rattle.row_forms.specs.Schema.{schema_9}
 use Rattle.position_core.specs.declared.message.Entry.{Entry}
 use Rattle.row_forms.specs.Cells.{ENTRY, bodies}
 use Rattle.row_forms.specs.Forms.{entry_row, entry_rows}
 use Rattle.row_tables.specs.Ready.{IsReady}
+use Rattle.row_rounds.specs.Rounds.{Via}
 use Rattle.row_tables.specs.Goes.{Goes, Saves, SpareOthers, Adds, Takes}
 
 pub goes_then : (P Q R : Trees → Trees → Type 0) → ((x y z : Trees) → P x y → Q y z → R x z) → (a b c : State) → Goes P a b → Goes Q b c → Goes R a c
@@ -41,10 +42,10 @@ goes_weaker (Err e) P R f a c p = tt
 -- ---- one table
 
 pub spares_none : (tree : ℕ) (x : Trees) → SpareOthers tree x x
-spares_none tree x = all_of (λ t. t.tree ≢ tree → x t.tree ≡ x t.tree) (λ t _. refl) schema_7.tables
+spares_none tree x = all_of (λ t. t.tree ≢ tree → x t.tree ≡ x t.tree) (λ t _. refl) schema_9.tables
 
 pub spares_then : (tree : ℕ) (x y z : Trees) → SpareOthers tree x y → SpareOthers tree y z → SpareOthers tree x z
-spares_then tree x y z p q = all_both (λ t. t.tree ≢ tree → y t.tree ≡ x t.tree) (λ t. t.tree ≢ tree → z t.tree ≡ y t.tree) (λ t. t.tree ≢ tree → z t.tree ≡ x t.tree) (λ t f g ne. g ne ∙ f ne) schema_7.tables p q
+spares_then tree x y z p q = all_both (λ t. t.tree ≢ tree → y t.tree ≡ x t.tree) (λ t. t.tree ≢ tree → z t.tree ≡ y t.tree) (λ t. t.tree ≢ tree → z t.tree ≡ x t.tree) (λ t f g ne. g ne ∙ f ne) schema_9.tables p q
 
 pub adds_then : (tree : ℕ) (first later : List Row) (x y z : Trees) → Adds tree first x y → Adds tree later y z → Adds tree (first ++ later) x z
 adds_then tree first later x y z p q = record {
@@ -91,15 +92,33 @@ messages_more topic from i place log e low is at x y z p q =
     ap (entry_rows topic from) more ∙ entry_rows_push topic from (take i log) e ∙ ap (λ n. entry_rows topic from (take i log) ++ entry_row topic n e ∷ []) (ap (λ n. from + n) count ∙ sym at) in
     subst (λ rs. Adds ENTRY rs x z) (sym rows) (adds_then ENTRY _ _ x y z p q)
 
--- the message at a place of the log, where those before it from the first place on were added
-pub messages_next : (topic : List ℕ) (from place : ℕ) (log : List Entry) (e : Entry) → from ≤ place → place < length log → slice_get log place ≡ Some e
-    → (x y z : Trees) → Adds ENTRY (entry_rows topic from (take (place - from) (drop from log))) x y → Adds ENTRY (entry_row topic place e ∷ []) y z → Adds ENTRY (entry_rows topic from (take (place + 1 - from) (drop from log))) x z
-messages_next topic from place log e after low is x y z p q =
-    let i = place - from in
-    let at : from + i ≡ place = omega (arith, after) in
-    let here : e ≡ get_or (drop from log) i e = sym (get_or-drop from log i e ∙ ap (λ n. get_or log n e) at ∙ get_or_from_slice_get log place e e is) in
-    let next : i + 1 ≡ place + 1 - from = omega (arith, after) in
-    subst (λ n. Adds ENTRY (entry_rows topic from (take n (drop from log))) x z) next (messages_more topic from i place (drop from log) e (omega (arith, length-drop from log, after, low)) here (sym at) x y z p q)
+-- the message at an index of the log, where those before it from the first index on were added
+pub messages_next : (topic : List ℕ) (gone from index : ℕ) (log : List Entry) (e : Entry) → from ≤ index → index < length log → slice_get log index ≡ Some e
+    → (x y z : Trees) → Adds ENTRY (entry_rows topic (gone + from) (take (index - from) (drop from log))) x y → Adds ENTRY (entry_row topic (gone + index) e ∷ []) y z
+    → Adds ENTRY (entry_rows topic (gone + from) (take (index + 1 - from) (drop from log))) x z
+messages_next topic gone from index log e after low is x y z p q =
+    let i = index - from in
+    let at : from + i ≡ index = omega (arith, after) in
+    let place : gone + index ≡ gone + from + i = omega (arith, after) in
+    let here : e ≡ get_or (drop from log) i e = sym (get_or-drop from log i e ∙ ap (λ n. get_or log n e) at ∙ get_or_from_slice_get log index e e is) in
+    let next : i + 1 ≡ index + 1 - from = omega (arith, after) in
+    subst (λ n. Adds ENTRY (entry_rows topic (gone + from) (take n (drop from log))) x z) next (messages_more topic (gone + from) i (gone + index) (drop from log) e (omega (arith, length-drop from log, after, low)) here place x y z p q)
+
+-- two steps, and then a third
+pub then_third : (P Q R : Trees → Trees → Type 0) (x y z : Trees) → Via P Q x y → R y z → Via P (Via Q R) x z
+then_third P Q R x y z p q = (p.0, p.1, (y, p.2, q))
+
+-- no message is added yet
+pub messages_none : (topic : List ℕ) (gone from : ℕ) (log : List Entry) (s : State) → Goes (Adds ENTRY (entry_rows topic (gone + from) (take (from - from) (drop from log)))) s s
+messages_none topic gone from log s =
+    let none : from - from ≡ 0 = omega arith in
+    subst (λ n. Goes (Adds ENTRY (entry_rows topic (gone + from) (take n (drop from log)))) s s) (sym none) (record {
+      running = λ h. h;
+      shown = λ h. h;
+      was_shown = λ h. h;
+      committed = λ h. refl;
+      does = λ ready. (ready, record { rows = IsPermutation-refl _; others = spares_none ENTRY s.now.trees });
+    })
 
 -- ---- the commit
 

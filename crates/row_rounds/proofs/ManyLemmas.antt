@@ -22,6 +22,8 @@ same_then name a b c p q = record {
   acks = IsPermutation-trans _ _ _ p.acks q.acks;
   deads = IsPermutation-trans _ _ _ p.deads q.deads;
   counts = IsPermutation-trans _ _ _ p.counts q.counts;
+  authors = IsPermutation-trans _ _ _ p.authors q.authors;
+  retentions = IsPermutation-trans _ _ _ p.retentions q.retentions;
 }
 
 has_still : (name : List ℕ) (rows : TopicRows) (a b : Trees) → Same name a b → Has name rows a → Has name rows b
@@ -32,6 +34,8 @@ has_still name rows a b same h = record {
   acks = IsPermutation-trans _ _ _ h.acks same.acks;
   deads = IsPermutation-trans _ _ _ h.deads same.deads;
   counts = IsPermutation-trans _ _ _ h.counts same.counts;
+  authors = IsPermutation-trans _ _ _ h.authors same.authors;
+  retentions = IsPermutation-trans _ _ _ h.retentions same.retentions;
 }
 
 stands_still : (kept : KeptTopic) (a b : Trees) → Same (topic_text kept.name) a b → Stands kept a → Stands kept b

@@ -6,7 +6,7 @@ use Rattle.std.specs.List.Sorted.{IsPermutation}
 use Rattle.std.proofs.lemmas.Bool.{cases_Bool}
 use Rattle.std.proofs.lemmas.List.Sorted.{IsPermutation-refl, IsPermutation-sym, IsPermutation-trans, IsPermutation-append_right, IsPermutation-append_left, IsPermutation-append_comm, IsPermutation-filter_both, All-permutation}
 use Rattle.std.proofs.lemmas.List.Elements.{All-from_recursion, recursion_from_All}
-use Rattle.sqlite_trees.proofs.ListLemmas.{IsPermutation-filter, all_of, all_weaker, filter_all, filter_none, filter-filter}
+use Rattle.sqlite_trees.proofs.ListLemmas.{IsPermutation-filter, IsPermutation-same, all_of, filter_same, all_weaker, filter_all, filter_none, filter-filter}
 use Rattle.sqlite.specs.Order.{Row, column}
 use Rattle.sqlite.specs.declared.types.Value.TheVariants.{Text}
 use Rattle.position_core.specs.declared.message.Entry.{Entry}
@@ -117,3 +117,28 @@ becomes_by topic olds news gone more own d old mid new had takes adds =
 -- rows of the topic come
 pub becomes_more : (topic : List ℕ) (olds more : List Row) → AreOf topic more → (old new : List Row) → IsPermutation olds (of_topic topic old) → IsPermutation (more ++ old) new → Becomes topic (olds ++ more) old new
 becomes_more topic olds more own old new had adds = becomes_by topic olds (olds ++ more) [] more own (olds, IsPermutation-refl olds, IsPermutation-append_comm more olds) old old new had (λ stay same. same) adds
+
+-- the rows of the topic that pass a test leave
+pub becomes_cut : (topic : List ℕ) (p : Row → Bool) (olds old new : List Row) → IsPermutation olds (of_topic topic old) → new ≡ filter (λ r. not (is_of topic r && p r)) old → Becomes topic (filter (λ r. not (p r)) olds) old new
+becomes_cut topic p olds old new had is = (
+  subst (IsPermutation (filter (λ r. not (p r)) olds)) (sym own) (IsPermutation-filter (λ r. not (p r)) olds (of_topic topic old) had),
+  λ name apart. IsPermutation-same (of_topic name old) (of_topic name new) (sym (other name apart)),
+)
+  where
+    both : (a b : Bool) → (not (a && b) && a) ≡ (a && not b)
+    both true true = refl
+    both true false = refl
+    both false b = refl
+
+    own : of_topic topic new ≡ filter (λ r. not (p r)) (of_topic topic old)
+    own = ap (of_topic topic) is ∙ filter_twice (is_of topic) (λ r. not (is_of topic r && p r)) old ∙ filter_same _ _ old (all_of _ (λ r. both (is_of topic r) (p r)) old) ∙ sym (filter_twice (λ r. not (p r)) (is_of topic) old)
+
+    spared : (name : List ℕ) → name ≢ topic → (r : Row) → is_of name r ≡ true → not (is_of topic r && p r) ≡ true
+    spared name apart r h = ap (λ b. not (b && p r)) (never_two name topic r (λ e. apart (sym e)) h)
+
+    other : (name : List ℕ) → name ≢ topic → of_topic name new ≡ of_topic name old
+    other name apart = ap (of_topic name) is ∙ filter-filter (is_of name) (λ r. not (is_of topic r && p r)) (spared name apart) old
+
+-- what became of a topic's rows in one step and then in another
+pub becomes_then : (topic : List ℕ) (had news old mid new : List Row) → Becomes topic had old mid → Becomes topic news mid new → Becomes topic news old new
+becomes_then topic had news old mid new p q = (q.0, λ name apart. IsPermutation-trans _ _ _ (p.1 name apart) (q.1 name apart))

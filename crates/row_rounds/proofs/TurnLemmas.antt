@@ -1,96 +1,165 @@
 -- What becomes of a topic where its tables are written in turn.
-use Rattle.std.proofs.Common.{◌≡◌, ℕ, Bool, true, false, List, [], ◌∷◌, map, drop, if◌then◌else◌, refl, sym, subst, ◌∙◌, arith}
-use Rattle.std.specs.List.Sorted.{IsPermutation}
+use Rattle.std.proofs.Common.{◌≡◌, ◌≢◌, inl, inr, ℕ, zero, suc, ◌+◌, Bool, true, false, List, [], ◌∷◌, map, drop, sym, subst, arith}
+use Rattle.std.specs.Prelude.{◌==◌, if◌then◌else◌}
+use Rattle.std.specs.List.{AllByRecursion}
+use Rattle.std.proofs.lemmas.Bool.{cases_eq, eq-eqb, ne_eqb}
+use Rattle.std.proofs.lemmas.List.Sorted.{IsPermutation-refl}
+use Rattle.sqlite_trees.proofs.ListLemmas.{all_both, all_of}
 use Rattle.sqlite.specs.Order.{Row}
 use Rattle.sqlite.specs.Tree.{Trees}
+use Rattle.sqlite.specs.Table.{Table}
 use Rattle.position_core.specs.TopicName.{topic_text}
 use Rattle.delivery_machine.specs.Places.{KeptTopic}
 use Rattle.row_forms.specs.declared.change.Change.{Change}
-use Rattle.row_forms.specs.Cells.{TOPIC, ENTRY, SUB, ACK, DEAD, REDELIVERY, bodies, of_topic}
-use Rattle.row_forms.specs.Forms.{TopicRows, no_rows, topic_row, entry_rows}
+use Rattle.row_forms.specs.Schema.{schema_9}
+use Rattle.row_forms.specs.Cells.{TOPIC, ENTRY, SUB, ACK, DEAD, REDELIVERY, AUTHOR, RETENTION, bodies, of_topic, is_placed_below, not_below}
+use Rattle.row_forms.specs.Forms.{TopicRows, topic_row, entry_rows}
 use Rattle.row_forms.specs.Standing.{Has, HasIn, KeepsOthers}
-use Rattle.row_forms.specs.Changes.{IsDifference, sub_cells, ack_cells, dead_cells, count_cells}
+use Rattle.row_forms.specs.Changes.{IsDifference, sub_cells, ack_cells, dead_cells, count_cells, author_cells, retention_cells}
 use Rattle.row_tables.specs.Goes.{SpareOthers, Clears, Adds, Takes}
 use Rattle.row_tables.proofs.TableLemmas.{text_same}
-use Rattle.row_rounds.specs.Rounds.{Via, MayWriteTopic, Changes, Empties}
+use Rattle.row_rounds.specs.Rounds.{Via, MayCut, MayWriteTopic, Changes, Empties}
 use Rattle.row_rounds.proofs.GoesLemmas.{spares_none, spares_then}
-use Rattle.row_rounds.proofs.RowLemmas.{AreOf, Becomes, own_mapped, own_entries, becomes_none, becomes_these, becomes_same, becomes_by, becomes_more}
+use Rattle.row_rounds.proofs.RowLemmas.{AreOf, Becomes, own_mapped, own_entries, becomes_none, becomes_these, becomes_same, becomes_by, becomes_more, becomes_cut, becomes_then}
 
 -- the topic's rows in one table
 abbrev BecomesIn : ℕ → List ℕ → List Row → Trees → Trees → Type 0
 BecomesIn tree topic news old new = Becomes topic news (bodies tree (old tree)) (bodies tree (new tree))
 
--- what happened to a table in one step happened to it in all of them, where the others spared it
-across : (tree : ℕ) (topic : List ℕ) (news : List Row) (a before after z : Trees) → before tree ≡ a tree → z tree ≡ after tree → BecomesIn tree topic news before after → BecomesIn tree topic news a z
-across tree topic news a before after z from to h =
-    let left : Becomes topic news (bodies tree (a tree)) (bodies tree (after tree)) = subst (λ rows. Becomes topic news (bodies tree rows) (bodies tree (after tree))) from h in
-    subst (λ rows. Becomes topic news (bodies tree (a tree)) (bodies tree rows)) (sym to) left
+-- ---- all tables, each by its tree
 
--- each table in one of six steps
-module _ (topic : List ℕ) (a b c d e f z : Trees) (one : SpareOthers TOPIC a b) (two : SpareOthers ENTRY b c) (three : SpareOthers SUB c d) (four : SpareOthers ACK d e) (five : SpareOthers DEAD e f)
-    (six : SpareOthers REDELIVERY f z) where
-  topic_to : z 1 ≡ b 1
-  topic_to = six.1.0 (λ h. omega (arith, h)) ∙ five.1.0 (λ h. omega (arith, h)) ∙ four.1.0 (λ h. omega (arith, h)) ∙ three.1.0 (λ h. omega (arith, h)) ∙ two.1.0 (λ h. omega (arith, h))
+abbrev Rows : Type 0
+Rows = ℕ → List Row
 
-  entry_from : b 3 ≡ a 3
-  entry_from = one.1.1.0 (λ h. omega (arith, h))
+abbrev put : ℕ → List Row → Rows → Rows
+put tree news rows t = if t == tree then news else rows t
 
-  entry_to : z 3 ≡ c 3
-  entry_to = six.1.1.0 (λ h. omega (arith, h)) ∙ five.1.1.0 (λ h. omega (arith, h)) ∙ four.1.1.0 (λ h. omega (arith, h)) ∙ three.1.1.0 (λ h. omega (arith, h))
+-- the tables behind the first, which has no rows of topics
+abbrev behind_first : List Table → List Table
+behind_first [] = []
+behind_first (t ∷ tables) = tables
 
-  sub_from : c 5 ≡ a 5
-  sub_from = two.1.1.1.0 (λ h. omega (arith, h)) ∙ one.1.1.1.0 (λ h. omega (arith, h))
+abbrev tables : List Table
+tables = behind_first schema_9.tables
 
-  sub_to : z 5 ≡ d 5
-  sub_to = six.1.1.1.0 (λ h. omega (arith, h)) ∙ five.1.1.1.0 (λ h. omega (arith, h)) ∙ four.1.1.1.0 (λ h. omega (arith, h))
+-- in each table the topic's rows are these, and those of other topics are as they were
+record BecomesAll (topic : List ℕ) (rows : Rows) (old new : Trees) : Type 0 where
+  each : AllByRecursion (λ t. BecomesIn t.tree topic (rows t.tree) old new) tables
 
-  ack_from : d 7 ≡ a 7
-  ack_from = three.1.1.1.1.0 (λ h. omega (arith, h)) ∙ two.1.1.1.1.0 (λ h. omega (arith, h)) ∙ one.1.1.1.1.0 (λ h. omega (arith, h))
+abbrev rows_from : TopicRows → Rows
+rows_from r tree =
+    if tree == TOPIC then r.topics else if tree == ENTRY then r.entries else if tree == SUB then r.subs else if tree == ACK then r.acks
+    else if tree == DEAD then r.deads else if tree == REDELIVERY then r.counts else if tree == AUTHOR then r.authors else r.retentions
 
-  ack_to : z 7 ≡ e 7
-  ack_to = six.1.1.1.1.0 (λ h. omega (arith, h)) ∙ five.1.1.1.1.0 (λ h. omega (arith, h))
+-- before the first step the rows are those that stand there
+begins : (topic : List ℕ) (x : Trees) → BecomesAll topic (λ tree. of_topic topic (bodies tree (x tree))) x x
+begins topic x = record { each = all_of (λ t. BecomesIn t.tree topic (of_topic topic (bodies t.tree (x t.tree))) x x) (λ t. becomes_same topic _ _ (IsPermutation-refl _)) tables }
 
-  dead_from : e 9 ≡ a 9
-  dead_from = four.1.1.1.1.1.0 (λ h. omega (arith, h)) ∙ three.1.1.1.1.1.0 (λ h. omega (arith, h)) ∙ two.1.1.1.1.1.0 (λ h. omega (arith, h)) ∙ one.1.1.1.1.1.0 (λ h. omega (arith, h))
+begins_with : (topic : List ℕ) (rows : TopicRows) (x : Trees) → Has topic rows x → BecomesAll topic (rows_from rows) x x
+begins_with topic rows x had = record {
+  each = (
+    becomes_same topic _ _ had.topics,
+    (
+      becomes_same topic _ _ had.entries,
+      (
+        becomes_same topic _ _ had.subs,
+        (
+          becomes_same topic _ _ had.acks,
+          (
+            becomes_same topic _ _ had.deads,
+            (
+              becomes_same topic _ _ had.counts,
+              (
+                becomes_same topic _ _ had.authors,
+                (becomes_same topic _ _ had.retentions, tt),
+              ),
+            ),
+          ),
+        ),
+      ),
+    ),
+  );
+}
 
-  dead_to : z 9 ≡ f 9
-  dead_to = six.1.1.1.1.1.0 (λ h. omega (arith, h))
+-- one table was written
+next : (topic : List ℕ) (rows : Rows) (tree : ℕ) (news : List Row) (x y z : Trees) → BecomesAll topic rows x y → SpareOthers tree y z → BecomesIn tree topic news y z → BecomesAll topic (put tree news rows) x z
+next topic rows tree news x y z before spare here = record {
+  each = all_both (λ t. BecomesIn t.tree topic (rows t.tree) x y) (λ t. t.tree ≢ tree → z t.tree ≡ y t.tree) (λ t. BecomesIn t.tree topic (put tree news rows t.tree) x z)
+      (λ t was same. elim (cases_eq t.tree tree) [
+        | inl e ↦ written t e was
+        | inr ne ↦ spared t ne was (same ne)
+      ]) tables before.each spare.1;
+}
+  where
+    written : (t : Table) → t.tree ≡ tree → BecomesIn t.tree topic (rows t.tree) x y → BecomesIn t.tree topic (put tree news rows t.tree) x z
+    written t e was =
+        let there : BecomesIn t.tree topic news y z = subst (λ n. BecomesIn n topic news y z) (sym e) here in
+        subst (λ b. BecomesIn t.tree topic (if b then news else rows t.tree) x z) (sym (eq-eqb t.tree tree e)) (becomes_then topic _ _ _ _ _ was there)
 
-  count_from : f 11 ≡ a 11
-  count_from = five.1.1.1.1.1.1.0 (λ h. omega (arith, h)) ∙ four.1.1.1.1.1.1.0 (λ h. omega (arith, h)) ∙ three.1.1.1.1.1.1.0 (λ h. omega (arith, h)) ∙ two.1.1.1.1.1.1.0 (λ h. omega (arith, h)) ∙ one.1.1.1.1.1.1.0 (λ h. omega (arith, h))
+    spared : (t : Table) → t.tree ≢ tree → BecomesIn t.tree topic (rows t.tree) x y → z t.tree ≡ y t.tree → BecomesIn t.tree topic (put tree news rows t.tree) x z
+    spared t ne was same =
+        let still : BecomesIn t.tree topic (rows t.tree) x z = subst (λ stored. Becomes topic (rows t.tree) (bodies t.tree (x t.tree)) (bodies t.tree stored)) (sym same) was in
+        subst (λ b. BecomesIn t.tree topic (if b then news else rows t.tree) x z) (sym (ne_eqb t.tree tree ne)) still
 
-  in_turn : (news : TopicRows) → BecomesIn TOPIC topic news.topics a b → BecomesIn ENTRY topic news.entries b c → BecomesIn SUB topic news.subs c d → BecomesIn ACK topic news.acks d e
-      → BecomesIn DEAD topic news.deads e f → BecomesIn REDELIVERY topic news.counts f z → Has topic news z × KeepsOthers (topic ∷ []) a z
-  in_turn news topics entries subs acks deads counts =
-      let t = across TOPIC topic news.topics a a b z refl topic_to topics in
-      let n = across ENTRY topic news.entries a b c z entry_from entry_to entries in
-      let s = across SUB topic news.subs a c d z sub_from sub_to subs in
-      let k = across ACK topic news.acks a d e z ack_from ack_to acks in
-      let x = across DEAD topic news.deads a e f z dead_from dead_to deads in
-      let y = across REDELIVERY topic news.counts a f z z count_from refl counts in (
-        record { topics = t.0; entries = n.0; subs = s.0; acks = k.0; deads = x.0; counts = y.0 },
-        λ name but. record { topics = t.1 name but.0; entries = n.1 name but.0; subs = s.1 name but.0; acks = k.1 name but.0; deads = x.1 name but.0; counts = y.1 name but.0 },
-      )
+abbrev rows_of : Rows → TopicRows
+rows_of rows = record { topics = rows TOPIC; entries = rows ENTRY; subs = rows SUB; acks = rows ACK; deads = rows DEAD; counts = rows REDELIVERY; authors = rows AUTHOR; retentions = rows RETENTION }
 
-  -- a table's rows as they stood before its step
-  stood_in : (tree : ℕ) (olds : List Row) (before : Trees) → before tree ≡ a tree → HasIn tree topic olds a → HasIn tree topic olds before
-  stood_in tree olds before from h = subst (λ rows. IsPermutation olds (of_topic topic (bodies tree rows))) (sym from) h
+all_told : (topic : List ℕ) (rows : Rows) (x z : Trees) → BecomesAll topic rows x z → Has topic (rows_of rows) z × KeepsOthers (topic ∷ []) x z
+all_told topic rows x z all =
+    let t = all.each.0 in
+    let n = all.each.1.0 in
+    let s = all.each.1.1.0 in
+    let k = all.each.1.1.1.0 in
+    let d = all.each.1.1.1.1.0 in
+    let c = all.each.1.1.1.1.1.0 in
+    let a = all.each.1.1.1.1.1.1.0 in
+    let r = all.each.1.1.1.1.1.1.1.0 in (
+      record { topics = t.0; entries = n.0; subs = s.0; acks = k.0; deads = d.0; counts = c.0; authors = a.0; retentions = r.0 },
+      λ name but. record {
+        topics = t.1 name but.0;
+        entries = n.1 name but.0;
+        subs = s.1 name but.0;
+        acks = k.1 name but.0;
+        deads = d.1 name but.0;
+        counts = c.1 name but.0;
+        authors = a.1 name but.0;
+        retentions = r.1 name but.0;
+      },
+    )
 
-pub empties_by : (topic : List ℕ) (x y z : Trees) → Via (Clears TOPIC topic) (Clears ENTRY topic) x y → Via (Clears SUB topic) (Via (Clears ACK topic) (Via (Clears DEAD topic) (Clears REDELIVERY topic))) y z → Empties topic x z
+-- ---- a topic is cleared
+
+clears_next : (topic : List ℕ) (rows : Rows) (tree : ℕ) (x y z : Trees) → BecomesAll topic rows x y → Clears tree topic y z → BecomesAll topic (put tree [] rows) x z
+clears_next topic rows tree x y z before cleared = next topic rows tree [] x y z before cleared.others (becomes_none topic _ _ cleared.rows)
+
+abbrev pub ClearsLog : List ℕ → Trees → Trees → Type 0
+ClearsLog topic = Via (Clears TOPIC topic) (Via (Clears ENTRY topic) (Via (Clears AUTHOR topic) (Clears RETENTION topic)))
+
+abbrev pub ClearsSubscriptions : List ℕ → Trees → Trees → Type 0
+ClearsSubscriptions topic = Via (Clears SUB topic) (Via (Clears ACK topic) (Via (Clears DEAD topic) (Clears REDELIVERY topic)))
+
+pub empties_by : (topic : List ℕ) (x y z : Trees) → ClearsLog topic x y → ClearsSubscriptions topic y z → Empties topic x z
 empties_by topic x y z p q =
-    in_turn topic x p.0 y q.0 q.2.0 q.2.2.0 z p.1.others p.2.others q.1.others q.2.1.others q.2.2.1.others q.2.2.2.others no_rows
-    (becomes_none topic _ _ p.1.rows) (becomes_none topic _ _ p.2.rows) (becomes_none topic _ _ q.1.rows) (becomes_none topic _ _ q.2.1.rows) (becomes_none topic _ _ q.2.2.1.rows) (becomes_none topic _ _ q.2.2.2.rows)
+    let t = clears_next topic _ TOPIC x x p.0 (begins topic x) p.1 in
+    let n = clears_next topic _ ENTRY x p.0 p.2.0 t p.2.1 in
+    let a = clears_next topic _ AUTHOR x p.2.0 p.2.2.0 n p.2.2.1 in
+    let r = clears_next topic _ RETENTION x p.2.2.0 y a p.2.2.2 in
+    let s = clears_next topic _ SUB x y q.0 r q.1 in
+    let k = clears_next topic _ ACK x q.0 q.2.0 s q.2.1 in
+    let d = clears_next topic _ DEAD x q.2.0 q.2.2.0 k q.2.2.1 in
+    let c = clears_next topic _ REDELIVERY x q.2.2.0 z d q.2.2.2 in
+    all_told topic _ x z c
 
 -- ---- a change
 
 abbrev Swaps : ℕ → List Row → List Row → Trees → Trees → Type 0
 Swaps tree gone more = Via (Takes tree gone) (Adds tree more)
 
-swaps_spare : (tree : ℕ) (gone more : List Row) (x z : Trees) → Swaps tree gone more x z → SpareOthers tree x z
-swaps_spare tree gone more x z p = spares_then tree x p.0 z p.1.others p.2.others
-
-swaps_become : (tree : ℕ) (topic : List ℕ) (olds news gone more : List Row) → AreOf topic more → IsDifference olds news gone more → (x z : Trees) → HasIn tree topic olds x → Swaps tree gone more x z → BecomesIn tree topic news x z
-swaps_become tree topic olds news gone more own d x z had p = becomes_by topic olds news gone more own d (bodies tree (x tree)) (bodies tree (p.0 tree)) (bodies tree (z tree)) had p.1.rows p.2.rows
+swaps_next : (topic : List ℕ) (rows : Rows) (tree : ℕ) (olds news gone more : List Row) (x y z : Trees) → AreOf topic more → IsDifference olds news gone more → BecomesAll topic rows x y → HasIn tree topic olds y → Swaps tree gone more y z
+    → BecomesAll topic (put tree news rows) x z
+swaps_next topic rows tree olds news gone more x y z own d before had p =
+    next topic rows tree news x y z before (spares_then tree y p.0 z p.1.others p.2.others)
+    (becomes_by topic olds news gone more own d (bodies tree (y tree)) (bodies tree (p.0 tree)) (bodies tree (z tree)) had p.1.rows p.2.rows)
 
 topic_spare : (other : Bool) (topic : List ℕ) (row : Row) (x z : Trees) → MayWriteTopic other topic row x z → SpareOthers TOPIC x z
 topic_spare false topic row x z p = subst (SpareOthers TOPIC x) (sym p) (spares_none TOPIC x)
@@ -101,40 +170,50 @@ topic_becomes : (other : Bool) (topic : List ℕ) (row : Row) (olds : List Row) 
 topic_becomes false topic row olds own x z had p = subst (λ db. BecomesIn TOPIC topic olds x db) (sym p) (becomes_same topic olds (bodies TOPIC (x TOPIC)) had)
 topic_becomes true topic row olds own x z had p = becomes_these topic (row ∷ []) (bodies TOPIC (x TOPIC)) (bodies TOPIC (p.0 TOPIC)) (bodies TOPIC (z TOPIC)) own p.1.rows p.2.rows
 
+cut_spare : (went : ℕ) (topic : List ℕ) (end : ℕ) (x z : Trees) → MayCut went topic end x z → SpareOthers ENTRY x z
+cut_spare zero topic end x z p = subst (SpareOthers ENTRY x) (sym p) (spares_none ENTRY x)
+cut_spare (suc went) topic end x z p = p.others
+
+cut_becomes : (went : ℕ) (topic : List ℕ) (end : ℕ) (olds : List Row) (x z : Trees) → HasIn ENTRY topic olds x → MayCut went topic end x z
+    → BecomesIn ENTRY topic (if went == 0 then olds else not_below end olds) x z
+cut_becomes zero topic end olds x z had p = subst (λ db. BecomesIn ENTRY topic olds x db) (sym p) (becomes_same topic olds (bodies ENTRY (x ENTRY)) had)
+cut_becomes (suc went) topic end olds x z had p =
+    subst (λ b. BecomesIn ENTRY topic (if b then olds else not_below end olds) x z) (sym (ne_eqb (suc went) 0 (λ e. omega (arith, e)))) (becomes_cut topic (is_placed_below end) olds (bodies ENTRY (x ENTRY)) (bodies ENTRY (z ENTRY)) had p.rows)
+
 module _ (kept : KeptTopic) (change : Change) where
   abbrev name : List ℕ
   name = topic_text kept.name
 
-  abbrev pub WritesMessages : Trees → Trees → Type 0
-  WritesMessages = Via (MayWriteTopic change.topic name (topic_row kept)) (Adds ENTRY (entry_rows name change.from (drop change.from kept.log)))
+  abbrev more : List Row
+  more = entry_rows name (kept.gone + change.from) (drop change.from kept.log)
 
-  abbrev pub WritesDifferences : Trees → Trees → Type 0
-  WritesDifferences = Via (Swaps SUB (map (sub_cells name) change.subs.gone.items) (map (sub_cells name) change.subs.news.items))
+  abbrev pub WritesMessages : Trees → Trees → Type 0
+  WritesMessages = Via (MayWriteTopic change.topic name (topic_row kept)) (Via (MayCut change.went name kept.gone) (Adds ENTRY more))
+
+  abbrev WritesSubscriptions : Trees → Trees → Type 0
+  WritesSubscriptions = Via (Swaps SUB (map (sub_cells name) change.subs.gone.items) (map (sub_cells name) change.subs.news.items))
       (Via (Swaps ACK (map (ack_cells name) change.acks.gone.items) (map (ack_cells name) change.acks.news.items)) (Via (Swaps DEAD (map (dead_cells name) change.deads.gone.items) (map (dead_cells name) change.deads.news.items))
       (Swaps REDELIVERY (map (count_cells name) change.counts.gone.items) (map (count_cells name) change.counts.news.items))))
 
+  abbrev pub WritesDifferences : Trees → Trees → Type 0
+  WritesDifferences = Via WritesSubscriptions
+      (Via (Swaps AUTHOR (map (author_cells name) change.authors.gone.items) (map (author_cells name) change.authors.news.items)) (Swaps RETENTION (map (retention_cells name) change.retentions.gone.items) (map (retention_cells name) change.retentions.news.items)))
+
   pub changes_by : (x y z : Trees) → WritesMessages x y → WritesDifferences y z → Changes kept change x z
   changes_by x y z p q olds news had leads =
+      let stay = if change.went == 0 then olds.entries else not_below kept.gone olds.entries in
       let b = p.0 in
-      let d = q.0 in
-      let e = q.2.0 in
-      let f = q.2.2.0 in
-      let one = topic_spare change.topic name (topic_row kept) x b p.1 in
-      let two = p.2.others in
-      let three = swaps_spare SUB _ _ y d q.1 in
-      let four = swaps_spare ACK _ _ d e q.2.1 in
-      let five = swaps_spare DEAD _ _ e f q.2.2.1 in
-      let six = swaps_spare REDELIVERY _ _ f z q.2.2.2 in
-      let from_entry = stood_in name x b y d e f z one two three four five six ENTRY olds.entries b (entry_from name x b y d e f z one two three four five six) had.entries in
-      let from_sub = stood_in name x b y d e f z one two three four five six SUB olds.subs y (sub_from name x b y d e f z one two three four five six) had.subs in
-      let from_ack = stood_in name x b y d e f z one two three four five six ACK olds.acks d (ack_from name x b y d e f z one two three four five six) had.acks in
-      let from_dead = stood_in name x b y d e f z one two three four five six DEAD olds.deads e (dead_from name x b y d e f z one two three four five six) had.deads in
-      let from_count = stood_in name x b y d e f z one two three four five six REDELIVERY olds.counts f (count_from name x b y d e f z one two three four five six) had.counts in
-      let more = entry_rows name change.from (drop change.from kept.log) in
-      in_turn name x b y d e f z one two three four five six news
-      (subst (λ rows. BecomesIn TOPIC name rows x b) (sym leads.topics) (topic_becomes change.topic name (topic_row kept) olds.topics (text_same name, tt) x b had.topics p.1))
-      (subst (λ rows. BecomesIn ENTRY name rows b y) (sym leads.entries) (becomes_more name olds.entries more (own_entries name change.from (drop change.from kept.log)) (bodies ENTRY (b ENTRY)) (bodies ENTRY (y ENTRY)) from_entry p.2.rows))
-      (swaps_become SUB name olds.subs news.subs _ _ (own_mapped name (sub_cells name) (λ r. text_same name) change.subs.news.items) leads.subs y d from_sub q.1)
-      (swaps_become ACK name olds.acks news.acks _ _ (own_mapped name (ack_cells name) (λ r. text_same name) change.acks.news.items) leads.acks d e from_ack q.2.1)
-      (swaps_become DEAD name olds.deads news.deads _ _ (own_mapped name (dead_cells name) (λ r. text_same name) change.deads.news.items) leads.deads e f from_dead q.2.2.1)
-      (swaps_become REDELIVERY name olds.counts news.counts _ _ (own_mapped name (count_cells name) (λ r. text_same name) change.counts.news.items) leads.counts f z from_count q.2.2.2)
+      let c = p.2.0 in
+      let u = q.0 in
+      let t = next name (rows_from olds) TOPIC news.topics x x b (begins_with name olds x had) (topic_spare change.topic name (topic_row kept) x b p.1)
+      (subst (λ rows. BecomesIn TOPIC name rows x b) (sym leads.topics) (topic_becomes change.topic name (topic_row kept) olds.topics (text_same name, tt) x b had.topics p.1)) in
+      let l = next name _ ENTRY stay x b c t (cut_spare change.went name kept.gone b c p.2.1) (cut_becomes change.went name kept.gone olds.entries b c t.each.1.0.0 p.2.1) in
+      let n = next name _ ENTRY news.entries x c y l p.2.2.others
+      (subst (λ rows. BecomesIn ENTRY name rows c y) (sym leads.entries) (becomes_more name stay more (own_entries name (kept.gone + change.from) (drop change.from kept.log)) (bodies ENTRY (c ENTRY)) (bodies ENTRY (y ENTRY)) l.each.1.0.0 p.2.2.rows)) in
+      let s = swaps_next name _ SUB olds.subs news.subs _ _ x y q.1.0 (own_mapped name (sub_cells name) (λ r. text_same name) change.subs.news.items) leads.subs n n.each.1.1.0.0 q.1.1 in
+      let k = swaps_next name _ ACK olds.acks news.acks _ _ x q.1.0 q.1.2.0 (own_mapped name (ack_cells name) (λ r. text_same name) change.acks.news.items) leads.acks s s.each.1.1.1.0.0 q.1.2.1 in
+      let d = swaps_next name _ DEAD olds.deads news.deads _ _ x q.1.2.0 q.1.2.2.0 (own_mapped name (dead_cells name) (λ r. text_same name) change.deads.news.items) leads.deads k k.each.1.1.1.1.0.0 q.1.2.2.1 in
+      let e = swaps_next name _ REDELIVERY olds.counts news.counts _ _ x q.1.2.2.0 u (own_mapped name (count_cells name) (λ r. text_same name) change.counts.news.items) leads.counts d d.each.1.1.1.1.1.0.0 q.1.2.2.2 in
+      let a = swaps_next name _ AUTHOR olds.authors news.authors _ _ x u q.2.0 (own_mapped name (author_cells name) (λ r. text_same name) change.authors.news.items) leads.authors e e.each.1.1.1.1.1.1.0.0 q.2.1 in
+      let r = swaps_next name _ RETENTION olds.retentions news.retentions _ _ x q.2.0 z (own_mapped name (retention_cells name) (λ r. text_same name) change.retentions.news.items) leads.retentions a a.each.1.1.1.1.1.1.1.0.0 q.2.2 in
+      all_told name _ x z r

@@ -1,5 +1,5 @@
 -- What a round writes: the rows of topics, in one transaction.
-use Rattle.std.specs.Prelude.{◌≡◌, ◌≢◌, ◌≤◌, length, ℕ, Bool, true, false, List, [], ◌∷◌, map, All, AllPairs, string_bytes, MatchBool}
+use Rattle.std.specs.Prelude.{◌≡◌, ◌≢◌, ◌≤◌, length, ℕ, zero, suc, Bool, true, false, List, [], ◌∷◌, map, All, AllPairs, string_bytes, MatchBool}
 use Rattle.position_core.specs.TopicName.{topic_text}
 use Rattle.position_core.specs.declared.message.Entry.{Entry}
 use Rattle.row_forms.specs.Properties.{properties_text}
@@ -11,7 +11,7 @@ use Rattle.row_forms.specs.Cells.{TOPIC}
 use Rattle.row_forms.specs.Forms.{TopicRows, AreRowsOf, no_rows}
 use Rattle.row_forms.specs.Standing.{Has, Stands, KeepsOthers}
 use Rattle.row_forms.specs.Changes.{Leads}
-use Rattle.row_tables.specs.Goes.{Clears, Adds}
+use Rattle.row_tables.specs.Goes.{Clears, Cuts, Adds}
 use Rattle.row_rounds.specs.declared.saving.Write.{Write}
 
 -- one step and then another
@@ -22,6 +22,11 @@ Via First Then old new = (mid : Trees) × First old mid × Then mid new
 abbrev pub MayWriteTopic : Bool → List ℕ → Row → Trees → Trees → Type 0
 MayWriteTopic false topic row old new = new ≡ old
 MayWriteTopic true topic row old new = Via (Clears TOPIC topic) (Adds TOPIC (row ∷ [])) old new
+
+-- messages leave, where any went: those below the place
+abbrev pub MayCut : ℕ → List ℕ → ℕ → Trees → Trees → Type 0
+MayCut zero topic end old new = new ≡ old
+MayCut (suc went) topic end old new = Cuts topic end old new
 
 -- the rows of the topic become those that the change leads to, and those of others stay
 abbrev pub Changes : KeptTopic → Change → Trees → Trees → Type 0

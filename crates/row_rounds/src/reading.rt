@@ -6,7 +6,7 @@ ghost use Rattle.row_tables.specs.Ready.{IsReady};
 ghost use Rattle.row_tables.specs.Goes.{Goes, Stays};
 ghost use Rattle.row_tables.specs.Sides.{AreSidesOf, AreSorted};
 
-use row_tables::{SideRows, acks, counts, deads, subs, topics};
+use row_tables::{SideRows, acks, authors, counts, deads, retentions, subs, topics};
 use sqlite::{Alter, Error, Transaction};
 
 /// The rows of a topic in all tables but that of its messages: the subscriptions by their names, and what belongs to
@@ -25,11 +25,15 @@ pub fn read_sides<S: Alter>(tx: &mut Transaction<'_, S>, topic: &str) -> Result<
     let acks = acks::read(tx, topic)?;
     let deads = deads::read(tx, topic)?;
     let counts = counts::read(tx, topic)?;
+    let authors = authors::read(tx, topic)?;
+    let retentions = retentions::read(tx, topic)?;
     Ok(SideRows {
         topics,
         subs,
         acks,
         deads,
         counts,
+        authors,
+        retentions,
     })
 }

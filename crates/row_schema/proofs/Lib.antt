@@ -3,3 +3,4 @@ pub mod MakingLemmas
 pub mod ReadingLemmas
 pub mod VersionLemmas
 pub mod UpgradeLemmas
+pub mod CrashLemmas

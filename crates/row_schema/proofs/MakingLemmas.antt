@@ -24,7 +24,7 @@ use Rattle.sqlite_trees.proofs.TreeLemmas.{IsShaped-put_row}
 use Rattle.sqlite_schema.specs.declared.schema.Column.{Column}
 use Rattle.sqlite_tied.specs.Compute.{everything}
 use Rattle.sqlite.proofs.Callers.{IsPlain, command_of, statement_of, runs_as}
-use Rattle.row_forms.specs.Schema.{schema_7, required}
+use Rattle.row_forms.specs.Schema.{schema_9, required}
 use Rattle.row_forms.specs.Cells.{META}
 use Rattle.row_tables.specs.Ready.{IsMarked}
 use Rattle.row_tables.proofs.PartLemmas.{keyed_from}
@@ -70,16 +70,16 @@ makes_then x y z p q = record { running = λ run. q.running (p.running run); doe
 
 -- ---- the row of the version
 
-abbrev one_two : List Term
-one_two = lit (Int (pos 1)) ∷ lit Null ∷ lit (Int (pos 2)) ∷ []
+abbrev one_three : List Term
+one_three = lit (Int (pos 1)) ∷ lit Null ∷ lit (Int (pos 3)) ∷ []
 
 abbrev row : Row
-row = Int (pos 1) ∷ Null ∷ Int (pos 2) ∷ []
+row = Int (pos 1) ∷ Null ∷ Int (pos 3) ∷ []
 
 abbrev insert_meta : List ℕ
-insert_meta = codes "INSERT INTO meta (id, version) VALUES (1, 2)"
+insert_meta = codes "INSERT INTO meta (id, version) VALUES (1, 3)"
 
-insert_meta_is : (command_of (understood schema_7 insert_meta) ≡ Insert 0 (Values one_two 3)) × IsPlain (understood schema_7 insert_meta)
+insert_meta_is : (command_of (understood schema_9 insert_meta) ≡ Insert 0 (Values one_three 3)) × IsPlain (understood schema_9 insert_meta)
 unfolding understood everything
 insert_meta_is = (refl, (refl, refl))
 
@@ -89,15 +89,15 @@ meta_columns = required (codes "id") Integer ∷ required (codes "version") Inte
 shaped : (rows : List Row) → rows ≡ [] → IsShaped shape.Table rows
 shaped rows e = subst (IsShaped shape.Table) (sym e) (tt, tt)
 
-pub fills : (old new : State) (count : ℕ) → ExecutesInside 0 insert_meta [] old new (Ok count) → Fills schema_7 old new
+pub fills : (old new : State) (count : ℕ) → ExecutesInside 0 insert_meta [] old new (Ok count) → Fills schema_9 old new
 fills old new count h = record {
   running = λ _. subst IsTrue (sym h.1.mode) refl;
   does = λ was.
-      let command = Insert 0 (Values one_two 3) in
-      let w = runs_as insert_meta [] old new schema_7 was.listed command insert_meta_is.0 insert_meta_is.1 count h.0 in
-      let text = statement_of insert_meta (understood schema_7 insert_meta) in
+      let command = Insert 0 (Values one_three 3) in
+      let w = runs_as insert_meta [] old new schema_9 was.listed command insert_meta_is.0 insert_meta_is.1 count h.0 in
+      let text = statement_of insert_meta (understood schema_9 insert_meta) in
       let does = subst (λ s. Does old.step_limit (mode_of old) [] (record old.now { schema = s }) text None command (Ok (w.tally, new.now))) was.listed w.changed in
-      let d = inserts schema_7 0 (codes "meta") META meta_columns (Some 0) (0 ∷ []) [] [] refl (λ _ _ _. refl) old.step_limit (mode_of old) [] old.now.trees text w.tally new.now one_two 3 row row refl (rw (cast_null, cast_int (pos 1), cast_int (pos 2)) refl) does in
+      let d = inserts schema_9 0 (codes "meta") META meta_columns (Some 0) (0 ∷ []) [] [] refl (λ _ _ _. refl) old.step_limit (mode_of old) [] old.now.trees text w.tally new.now one_three 3 row row refl (rw (cast_null, cast_int (pos 1), cast_int (pos 3)) refl) does in
       let meta : new.now.trees META ≡ row ∷ [] = d.0 ∙ ap (put_row row) was.rows.0 in
       let topics = d.2.1.0 (λ e. omega (arith, e)) ∙ was.rows.1.0 in
       let entries = d.2.1.1.0 (λ e. omega (arith, e)) ∙ was.rows.1.1.0 in
@@ -105,11 +105,13 @@ fills old new count h = record {
       let acks = d.2.1.1.1.1.0 (λ e. omega (arith, e)) ∙ was.rows.1.1.1.1.0 in
       let deads = d.2.1.1.1.1.1.0 (λ e. omega (arith, e)) ∙ was.rows.1.1.1.1.1.0 in
       let counts = d.2.1.1.1.1.1.1.0 (λ e. omega (arith, e)) ∙ was.rows.1.1.1.1.1.1.0 in
+      let authors = d.2.1.1.1.1.1.1.1.0 (λ e. omega (arith, e)) ∙ was.rows.1.1.1.1.1.1.1.0 in
+      let retentions = d.2.1.1.1.1.1.1.1.1.0 (λ e. omega (arith, e)) ∙ was.rows.1.1.1.1.1.1.1.1.0 in
       record {
         ready = record {
           schema_is = d.3;
-          keyed = keyed_from schema_7 new.now d.3 (subst (IsShaped shape.Table) (sym d.0) (IsShaped-put_row _ _ refl (shaped _ was.rows.0)), (shaped _ topics, (shaped _ entries, (shaped _ subs, (shaped _ acks, (shaped _ deads, (shaped _ counts, tt)))))));
-          version_is = subst (λ rows. IsMarked 2 (λ t. rows)) (sym meta) refl;
+          keyed = keyed_from schema_9 new.now d.3 (subst (IsShaped shape.Table) (sym d.0) (IsShaped-put_row _ _ refl (shaped _ was.rows.0)), (shaped _ topics, (shaped _ entries, (shaped _ subs, (shaped _ acks, (shaped _ deads, (shaped _ counts, (shaped _ authors, (shaped _ retentions, tt)))))))));
+          version_is = subst (λ rows. IsMarked 3 (λ t. rows)) (sym meta) refl;
         };
         sound = w.sound;
         topics = topics;
@@ -118,6 +120,8 @@ fills old new count h = record {
         acks = acks;
         deads = deads;
         counts = counts;
+        authors = authors;
+        retentions = retentions;
       };
 }
 

@@ -1,4 +1,4 @@
--- What the seven CREATEs mean, each where the tables before it are there.
+-- What the nine CREATEs mean, each where the tables before it are there.
 use Rattle.std.proofs.Common.{◌≡◌, ℕ, List, codes, Ok, refl}
 use Rattle.sqlite.specs.Change.{created}
 use Rattle.sqlite.specs.Command.TheVariants.{CreateTable}
@@ -6,7 +6,7 @@ use Rattle.sqlite.specs.Compile.{table_defined_by}
 use Rattle.sqlite.specs.Listing.{understood}
 use Rattle.sqlite.proofs.Callers.{IsPlain, command_of, statement_of}
 use Rattle.sqlite_tied.specs.Compute.{everything}
-use Rattle.row_forms.specs.Schema.{schema_0, schema_1, schema_2, schema_3, schema_4, schema_5, schema_6, schema_7, meta_table, topic_table, entry_table, sub_table, ack_table, dead_table, redelivery_table}
+use Rattle.row_forms.specs.Schema.{schema_0, schema_1, schema_2, schema_3, schema_4, schema_5, schema_6, schema_7, schema_8, schema_9, meta_table, topic_table, entry_table, sub_table, ack_table, dead_table, redelivery_table, author_table, retention_table}
 use Rattle.row_schema.specs.Making.{Leads}
 
 abbrev pub create_meta : List ℕ
@@ -134,3 +134,39 @@ dead_leads = record { table = dead_table 0; plain = create_dead_plain; command =
 
 pub redelivery_leads : Leads create_redelivery schema_6 schema_7
 redelivery_leads = record { table = redelivery_table 0; plain = create_redelivery_plain; command = create_redelivery_is.0; text = create_redelivery_is.1; defined = create_redelivery_is.2; is = redelivery_created; uncounted = refl }
+
+abbrev pub create_author : List ℕ
+create_author = codes "CREATE TABLE author (topic TEXT NOT NULL, idx INTEGER NOT NULL, producer TEXT NOT NULL, sequence INTEGER NOT NULL, PRIMARY KEY (topic, idx)) STRICT"
+
+create_author_is : (command_of (understood schema_7 create_author) ≡ CreateTable) × (statement_of create_author (understood schema_7 create_author) ≡ create_author) × (table_defined_by create_author ≡ Ok (author_table 0))
+unfolding understood everything
+create_author_is = (refl, refl, refl)
+
+create_author_plain : IsPlain (understood schema_7 create_author)
+unfolding understood everything
+create_author_plain = (refl, refl)
+
+author_created : created schema_7 (author_table 0) ≡ schema_8
+unfolding everything
+author_created = refl
+
+pub author_leads : Leads create_author schema_7 schema_8
+author_leads = record { table = author_table 0; plain = create_author_plain; command = create_author_is.0; text = create_author_is.1; defined = create_author_is.2; is = author_created; uncounted = refl }
+
+abbrev pub create_retention : List ℕ
+create_retention = codes "CREATE TABLE retention (topic TEXT NOT NULL, gone INTEGER NOT NULL, kind INTEGER NOT NULL, amount INTEGER NOT NULL, PRIMARY KEY (topic)) STRICT"
+
+create_retention_is : (command_of (understood schema_8 create_retention) ≡ CreateTable) × (statement_of create_retention (understood schema_8 create_retention) ≡ create_retention) × (table_defined_by create_retention ≡ Ok (retention_table 0))
+unfolding understood everything
+create_retention_is = (refl, refl, refl)
+
+create_retention_plain : IsPlain (understood schema_8 create_retention)
+unfolding understood everything
+create_retention_plain = (refl, refl)
+
+retention_created : created schema_8 (retention_table 0) ≡ schema_9
+unfolding everything
+retention_created = refl
+
+pub retention_leads : Leads create_retention schema_8 schema_9
+retention_leads = record { table = retention_table 0; plain = create_retention_plain; command = create_retention_is.0; text = create_retention_is.1; defined = create_retention_is.2; is = retention_created; uncounted = refl }

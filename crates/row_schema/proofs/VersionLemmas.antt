@@ -18,7 +18,7 @@ use Rattle.row_tables.specs.Ready.{IsMarked, versions}
 use Rattle.row_tables.proofs.Texts.{alone, matching}
 use Rattle.row_tables.proofs.StatementLemmas.{finds, shows}
 use Rattle.row_schema.specs.declared.version.Version.{Version}
-use Rattle.row_schema.specs.declared.version.Version.TheVariants.{One, Two}
+use Rattle.row_schema.specs.declared.version.Version.TheVariants.{One, Two, Three}
 use Rattle.row_schema.specs.Versions.{schema_of, number_of}
 
 abbrev marks : Query
@@ -31,10 +31,12 @@ select_meta_is : (v : Version) → (command_of (understood (schema_of v) select_
 unfolding understood everything
 select_meta_is One = (refl, refl, (refl, refl))
 select_meta_is Two = (refl, refl, (refl, refl))
+select_meta_is Three = (refl, refl, (refl, refl))
 
 pub is_small : (v : Version) → number_of v < 2 ^ 63
 is_small One = lit< tt
 is_small Two = lit< tt
+is_small Three = lit< tt
 
 all_pass : {A : Type 0} (xs : List A) → filter (λ _. true) xs ≡ xs
 all_pass [] = refl

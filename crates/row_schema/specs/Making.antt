@@ -24,7 +24,7 @@ pub record Makes (before after : Schema) (old new : State) : Type 0 where
   pub running : IsTrue old.in_transaction → IsTrue new.in_transaction
   pub does : IsEmpty before old.now → IsEmpty after new.now
 
--- a part of a transaction went well: it runs on, and the empty database became one of version 2
+-- a part of a transaction went well: it runs on, and the empty database became one of version 3
 pub record Fills (before : Schema) (old new : State) : Type 0 where
   pub running : IsTrue old.in_transaction → IsTrue new.in_transaction
   pub does : IsEmpty before old.now → IsBlank new.now

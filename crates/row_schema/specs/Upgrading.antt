@@ -1,38 +1,38 @@
--- How version 1 becomes version 2.
-use Rattle.std.specs.Prelude.{◌≡◌, ◌⊎◌, IsTrue}
+-- How a version becomes the next.
+use Rattle.std.specs.Prelude.{◌≡◌, ◌≢◌, ◌⊎◌, ℕ, IsTrue}
+use Rattle.std.specs.List.{AllByRecursion}
+use Rattle.sqlite.specs.Schema.{Schema}
 use Rattle.sqlite.specs.Tree.{Trees}
 use Rattle.sqlite.specs.Effect.{Database, IsDatabase}
 use Rattle.sqlite.specs.State.{State}
 use Rattle.sqlite_trees.specs.View.{IsShaped}
 use Rattle.sqlite_trees.specs.declared.store.Shape.TheVariants.{Table}
-use Rattle.row_forms.specs.Schema.{schema_7}
 use Rattle.row_forms.specs.Cells.{META}
-use Rattle.row_tables.specs.Ready.{IsMarked, IsVersion1, IsReady, BecomesVersion2}
-use Rattle.row_tables.specs.Goes.{SpareOthers}
+use Rattle.row_tables.specs.Ready.{IsMarked, IsReady, IsRaised}
 
--- the mark of a database with the seven tables is 2 now, and all other tables are as they were
-pub record IsMarkedAnew (old new : Database) : Type 0 where
-  pub listed : new.schema ≡ schema_7
+-- the mark of a database with these tables is this one now, and all other tables are as they were
+pub record IsMarkedAnew (schema : Schema) (to : ℕ) (old new : Database) : Type 0 where
+  pub listed : new.schema ≡ schema
   pub sound : IsDatabase new
   pub keyed : IsShaped Table (new.trees META)
-  pub mark : IsMarked 2 new.trees
-  pub others : SpareOthers META old.trees new.trees
+  pub mark : IsMarked to new.trees
+  pub others : AllByRecursion (λ t. t.tree ≢ META → new.trees t.tree ≡ old.trees t.tree) schema.tables
 
--- a part of a transaction went well: it was open and runs on, and the mark 1 became 2
-pub record Marks (old new : State) : Type 0 where
+-- a part of a transaction went well: it was open and runs on, and one mark became another
+pub record Marks (schema : Schema) (from to : ℕ) (old new : State) : Type 0 where
   pub running : IsTrue old.in_transaction → IsTrue new.in_transaction
   pub was_open : IsTrue old.is_open
-  pub does : old.now.schema ≡ schema_7 → IsMarked 1 old.now.trees → IsMarkedAnew old.now new.now
+  pub does : old.now.schema ≡ schema → IsMarked from old.now.trees → IsMarkedAnew schema to old.now new.now
 
--- a part of a transaction went well: it was open and runs on, and version 1 became version 2
-pub record Raises (old new : State) : Type 0 where
+-- a part of a transaction went well: it was open and runs on, and a version became the next
+pub record Raises (IsVersion : Database → Type 0) (BecomesNext : Database → Database → Type 0) (old new : State) : Type 0 where
   pub running : IsTrue old.in_transaction → IsTrue new.in_transaction
   pub was_open : IsTrue old.is_open
-  pub does : IsVersion1 old.now → BecomesVersion2 old.now new.now
+  pub does : IsVersion old.now → BecomesNext old.now new.now
 
--- what a crash may leave of version 1: what becomes of it as version 2
+-- what a crash may leave of an earlier version: a later one that it becomes
 abbrev pub MayBecome : State → Trees → Type 0
-MayBecome old db = IsTrue old.is_open × IsVersion1 old.now × BecomesVersion2 old.now (record { schema = schema_7; trees = db })
+MayBecome old db = IsTrue old.is_open × ((schema : Schema) × IsRaised old.now (record { schema = schema; trees = db }))
 
 -- the database stays as it was, and a crash leaves no more than before
 pub record Remains (old new : State) : Type 0 where
@@ -40,11 +40,11 @@ pub record Remains (old new : State) : Type 0 where
   pub same : IsTrue new.is_open → new.now ≡ old.now
   pub left : (db : Trees) → new.may_leave db → old.may_leave db
 
--- version 1 became version 2, that is committed, and a crash leaves exactly that
+-- an earlier version became the last one, that is committed, and a crash leaves exactly that
 pub record Becomes (old new : State) : Type 0 where
-  pub was : IsVersion1 old.now
   pub is_open : IsTrue new.is_open
-  pub is : BecomesVersion2 old.now new.now
+  pub is : IsRaised old.now new.now
+  pub ready : IsReady new.now
   pub committed : new.committed ≡ new.now
   pub left : (db : Trees) → new.may_leave db → db ≡ new.now.trees
 

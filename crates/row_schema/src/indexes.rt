@@ -30,6 +30,16 @@ fn are_after(indexes: &[Index], version: Version) -> bool
             11,
             &[1, 2, 3],
         ),
+        (Version::Three, [redelivery, author, retention]) => {
+            is_index(
+                redelivery,
+                "sqlite_autoindex_redelivery_1",
+                12,
+                11,
+                &[1, 2, 3],
+            ) && is_index(author, "sqlite_autoindex_author_1", 14, 13, &[1, 2])
+                && is_index(retention, "sqlite_autoindex_retention_1", 16, 15, &[1])
+        }
         _ => false,
     }
 }

@@ -2,8 +2,10 @@
 #![tactic(auto)]
 
 mod indexes;
+mod later_tables;
 mod looking;
 mod making;
+mod raising;
 mod reopening;
 mod tables;
 mod upgrading;

@@ -1,17 +1,18 @@
 // Whether the tables are those of a version, one by one.
 ghost use Rattle.std.specs.Prelude.{◌≡◌, [], ◌∷◌, drop, IfSome, IsTrue};
 ghost use Rattle.sqlite_value.specs.Keys.{plain};
-ghost use Rattle.row_forms.specs.Schema.{required, table_of, meta_table, topic_table, entry_table, sub_table, ack_table, dead_table, redelivery_table};
+ghost use Rattle.row_forms.specs.Schema.{required, table_of, meta_table, topic_table, entry_table, sub_table, ack_table, dead_table};
 ghost use Rattle.row_schema.specs.Comparing.{IsBare, IsByRowid, IsKeyed};
 ghost use Rattle.row_schema.specs.Versions.{schema_of};
 
+use crate::later_tables::version_after;
 use crate::version::Version;
 use sqlite_items::Items;
 use sqlite_schema::schema::{Column, Kind, Table};
 use sqlite_value::keys::{Collation, Order};
 use sqlite_value::value::Value;
 
-fn is_required(column: &Column, name: &str, kind: Kind) -> bool
+pub(crate) fn is_required(column: &Column, name: &str, kind: Kind) -> bool
     ensures { IsTrue result → column.now ≡ required name.now kind }
 {
     column.name.as_slice() == name.as_bytes()
@@ -67,7 +68,7 @@ fn has_one_key(table: &Table, key: &[usize]) -> bool
         && are_plain(table.orders.as_slice())
 }
 
-fn is_named(table: &Table, name: &str, tree: u32, key: &[usize]) -> bool
+pub(crate) fn is_named(table: &Table, name: &str, tree: u32, key: &[usize]) -> bool
     ensures { IsTrue result → table.now ≡ table_of name.now tree table.now.columns key.now }
 {
     table.name.as_slice() == name.as_bytes()
@@ -240,35 +241,6 @@ fn is_dead(table: &Table) -> bool
     ensures { IsTrue result → table.now ≡ dead_table 9 }
 {
     is_named(table, "dead", 9, &[1, 2, 3]) && has_dead_columns(table.columns.as_slice())
-}
-
-fn has_count_columns(columns: &[Column]) -> bool
-    ensures { IsTrue result → columns.now ≡ (redelivery_table 11).columns }
-{
-    let [topic, sub, place, times] = columns else {
-        return false;
-    };
-    is_required(topic, "topic", Kind::Text)
-        && is_required(sub, "sub", Kind::Text)
-        && is_required(place, "idx", Kind::Integer)
-        && is_required(times, "times", Kind::Integer)
-}
-
-fn is_redelivery(table: &Table) -> bool
-    ensures { IsTrue result → table.now ≡ redelivery_table 11 }
-{
-    is_named(table, "redelivery", 11, &[1, 2, 3]) && has_count_columns(table.columns.as_slice())
-}
-
-/// Which version has these tables after the first six.
-fn version_after(tables: &[Table]) -> Option<Version>
-    ensures { IfSome result (λ version. tables.now ≡ drop 6 (schema_of version).tables) }
-{
-    match tables {
-        [] => Some(Version::One),
-        [redelivery] if is_redelivery(redelivery) => Some(Version::Two),
-        _ => None,
-    }
 }
 
 /// Which version has these tables, and no other.

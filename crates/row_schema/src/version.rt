@@ -9,6 +9,8 @@ pub enum Version {
     One,
     /// And the counts of redeliveries.
     Two,
+    /// And the producers of messages that are gone, and rules of what is kept.
+    Three,
 }
 
 impl Version {
@@ -19,6 +21,7 @@ impl Version {
         match self {
             Version::One => 1,
             Version::Two => 2,
+            Version::Three => 3,
         }
     }
 }

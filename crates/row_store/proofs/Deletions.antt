@@ -1,5 +1,5 @@
 -- What a deletion leads to, for any connection.
-use Rattle.std.proofs.Common.{◌≡◌, ◌≢◌, ◌≤◌, ℕ, Bool, true, false, not, List, [], ◌∷◌, refl, subst, arith}
+use Rattle.std.proofs.Common.{◌≡◌, ◌≢◌, ◌≤◌, ◌⊎◌, inl, inr, ℕ, Bool, true, false, not, List, [], ◌∷◌, refl, subst, arith}
 use Rattle.std.specs.Prelude.{All, IsTrue, ◌&&◌, filter}
 use Rattle.std.specs.Str.{bytes_eq}
 use Rattle.std.proofs.lemmas.Slice.Eq.{bytes_eq-Decides}
@@ -11,7 +11,7 @@ use Rattle.position_core.proofs.TopicNames.{one_topic}
 use Rattle.sqlite_trees.specs.declared.store.Store.{Ghosts}
 use Rattle.sqlite_trees.specs.View.{doubt}
 use Rattle.sqlite.specs.Tree.{Trees}
-use Rattle.sqlite.specs.State.{HasCleanDisk}
+use Rattle.sqlite.specs.State.{HasCleanDisk, Survives}
 use Rattle.sqlite.specs.Held.{Held, state}
 use Rattle.delivery_machine.specs.Places.{KeptTopic}
 use Rattle.row_forms.specs.Standing.{KeepsOthers, Stands}
@@ -29,6 +29,16 @@ module _ {S : Type 0} (g : Ghosts S) (old new : Held S) (failed : Bool) (known :
   deleted saves clean =
       let early : HasCleanDisk (state g old) = omega (arith, less, clean) in
       saves.does (kept.ready working early saves.was_shown)
+
+  -- and what a crash leaves of one
+  pub leaves : Survives (state g old) (state g new) (λ db. IsTrue (state g old).is_open × (IsReady (state g old).now → Empties topic (state g old).now.trees db))
+      → IsTrue (state g old).is_open → HasCleanDisk (state g new) → (db : Trees) → (state g new).may_leave db → (db ≡ (state g old).now.trees) ⊎ Deletes topic (state g old).now.trees db
+  leaves left shown clean db may =
+      let early : HasCleanDisk (state g old) = omega (arith, less, clean) in
+      elim (left.crash clean db may) [
+        | inl was ↦ inl (kept.settled working early shown db was)
+        | inr made ↦ inr (made.1 (kept.ready working early shown))
+      ]
 
 -- what stood of the other topics stands
 pub others_stand : (topic : List ℕ) (old new : Trees) (known : List KeptTopic) → KeepsOthers (topic ∷ []) old new → All (λ (kept : KeptTopic). topic_text kept.name ≢ topic) known

@@ -21,6 +21,8 @@ same_here text db = record {
   acks = IsPermutation-refl _;
   deads = IsPermutation-refl _;
   counts = IsPermutation-refl _;
+  authors = IsPermutation-refl _;
+  retentions = IsPermutation-refl _;
 }
 
 same_on : (text : List ℕ) (old mid new : Trees) → Same text old mid → Same text mid new → Same text old new
@@ -31,6 +33,8 @@ same_on text old mid new first second = record {
   acks = IsPermutation-trans _ _ _ first.acks second.acks;
   deads = IsPermutation-trans _ _ _ first.deads second.deads;
   counts = IsPermutation-trans _ _ _ first.counts second.counts;
+  authors = IsPermutation-trans _ _ _ first.authors second.authors;
+  retentions = IsPermutation-trans _ _ _ first.retentions second.retentions;
 }
 
 same_none : (text : List ℕ) (mid new : Trees) → HasNone text mid → Same text mid new → HasNone text new
@@ -41,6 +45,8 @@ same_none text mid new none same = record {
   acks = IsPermutation-trans _ _ _ none.acks same.acks;
   deads = IsPermutation-trans _ _ _ none.deads same.deads;
   counts = IsPermutation-trans _ _ _ none.counts same.counts;
+  authors = IsPermutation-trans _ _ _ none.authors same.authors;
+  retentions = IsPermutation-trans _ _ _ none.retentions same.retentions;
 }
 
 abbrev is_of : List ℕ → KeptTopic → Bool

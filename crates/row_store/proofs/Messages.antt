@@ -8,10 +8,11 @@ use Rattle.sqlite_trees.proofs.ListLemmas.{IsPermutation-filter, all_of, filter_
 use Rattle.sqlite.specs.Order.{Row}
 use Rattle.sqlite.specs.Tree.{Trees}
 use Rattle.position_core.specs.declared.message.Entry.{Entry}
+use Rattle.row_forms.specs.Cells.{is_below}
 use Rattle.row_forms.specs.Forms.{entry_rows}
 use Rattle.row_forms.proofs.Leading.{rows_from}
 use Rattle.row_tables.specs.Ordered.{AreSortedBy}
-use Rattle.row_tables.specs.Pieces.{ShowsWithin, has_others, is_below, is_within, messages_of}
+use Rattle.row_tables.specs.Pieces.{ShowsWithin, has_others, is_within, messages_of}
 use Rattle.row_tables.proofs.PieceLemmas.{all_within, pieces_join}
 use Rattle.row_reading.specs.Reading.{GoOn, put}
 use Rattle.row_reading.proofs.SortedRows.{none_others, piece_is, piece_read}
@@ -20,54 +21,57 @@ use Rattle.row_store.specs.Begun.{HasLogBelow}
 use Rattle.row_store.specs.Found.{HasLog}
 
 -- before the first piece
-pub none_below : (topic : List ℕ) (db : Trees) → HasLogBelow topic 0 [] db
-none_below topic db = subst (IsPermutation []) (sym (filter_none (is_within 0 0) (messages_of topic db) (all_of _ none (messages_of topic db)))) (IsPermutation-refl [])
+pub none_below : (topic : List ℕ) (gone : ℕ) (db : Trees) → HasLogBelow topic gone gone [] db
+none_below topic gone db = subst (IsPermutation []) (sym (filter_none (is_within gone gone) (messages_of topic db) (all_of _ none (messages_of topic db)))) (IsPermutation-refl [])
   where
     never : (b : Bool) → (not b && b) ≡ false
     never true = refl
     never false = refl
 
-    none : (r : Row) → is_within 0 0 r ≡ false
-    none r = never (is_below 0 r)
+    none : (r : Row) → is_within gone gone r ≡ false
+    none r = never (is_below gone r)
 
 -- one piece more
-pub more_below : (topic : List ℕ) (from end : ℕ) (came log : List Entry) (rows : List Row) (db : Trees) → from ≤ end → HasLogBelow topic from came db → ShowsWithin topic from end rows db → GoOn came rows log → HasLogBelow topic end log db
-more_below topic from end came log rows db within below shows goes =
+pub more_below : (topic : List ℕ) (gone from end : ℕ) (came log : List Entry) (rows : List Row) (db : Trees) → gone ≤ from → from ≤ end → HasLogBelow topic gone from came db → ShowsWithin topic from end rows db → GoOn gone came rows log → HasLogBelow topic gone end log db
+more_below topic gone from end came log rows db early within below shows goes =
     let messages = messages_of topic db in
-    subst (λ l. IsPermutation l (filter (is_within 0 end) messages)) (goes topic)
-    (IsPermutation-trans _ _ _ (IsPermutation-append (entry_rows topic 0 came) (filter (is_within 0 from) messages) (put topic rows) (filter (is_within from end) messages) below shows) (pieces_join from end within messages))
+    subst (λ l. IsPermutation l (filter (is_within gone end) messages)) (goes topic)
+    (IsPermutation-trans _ _ _ (IsPermutation-append (entry_rows topic gone came) (filter (is_within gone from) messages) (put topic rows) (filter (is_within from end) messages) below shows) (pieces_join gone from end early within messages))
 
 -- what stands below the place is the first part of the log
-pub first_part : (topic : List ℕ) (end : ℕ) (came all : List Entry) (db : Trees) → HasLogBelow topic end came db → HasLog topic all db → came ≡ take end all
-first_part topic end came all db below has =
+pub first_part : (topic : List ℕ) (gone end : ℕ) (came all : List Entry) (db : Trees) → HasLogBelow topic gone end came db → HasLog topic gone all db → came ≡ take (end - gone) all
+first_part topic gone end came all db below has =
     let messages = messages_of topic db in
-    let none : end - 0 ≡ end = omega arith in
-    let these : IsPermutation (entry_rows topic 0 (take end all)) (filter (is_within 0 end) messages) =
-    subst (λ l. IsPermutation l (filter (is_within 0 end) messages)) (piece_is topic 0 end all ∙ ap (λ n. entry_rows topic 0 (take n all)) none) (IsPermutation-filter (is_within 0 end) (entry_rows topic 0 all) messages has) in
-    one_log topic came (take end all) (IsPermutation-trans _ _ _ below (IsPermutation-sym _ _ these))
+    let none : gone - gone ≡ 0 = omega arith in
+    let these : IsPermutation (entry_rows topic gone (take (end - gone) all)) (filter (is_within gone end) messages) =
+    subst (λ l. IsPermutation l (filter (is_within gone end) messages)) (piece_is topic gone gone end all (omega arith) ∙ ap (λ n. entry_rows topic gone (take (end - gone) (drop n all))) none)
+    (IsPermutation-filter (is_within gone end) (entry_rows topic gone all) messages has) in
+    one_log topic gone came (take (end - gone) all) (IsPermutation-trans _ _ _ below (IsPermutation-sym _ _ these))
 
 -- the piece after it is the next part, and some rows follow
-pub next_part : (topic : List ℕ) (end : ℕ) (came all : List Entry) (rows : List Row) (db : Trees) → HasLogBelow topic (length came) came db → HasLog topic all db → ShowsWithin topic (length came) end rows db → AreSortedBy 1 rows
-    → (rest : List Row) × (entry_rows topic 0 came ++ (put topic rows ++ rest) ≡ entry_rows topic 0 all)
-next_part topic end came all rows db below has shows sorted =
-    let from : ℕ = length came in
-    let first : came ≡ take from all = first_part topic from came all db below has in
-    let others : List Entry = drop from all in
+pub next_part : (topic : List ℕ) (gone end : ℕ) (came all : List Entry) (rows : List Row) (db : Trees) → HasLogBelow topic gone (gone + length came) came db → HasLog topic gone all db → ShowsWithin topic (gone + length came) end rows db → AreSortedBy 1 rows
+    → (rest : List Row) × (entry_rows topic gone came ++ (put topic rows ++ rest) ≡ entry_rows topic gone all)
+next_part topic gone end came all rows db below has shows sorted =
+    let from : ℕ = gone + length came in
+    let count : from - gone ≡ length came = omega arith in
+    let first : came ≡ take (length came) all = first_part topic gone from came all db below has ∙ ap (λ n. take n all) count in
+    let others : List Entry = drop (length came) all in
     let part : List Entry = take (end - from) others in
     let left : List Entry = drop (end - from) others in
-    let piece : put topic rows ≡ entry_rows topic from part = piece_read topic all db from end rows has shows sorted in
-    let here : 0 + length came ≡ from = omega arith in
-    let split : came ++ others ≡ all = ap (λ l. l ++ others) first ∙ take-append-drop from all in (
+    let piece : put topic rows ≡ entry_rows topic from part = piece_read topic gone all db from end rows (omega arith) has shows sorted ∙ ap (λ n. entry_rows topic from (take (end - from) (drop n all))) count in
+    let split : came ++ others ≡ all = ap (λ l. l ++ others) first ∙ take-append-drop (length came) all in (
       entry_rows topic (from + length part) left,
-      ap (λ l. entry_rows topic 0 came ++ (l ++ entry_rows topic (from + length part) left)) piece
-          ∙ ap (λ l. entry_rows topic 0 came ++ l) (sym (rows_from topic from part left) ∙ ap (entry_rows topic from) (take-append-drop (end - from) others) ∙ ap (λ n. entry_rows topic n others) (sym here))
-          ∙ sym (rows_from topic 0 came others) ∙ ap (entry_rows topic 0) split,
+      ap (λ l. entry_rows topic gone came ++ (l ++ entry_rows topic (from + length part) left)) piece
+          ∙ ap (λ l. entry_rows topic gone came ++ l) (sym (rows_from topic from part left) ∙ ap (entry_rows topic from) (take-append-drop (end - from) others))
+          ∙ sym (rows_from topic gone came others) ∙ ap (entry_rows topic gone) split,
     )
 
 -- the messages are those of the log where none stands elsewhere
-pub all_below : (topic : List ℕ) (end : ℕ) (log : List Entry) (db : Trees) → HasLogBelow topic end log db → has_others topic end db ≡ false → HasLog topic log db
-all_below topic end log db below none = subst (IsPermutation (entry_rows topic 0 log)) (all_within end (messages_of topic db) none) below
+pub all_below : (topic : List ℕ) (gone end : ℕ) (log : List Entry) (db : Trees) → HasLogBelow topic gone end log db → has_others topic gone end db ≡ false → HasLog topic gone log db
+all_below topic gone end log db below none = subst (IsPermutation (entry_rows topic gone log)) (all_within gone end (messages_of topic db) none) below
 
 -- after a piece that came short none stands elsewhere
-pub none_after : (topic : List ℕ) (end : ℕ) (log all : List Entry) (db : Trees) → HasLogBelow topic end log db → HasLog topic all db → length log ≢ end → has_others topic end db ≡ false
-none_after topic end log all db below has short = none_others topic all db end has (omega (arith, ap length (first_part topic end log all db below has), length-take end all, short))
+pub none_after : (topic : List ℕ) (gone count : ℕ) (log all : List Entry) (db : Trees) → HasLogBelow topic gone (gone + count) log db → HasLog topic gone all db → length log ≢ count → has_others topic gone (gone + count) db ≡ false
+none_after topic gone count log all db below has short =
+    let many : gone + count - gone ≡ count = omega arith in
+    none_others topic gone all db gone (gone + count) has (omega arith) (omega (arith, ap length (first_part topic gone (gone + count) log all db below has), many, length-take (gone + count - gone) all, short))

@@ -9,7 +9,7 @@ use Rattle.sqlite.specs.State.{State}
 use Rattle.delivery_machine.specs.State.{fresh}
 use Rattle.delivery_machine.specs.Snapshot.{restarted}
 use Rattle.delivery_machine.specs.Places.{KeptTopic, snapshot_in}
-use Rattle.row_forms.specs.Cells.{TOPIC, ENTRY, SUB, ACK, DEAD, REDELIVERY, bodies, of_topic}
+use Rattle.row_forms.specs.Cells.{TOPIC, ENTRY, SUB, ACK, DEAD, REDELIVERY, AUTHOR, RETENTION, bodies, of_topic}
 use Rattle.row_forms.specs.Standing.{Stands, HasNone}
 use Rattle.stored_cell.specs.Noted.{Noted, all_rows}
 use Rattle.stored_cell.specs.Held.{Held}
@@ -70,7 +70,9 @@ count_none topic db none =
     let acks : length (of_topic topic (bodies ACK (db ACK))) ≡ 0 = length_permutation [] (of_topic topic (bodies ACK (db ACK))) none.acks in
     let deads : length (of_topic topic (bodies DEAD (db DEAD))) ≡ 0 = length_permutation [] (of_topic topic (bodies DEAD (db DEAD))) none.deads in
     let counts : length (of_topic topic (bodies REDELIVERY (db REDELIVERY))) ≡ 0 = length_permutation [] (of_topic topic (bodies REDELIVERY (db REDELIVERY))) none.counts in
-    omega (arith, topics, entries, subs, acks, deads, counts)
+    let authors : length (of_topic topic (bodies AUTHOR (db AUTHOR))) ≡ 0 = length_permutation [] (of_topic topic (bodies AUTHOR (db AUTHOR))) none.authors in
+    let retentions : length (of_topic topic (bodies RETENTION (db RETENTION))) ≡ 0 = length_permutation [] (of_topic topic (bodies RETENTION (db RETENTION))) none.retentions in
+    omega (arith, topics, entries, subs, acks, deads, counts, authors, retentions)
 
 first : (a b c : Bool) → a ≡ true → (a || b || c) ≡ true
 first a b c is = ap (λ x. x || b || c) is

@@ -17,7 +17,7 @@ use Rattle.row_tables.specs.Pieces.{is_within, messages_of}
 use Rattle.position_core.specs.declared.topic_name.TopicName.{TopicName}
 use Rattle.row_store.specs.declared.pace.Pace.{Pace}
 use Rattle.row_store.specs.declared.pace.Pace.TheVariants.{AtOnce, Pieces}
-use Rattle.row_store.specs.Begun.{Begun, HasLogBelow, IsUnread, ReadTo, StandsSoFar, begun_by, begun_of, count_for, kept_by, left_by, read_without}
+use Rattle.row_store.specs.Begun.{Begun, HasSpan, IsUnread, ReadTo, StandsSoFar, begun_by, begun_of, count_for, kept_by, left_by, read_without, span_to}
 use Rattle.row_store.specs.Found.{HasMany}
 use Rattle.row_store.specs.Keeping.{StoresAll, is_of_one, known_after}
 use Rattle.row_store.proofs.Lists.{or_false}
@@ -34,6 +34,8 @@ same_stands kept old new same stands = (
     acks = IsPermutation-trans _ _ _ stands.2.acks same.acks;
     deads = IsPermutation-trans _ _ _ stands.2.deads same.deads;
     counts = IsPermutation-trans _ _ _ stands.2.counts same.counts;
+    authors = IsPermutation-trans _ _ _ stands.2.authors same.authors;
+    retentions = IsPermutation-trans _ _ _ stands.2.retentions same.retentions;
   },
 )
 
@@ -101,9 +103,11 @@ read_stands_on r old new same stands = record {
     acks = IsPermutation-trans _ _ _ stands.sides.acks same.acks;
     deads = IsPermutation-trans _ _ _ stands.sides.deads same.deads;
     counts = IsPermutation-trans _ _ _ stands.sides.counts same.counts;
+    authors = IsPermutation-trans _ _ _ stands.sides.authors same.authors;
+    retentions = IsPermutation-trans _ _ _ stands.sides.retentions same.retentions;
   };
   sorted = stands.sorted;
-  below = IsPermutation-trans _ _ _ stands.below (IsPermutation-filter (is_within 0 (length r.log)) (messages_of (topic_text r.name) old) (messages_of (topic_text r.name) new) same.entries);
+  below = IsPermutation-trans _ _ _ stands.below (IsPermutation-filter (is_within r.front.gone (r.front.gone + length r.log)) (messages_of (topic_text r.name) old) (messages_of (topic_text r.name) new) same.entries);
 }
 
 -- and so it does after a store of others
@@ -151,4 +155,4 @@ begun_after Pieces name r left old n same named counts many =
     λ i. Some (record { name = named i; count = count i })
 
 pub has_many : (name : TopicName) (r : ReadTo) (db : Trees) (n : ℕ) → r.name ≡ name → length r.log ≡ n + 256 → StandsSoFar db r → HasMany name db
-has_many name r db n named many stands = (r.log, omega (arith, many), subst (λ (t : TopicName). HasLogBelow (topic_text t) (length r.log) r.log db) named stands.below)
+has_many name r db n named many stands = (span_to r, omega (arith, many), subst (λ (t : TopicName). HasSpan (topic_text t) (span_to r) db) named stands.below)

@@ -1,5 +1,5 @@
 -- What a store leads to, for any connection.
-use Rattle.std.proofs.Common.{◌≡◌, ◌≤◌, ℕ, Bool, true, false, List, [], ◌∷◌, length, map, slice_index_or, inl, inr, ◌⊎◌, refl, ap, sym, subst, ◌∙◌, arith}
+use Rattle.std.proofs.Common.{◌≡◌, ◌≤◌, ◌+◌, ℕ, Bool, true, false, List, [], ◌∷◌, length, map, slice_index_or, inl, inr, ◌⊎◌, refl, ap, sym, subst, ◌∙◌, arith}
 use Rattle.std.proofs.lemmas.List.{length-map}
 use Rattle.std.specs.Prelude.{All, IsTrue, ◌&&◌, Option, IfSome, Result, Ok, Err, IfOk}
 use Rattle.position_core.specs.TopicName.{topic_text}
@@ -15,8 +15,8 @@ use Rattle.sqlite.specs.Held.{Held, state}
 use Rattle.sqlite.proofs.StateLemmas.{survives_weaker}
 use Rattle.delivery_machine.specs.Places.{KeptTopic}
 use Rattle.position_core.specs.declared.message.Entry.{Entry}
-use Rattle.row_forms.specs.Cells.{TOPIC, SUB, ACK, DEAD, REDELIVERY}
-use Rattle.row_forms.specs.Forms.{TopicRows, AreRowsOf, no_rows}
+use Rattle.row_forms.specs.Cells.{TOPIC, SUB, ACK, DEAD, REDELIVERY, AUTHOR, RETENTION}
+use Rattle.row_forms.specs.Forms.{TopicRows, AreRowsOf, Span, no_rows}
 use Rattle.row_forms.specs.Standing.{Has, HasIn, HasNone, Stands}
 use Rattle.row_tables.specs.declared.side_rows.SideRows.{SideRows}
 use Rattle.row_tables.specs.Pieces.{has_others}
@@ -30,7 +30,7 @@ use Rattle.row_rounds.specs.declared.saving.Write.{Write}
 use Rattle.row_rounds.specs.Rounds.{Fits, Rounds, StandAll}
 use Rattle.stored_cell.specs.Noted.{Noted, StandsAmong, ToStore, all_rows, is_shown}
 use Rattle.stored_cell.proofs.Letters.{all_of_map}
-use Rattle.row_store.specs.Begun.{HasLogBelow, ReadTo, StandsSoFar}
+use Rattle.row_store.specs.Begun.{HasLogBelow, HasSpan, ReadTo, StandsSoFar, span_to}
 use Rattle.row_store.specs.Keeping.{IsKept, IsReadOn, IsSettled, StoresAll, kepts, stored_in}
 use Rattle.row_store.proofs.Standing.{stores_all}
 
@@ -58,7 +58,7 @@ pub among : (kept : KeptTopic) (db : Trees) → Stands kept db → StandsAmong k
 among kept db stands = (
   stands.0,
   stands.1,
-  record { topics = stands.2.topics; entries = stands.2.entries; subs = stands.2.subs; acks = stands.2.acks; deads = stands.2.deads; counts = stands.2.counts },
+  record { topics = stands.2.topics; entries = stands.2.entries; subs = stands.2.subs; acks = stands.2.acks; deads = stands.2.deads; counts = stands.2.counts; authors = stands.2.authors; retentions = stands.2.retentions },
 )
 
 all_among : (kepts : List KeptTopic) (db : Trees) → All (λ (k : KeptTopic). Stands k db) kepts → All (λ (k : KeptTopic). StandsAmong k (all_rows db)) kepts
@@ -141,26 +141,29 @@ left_from old new kepts settled survives shown clean db may = by (survives.crash
     by (inr all) = inr all.1
 
 -- the rows that were read of the topic are those of the snapshot that they show
-pub read_stands : (kept : KeptTopic) (name : TopicName) (text : List ℕ) (log : List Entry) (sides : SideRows) (db : Trees) → text ≡ topic_text name → kept.name ≡ name → AreRowsOf kept (rows_with (topic_text name) log sides) → AreSidesOf text db sides → HasLog text log db → Stands kept db
-read_stands kept name text log sides db is same are these messages = (
-  rows_with (topic_text name) log sides,
+pub read_stands : (kept : KeptTopic) (name : TopicName) (text : List ℕ) (span : Span) (sides : SideRows) (db : Trees) → text ≡ topic_text name → kept.name ≡ name → AreRowsOf kept (rows_with (topic_text name) span sides) → AreSidesOf text db sides → HasLog text span.gone span.log db → Stands kept db
+read_stands kept name text span sides db is same are these messages = (
+  rows_with (topic_text name) span sides,
   are,
-  subst (λ (n : TopicName). Has (topic_text n) (rows_with (topic_text name) log sides) db) (sym same)
-      (subst (λ t. Has t (rows_with t log sides) db) is (record { topics = these.topics; entries = messages; subs = these.subs; acks = these.acks; deads = these.deads; counts = these.counts })),
+  subst (λ (n : TopicName). Has (topic_text n) (rows_with (topic_text name) span sides) db) (sym same)
+      (subst (λ t. Has t (rows_with t span sides) db) is
+      (record { topics = these.topics; entries = messages; subs = these.subs; acks = these.acks; deads = these.deads; counts = these.counts; authors = these.authors; retentions = these.retentions })),
 )
 
 -- where none was read there is none
-pub none_read : (name : TopicName) (text : List ℕ) (sides : SideRows) (db : Trees) → text ≡ topic_text name → (sides.topics.items ≡ []) × (sides.subs.items ≡ []) × (sides.acks.items ≡ []) × (sides.deads.items ≡ []) × (sides.counts.items ≡ [])
-    → AreSidesOf text db sides → has_others text 0 db ≡ false → HasNone (topic_text name) db
+pub none_read : (name : TopicName) (text : List ℕ) (sides : SideRows) (db : Trees) → text ≡ topic_text name → (sides.topics.items ≡ []) × (sides.subs.items ≡ []) × (sides.acks.items ≡ []) × (sides.deads.items ≡ []) × (sides.counts.items ≡ []) × (sides.authors.items ≡ []) × (sides.retentions.items ≡ [])
+    → AreSidesOf text db sides → has_others text 0 0 db ≡ false → HasNone (topic_text name) db
 none_read name text sides db is none these no_others =
     let put : List Row → List Row = map (λ (r : Row). Words text ∷ r) in
     let here : Has text no_rows db = record {
       topics = subst (λ l. HasIn TOPIC text (put l) db) none.0 these.topics;
-      entries = all_below text 0 [] db (none_below text db) no_others;
+      entries = all_below text 0 0 [] db (none_below text 0 db) no_others;
       subs = subst (λ l. HasIn SUB text (put l) db) none.1 these.subs;
       acks = subst (λ l. HasIn ACK text (put l) db) none.2 these.acks;
       deads = subst (λ l. HasIn DEAD text (put l) db) none.3 these.deads;
       counts = subst (λ l. HasIn REDELIVERY text (put l) db) none.4 these.counts;
+      authors = subst (λ l. HasIn AUTHOR text (put l) db) none.5 these.authors;
+      retentions = subst (λ l. HasIn RETENTION text (put l) db) none.6 these.retentions;
     } in
     subst (λ t. Has t no_rows db) is here
 
@@ -169,16 +172,17 @@ pub begun_stands : (r : ReadTo) (name : TopicName) (topic : List ℕ) (sides : S
 begun_stands r name topic sides db is begun these sorted = record {
   sides = subst (λ (s : SideRows). AreSidesOf (topic_text r.name) db s) (sym begun.1) (subst (λ t. AreSidesOf t db sides) (is ∙ ap topic_text (sym begun.0)) these);
   sorted = subst AreSorted (sym begun.1) sorted;
-  below = subst (λ (l : List Entry). HasLogBelow (topic_text r.name) (length l) l db) (sym begun.2) (none_below (topic_text r.name) db);
+  below = subst (λ (l : List Entry). HasSpan (topic_text r.name) (record { gone = r.front.gone; log = l }) db) (sym begun.2)
+      (subst (λ n. HasLogBelow (topic_text r.name) r.front.gone n [] db) (let here : r.front.gone ≡ r.front.gone + 0 = omega arith in here) (none_below (topic_text r.name) r.front.gone db));
 }
 
 -- and what was read of it with one piece more
 pub goes_on : (old new : ReadTo) (topic : List ℕ) (db : Trees) → topic ≡ topic_text old.name → new.name ≡ old.name → new.sides ≡ old.sides → StandsSoFar db old
-    → (HasLogBelow topic (length old.log) old.log db → HasLogBelow topic (length new.log) new.log db) → StandsSoFar db new
+    → (HasSpan topic (span_to old) db → HasSpan topic (span_to new) db) → StandsSoFar db new
 goes_on old new topic db is named same stands more = record {
   sides = subst (λ (s : SideRows). AreSidesOf (topic_text new.name) db s) (sym same) (subst (λ (n : TopicName). AreSidesOf (topic_text n) db old.sides) (sym named) stands.sides);
   sorted = subst AreSorted (sym same) stands.sorted;
-  below = subst (λ t. HasLogBelow t (length new.log) new.log db) (is ∙ ap topic_text (sym named)) (more (subst (λ t. HasLogBelow t (length old.log) old.log db) (sym is) stands.below));
+  below = subst (λ t. HasSpan t (span_to new) db) (is ∙ ap topic_text (sym named)) (more (subst (λ t. HasSpan t (span_to old) db) (sym is) stands.below));
 }
 
 -- what holds of each result where two things do, holds of it under both

@@ -1,24 +1,15 @@
--- What is taken of a database: as it was committed, or become version 2.
+-- What is taken of a database: as it was committed, or become a later version.
 use Rattle.std.proofs.Common.{◌≡◌, ◌⊎◌, ◌∙◌, inl, inr, IsTrue, ap, sym, subst}
 use Rattle.sqlite.specs.Tree.{Trees}
 use Rattle.sqlite.specs.Effect.{Database}
 use Rattle.sqlite.specs.State.{State}
-use Rattle.row_forms.specs.Schema.{schema_6, schema_7}
-use Rattle.row_tables.specs.Ready.{BecomesVersion2, IsVersion1}
 use Rattle.row_schema.specs.Upgrading.{Becomes, IsUpgraded, MayBecome}
-use Rattle.row_store.specs.Keeping.{IsSettled, IsTakenFrom, IsVersion2Of}
-
-version_2_of : (before : Database) (was db : Trees) → before.trees ≡ was → IsVersion1 before → BecomesVersion2 before (record { schema = schema_7; trees = db }) → IsVersion2Of was db
-version_2_of before was db same one becomes =
-    let these : before ≡ record { schema = schema_6; trees = was } = λ i. record { schema = one.schema_is i; trees = same i } in
-    (subst IsVersion1 these one, subst (λ d. BecomesVersion2 d (record { schema = schema_7; trees = db })) these becomes)
+use Rattle.row_store.specs.Keeping.{IsRaisedFrom, IsSettled, IsTakenFrom}
 
 -- the database was so once what was not committed was undone
 module _ (was : Trees) (settled : State) (same : IsTrue settled.is_open → settled.now.trees ≡ was) where
-  raised : (taken : State) → IsTrue settled.is_open → Becomes settled taken → IsVersion2Of was taken.now.trees
-  raised taken shown became =
-      let these : taken.now ≡ record { schema = schema_7; trees = taken.now.trees } = λ i. record { schema = became.is.ready.schema_is i; trees = taken.now.trees } in
-      version_2_of settled.now was taken.now.trees (same shown) became.was (subst (BecomesVersion2 settled.now) these became.is)
+  raised : (taken : State) → IsTrue settled.is_open → Becomes settled taken → IsRaisedFrom was taken.now.trees
+  raised taken shown became = subst (λ (db : Trees). IsRaisedFrom db taken.now.trees) (same shown) (settled.now.schema, taken.now.schema, became.is)
 
   -- its rows, once it is of the last version
   pub rows_taken : (taken : State) → IsUpgraded settled taken → IsTrue taken.is_open → IsTakenFrom was taken.now.trees
@@ -28,9 +19,9 @@ module _ (was : Trees) (settled : State) (same : IsTrue settled.is_open → sett
   -- and what a crash leaves then
   pub crash_taken : (taken : State) → (IsTrue settled.is_open → IsSettled settled) → IsUpgraded settled taken → (db : Trees) → taken.may_leave db → IsTakenFrom was db
   crash_taken taken only (shown, inl (ready, remains)) db may = inl (only shown db (remains.left db may) ∙ same shown)
-  crash_taken taken only (shown, inr became) db may = inr (subst (IsVersion2Of was) (sym (became.left db may)) (raised taken shown became))
+  crash_taken taken only (shown, inr became) db may = inr (subst (IsRaisedFrom was) (sym (became.left db may)) (raised taken shown became))
 
   -- or where it did not become that
   pub left_refused : (given : State) → ((db : Trees) → settled.may_leave db → given.may_leave db ⊎ (db ≡ was)) → (db : Trees) → settled.may_leave db ⊎ MayBecome settled db → given.may_leave db ⊎ IsTakenFrom was db
   left_refused given before db (inl may) = elim (before db may) [ inl early ↦ inl early | inr committed ↦ inr (inl committed) ]
-  left_refused given before db (inr (shown, one, becomes)) = inr (inr (version_2_of settled.now was db (same shown) one becomes))
+  left_refused given before db (inr (shown, (schema, is))) = inr (inr (subst (λ (d : Trees). IsRaisedFrom d db) (same shown) (settled.now.schema, schema, is)))

@@ -12,14 +12,15 @@ use Rattle.delivery_machine.specs.Snapshot.{restarted, snapshot_of}
 use Rattle.delivery_machine.specs.Places.{KeptPlaces, KeptTopic, MayRestart, snapshot_in}
 use Rattle.position_core.specs.declared.message.Entry.{Entry}
 use Rattle.sqlite.specs.Order.{Row}
-use Rattle.row_forms.specs.Forms.{AreRowsOf}
+use Rattle.row_forms.specs.Forms.{AreRowsOf, Span, retention_rows, span_of}
 use Rattle.row_forms.specs.Cells.{ENTRY, TOPIC, bodies, of_topic}
 use Rattle.row_forms.specs.Standing.{HasIn, HasNone, Stands}
 use Rattle.row_tables.specs.declared.side_rows.SideRows.{SideRows}
 use Rattle.row_tables.specs.Sides.{AreSidesOf, AreSorted}
+use Rattle.row_reading.specs.declared.retention_rows.Front.{Front}
 use Rattle.row_reading.specs.declared.topic_row.Head.{Head}
-use Rattle.row_reading.specs.Reading.{IsHead, IsHeadIn, IsLedgerSize, IsNamed, IsReadBack, IsReadableLog, MayBeTold, rows_with}
-use Rattle.row_reading.proofs.Whole.{has_head, one_head, readable_log}
+use Rattle.row_reading.specs.Reading.{IsFrontIn, IsHead, IsHeadIn, IsLedgerSize, IsNamed, IsReadBack, IsReadableLog, MayBeTold, put, rows_with}
+use Rattle.row_reading.proofs.Whole.{has_front, has_head, one_head, readable_log, same_front}
 use Rattle.row_store.specs.Found.{HasLog}
 use Rattle.row_reading.specs.Telling.{IsTold}
 use Rattle.row_reading.proofs.SortedRows.{what_stands_is_read}
@@ -40,43 +41,57 @@ told kept may may_be = record {
 
 -- the rows of a snapshot that stands, as they are read beside its messages, and those messages
 its_rows : (kept : KeptTopic) (name : TopicName) (topic : List ℕ) (sides : SideRows) (db : Trees) → topic ≡ topic_text name → IsReadBack kept → kept.name ≡ name → Stands kept db → AreSidesOf topic db sides → AreSorted sides
-    → AreRowsOf kept (rows_with topic kept.log sides) × HasLog topic kept.log db
+    → AreRowsOf kept (rows_with topic (span_of kept) sides) × HasLog topic kept.gone kept.log db
 its_rows kept name topic sides db is back named stands these sorted =
     let same : topic_text kept.name ≡ topic = ap topic_text named ∙ sym is in
     let read = what_stands_is_read kept db (told kept back.may back.told) stands in
-    let messages : HasLog (topic_text kept.name) kept.log db = subst (λ l. HasIn ENTRY (topic_text kept.name) l db) stands.1.entries stands.2.entries in
-    (subst (λ t. AreSidesOf t db sides → AreRowsOf kept (rows_with t kept.log sides)) same (λ those. read.sides sides those sorted) these, subst (λ t. HasLog t kept.log db) same messages)
+    let messages : HasLog (topic_text kept.name) kept.gone kept.log db = subst (λ l. HasIn ENTRY (topic_text kept.name) l db) stands.1.entries stands.2.entries in
+    (subst (λ t. AreSidesOf t db sides → AreRowsOf kept (rows_with t (span_of kept) sides)) same (λ those. read.sides sides those sorted) these, subst (λ t. HasLog t kept.gone kept.log db) same messages)
 
 module _ (name : TopicName) (topic : List ℕ) (sides : SideRows) (db : Trees) (is : topic ≡ topic_text name) (these : AreSidesOf topic db sides) where
-  -- none stands where the topic has no row of its own that is such a row
-  pub none_headed : ((row : Row) (head : Head) → sides.topics.items ≡ row ∷ [] → IsHead row head → IsLedgerSize head.ledger_size → ⊥) → AreSorted sides → NoneStands name db
+  -- none stands where the topic has no row of its own that is such a row, or more than one of what is gone
+  pub none_headed : ((row : Row) (head : Head) (front : Front) → sides.topics.items ≡ row ∷ [] → IsHead row head → IsLedgerSize head.ledger_size → IsFrontIn sides.retentions.items front → ⊥) → AreSorted sides → NoneStands name db
   none_headed none sorted kept back named stands =
-      let h = has_head kept topic sides.topics.items back (its_rows kept name topic sides db is back named stands these sorted).0.topics in
-      none h.1.row h.0 h.1.one h.1.says (subst IsLedgerSize (sym h.1.size) back.size)
+      let rows = (its_rows kept name topic sides db is back named stands these sorted).0 in
+      let h = has_head kept topic sides.topics.items back rows.topics in
+      let front = has_front kept topic sides.retentions.items back (rows.retentions ∙ ap (λ t. retention_rows t kept.gone kept.retention) (ap topic_text named ∙ sym is)) in
+      none h.1.row h.0 _ h.1.one h.1.says (subst IsLedgerSize (sym h.1.size) back.size) front
 
   -- nor where it has none at all
   pub none_of_its_own : sides.topics.items ≡ [] → AreSorted sides → NoneStands name db
-  none_of_its_own none = none_headed (λ row head one says size. never row (sym none ∙ one))
+  none_of_its_own none = none_headed (λ row head front one says size shown. never row (sym none ∙ one))
     where
       never : (row : Row) → [] ≡ row ∷ [] → ⊥
       never row e = cc
 
+  -- as many of one that stands are gone as was read
+  same_gone : (front : Front) → IsFrontIn sides.retentions.items front → AreSorted sides → (kept : KeptTopic) → IsReadBack kept → kept.name ≡ name → Stands kept db → front.gone ≡ kept.gone
+  same_gone front shown sorted kept back named stands =
+      let rows = (its_rows kept name topic sides db is back named stands these sorted).0 in
+      (same_front kept name front sides.retentions.items named shown (ap (λ t. put t sides.retentions.items) (sym is) ∙ rows.retentions)).0
+
   -- the messages of one that stands are such as a log is read of
-  pub none_logged : (head : Head) (whole : Bool) → IsHeadIn sides.topics.items head → whole ≡ false → ((all : List Entry) → IsReadableLog head.ledger_size head.ledger all → HasLog topic all db → IsTrue whole) → AreSorted sides → NoneStands name db
-  none_logged head whole (row, one, says) unread reads sorted kept back named stands =
+  pub none_logged : (head : Head) (front : Front) (whole : Bool) → IsHeadIn sides.topics.items head → IsFrontIn sides.retentions.items front → whole ≡ false → ((all : List Entry) → IsReadableLog head.ledger_size head.ledger all → HasLog topic front.gone all db → IsTrue whole)
+      → AreSorted sides → NoneStands name db
+  none_logged head front whole (row, one, says) shown unread reads sorted kept back named stands =
       let its = its_rows kept name topic sides db is back named stands these sorted in
       let h = has_head kept topic sides.topics.items back its.0.topics in
       let said = one_head sides.topics.items row h.0 head kept h.1 one says in
       let read : IsReadableLog head.ledger_size head.ledger kept.log =
       subst (λ n. IsReadableLog n head.ledger kept.log) (sym said.0) (subst (λ n. IsReadableLog kept.ledger_size n kept.log) (sym said.1) (readable_log kept back)) in
-      true≢false (sym (reads kept.log read its.1) ∙ unread)
+      let gone : kept.gone ≡ front.gone = sym (same_gone front shown sorted kept back named stands) in
+      true≢false (sym (reads kept.log read (subst (λ n. HasLog topic n kept.log db) gone its.1)) ∙ unread)
 
   -- and its rows are those that were read
-  pub none_whole : (log : List Entry) → HasLog topic log db → ((kept : KeptTopic) → IsReadBack kept → kept.name ≡ name → AreRowsOf kept (rows_with (topic_text name) log sides) → ⊥) → AreSorted sides → NoneStands name db
-  none_whole log has none sorted kept back named stands =
+  pub none_whole : (front : Front) (log : List Entry) → IsFrontIn sides.retentions.items front → HasLog topic front.gone log db
+      → ((kept : KeptTopic) → IsReadBack kept → kept.name ≡ name → AreRowsOf kept (rows_with (topic_text name) (record { gone = front.gone; log = log }) sides) → ⊥) → AreSorted sides → NoneStands name db
+  none_whole front log shown has none sorted kept back named stands =
       let its = its_rows kept name topic sides db is back named stands these sorted in
-      let same : kept.log ≡ log = one_log topic kept.log log (IsPermutation-trans _ _ _ its.1 (IsPermutation-sym _ _ has)) in
-      none kept back named (subst (λ t. AreRowsOf kept (rows_with t log sides)) is (subst (λ l. AreRowsOf kept (rows_with topic l sides)) same its.0))
+      let gone : kept.gone ≡ front.gone = sym (same_gone front shown sorted kept back named stands) in
+      let here : HasLog topic front.gone kept.log db = subst (λ n. HasLog topic n kept.log db) gone its.1 in
+      let same : kept.log ≡ log = one_log topic front.gone kept.log log (IsPermutation-trans _ _ _ here (IsPermutation-sym _ _ has)) in
+      let spans : span_of kept ≡ record { gone = front.gone; log = log } = λ i. record { gone = gone i; log = same i } in
+      none kept back named (subst (λ t. AreRowsOf kept (rows_with t (record { gone = front.gone; log = log }) sides)) is (subst (λ (span : Span). AreRowsOf kept (rows_with topic span sides)) spans its.0))
 
 -- a topic without rows has no snapshot that stands
 nothing_stands : (kept : KeptTopic) (db : Trees) → HasNone (topic_text kept.name) db → Stands kept db → ⊥

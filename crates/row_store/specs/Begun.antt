@@ -6,30 +6,41 @@ use Rattle.position_core.specs.declared.message.Entry.{Entry}
 use Rattle.position_core.specs.TopicName.{same_topic, topic_text}
 use Rattle.sqlite.specs.Tree.{Trees}
 use Rattle.delivery_machine.specs.Places.{KeptTopic}
-use Rattle.row_forms.specs.Forms.{entry_rows}
+use Rattle.row_forms.specs.Forms.{Span, entry_rows}
 use Rattle.row_tables.specs.declared.side_rows.SideRows.{SideRows}
 use Rattle.row_tables.specs.Pieces.{is_within, messages_of}
 use Rattle.row_tables.specs.Sides.{AreSidesOf, AreSorted}
+use Rattle.row_reading.specs.declared.retention_rows.Front.{Front}
 use Rattle.row_reading.specs.declared.topic_row.Head.{Head}
 use Rattle.row_store.specs.declared.pace.Pace.{Pace}
 use Rattle.row_store.specs.declared.pace.Pace.TheVariants.{AtOnce, Pieces}
 
--- what was read of a topic: the rows beside its messages, what its own row says, and its first messages
+-- what was read of a topic: the rows beside its messages, what its own row says, how many messages are gone and its rule, and the first
+-- of those that stay
 pub record ReadTo : Type 0 where
   pub name : TopicName
   pub sides : SideRows
   pub head : Head
+  pub front : Front
   pub log : List Entry
 
--- the messages of the topic below this place are those of the log
-abbrev pub HasLogBelow : List ℕ → ℕ → List Entry → Trees → Type 0
-HasLogBelow topic end log db = IsPermutation (entry_rows topic 0 log) (filter (is_within 0 end) (messages_of topic db))
+-- the messages of the topic from the first place that is not gone on, and below the other, are those of the log
+abbrev pub HasLogBelow : List ℕ → ℕ → ℕ → List Entry → Trees → Type 0
+HasLogBelow topic gone end log db = IsPermutation (entry_rows topic gone log) (filter (is_within gone end) (messages_of topic db))
+
+-- the messages of the topic from the span's first place on, as far as it reaches, are those of the span
+abbrev pub HasSpan : List ℕ → Span → Trees → Type 0
+HasSpan topic span db = HasLogBelow topic span.gone (span.gone + length span.log) span.log db
+
+-- the messages that were read of it
+abbrev pub span_to : ReadTo → Span
+span_to r = record { gone = r.front.gone; log = r.log }
 
 -- what was read of it stands
 pub record StandsSoFar (db : Trees) (r : ReadTo) : Type 0 where
   pub sides : AreSidesOf (topic_text r.name) db r.sides
   pub sorted : AreSorted r.sides
-  pub below : HasLogBelow (topic_text r.name) (length r.log) r.log db
+  pub below : HasSpan (topic_text r.name) (span_to r) db
 
 -- a topic that is being read, and how many of its messages were
 pub record Begun : Type 0 where

@@ -29,13 +29,20 @@ abbrev pub messages_of : Write → ℕ
 messages_of w = length w.snapshot.log - w.change.from
 
 abbrev pub inserted_by : Write → ℕ
-inserted_by w = messages_of w + own_coming w + coming w.change.subs + coming w.change.acks + coming w.change.deads + coming w.change.counts
+inserted_by w =
+    messages_of w + own_coming w + coming w.change.subs + coming w.change.acks + coming w.change.deads + coming w.change.counts + coming w.change.authors
+    + coming w.change.retentions
 
 abbrev pub updated_by : Write → ℕ
-updated_by w = own_changing w + changing w.change.subs + changing w.change.acks + changing w.change.deads + changing w.change.counts
+updated_by w =
+    own_changing w + changing w.change.subs + changing w.change.acks + changing w.change.deads + changing w.change.counts + changing w.change.authors
+    + changing w.change.retentions
 
+-- the messages that went, and rows of the other tables
 abbrev pub deleted_by : Write → ℕ
-deleted_by w = going w.change.subs + going w.change.acks + going w.change.deads + going w.change.counts
+deleted_by w =
+    w.change.went + going w.change.subs + going w.change.acks + going w.change.deads + going w.change.counts + going w.change.authors
+    + going w.change.retentions
 
 -- as far as a counter goes
 abbrev pub counted : ℕ → ℕ
@@ -58,6 +65,10 @@ with_difference w d = record {
   deleted = counted (w.deleted + going d);
   cleared = w.cleared;
 }
+
+-- counts, with those of the messages that come and go
+abbrev pub with_messages : Written → Write → Written
+with_messages w write = record w { inserted = counted (w.inserted + messages_of write); deleted = counted (w.deleted + write.change.went) }
 
 -- counts, with that of a topic's own row
 abbrev pub with_own : Written → Write → Written

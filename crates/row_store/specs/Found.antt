@@ -6,17 +6,17 @@ use Rattle.position_core.specs.declared.message.Entry.{Entry}
 use Rattle.position_core.specs.TopicName.{topic_text}
 use Rattle.delivery_machine.specs.Places.{MayRestart}
 use Rattle.row_forms.specs.Cells.{ENTRY}
-use Rattle.row_forms.specs.Forms.{entry_rows}
+use Rattle.row_forms.specs.Forms.{Span, entry_rows}
 use Rattle.row_forms.specs.Standing.{HasIn, HasNone, Stands}
 use Rattle.row_reading.specs.Reading.{MayBeTold}
 use Rattle.row_store.specs.declared.finding.Found.{Found}
 use Rattle.row_store.specs.declared.finding.Found.TheVariants.{Nothing, BadRows, Whole, More}
-use Rattle.row_store.specs.Begun.{HasLogBelow, StandsSoFar}
+use Rattle.row_store.specs.Begun.{HasSpan, StandsSoFar}
 use Rattle.row_store.specs.Keeping.{NoneStands}
 
--- the topic's messages are those of the log
-abbrev pub HasLog : List ℕ → List Entry → Trees → Type 0
-HasLog topic log db = HasIn ENTRY topic (entry_rows topic 0 log) db
+-- the topic's messages are those of the log, where so many are gone
+abbrev pub HasLog : List ℕ → ℕ → List Entry → Trees → Type 0
+HasLog topic gone log db = HasIn ENTRY topic (entry_rows topic gone log) db
 
 -- the topic has no rows, or rows of which no snapshot is read, or those of a snapshot, or what was read so far
 abbrev pub IsFound : TopicName → Trees → Found → Type 0
@@ -41,4 +41,4 @@ CountsTo count (More r) = length r.log ≡ count
 
 -- 256 messages of the topic stand, or more
 abbrev pub HasMany : TopicName → Trees → Type 0
-HasMany name db = (log : List Entry) × (256 ≤ length log) × HasLogBelow (topic_text name) (length log) log db
+HasMany name db = (span : Span) × (256 ≤ length span.log) × HasSpan (topic_text name) span db

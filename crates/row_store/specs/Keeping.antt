@@ -5,6 +5,7 @@ use Rattle.std.specs.Str.{bytes_eq}
 use Rattle.position_core.specs.declared.topic_name.TopicName.{TopicName}
 use Rattle.position_core.specs.TopicName.{same_topic, topic_text}
 use Rattle.sqlite_trees.specs.declared.store.Store.{Ghosts}
+use Rattle.sqlite.specs.Schema.{Schema}
 use Rattle.sqlite.specs.Tree.{Trees}
 use Rattle.sqlite.specs.Effect.{Database}
 use Rattle.sqlite.specs.State.{State, HasCleanDisk}
@@ -12,11 +13,11 @@ use Rattle.sqlite.specs.Held.{Held, state}
 use Rattle.delivery_machine.specs.State.{State as MachineState}
 use Rattle.delivery_machine.specs.Snapshot.{snapshot_of}
 use Rattle.delivery_machine.specs.Places.{KeptTopic, snapshot_in}
-use Rattle.row_forms.specs.Cells.{TOPIC, ENTRY, SUB, ACK, DEAD}
+use Rattle.row_forms.specs.Cells.{TOPIC, ENTRY, SUB, ACK, DEAD, REDELIVERY}
 use Rattle.row_forms.specs.Forms.{AreRowsOf, TopicRows}
 use Rattle.row_forms.specs.Standing.{HasIn, HasNone, Stands, KeepsOthers}
-use Rattle.row_forms.specs.Schema.{schema_0, schema_6, schema_7}
-use Rattle.row_tables.specs.Ready.{BecomesVersion2, IsReady, IsBlank, IsVersion1}
+use Rattle.row_forms.specs.Schema.{schema_0, schema_9}
+use Rattle.row_tables.specs.Ready.{IsReady, IsBlank, IsRaised, IsVersion1, IsVersion2}
 use Rattle.row_reading.specs.Reading.{IsReadBack}
 use Rattle.stored_cell.specs.Noted.{Noted, ToStore, GoesOn, all_rows, is_shown}
 use Rattle.row_store.specs.declared.written.Written.{Written}
@@ -31,7 +32,7 @@ pub record Keeping (S : Type 0) : Type 0 where
   pub written : Written
   pub reading : Option Begun
 
--- the topic's rows in a database of version 1 are these; there is no table of counts
+-- the topic's rows in a database of version 1 are these; there is no table of counts, of producers or of what is gone
 pub record HasInVersion1 (topic : List ℕ) (rows : TopicRows) (db : Trees) : Type 0 where
   pub topics : HasIn TOPIC topic rows.topics db
   pub entries : HasIn ENTRY topic rows.entries db
@@ -39,6 +40,19 @@ pub record HasInVersion1 (topic : List ℕ) (rows : TopicRows) (db : Trees) : Ty
   pub acks : HasIn ACK topic rows.acks db
   pub deads : HasIn DEAD topic rows.deads db
   pub counts : rows.counts ≡ []
+  pub authors : rows.authors ≡ []
+  pub retentions : rows.retentions ≡ []
+
+-- those in a database of version 2, which has a table of counts
+pub record HasInVersion2 (topic : List ℕ) (rows : TopicRows) (db : Trees) : Type 0 where
+  pub topics : HasIn TOPIC topic rows.topics db
+  pub entries : HasIn ENTRY topic rows.entries db
+  pub subs : HasIn SUB topic rows.subs db
+  pub acks : HasIn ACK topic rows.acks db
+  pub deads : HasIn DEAD topic rows.deads db
+  pub counts : HasIn REDELIVERY topic rows.counts db
+  pub authors : rows.authors ≡ []
+  pub retentions : rows.retentions ≡ []
 
 -- what a crash leaves now is exactly what stands
 abbrev pub IsSettled : State → Type 0
@@ -82,27 +96,34 @@ stored_in s kept = record { kept = kept; rows = all_rows s.committed.trees; clea
 abbrev pub StoresState : MachineState → Trees → Trees → Type 0
 StoresState s old new = (kept : KeptTopic) × (snapshot_in kept ≡ snapshot_of s) × StoresAll (kept ∷ []) old new
 
--- of a database of version 1, this is what it became as version 2
-abbrev pub IsVersion2Of : Trees → Trees → Type 0
-IsVersion2Of was db =
-    let before : Database = record { schema = schema_6; trees = was } in IsVersion1 before × BecomesVersion2 before (record { schema = schema_7; trees = db })
+-- of a database of an earlier version, this is what it became as a later one
+abbrev pub IsRaisedFrom : Trees → Trees → Type 0
+IsRaisedFrom was db = (first later : Schema) × IsRaised (record { schema = first; trees = was }) (record { schema = later; trees = db })
 
--- it is what it was, or was of version 1 and became one of version 2
+-- it is what it was, or was of an earlier version and became one of a later
 abbrev pub IsTakenFrom : Trees → Trees → Type 0
-IsTakenFrom was db = (db ≡ was) ⊎ IsVersion2Of was db
+IsTakenFrom was db = (db ≡ was) ⊎ IsRaisedFrom was db
 
--- what a start may leave: what there was before, what was committed, as it was or become version 2, or, where there was no table, the
--- tables with no rows
+-- what a start may leave: what there was before, what was committed, as it was or become a later version, or, where there was no table,
+-- the tables with no rows
 abbrev pub MayLeave : State → Trees → Type 0
-MayLeave old db = old.may_leave db ⊎ (IsTakenFrom old.committed.trees db ⊎ ((old.now.schema ≡ schema_0) × IsBlank (record { schema = schema_7; trees = db })))
+MayLeave old db = old.may_leave db ⊎ (IsTakenFrom old.committed.trees db ⊎ ((old.now.schema ≡ schema_0) × IsBlank (record { schema = schema_9; trees = db })))
 
--- the topic's rows in a database of version 1 are those of what is kept of it, which counts nothing
+-- the topic's rows in a database of version 1 are those of what is kept of it, which counts nothing, and nothing of which is gone
 abbrev pub StandsInVersion1 : KeptTopic → Trees → Type 0
 StandsInVersion1 kept db = (rows : TopicRows) × AreRowsOf kept rows × HasInVersion1 (topic_text kept.name) rows db
 
+-- those in a database of version 2 are, and nothing is gone
+abbrev pub StandsInVersion2 : KeptTopic → Trees → Type 0
+StandsInVersion2 kept db = (rows : TopicRows) × AreRowsOf kept rows × HasInVersion2 (topic_text kept.name) rows db
+
+-- what is kept of the topic stands in the database, of whichever version that is
+abbrev pub StandsInAny : KeptTopic → Database → Type 0
+StandsInAny kept db = (IsVersion1 db × StandsInVersion1 kept db.trees) ⊎ (IsVersion2 db × StandsInVersion2 kept db.trees) ⊎ (IsReady db × Stands kept db.trees)
+
 -- every topic that stood stands still, and no other
 abbrev pub UpgradesKeepTopics : Type 0
-UpgradesKeepTopics = (kept : KeptTopic) (was db : Trees) → IsVersion2Of was db → StandsInVersion1 kept was ↔ Stands kept db
+UpgradesKeepTopics = (kept : KeptTopic) (old new : Database) → IsRaised old new → StandsInAny kept old ↔ StandsInAny kept new
 
 -- what is known of all topics but this one
 abbrev pub known_without : TopicName → List KeptTopic → List KeptTopic

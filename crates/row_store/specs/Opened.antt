@@ -39,7 +39,7 @@ StandsIn l = (db : Trees) × (l.rows.rows ≡ all_rows db) × Stands l.stored.ke
 abbrev pub count_of : List ℕ → TopicRows → ℕ
 count_of topic all =
     length (of_topic topic all.topics) + length (of_topic topic all.entries) + length (of_topic topic all.subs) + length (of_topic topic all.acks)
-    + length (of_topic topic all.deads) + length (of_topic topic all.counts)
+    + length (of_topic topic all.deads) + length (of_topic topic all.counts) + length (of_topic topic all.authors) + length (of_topic topic all.retentions)
 
 -- something of the topic is stored; or the rows that were noted have none of it, where the database was open and the disk clean
 unfoldable pub has_origin : Noted → Option Noted → TopicName → Bool

@@ -8,8 +8,9 @@ ghost use Rattle.sqlite.specs.State.{HasCleanDisk, KeepsCommit, Survives};
 ghost use Rattle.sqlite.specs.Held.{state};
 ghost use Rattle.row_tables.specs.Ready.{IsReady};
 ghost use Rattle.row_tables.specs.Sides.{AreSidesOf, AreSorted};
+ghost use Rattle.row_reading.specs.declared.retention_rows.Front.{Front};
 ghost use Rattle.row_reading.specs.declared.topic_row.Head.{Head};
-ghost use Rattle.row_reading.specs.Reading.{IsHead, IsHeadIn, IsLedgerSize, IsReadableLog};
+ghost use Rattle.row_reading.specs.Reading.{IsFrontIn, IsHead, IsHeadIn, IsLedgerSize, IsReadableLog};
 ghost use Rattle.row_store.specs.Begun.{StandsSoFar, read_of};
 ghost use Rattle.row_store.specs.Found.{CountsTo, HasLog, IsFound, IsToldOf};
 
@@ -37,14 +38,14 @@ impl Model for Reading {
     ghost use Rattle.std.specs.Prelude.{◌≡◌, string_bytes};
     ghost use Rattle.position_core.specs.declared.message.Entry.{Entry};
     ghost use Rattle.position_core.specs.TopicName.{topic_text};
-    ghost use Rattle.row_reading.specs.Reading.{IsHeadIn};
+    ghost use Rattle.row_reading.specs.Reading.{IsFrontIn, IsHeadIn};
     ghost use Rattle.row_store.specs.Begun.{ReadTo};
 
     ghost Value = { ReadTo };
 
-    ghost view = { λ r. record { name = r.name; sides = r.sides; head = r.reader.head; log = r.reader.log } };
+    ghost view = { λ r. record { name = r.name; sides = r.sides; head = r.reader.head; front = r.reader.front; log = r.reader.log } };
 
-    ghost invariant = { λ r. (string_bytes r.topic ≡ topic_text r.name) × IsHeadIn r.sides.topics.items r.reader.head };
+    ghost invariant = { λ r. (string_bytes r.topic ≡ topic_text r.name) × IsHeadIn r.sides.topics.items r.reader.head × IsFrontIn r.sides.retentions.items r.reader.front };
 }
 
 /// The name, with its text.
@@ -65,7 +66,7 @@ impl Reading {
     /// Begins with the rows beside the topic's messages. None where they are not those of a topic.
     fn of(alloc: Global, name: &TopicName, sides: SideRows) -> Result<Option<Reading>, AllocError>
         ensures begun { IfOk result (λ begun. IfSome begun (λ r. (r.name ≡ name.now) × (r.sides ≡ sides) × (r.log ≡ []))) }
-        ensures all_read { IfOk result (λ begun. IfNone begun ((row : Row) (head : Head) → sides.topics.items ≡ row ∷ [] → IsHead row head → IsLedgerSize head.ledger_size → ⊥)) }
+        ensures all_read { IfOk result (λ begun. IfNone begun ((row : Row) (head : Head) (front : Front) → sides.topics.items ≡ row ∷ [] → IsHead row head → IsLedgerSize head.ledger_size → IsFrontIn sides.retentions.items front → ⊥)) }
     {
         let Some(reader) = LogReader::of(alloc, &sides) else {
             drop(sides);
@@ -123,10 +124,11 @@ fn found_of(
     reader: LogReader,
     whole: bool,
 ) -> Result<Found, Stop>
-    requires { IsHeadIn sides.now.topics.items reader.head }
+    requires head { IsHeadIn sides.now.topics.items reader.head }
+    requires front { IsFrontIn sides.now.retentions.items reader.front }
     ensures told { IfOk result (IsToldOf name.now) }
     ensures count { IfOk result (λ found. (count : ℕ) → CountsTo count found) }
-    ensures found { (db : Trees) → AreSidesOf (topic_text name.now) db sides.now → AreSorted sides.now → (IsTrue whole → HasLog (topic_text name.now) reader.log db) → ((all : List Entry) → IsReadableLog reader.head.ledger_size reader.head.ledger all → HasLog (topic_text name.now) all db → IsTrue whole) → IfOk result (IsFound name.now db) }
+    ensures found { (db : Trees) → AreSidesOf (topic_text name.now) db sides.now → AreSorted sides.now → (IsTrue whole → HasLog (topic_text name.now) reader.front.gone reader.log db) → ((all : List Entry) → IsReadableLog reader.head.ledger_size reader.head.ledger all → HasLog (topic_text name.now) reader.front.gone all db → IsTrue whole) → IfOk result (IsFound name.now db) }
 {
     if !whole {
         drop(reader);
@@ -201,7 +203,7 @@ fn begin<S: Alter>(
     let sides = read_sides(tx, topic)?;
     if sides.is_empty() {
         drop(sides);
-        if entries::has_others(tx, topic, 0)? {
+        if entries::has_others(tx, topic, 0, 0)? {
             return Ok(Found::BadRows);
         }
         return Ok(Found::Nothing);

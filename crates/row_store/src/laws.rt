@@ -15,7 +15,7 @@ pub fn what_rests_is_found()
     ensures { WhatRestsIsFound }
 {}
 
-/// A database that became one of the last version has every topic that it had, and no other.
+/// A database that became one of a later version has every topic that it had, and no other.
 pub fn upgrades_keep_topics()
     ensures { UpgradesKeepTopics }
 {}

@@ -1,5 +1,5 @@
 // What has to be written for snapshots to stand, before anything is.
-ghost use Rattle.std.specs.Prelude.{◌≡◌, All, Contains, false, map, IfOk, IfErr, IfSome, IsTrue, OnOk, string_bytes};
+ghost use Rattle.std.specs.Prelude.{◌≡◌, ◌⊎◌, ◌<◌, ◌+◌, All, Contains, false, length, map, IfOk, IfErr, IfSome, IsTrue, OnOk, string_bytes};
 ghost use Rattle.std.specs.List.{list_any};
 ghost use Rattle.std.specs.Str.{bytes_eq};
 ghost use Rattle.sqlite.specs.Tree.{Trees};
@@ -7,6 +7,8 @@ ghost use Rattle.position_core.specs.TopicName.{same_topic, topic_text};
 ghost use Rattle.position_core.specs.declared.fault.Fault.TheVariants.{NoMemory};
 ghost use Rattle.delivery_machine.specs.Places.{KeptTopic};
 ghost use Rattle.stored_cell.specs.Noted.{GoesOn};
+ghost use Rattle.row_forms.specs.Forms.{span_of};
+ghost use Rattle.row_forms.specs.Parts.{IsLater};
 ghost use Rattle.row_forms.specs.Standing.{Stands};
 ghost use Rattle.row_rounds.specs.declared.saving.Write.{Write};
 ghost use Rattle.row_rounds.specs.Rounds.{AreApart, Fits, IsNamed, name_of};
@@ -75,9 +77,10 @@ fn plan_whole(alloc: Global, snapshot: Snapshot) -> Result<Write, Fault>
     }
 }
 
-/// What differs from the snapshot that stands.
-fn plan_over(alloc: Global, snapshot: Snapshot, base: &Snapshot) -> Result<Write, Fault>
-    requires { GoesOn base.now snapshot }
+/// What differs from a snapshot that stands, where a message of that stays.
+fn plan_between(alloc: Global, snapshot: Snapshot, base: &Snapshot) -> Result<Write, Fault>
+    requires name { snapshot.name ≡ base.now.name }
+    requires later { IsLater (span_of base.now) (span_of snapshot) }
     ensures snapshot { IfOk result (λ write. write.snapshot ≡ snapshot) }
     ensures named { IfOk result IsNamed }
     ensures fits { IfOk result (λ write. (db : Trees) → Stands base.now db → Fits db write) }
@@ -102,6 +105,32 @@ fn plan_over(alloc: Global, snapshot: Snapshot, base: &Snapshot) -> Result<Write
             drop(snapshot);
             Err(Fault::NoMemory)
         }
+    }
+}
+
+/// Whether a message of the snapshot that stands stays, or none of them went. Where all went, a caller's word had made more
+/// durable than was stored.
+fn stays(base: &Snapshot, snapshot: &Snapshot) -> bool
+    requires { GoesOn base.now snapshot.now }
+    ensures later { IsTrue result → IsLater (span_of base.now) (span_of snapshot.now) }
+    ensures all { (snapshot.now.gone ≡ base.now.gone) ⊎ (snapshot.now.gone < base.now.gone + length base.now.log) → IsTrue result }
+{
+    let went = snapshot.gone() - base.gone();
+    went == 0 || went < base.log().count() as u64
+}
+
+/// What differs from the snapshot that stands; or all rows of the topic, where none of its messages stays.
+fn plan_over(alloc: Global, snapshot: Snapshot, base: &Snapshot) -> Result<Write, Fault>
+    requires { GoesOn base.now snapshot }
+    ensures snapshot { IfOk result (λ write. write.snapshot ≡ snapshot) }
+    ensures named { IfOk result IsNamed }
+    ensures fits { IfOk result (λ write. (db : Trees) → Stands base.now db → Fits db write) }
+    ensures err { IfErr result (λ fault. fault ≡ NoMemory) }
+{
+    if stays(base, &snapshot) {
+        plan_between(alloc, snapshot, base)
+    } else {
+        plan_whole(alloc, snapshot)
     }
 }
 

@@ -5,8 +5,8 @@ ghost use Rattle.sqlite.specs.State.{HasCleanDisk, KeepsCommit, Survives};
 ghost use Rattle.sqlite.specs.Held.{state};
 ghost use Rattle.row_tables.specs.Ready.{IsReady};
 ghost use Rattle.row_tables.specs.Goes.{Goes, Stays};
-ghost use Rattle.row_reading.specs.Reading.{IsReadableLog};
-ghost use Rattle.row_store.specs.Begun.{HasLogBelow};
+ghost use Rattle.row_reading.specs.Reading.{IsReadableLog, span_read};
+ghost use Rattle.row_store.specs.Begun.{HasLogBelow, HasSpan};
 ghost use Rattle.row_store.specs.Found.{HasLog};
 
 use row_reading::LogReader;
@@ -61,12 +61,13 @@ fn read_piece<S: Alter>(
     ensures done { HasCleanDisk (state S.Store tx.new.conn.now) → OnOk result (Goes Stays (state S.Store tx.old.conn.now) (state S.Store tx.new.conn.now)) }
     ensures kept { HasCleanDisk (state S.Store tx.new.conn.now) → IsTrue (state S.Store tx.old.conn.now).in_transaction → KeepsCommit (state S.Store tx.old.conn.now) (state S.Store tx.new.conn.now) }
     ensures head { reader.new.head ≡ reader.old.head }
+    ensures front { reader.new.front ≡ reader.old.front }
     ensures full { IfOk result (λ piece. piece ≡ Piece.Full → length reader.new.log ≡ length reader.old.log + 256) }
     ensures last { IfOk result (λ piece. piece ≡ Piece.Last → length reader.new.log ≢ length reader.old.log + 256) }
-    ensures rows { HasCleanDisk (state S.Store tx.new.conn.now) → IfOk result (λ piece. piece ≢ Piece.Bad → IsReady (state S.Store tx.old.conn.now).now → HasLogBelow topic.now (length reader.old.log) reader.old.log (state S.Store tx.old.conn.now).now.trees → HasLogBelow topic.now (length reader.old.log + 256) reader.new.log (state S.Store tx.old.conn.now).now.trees) }
-    ensures bad { HasCleanDisk (state S.Store tx.new.conn.now) → IfOk result (λ piece. piece ≡ Piece.Bad → IsReady (state S.Store tx.old.conn.now).now → HasLogBelow topic.now (length reader.old.log) reader.old.log (state S.Store tx.old.conn.now).now.trees → (all : List Entry) → IsReadableLog reader.old.head.ledger_size reader.old.head.ledger all → HasLog topic.now all (state S.Store tx.old.conn.now).now.trees → ⊥) }
+    ensures rows { HasCleanDisk (state S.Store tx.new.conn.now) → IfOk result (λ piece. piece ≢ Piece.Bad → IsReady (state S.Store tx.old.conn.now).now → HasSpan topic.now (span_read reader.old) (state S.Store tx.old.conn.now).now.trees → HasLogBelow topic.now reader.old.front.gone (reader.old.front.gone + length reader.old.log + 256) reader.new.log (state S.Store tx.old.conn.now).now.trees) }
+    ensures bad { HasCleanDisk (state S.Store tx.new.conn.now) → IfOk result (λ piece. piece ≡ Piece.Bad → IsReady (state S.Store tx.old.conn.now).now → HasSpan topic.now (span_read reader.old) (state S.Store tx.old.conn.now).now.trees → (all : List Entry) → IsReadableLog reader.old.head.ledger_size reader.old.head.ledger all → HasLog topic.now reader.old.front.gone all (state S.Store tx.old.conn.now).now.trees → ⊥) }
 {
-    let from = reader.count() as u64;
+    let from = reader.gone() + reader.count() as u64;
     let rows = entries::read_within(tx, topic, from, from + PIECE)?;
     if !reader.take(alloc, &rows)? {
         return Ok(Piece::Bad);
@@ -90,16 +91,18 @@ pub fn read_more<S: Alter>(
     ensures done { HasCleanDisk (state S.Store tx.new.conn.now) → OnOk result (Goes Stays (state S.Store tx.old.conn.now) (state S.Store tx.new.conn.now)) }
     ensures kept { HasCleanDisk (state S.Store tx.new.conn.now) → IsTrue (state S.Store tx.old.conn.now).in_transaction → KeepsCommit (state S.Store tx.old.conn.now) (state S.Store tx.new.conn.now) }
     ensures head { reader.new.head ≡ reader.old.head }
+    ensures front { reader.new.front ≡ reader.old.front }
     ensures full { IfOk result (λ end. IfNone end (length reader.new.log ≡ length reader.old.log + 256)) }
-    ensures more { HasCleanDisk (state S.Store tx.new.conn.now) → IfOk result (λ end. IfNone end (IsReady (state S.Store tx.old.conn.now).now → HasLogBelow topic.now (length reader.old.log) reader.old.log (state S.Store tx.old.conn.now).now.trees → HasLogBelow topic.now (length reader.new.log) reader.new.log (state S.Store tx.old.conn.now).now.trees)) }
-    ensures whole { HasCleanDisk (state S.Store tx.new.conn.now) → IfOk result (λ end. IfSome end (λ whole. IsTrue whole → IsReady (state S.Store tx.old.conn.now).now → HasLogBelow topic.now (length reader.old.log) reader.old.log (state S.Store tx.old.conn.now).now.trees → HasLog topic.now reader.new.log (state S.Store tx.old.conn.now).now.trees)) }
-    ensures all_read { HasCleanDisk (state S.Store tx.new.conn.now) → IfOk result (λ end. IfSome end (λ whole. IsReady (state S.Store tx.old.conn.now).now → HasLogBelow topic.now (length reader.old.log) reader.old.log (state S.Store tx.old.conn.now).now.trees → (all : List Entry) → IsReadableLog reader.old.head.ledger_size reader.old.head.ledger all → HasLog topic.now all (state S.Store tx.old.conn.now).now.trees → IsTrue whole)) }
+    ensures more { HasCleanDisk (state S.Store tx.new.conn.now) → IfOk result (λ end. IfNone end (IsReady (state S.Store tx.old.conn.now).now → HasSpan topic.now (span_read reader.old) (state S.Store tx.old.conn.now).now.trees → HasSpan topic.now (span_read reader.new) (state S.Store tx.old.conn.now).now.trees)) }
+    ensures whole { HasCleanDisk (state S.Store tx.new.conn.now) → IfOk result (λ end. IfSome end (λ whole. IsTrue whole → IsReady (state S.Store tx.old.conn.now).now → HasSpan topic.now (span_read reader.old) (state S.Store tx.old.conn.now).now.trees → HasLog topic.now reader.new.front.gone reader.new.log (state S.Store tx.old.conn.now).now.trees)) }
+    ensures all_read { HasCleanDisk (state S.Store tx.new.conn.now) → IfOk result (λ end. IfSome end (λ whole. IsReady (state S.Store tx.old.conn.now).now → HasSpan topic.now (span_read reader.old) (state S.Store tx.old.conn.now).now.trees → (all : List Entry) → IsReadableLog reader.old.head.ledger_size reader.old.head.ledger all → HasLog topic.now reader.old.front.gone all (state S.Store tx.old.conn.now).now.trees → IsTrue whole)) }
 {
-    let end = reader.count() as u64 + PIECE;
+    let from = reader.gone();
+    let end = from + reader.count() as u64 + PIECE;
     match read_piece(alloc, tx, topic, reader)? {
         Piece::Full => Ok(None),
         Piece::Last => {
-            let others = entries::has_others(tx, topic, end)?;
+            let others = entries::has_others(tx, topic, from, end)?;
             Ok(Some(!others))
         }
         Piece::Bad => Ok(Some(false)),

@@ -143,7 +143,7 @@ impl<S: Alter, J: Naming> Keeper<S, J> {
             Ok(part) => part,
             Err(fault) => return Err(fault),
         };
-        let count = part.snapshot().log().count() as u64;
+        let count = part.length();
         match self.store_one(part) {
             Ok(kept) => Ok(cell.confirm_all(kept, count)),
             Err(fault) => Err(fault),

@@ -1,6 +1,6 @@
 // How much a store writes.
 ghost use Rattle.std.specs.Prelude.{◌≡◌};
-ghost use Rattle.row_store.specs.Counting.{own_changing, own_coming, with_difference, with_own, with_write, written_by};
+ghost use Rattle.row_store.specs.Counting.{own_changing, own_coming, with_difference, with_messages, with_own, with_write, written_by};
 
 use row_forms::Difference;
 use row_rounds::Write;
@@ -78,16 +78,30 @@ impl Written {
         self.cleared = self.cleared.saturating_add(comes);
     }
 
+    /// The messages that come and those that go.
+    fn count_messages(&mut self, write: &Write)
+        ensures { self.new ≡ with_messages self.old write.now }
+    {
+        let messages = write
+            .snapshot
+            .log()
+            .count()
+            .saturating_sub(write.change.from);
+        self.inserted = self.inserted.saturating_add(messages as u64);
+        self.deleted = self.deleted.saturating_add(write.change.went);
+    }
+
     fn count(&mut self, write: &Write)
         ensures { self.new ≡ with_write self.old write.now }
     {
         let change = &write.change;
-        let messages = write.snapshot.log().count().saturating_sub(change.from);
-        self.inserted = self.inserted.saturating_add(messages as u64);
+        self.count_messages(write);
         self.count_own(write);
         self.count_table(&change.subs);
         self.count_table(&change.acks);
         self.count_table(&change.deads);
         self.count_table(&change.counts);
+        self.count_table(&change.authors);
+        self.count_table(&change.retentions);
     }
 }

@@ -3,6 +3,7 @@ pub mod TableLemmas
 pub mod StatementLemmas
 pub mod PartLemmas
 pub mod PerTable
+pub mod CutLemmas
 pub mod ReadLemmas
 pub mod CommitLemmas
 pub mod PieceLemmas

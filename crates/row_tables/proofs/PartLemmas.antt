@@ -30,17 +30,17 @@ use Rattle.sqlite.specs.Listing.{understood}
 use Rattle.sqlite.specs.State.{State, mode_of, ExecutesInside}
 use Rattle.sqlite.proofs.Callers.{IsPlain, command_of, statement_of, runs_as}
 use Rattle.sqlite_value.specs.Keys.{plain as plain_order}
-use Rattle.row_forms.specs.Schema.{schema_7, table_of}
+use Rattle.row_forms.specs.Schema.{schema_9, table_of}
 use Rattle.row_forms.specs.Cells.{META, width, cells, bodies}
 use Rattle.row_tables.specs.Ready.{AreKeyed, IsMarked}
 use Rattle.row_tables.specs.Goes.{Goes, SpareOthers, Clears, Adds, Takes}
 use Rattle.row_tables.proofs.Texts.{alone, matching, equals}
 use Rattle.row_tables.proofs.TableLemmas.{put_adds, without_is}
-use Rattle.row_tables.proofs.StatementLemmas.{cast_null, deletes, inserts, leaves, agrees, IsTest, but_first}
+use Rattle.row_tables.proofs.StatementLemmas.{cast_null, deletes, inserts, leaves, agrees, IsTest, IsTestBy, but_first}
 
--- a database with the seven tables and these rows
-abbrev seven : Trees → Database
-seven db = record { schema = schema_7; trees = db }
+-- a database with the nine tables and these rows
+abbrev nine : Trees → Database
+nine db = record { schema = schema_9; trees = db }
 
 -- in a database that has a schema, the tables of the schema are keyed
 pub keyed_as : (schema : Schema) (db : Database) → db.schema ≡ schema → AreKeyed db → AreKeyed (record { schema = schema; trees = db.trees })
@@ -50,9 +50,9 @@ pub keyed_from : (schema : Schema) (db : Database) → db.schema ≡ schema → 
 keyed_from schema db is keyed = subst (λ s. AreKeyed (record { schema = s; trees = db.trees })) (sym is) keyed
 
 -- each table has an order of rowids, where only this one was written
-still_keyed : (tree : ℕ) (old new : Trees) → IsShaped Table (new tree) → AreKeyed (seven old) → SpareOthers tree old new → AreKeyed (seven new)
+still_keyed : (tree : ℕ) (old new : Trees) → IsShaped Table (new tree) → AreKeyed (nine old) → SpareOthers tree old new → AreKeyed (nine new)
 still_keyed tree old new here were others = all_both (λ t. IsShaped Table (old t.tree)) (λ t. t.tree ≢ tree → new t.tree ≡ old t.tree) (λ t. IsShaped Table (new t.tree))
-    (λ t was same. elim (cases_eq t.tree tree) [ inl e ↦ subst (λ n. IsShaped Table (new n)) (sym e) here | inr ne ↦ subst (IsShaped Table) (sym (same ne)) was ]) schema_7.tables were others
+    (λ t was same. elim (cases_eq t.tree tree) [ inl e ↦ subst (λ n. IsShaped Table (new n)) (sym e) here | inr ne ↦ subst (IsShaped Table) (sym (same ne)) was ]) schema_9.tables were others
 
 without_shaped : (ids : List ℤ) (rows : List Row) → IsShaped Table rows → IsShaped Table (without_all rows ids)
 without_shaped ids rows keyed = subst (IsShaped Table) (sym (without_is ids rows)) (IsShaped-filter Table _ _ keyed)
@@ -77,43 +77,43 @@ only_one row p stay rows mine one same =
       | inr e ↦ rw e (ap (λ more. x ∷ more) (none_pass xs (rw e at h)))
     ]
 
-module _ (at : ℕ) (name : List ℕ) (tree : ℕ) (columns : List Column) (key : List ℕ) (found : slice_get schema_7.tables at ≡ Some (table_of name tree columns key))
-    (none : (olds news : List Row) (mode : Mode) → works schema_7 mode.keys 0 tree olds news ≡ [])
-    (mine : (db : Trees) → AreKeyed (seven db) → IsShaped Table (db tree))
+module _ (at : ℕ) (name : List ℕ) (tree : ℕ) (columns : List Column) (key : List ℕ) (found : slice_get schema_9.tables at ≡ Some (table_of name tree columns key))
+    (none : (olds news : List Row) (mode : Mode) → works schema_9 mode.keys 0 tree olds news ≡ [])
+    (mine : (db : Trees) → AreKeyed (nine db) → IsShaped Table (db tree))
     (apart : (old new : Trees) → SpareOthers tree old new → new META ≡ old META)
     (seen : (db : Trees) → overlay db [] tree ≡ db tree) where
-  -- a DELETE by the first columns
-  deletes_rows : (sql : List ℕ) (tests : List Term) → command_of (understood schema_7 sql) ≡ Delete at (alone (matching tree tests (col 1 0 ∷ []) [])) → IsPlain (understood schema_7 sql)
-      → (values : Row) → IsTest tree tests values → (old new : State) (count : ℕ) → ExecutesInside 0 sql values old new (Ok count)
-      → Goes (λ x y. (bodies tree (y tree) ≡ filter (λ b. not (agrees values b)) (bodies tree (x tree))) × (count ≡ length (filter (agrees values) (bodies tree (x tree)))) × SpareOthers tree x y) old new
-  deletes_rows sql tests is plain values test old new count h = record {
+  -- a DELETE of the rows that pass its tests
+  pub deletes_rows : (sql : List ℕ) (tests : List Term) → command_of (understood schema_9 sql) ≡ Delete at (alone (matching tree tests (col 1 0 ∷ []) [])) → IsPlain (understood schema_9 sql)
+      → (values : Row) (passes : Row → Bool) → IsTestBy tree tests values passes → (old new : State) (count : ℕ) → ExecutesInside 0 sql values old new (Ok count)
+      → Goes (λ x y. (bodies tree (y tree) ≡ filter (λ b. not (passes b)) (bodies tree (x tree))) × (count ≡ length (filter passes (bodies tree (x tree)))) × SpareOthers tree x y) old new
+  deletes_rows sql tests is plain values passes test old new count h = record {
     running = λ _. subst IsTrue (sym h.1.mode) refl;
     shown = λ _. h.1.is_open;
     was_shown = λ _. h.1.was_open;
     committed = λ _. h.1.committed_is;
     does = λ ready.
         let q = matching tree tests (col 1 0 ∷ []) [] in
-        let w = runs_as sql values old new schema_7 ready.schema_is (Delete at (alone q)) is plain count h.0 in
-        let text = statement_of sql (understood schema_7 sql) in
+        let w = runs_as sql values old new schema_9 ready.schema_is (Delete at (alone q)) is plain count h.0 in
+        let text = statement_of sql (understood schema_9 sql) in
         let does = subst (λ s. Does old.step_limit (mode_of old) values (record old.now { schema = s }) text None (Delete at (alone q)) (Ok (w.tally, new.now))) ready.schema_is w.changed in
-        let d = deletes schema_7 at name tree columns None key (key ∷ []) (plain_order ∷ []) found none old.step_limit (mode_of old) values old.now.trees text w.tally new.now q does in
-        let was = keyed_as schema_7 old.now ready.schema_is ready.keyed in
+        let d = deletes schema_9 at name tree columns None key (key ∷ []) (plain_order ∷ []) found none old.step_limit (mode_of old) values old.now.trees text w.tally new.now q does in
+        let was = keyed_as schema_9 old.now ready.schema_is ready.keyed in
         let keyed = mine old.now.trees was in
-        let left = leaves tree tests values old.now.trees (overlay old.now.trees []) d.0 test (seen old.now.trees) keyed d.1 in
+        let left = leaves tree tests values passes old.now.trees (overlay old.now.trees []) d.0 test (seen old.now.trees) keyed d.1 in
         let shaped = subst (IsShaped Table) (sym d.2) (without_shaped (ids_of d.0) (old.now.trees tree) keyed) in (
           record {
             schema_is = d.4;
-            keyed = keyed_from schema_7 new.now d.4 (still_keyed tree old.now.trees new.now.trees shaped was d.3);
-            version_is = subst (λ rows. IsMarked 2 (λ t. rows)) (sym (apart old.now.trees new.now.trees d.3)) ready.version_is;
+            keyed = keyed_from schema_9 new.now d.4 (still_keyed tree old.now.trees new.now.trees shaped was d.3);
+            version_is = subst (λ rows. IsMarked 3 (λ t. rows)) (sym (apart old.now.trees new.now.trees d.3)) ready.version_is;
           },
           (ap (bodies tree) d.2 ∙ left.0, w.counted ∙ ap (λ o. unwrap_or o 0) d.5 ∙ left.1, d.3),
         );
   }
 
-  pub clears_rows : (sql : List ℕ) → command_of (understood schema_7 sql) ≡ Delete at (alone (matching tree (equals 0 ∷ []) (col 1 0 ∷ []) [])) → IsPlain (understood schema_7 sql)
+  pub clears_rows : (sql : List ℕ) → command_of (understood schema_9 sql) ≡ Delete at (alone (matching tree (equals 0 ∷ []) (col 1 0 ∷ []) [])) → IsPlain (understood schema_9 sql)
       → ((topic : List ℕ) → IsTest tree (equals 0 ∷ []) (Text topic ∷ [])) → (topic : List ℕ) (old new : State) (count : ℕ) → ExecutesInside 0 sql (Text topic ∷ []) old new (Ok count) → Goes (Clears tree topic) old new
   clears_rows sql is plain test topic old new count h =
-      let d = deletes_rows sql (equals 0 ∷ []) is plain (Text topic ∷ []) (test topic) old new count h in
+      let d = deletes_rows sql (equals 0 ∷ []) is plain (Text topic ∷ []) (agrees (Text topic ∷ [])) (test topic) old new count h in
       record {
         running = d.running;
         shown = d.shown;
@@ -123,10 +123,10 @@ module _ (at : ℕ) (name : List ℕ) (tree : ℕ) (columns : List Column) (key 
       }
 
   -- the DELETE of one row took one
-  pub takes_row : (sql : List ℕ) (tests : List Term) → command_of (understood schema_7 sql) ≡ Delete at (alone (matching tree tests (col 1 0 ∷ []) [])) → IsPlain (understood schema_7 sql)
+  pub takes_row : (sql : List ℕ) (tests : List Term) → command_of (understood schema_9 sql) ≡ Delete at (alone (matching tree tests (col 1 0 ∷ []) [])) → IsPlain (understood schema_9 sql)
       → (row : Row) → IsTest tree tests row → IsTrue (agrees row row) → (old new : State) (count : ℕ) → count ≡ 1 → ExecutesInside 0 sql row old new (Ok count) → Goes (Takes tree (row ∷ [])) old new
   takes_row sql tests is plain row test itself old new count one h =
-      let d = deletes_rows sql tests is plain row test old new count h in
+      let d = deletes_rows sql tests is plain row (agrees row) test old new count h in
       record {
         running = d.running;
         shown = d.shown;
@@ -142,7 +142,7 @@ module _ (at : ℕ) (name : List ℕ) (tree : ℕ) (columns : List Column) (key 
             );
       }
 
-  pub adds_row : (sql : List ℕ) (terms : List Term) (many : ℕ) → command_of (understood schema_7 sql) ≡ Insert at (Values terms many) → IsPlain (understood schema_7 sql)
+  pub adds_row : (sql : List ℕ) (terms : List Term) (many : ℕ) → command_of (understood schema_9 sql) ≡ Insert at (Values terms many) → IsPlain (understood schema_9 sql)
       → (values : Row) → value_rows (values ++ []) many (length terms / many) terms ≡ (Null ∷ values) ∷ [] → cast_all columns values ≡ values → ((id : ℤ) → cells (width tree) (Int id ∷ values) ≡ values)
       → (old new : State) (count : ℕ) → ExecutesInside 0 sql values old new (Ok count) → Goes (Adds tree (values ∷ [])) old new
   adds_row sql terms many is plain values are kept read old new count h = record {
@@ -152,17 +152,17 @@ module _ (at : ℕ) (name : List ℕ) (tree : ℕ) (columns : List Column) (key 
     committed = λ _. h.1.committed_is;
     does = λ ready.
         let command = Insert at (Values terms many) in
-        let w = runs_as sql values old new schema_7 ready.schema_is command is plain count h.0 in
-        let text = statement_of sql (understood schema_7 sql) in
+        let w = runs_as sql values old new schema_9 ready.schema_is command is plain count h.0 in
+        let text = statement_of sql (understood schema_9 sql) in
         let does = subst (λ s. Does old.step_limit (mode_of old) values (record old.now { schema = s }) text None command (Ok (w.tally, new.now))) ready.schema_is w.changed in
         let id = next_rowid (old.now.trees tree) in
-        let d = inserts schema_7 at name tree columns None key (key ∷ []) (plain_order ∷ []) found none old.step_limit (mode_of old) values old.now.trees text w.tally new.now terms many (Null ∷ values) (Int id ∷ values) are (rw (cast_null, kept) refl) does in
-        let was = keyed_as schema_7 old.now ready.schema_is ready.keyed in
+        let d = inserts schema_9 at name tree columns None key (key ∷ []) (plain_order ∷ []) found none old.step_limit (mode_of old) values old.now.trees text w.tally new.now terms many (Null ∷ values) (Int id ∷ values) are (rw (cast_null, kept) refl) does in
+        let was = keyed_as schema_9 old.now ready.schema_is ready.keyed in
         let keyed = mine old.now.trees was in (
           record {
             schema_is = d.3;
-            keyed = keyed_from schema_7 new.now d.3 (still_keyed tree old.now.trees new.now.trees (subst (IsShaped Table) (sym d.0) (IsShaped-put_row _ _ refl keyed)) was d.2);
-            version_is = subst (λ rows. IsMarked 2 (λ t. rows)) (sym (apart old.now.trees new.now.trees d.2)) ready.version_is;
+            keyed = keyed_from schema_9 new.now d.3 (still_keyed tree old.now.trees new.now.trees (subst (IsShaped Table) (sym d.0) (IsShaped-put_row _ _ refl keyed)) was d.2);
+            version_is = subst (λ rows. IsMarked 3 (λ t. rows)) (sym (apart old.now.trees new.now.trees d.2)) ready.version_is;
           },
           record {
             rows =
@@ -181,3 +181,7 @@ running_or false count e ok ended runs = absurd (let no = (ended refl).0 in cc)
 -- a number that was passed as it stands in a machine's word
 pub read_back : {n : ℤ} {m : ℕ} → n ≡ pos m → m < 2 ^ 63 → to_z w64 (of_z w64 n) ≡ pos m
 read_back {n} {m} is low = ap (λ z. to_z w64 (of_z w64 z)) is ∙ to_z_pos w64 m low
+
+-- a statement of these parameters is one of what they are
+pub as_passed : (sql : List ℕ) (values : Row) {params : Row} {old new : State} (count : ℕ) → ExecutesInside 0 sql params old new (Ok count) → params ≡ values → ExecutesInside 0 sql values old new (Ok count)
+as_passed sql values {params} {old} {new} count runs is = subst (λ (p : Row). ExecutesInside 0 sql p old new (Ok count)) is runs

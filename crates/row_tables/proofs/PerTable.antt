@@ -1,4 +1,4 @@
--- The statements on each of the six tables of topics.
+-- The statements on each of the tables of topics.
 use Rattle.std.proofs.Common.{◌≡◌, ℕ, ℤ, pos, List, [], ◌∷◌, codes, Ok, refl, subst, arith}
 use Rattle.sqlite.specs.declared.types.Value.TheVariants.{Null, Int, Text, Blob as Octets}
 use Rattle.sqlite.specs.Order.{Row}
@@ -7,9 +7,9 @@ use Rattle.sqlite.specs.State.{State, ExecutesInside}
 use Rattle.sqlite_schema.specs.declared.schema.Column.{Column}
 use Rattle.sqlite.specs.Kind.TheVariants.{Integer, Text as TextKind, Blob}
 use Rattle.row_forms.specs.Schema.{required}
-use Rattle.row_forms.specs.Cells.{TOPIC, ENTRY, SUB, ACK, DEAD, REDELIVERY}
+use Rattle.row_forms.specs.Cells.{TOPIC, ENTRY, SUB, ACK, DEAD, REDELIVERY, AUTHOR, RETENTION}
 use Rattle.row_tables.specs.Goes.{Goes, Clears, Adds, Takes}
-use Rattle.row_tables.proofs.Texts.{equals, clear_topic, clear_topic_is, insert_topic, insert_topic_is, clear_entry, clear_entry_is, insert_entry, insert_entry_is, clear_sub, clear_sub_is, insert_sub, insert_sub_is, clear_ack, clear_ack_is, insert_ack, insert_ack_is, clear_dead, clear_dead_is, insert_dead, insert_dead_is, remove_sub, remove_sub_is, remove_ack, remove_ack_is, remove_dead, remove_dead_is, clear_count, clear_count_is, insert_count, insert_count_is, remove_count, remove_count_is}
+use Rattle.row_tables.proofs.Texts.{equals, clear_topic, clear_topic_is, insert_topic, insert_topic_is, clear_entry, clear_entry_is, insert_entry, insert_entry_is, clear_sub, clear_sub_is, insert_sub, insert_sub_is, clear_ack, clear_ack_is, insert_ack, insert_ack_is, clear_dead, clear_dead_is, insert_dead, insert_dead_is, remove_sub, remove_sub_is, remove_ack, remove_ack_is, remove_dead, remove_dead_is, clear_count, clear_count_is, insert_count, insert_count_is, remove_count, remove_count_is, clear_author, clear_author_is, insert_author, insert_author_is, remove_author, remove_author_is, clear_retention, clear_retention_is, insert_retention, insert_retention_is, remove_retention, remove_retention_is}
 use Rattle.row_tables.proofs.TableLemmas.{same_text, same_int}
 use Rattle.row_tables.proofs.StatementLemmas.{cast_int}
 use Rattle.row_tables.proofs.PartLemmas.{clears_rows, takes_row, adds_row}
@@ -25,7 +25,7 @@ pub adds_topic : (topic : List ℕ) (size ledger ordinal : ℕ) (old new : State
 adds_topic topic size ledger ordinal = adds_row 1 (codes "topic") TOPIC topic_columns (1 ∷ []) refl (λ _ _ _. refl) (λ _ all. all.1.0) (λ _ _ all. all.0 (λ e. omega (arith, e))) (λ _. refl) insert_topic (lit Null ∷ col 0 0 ∷ col 0 1 ∷ col 0 2 ∷ col 0 3 ∷ []) 5 insert_topic_is.0 insert_topic_is.1
     (Text topic ∷ Int (pos size) ∷ Int (pos ledger) ∷ Int (pos ordinal) ∷ []) refl (rw (cast_int (pos size), cast_int (pos ledger), cast_int (pos ordinal)) refl) (λ _. refl)
 
-abbrev entry_columns : List Column
+abbrev pub entry_columns : List Column
 entry_columns = required (codes "topic") TextKind ∷ required (codes "idx") Integer ∷ required (codes "ledger") Integer ∷ required (codes "entry") Integer ∷ required (codes "producer") TextKind ∷ required (codes "sequence") Integer ∷ required (codes "time") Integer ∷ required (codes "has_key") Integer ∷ required (codes "key") TextKind ∷ required (codes "properties") TextKind ∷ required (codes "payload") Blob ∷ []
 
 pub clears_entry : (topic : List ℕ) (old new : State) (count : ℕ) → ExecutesInside 0 clear_entry (Text topic ∷ []) old new (Ok count) → Goes (Clears ENTRY topic) old new
@@ -106,3 +106,35 @@ pub takes_count : (topic sub : List ℕ) (place times : ℕ) (old new : State) (
     → Goes (Takes REDELIVERY ((Text topic ∷ Text sub ∷ Int (pos place) ∷ Int (pos times) ∷ []) ∷ [])) old new
 takes_count topic sub place times = takes_row 6 (codes "redelivery") REDELIVERY count_columns (1 ∷ 2 ∷ 3 ∷ []) refl (λ _ _ _. refl) (λ _ all. all.1.1.1.1.1.1.0) (λ _ _ all. all.0 (λ e. omega (arith, e))) (λ _. refl) remove_count (equals 0 ∷ equals 1 ∷ equals 2 ∷ equals 3 ∷ []) remove_count_is.0 remove_count_is.1
     (Text topic ∷ Text sub ∷ Int (pos place) ∷ Int (pos times) ∷ []) (λ _. refl) (rw (same_text topic, same_text sub, same_int (pos place), same_int (pos times)) refl)
+
+abbrev author_columns : List Column
+author_columns = required (codes "topic") TextKind ∷ required (codes "idx") Integer ∷ required (codes "producer") TextKind ∷ required (codes "sequence") Integer ∷ []
+
+pub clears_author : (topic : List ℕ) (old new : State) (count : ℕ) → ExecutesInside 0 clear_author (Text topic ∷ []) old new (Ok count) → Goes (Clears AUTHOR topic) old new
+clears_author = clears_rows 7 (codes "author") AUTHOR author_columns (1 ∷ 2 ∷ []) refl (λ _ _ _. refl) (λ _ all. all.1.1.1.1.1.1.1.0) (λ _ _ all. all.0 (λ e. omega (arith, e))) (λ _. refl) clear_author clear_author_is.0 clear_author_is.1 (λ _ _. refl)
+
+pub adds_author : (topic : List ℕ) (place : ℕ) (producer : List ℕ) (sequence : ℤ) (old new : State) (count : ℕ) → ExecutesInside 0 insert_author (Text topic ∷ Int (pos place) ∷ Text producer ∷ Int sequence ∷ []) old new (Ok count)
+    → Goes (Adds AUTHOR ((Text topic ∷ Int (pos place) ∷ Text producer ∷ Int sequence ∷ []) ∷ [])) old new
+adds_author topic place producer sequence = adds_row 7 (codes "author") AUTHOR author_columns (1 ∷ 2 ∷ []) refl (λ _ _ _. refl) (λ _ all. all.1.1.1.1.1.1.1.0) (λ _ _ all. all.0 (λ e. omega (arith, e))) (λ _. refl) insert_author (lit Null ∷ col 0 0 ∷ col 0 1 ∷ col 0 2 ∷ col 0 3 ∷ []) 5 insert_author_is.0 insert_author_is.1
+    (Text topic ∷ Int (pos place) ∷ Text producer ∷ Int sequence ∷ []) refl (rw (cast_int (pos place), cast_int sequence) refl) (λ _. refl)
+
+pub takes_author : (topic : List ℕ) (place : ℕ) (producer : List ℕ) (sequence : ℤ) (old new : State) (count : ℕ) → count ≡ 1 → ExecutesInside 0 remove_author (Text topic ∷ Int (pos place) ∷ Text producer ∷ Int sequence ∷ []) old new (Ok count)
+    → Goes (Takes AUTHOR ((Text topic ∷ Int (pos place) ∷ Text producer ∷ Int sequence ∷ []) ∷ [])) old new
+takes_author topic place producer sequence = takes_row 7 (codes "author") AUTHOR author_columns (1 ∷ 2 ∷ []) refl (λ _ _ _. refl) (λ _ all. all.1.1.1.1.1.1.1.0) (λ _ _ all. all.0 (λ e. omega (arith, e))) (λ _. refl) remove_author (equals 0 ∷ equals 1 ∷ equals 2 ∷ equals 3 ∷ []) remove_author_is.0 remove_author_is.1
+    (Text topic ∷ Int (pos place) ∷ Text producer ∷ Int sequence ∷ []) (λ _. refl) (rw (same_text topic, same_int (pos place), same_text producer, same_int sequence) refl)
+
+abbrev retention_columns : List Column
+retention_columns = required (codes "topic") TextKind ∷ required (codes "gone") Integer ∷ required (codes "kind") Integer ∷ required (codes "amount") Integer ∷ []
+
+pub clears_retention : (topic : List ℕ) (old new : State) (count : ℕ) → ExecutesInside 0 clear_retention (Text topic ∷ []) old new (Ok count) → Goes (Clears RETENTION topic) old new
+clears_retention = clears_rows 8 (codes "retention") RETENTION retention_columns (1 ∷ []) refl (λ _ _ _. refl) (λ _ all. all.1.1.1.1.1.1.1.1.0) (λ _ _ all. all.0 (λ e. omega (arith, e))) (λ _. refl) clear_retention clear_retention_is.0 clear_retention_is.1 (λ _ _. refl)
+
+pub adds_retention : (topic : List ℕ) (gone kind amount : ℕ) (old new : State) (count : ℕ) → ExecutesInside 0 insert_retention (Text topic ∷ Int (pos gone) ∷ Int (pos kind) ∷ Int (pos amount) ∷ []) old new (Ok count)
+    → Goes (Adds RETENTION ((Text topic ∷ Int (pos gone) ∷ Int (pos kind) ∷ Int (pos amount) ∷ []) ∷ [])) old new
+adds_retention topic gone kind amount = adds_row 8 (codes "retention") RETENTION retention_columns (1 ∷ []) refl (λ _ _ _. refl) (λ _ all. all.1.1.1.1.1.1.1.1.0) (λ _ _ all. all.0 (λ e. omega (arith, e))) (λ _. refl) insert_retention (lit Null ∷ col 0 0 ∷ col 0 1 ∷ col 0 2 ∷ col 0 3 ∷ []) 5 insert_retention_is.0 insert_retention_is.1
+    (Text topic ∷ Int (pos gone) ∷ Int (pos kind) ∷ Int (pos amount) ∷ []) refl (rw (cast_int (pos gone), cast_int (pos kind), cast_int (pos amount)) refl) (λ _. refl)
+
+pub takes_retention : (topic : List ℕ) (gone kind amount : ℕ) (old new : State) (count : ℕ) → count ≡ 1 → ExecutesInside 0 remove_retention (Text topic ∷ Int (pos gone) ∷ Int (pos kind) ∷ Int (pos amount) ∷ []) old new (Ok count)
+    → Goes (Takes RETENTION ((Text topic ∷ Int (pos gone) ∷ Int (pos kind) ∷ Int (pos amount) ∷ []) ∷ [])) old new
+takes_retention topic gone kind amount = takes_row 8 (codes "retention") RETENTION retention_columns (1 ∷ []) refl (λ _ _ _. refl) (λ _ all. all.1.1.1.1.1.1.1.1.0) (λ _ _ all. all.0 (λ e. omega (arith, e))) (λ _. refl) remove_retention (equals 0 ∷ equals 1 ∷ equals 2 ∷ equals 3 ∷ []) remove_retention_is.0 remove_retention_is.1
+    (Text topic ∷ Int (pos gone) ∷ Int (pos kind) ∷ Int (pos amount) ∷ []) (λ _. refl) (rw (same_text topic, same_int (pos gone), same_int (pos kind), same_int (pos amount)) refl)

@@ -24,15 +24,15 @@ use Rattle.sqlite_value.specs.Keys.{ascending}
 use Rattle.sqlite_value.proofs.OrderLemmas.{value_cmp_total, value_cmp-Int, value_cmp-Null, then-Equal}
 use Rattle.sqlite_trees.proofs.ListLemmas.{filter-map, filter_same, all_of}
 use Rattle.sqlite.specs.State.{State, Shown}
-use Rattle.row_forms.specs.Cells.{ENTRY, width, cells, bodies, is_of}
+use Rattle.row_forms.specs.Cells.{ENTRY, width, cells, bodies, is_below, is_of}
 use Rattle.row_tables.specs.Ready.{IsReady}
 use Rattle.row_tables.specs.Ordered.{AreSortedBy}
-use Rattle.row_tables.specs.Pieces.{is_below, is_within, messages_of, ShowsWithin, first_is_negative, has_below, has_from, has_others}
+use Rattle.row_tables.specs.Pieces.{is_within, messages_of, ShowsWithin, first_is_below, has_below, has_from, has_others}
 use Rattle.row_tables.proofs.Texts.{alone, matching_most, equals, place_from, place_below, select_piece, select_piece_is, select_first, select_first_is, select_from, select_from_is}
 use Rattle.row_tables.proofs.TableLemmas.{text_is, text_test, filter_twice}
 use Rattle.row_tables.proofs.StatementLemmas.{IsTestBy, finds_most, shows}
 use Rattle.row_tables.proofs.ReadLemmas.{reads_those, sorted_shown}
-use Rattle.row_forms.specs.Schema.{schema_7}
+use Rattle.row_forms.specs.Schema.{schema_9}
 use Rattle.sqlite.specs.Program.{overlay}
 use Rattle.sqlite.specs.Command.TheVariants.{Select}
 use Rattle.sqlite.specs.Query.{Query, Output, output_cmp}
@@ -147,7 +147,7 @@ pub reads_from : (topic : List ℕ) (end : ℕ) (old new : State) (rows : List R
 reads_from topic end old new rows h ready count many =
     let values : Row = Text topic ∷ Int (pos end) ∷ [] in
     let q = matching_most ENTRY (equals 0 ∷ place_from ∷ []) (col 1 2 ∷ []) [] (lit (Int (pos 1))) in
-    let read = reads_as select_from values old new schema_7 ready.schema_is (Select (alone q) (codes "idx" ∷ [])) select_from_is.0 select_from_is.2 select_from_is.1 rows h in
+    let read = reads_as select_from values old new schema_9 ready.schema_is (Select (alone q) (codes "idx" ∷ [])) select_from_is.0 select_from_is.2 select_from_is.1 rows h in
     let found = finds_most ENTRY (equals 0 ∷ place_from ∷ []) (col 1 2 ∷ []) [] values (of_from topic end) (overlay old.now.trees []) rows (from_test topic end) (lit (Int (pos 1))) (read.answer Null) in
     let stored = old.now.trees ENTRY in
     let outs : List Output = found.0 in
@@ -198,10 +198,10 @@ module _ {A : Type 0} {cmp : A → A → Ordering} (order : IsTotalOrder cmp) (b
         rw (e, rest) (neither x y second e)
   ]
 
-abbrev is_negative : Row → Bool
-is_negative row = is_lt (value_cmp (column row 0) (Int (pos 0)))
+module _ (topic : List ℕ) (end : ℕ) where
+  abbrev is_early : Row → Bool
+  is_early row = is_lt (value_cmp (column row 0) (Int (pos end)))
 
-module _ (topic : List ℕ) where
   abbrev firsts : Query
   firsts = matching_most ENTRY (equals 0 ∷ []) (col 1 2 ∷ []) ((col 1 2, ascending Binary) ∷ []) (lit (Int (pos 1)))
 
@@ -222,47 +222,48 @@ module _ (topic : List ℕ) where
       let all : All IsShown outs = All-permutation IsShown _ outs same (All-map IsShown show those (λ k d low. (get_or those k d, refl))) in
       sorted_shown IsShown (output_cmp firsts) value_cmp place (λ x y (r, is) (s, too). rw (is, too) (by_place r s)) outs all sorted
 
-  first_answers : (outs : List Output) → IsSorted value_cmp (map place outs) → first_is_negative (take 1 (map (λ (o : Output). o.1) outs)) ≡ list_any (λ o. is_negative o.1) outs
+  first_answers : (outs : List Output) → IsSorted value_cmp (map place outs) → first_is_below end (take 1 (map (λ (o : Output). o.1) outs)) ≡ list_any (λ o. is_early o.1) outs
   first_answers [] sorted = refl
   first_answers (o ∷ outs) sorted =
-      sym (first_is_least value_cmp_total (Int (pos 0)) (place o) (map place outs) sorted) ∙ any_mapped (λ v. is_lt (value_cmp v (Int (pos 0)))) place (o ∷ outs)
+      sym (first_is_least value_cmp_total (Int (pos end)) (place o) (map place outs) sorted) ∙ any_mapped (λ v. is_lt (value_cmp v (Int (pos end)))) place (o ∷ outs)
 
-  pub reads_first : (old new : State) (rows : List Row) → Shown select_first (Text topic ∷ []) old new rows → IsReady old.now → first_is_negative rows ≡ has_below topic 0 old.now.trees
+  pub reads_first : (old new : State) (rows : List Row) → Shown select_first (Text topic ∷ []) old new rows → IsReady old.now → first_is_below end rows ≡ has_below topic end old.now.trees
   reads_first old new rows h ready =
       let values : Row = Text topic ∷ [] in
-      let read = reads_as select_first values old new schema_7 ready.schema_is (Select (alone firsts) (codes "idx" ∷ [])) select_first_is.0 select_first_is.2 select_first_is.1 rows h in
+      let read = reads_as select_first values old new schema_9 ready.schema_is (Select (alone firsts) (codes "idx" ∷ [])) select_first_is.0 select_first_is.2 select_first_is.1 rows h in
       let found = finds_most ENTRY (equals 0 ∷ []) (col 1 2 ∷ []) ((col 1 2, ascending Binary) ∷ []) values (is_of topic) (overlay old.now.trees []) rows (topic_test topic) (lit (Int (pos 1))) (read.answer Null) in
       let stored = old.now.trees ENTRY in
       let those = filter (λ r. is_of topic (cells (width ENTRY) r)) stored in
       let outs : List Output = found.0 in
-      ap first_is_negative found.2
+      ap (first_is_below end) found.2
       ∙ first_answers outs (places_sorted outs those found.1 found.3)
-      ∙ sym (list_any-IsPermutation (λ (o : Output). is_negative o.1) _ outs found.1)
-      ∙ any_mapped (λ (o : Output). is_negative o.1) show those
-      ∙ sym (any_mapped (is_below 0) (cells (width ENTRY)) those)
-      ∙ ap (list_any (is_below 0)) (sym (filter-map (is_of topic) (cells (width ENTRY)) stored))
+      ∙ sym (list_any-IsPermutation (λ (o : Output). is_early o.1) _ outs found.1)
+      ∙ any_mapped (λ (o : Output). is_early o.1) show those
+      ∙ sym (any_mapped (is_below end) (cells (width ENTRY)) those)
+      ∙ ap (list_any (is_below end)) (sym (filter-map (is_of topic) (cells (width ENTRY)) stored))
 
--- a place that is none from 0 on, or one from the end on, is elsewhere
-others_are : (topic : List ℕ) (end : ℕ) (db : Trees) → has_others topic end db ≡ (has_below topic 0 db || has_from topic end db)
-others_are topic end db = by (messages_of topic db)
-  where
-    one : (a b c d : Bool) → (not (not a && b) || (c || d)) ≡ ((a || c) || (not b || d))
-    one true true c d = refl
-    one true false c d = refl
-    one false true true d = refl
-    one false true false d = refl
-    one false false true d = refl
-    one false false false d = refl
+-- a place that is none from the first on, or one from the end on, is elsewhere
+module _ (topic : List ℕ) (from end : ℕ) (db : Trees) where
+  others_are : has_others topic from end db ≡ (has_below topic from db || has_from topic end db)
+  others_are = by (messages_of topic db)
+    where
+      one : (a b c d : Bool) → (not (not a && b) || (c || d)) ≡ ((a || c) || (not b || d))
+      one true true c d = refl
+      one true false c d = refl
+      one false true true d = refl
+      one false true false d = refl
+      one false false true d = refl
+      one false false false d = refl
 
-    by : (rows : List Row) → list_any (λ row. not (is_within 0 end row)) rows ≡ (list_any (is_below 0) rows || list_any (λ row. not (is_below end row)) rows)
-    by [] = refl
-    by (row ∷ rows) = ap (λ more. not (is_within 0 end row) || more) (by rows) ∙ one (is_below 0 row) (is_below end row) _ _
+      by : (rows : List Row) → list_any (λ row. not (is_within from end row)) rows ≡ (list_any (is_below from) rows || list_any (λ row. not (is_below end row)) rows)
+      by [] = refl
+      by (row ∷ rows) = ap (λ more. not (is_within from end row) || more) (by rows) ∙ one (is_below from row) (is_below end row) _ _
 
-pub below_others : (topic : List ℕ) (end : ℕ) (db : Trees) → has_below topic 0 db ≡ true → true ≡ has_others topic end db
-below_others topic end db below = sym (others_are topic end db ∙ rw below refl)
+  pub below_others : has_below topic from db ≡ true → true ≡ has_others topic from end db
+  below_others below = sym (others_are ∙ rw below refl)
 
-pub from_others : (topic : List ℕ) (end : ℕ) (db : Trees) → has_below topic 0 db ≡ false → has_from topic end db ≡ has_others topic end db
-from_others topic end db none = sym (others_are topic end db ∙ rw none refl)
+  pub from_others : has_below topic from db ≡ false → has_from topic end db ≡ has_others topic from end db
+  from_others none = sym (others_are ∙ rw none refl)
 
 -- ---- pieces join
 
@@ -283,9 +284,9 @@ below_more from end within r h = elim (cases_lt from end) [
   | inr more ↦ let same : from ≡ end = omega (arith, within, more) in subst (λ n. is_below n r ≡ true) same h
 ]
 
-module _ (from end : ℕ) (within : from ≤ end) where
-  before : (r : Row) → (is_within 0 end r && is_below from r) ≡ is_within 0 from r
-  before r = by (is_below 0 r) (is_below from r) (is_below end r) (below_more from end within r)
+module _ (start from end : ℕ) (early : start ≤ from) (within : from ≤ end) where
+  before : (r : Row) → (is_within start end r && is_below from r) ≡ is_within start from r
+  before r = by (is_below start r) (is_below from r) (is_below end r) (below_more from end within r)
     where
       by : (a b c : Bool) → (b ≡ true → c ≡ true) → ((not a && c) && b) ≡ (not a && b)
       by true b c h = refl
@@ -293,8 +294,8 @@ module _ (from end : ℕ) (within : from ≤ end) where
       by false false true h = refl
       by false false false h = refl
 
-  after : (r : Row) → (is_within 0 end r && not (is_below from r)) ≡ is_within from end r
-  after r = by (is_below 0 r) (is_below from r) (is_below end r) (below_more 0 from (omega arith) r)
+  after : (r : Row) → (is_within start end r && not (is_below from r)) ≡ is_within from end r
+  after r = by (is_below start r) (is_below from r) (is_below end r) (below_more start from early r)
     where
       by : (a b c : Bool) → (a ≡ true → b ≡ true) → ((not a && c) && not b) ≡ (not b && c)
       by true b c h = rw (h refl) refl
@@ -304,18 +305,18 @@ module _ (from end : ℕ) (within : from ≤ end) where
       by false false false h = refl
 
   -- those before a place and those from it on are those before the later one
-  pub pieces_join : (rows : List Row) → IsPermutation (filter (is_within 0 from) rows ++ filter (is_within from end) rows) (filter (is_within 0 end) rows)
+  pub pieces_join : (rows : List Row) → IsPermutation (filter (is_within start from) rows ++ filter (is_within from end) rows) (filter (is_within start end) rows)
   pieces_join rows =
-      let those = filter (is_within 0 end) rows in
-      let first : filter (is_below from) those ≡ filter (is_within 0 from) rows = filter_twice (is_below from) (is_within 0 end) rows ∙ filter_same _ (is_within 0 from) rows (all_of _ before rows) in
-      let second : filter (λ r. not (is_below from r)) those ≡ filter (is_within from end) rows = filter_twice (λ r. not (is_below from r)) (is_within 0 end) rows ∙ filter_same _ (is_within from end) rows (all_of _ after rows) in
-      IsPermutation-sym _ _ (subst (λ l. IsPermutation those (filter (is_within 0 from) rows ++ l)) second (subst (λ l. IsPermutation those (l ++ filter (λ r. not (is_below from r)) those)) first (IsPermutation-filter_both (is_below from) (λ r. not (is_below from r)) (λ _. refl) those)))
+      let those = filter (is_within start end) rows in
+      let first : filter (is_below from) those ≡ filter (is_within start from) rows = filter_twice (is_below from) (is_within start end) rows ∙ filter_same _ (is_within start from) rows (all_of _ before rows) in
+      let second : filter (λ r. not (is_below from r)) those ≡ filter (is_within from end) rows = filter_twice (λ r. not (is_below from r)) (is_within start end) rows ∙ filter_same _ (is_within from end) rows (all_of _ after rows) in
+      IsPermutation-sym _ _ (subst (λ l. IsPermutation those (filter (is_within start from) rows ++ l)) second (subst (λ l. IsPermutation those (l ++ filter (λ r. not (is_below from r)) those)) first (IsPermutation-filter_both (is_below from) (λ r. not (is_below from r)) (λ _. refl) those)))
 
--- where no other is there, all are below the place
-pub all_within : (end : ℕ) (rows : List Row) → list_any (λ row. not (is_within 0 end row)) rows ≡ false → filter (is_within 0 end) rows ≡ rows
-all_within end [] none = refl
-all_within end (r ∷ rows) none = by (is_within 0 end r) refl none (all_within end rows)
+-- where no other is there, all are within
+pub all_within : (from end : ℕ) (rows : List Row) → list_any (λ row. not (is_within from end row)) rows ≡ false → filter (is_within from end) rows ≡ rows
+all_within from end [] none = refl
+all_within from end (r ∷ rows) none = by (is_within from end r) refl none (all_within from end rows)
   where
-    by : (b : Bool) → is_within 0 end r ≡ b → (not b || list_any (λ row. not (is_within 0 end row)) rows) ≡ false → (list_any (λ row. not (is_within 0 end row)) rows ≡ false → filter (is_within 0 end) rows ≡ rows) → filter (is_within 0 end) (r ∷ rows) ≡ r ∷ rows
+    by : (b : Bool) → is_within from end r ≡ b → (not b || list_any (λ row. not (is_within from end row)) rows) ≡ false → (list_any (λ row. not (is_within from end row)) rows ≡ false → filter (is_within from end) rows ≡ rows) → filter (is_within from end) (r ∷ rows) ≡ r ∷ rows
     by true is none others = rw is (ap (λ l. r ∷ l) (others none))
     by false is none others = absurd cc

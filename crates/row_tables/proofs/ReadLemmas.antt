@@ -24,12 +24,12 @@ use Rattle.sqlite.specs.Listing.{understood, reads_listing}
 use Rattle.sqlite_resolve.specs.declared.compiled.Compiled.{Compiled}
 use Rattle.sqlite_schema.specs.declared.command.Returning.{Returning}
 use Rattle.sqlite.proofs.Callers.{IsPlain, command_of, reads_as}
-use Rattle.row_forms.specs.Schema.{schema_7}
-use Rattle.row_forms.specs.Cells.{TOPIC, SUB, ACK, DEAD, REDELIVERY, width, cells, bodies, is_of}
+use Rattle.row_forms.specs.Schema.{schema_9}
+use Rattle.row_forms.specs.Cells.{TOPIC, SUB, ACK, DEAD, REDELIVERY, AUTHOR, RETENTION, width, cells, bodies, is_of}
 use Rattle.row_tables.specs.Ready.{IsReady}
 use Rattle.row_tables.specs.Goes.{Goes, Stays, Shows}
 use Rattle.row_tables.specs.Ordered.{AreSortedBy}
-use Rattle.row_tables.proofs.Texts.{alone, matching, equals, select_topic, select_topic_is, select_sub, select_sub_is, select_ack, select_ack_is, select_dead, select_dead_is, select_count, select_count_is}
+use Rattle.row_tables.proofs.Texts.{alone, matching, equals, select_topic, select_topic_is, select_sub, select_sub_is, select_ack, select_ack_is, select_dead, select_dead_is, select_count, select_count_is, select_author, select_author_is, select_retention, select_retention_is}
 use Rattle.row_tables.proofs.TableLemmas.{text_is}
 use Rattle.row_tables.proofs.StatementLemmas.{finds, agrees, IsTest, IsTestBy, of_first, shows}
 
@@ -75,11 +75,11 @@ module _ (tree : ℕ) (tests project : List Term) (order : List (Term × Key)) (
       sorted_shown IsShown (output_cmp (matching tree tests project order)) (λ x y. row_cmp (take columns x) (take columns y)) (λ o. o.1) (λ x y (r, is) (s, too). rw (is, too) (leads r s)) outs all sorted
 
   -- the rows that pass are shown, each without its first column
-  pub reads_those : LeadsByOrder → (sql : List ℕ) (names : List (List ℕ)) → command_of (understood schema_7 sql) ≡ Select (alone (matching tree tests project order)) names → IsPlain (understood schema_7 sql) → reads_listing schema_7 sql ≡ false
+  pub reads_those : LeadsByOrder → (sql : List ℕ) (names : List (List ℕ)) → command_of (understood schema_9 sql) ≡ Select (alone (matching tree tests project order)) names → IsPlain (understood schema_9 sql) → reads_listing schema_9 sql ≡ false
       → (old new : State) (rows : List Row) → Shown sql values old new rows → IsReady old.now → IsPermutation (map put rows) (filter passes (bodies tree (old.now.trees tree))) × AreSortedBy columns rows
   reads_those leads sql names is plain unlisted old new rows h ready =
       let q = matching tree tests project order in
-      let read = reads_as sql values old new schema_7 ready.schema_is (Select (alone q) names) is plain unlisted rows h in
+      let read = reads_as sql values old new schema_9 ready.schema_is (Select (alone q) names) is plain unlisted rows h in
       let found = finds tree tests project order values passes (overlay old.now.trees []) rows test (read.answer Null) in
       let stored = old.now.trees tree in
       let those = filter (λ r. passes (cells (width tree) r)) in
@@ -101,7 +101,7 @@ module _ (tree : ℕ) (project : List Term) (order : List (Term × Key)) (column
   is_first r h = sym (first r) ∙ text_is (column (cells (width tree) r) 0) topic (sym (of_first topic (cells (width tree) r)) ∙ h)
 
   pub reads_rows : LeadsByOrder tree (equals 0 ∷ []) project order columns (Text topic ∷ []) is_topic topic test is_first all seen → (sql : List ℕ) (names : List (List ℕ))
-      → command_of (understood schema_7 sql) ≡ Select (alone (matching tree (equals 0 ∷ []) project order)) names → IsPlain (understood schema_7 sql) → reads_listing schema_7 sql ≡ false
+      → command_of (understood schema_9 sql) ≡ Select (alone (matching tree (equals 0 ∷ []) project order)) names → IsPlain (understood schema_9 sql) → reads_listing schema_9 sql ≡ false
       → (old new : State) (rows : List Row) → Shown sql (Text topic ∷ []) old new rows → IsReady old.now → Shows tree topic rows old.now.trees × AreSortedBy columns rows
   reads_rows leads sql names is plain unlisted old new rows h ready =
       let read = reads_those tree (equals 0 ∷ []) project order columns (Text topic ∷ []) is_topic topic test is_first all seen leads sql names is plain unlisted old new rows h ready in
@@ -110,7 +110,7 @@ module _ (tree : ℕ) (project : List Term) (order : List (Term × Key)) (column
 
 -- ---- a query leaves all as it was
 
-unchanged_as : (sql : List ℕ) (params : Row) (old new : State) (rows : List Row) → IsPlain (understood schema_7 sql) → old.now.schema ≡ schema_7 → Shown sql params old new rows → IsUnchanged old new
+unchanged_as : (sql : List ℕ) (params : Row) (old new : State) (rows : List Row) → IsPlain (understood schema_9 sql) → old.now.schema ≡ schema_9 → Shown sql params old new rows → IsUnchanged old new
 unfolding Shown
 unchanged_as sql params old new rows plain has h =
     let known = sym h.1.is ∙ ap (λ s. understood s sql) has in
@@ -122,7 +122,7 @@ pub was_open : (old new : State) (sql : List ℕ) (c : Compiled) (params : Row) 
 was_open old new sql c params rows None h = (h.3.0.was_open, h.3.0.is_open, λ run. (subst IsTrue (sym h.3.0.mode) run, h.3.0.committed_is))
 was_open old new sql c params rows (Some what) h = let w = h.1.shown in (w.was_open, w.is_open, λ run. (subst IsTrue (sym w.mode) run, w.committed_is ∙ rw run refl))
 
-pub shown_goes : (sql : List ℕ) (params : Row) (old new : State) (rows : List Row) → IsPlain (understood schema_7 sql) → Shown sql params old new rows → Goes Stays old new
+pub shown_goes : (sql : List ℕ) (params : Row) (old new : State) (rows : List Row) → IsPlain (understood schema_9 sql) → Shown sql params old new rows → Goes Stays old new
 unfolding Shown
 shown_goes sql params old new rows plain h =
     let was = was_open old new sql h.0 _ rows h.0.returning h.2 in
@@ -148,3 +148,9 @@ reads_dead topic = reads_rows DEAD (col 1 2 ∷ col 1 3 ∷ col 1 4 ∷ col 1 5 
 
 pub reads_count : (topic : List ℕ) (old new : State) (rows : List Row) → Shown select_count (Text topic ∷ []) old new rows → IsReady old.now → Shows REDELIVERY topic rows old.now.trees × AreSortedBy 2 rows
 reads_count topic = reads_rows REDELIVERY (col 1 2 ∷ col 1 3 ∷ col 1 4 ∷ []) ((col 1 2, ascending Binary) ∷ (col 1 3, ascending Binary) ∷ []) 2 topic (λ _. refl) (λ _. refl) (λ r e. rw e refl) (λ _. refl) (λ _ _. refl) select_count (codes "sub" ∷ codes "idx" ∷ codes "times" ∷ []) select_count_is.0 select_count_is.2 select_count_is.1
+
+pub reads_author : (topic : List ℕ) (old new : State) (rows : List Row) → Shown select_author (Text topic ∷ []) old new rows → IsReady old.now → Shows AUTHOR topic rows old.now.trees × AreSortedBy 1 rows
+reads_author topic = reads_rows AUTHOR (col 1 2 ∷ col 1 3 ∷ col 1 4 ∷ []) ((col 1 2, ascending Binary) ∷ []) 1 topic (λ _. refl) (λ _. refl) (λ r e. rw e refl) (λ _. refl) (λ _ _. refl) select_author (codes "idx" ∷ codes "producer" ∷ codes "sequence" ∷ []) select_author_is.0 select_author_is.2 select_author_is.1
+
+pub reads_retention : (topic : List ℕ) (old new : State) (rows : List Row) → Shown select_retention (Text topic ∷ []) old new rows → IsReady old.now → Shows RETENTION topic rows old.now.trees × AreSortedBy 0 rows
+reads_retention topic = reads_rows RETENTION (col 1 2 ∷ col 1 3 ∷ col 1 4 ∷ []) [] 0 topic (λ _. refl) (λ _. refl) (λ r e. rw e refl) (λ _. refl) (λ _ _. refl) select_retention (codes "gone" ∷ codes "kind" ∷ codes "amount" ∷ []) select_retention_is.0 select_retention_is.2 select_retention_is.1

@@ -218,20 +218,20 @@ module _ (tree : ℕ) (tests project : List Term) (order : List (Term × Key)) (
   finds a = finds_most (lit (Int (negsuc 0))) a
 
 -- the rows that a DELETE takes, and how many they are
-pub leaves : (tree : ℕ) (tests : List Term) (values : Row) (db seen : Trees) (rows : List Row) → IsTest tree tests values → seen tree ≡ db tree → AreKeyed (db tree)
+pub leaves : (tree : ℕ) (tests : List Term) (values : Row) (passes : Row → Bool) (db seen : Trees) (rows : List Row) → IsTestBy tree tests values passes → seen tree ≡ db tree → AreKeyed (db tree)
     → IsSureAnswer (matching tree tests (col 1 0 ∷ []) []) seen values rows
-    → (bodies tree (without_all (db tree) (ids_of rows)) ≡ filter (λ b. not (agrees values b)) (bodies tree (db tree))) × (length rows ≡ length (filter (agrees values) (bodies tree (db tree))))
-leaves tree tests values db seen rows test same keyed h =
-    let found = finds tree tests (col 1 0 ∷ []) [] values (agrees values) seen rows test (h Null) in
-    let p = λ (r : Row). agrees values (cells (width tree) r) in
+    → (bodies tree (without_all (db tree) (ids_of rows)) ≡ filter (λ b. not (passes b)) (bodies tree (db tree))) × (length rows ≡ length (filter passes (bodies tree (db tree))))
+leaves tree tests values passes db seen rows test same keyed h =
+    let found = finds tree tests (col 1 0 ∷ []) [] values passes seen rows test (h Null) in
+    let p = λ (r : Row). passes (cells (width tree) r) in
     let show = shows (col 1 0 ∷ []) [] values in
     let here = subst (λ all. IsPermutation (map show (filter p all)) found.0) same found.1 in
     let id = λ (o : Output). id_in (rowid o.1) in
     let ids : ids_of rows ≡ map id found.0 = ap ids_of found.2 ∙ map-map _ _ found.0 in
     let gone = removed p (db tree) keyed (ids_of rows) (subst (IsPermutation _) (sym ids) (subst (λ xs. IsPermutation xs (map id found.0)) (map-map id show (filter p (db tree))) (IsPermutation-map id _ _ here))) in
     let many : length rows ≡ length (filter p (db tree)) = ap length found.2 ∙ length-map found.0 (λ (o : Output). o.1) ∙ length_permutation _ _ here ∙ length-map (filter p (db tree)) show in (
-      ap (bodies tree) gone ∙ sym (filter-map (λ b. not (agrees values b)) (cells (width tree)) (db tree)),
-      many ∙ sym (length-map (filter p (db tree)) (cells (width tree))) ∙ ap length (sym (filter-map (agrees values) (cells (width tree)) (db tree))),
+      ap (bodies tree) gone ∙ sym (filter-map (λ b. not (passes b)) (cells (width tree)) (db tree)),
+      many ∙ sym (length-map (filter p (db tree)) (cells (width tree))) ∙ ap length (sym (filter-map passes (cells (width tree)) (db tree))),
     )
 
 -- the first column is the topic

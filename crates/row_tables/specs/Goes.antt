@@ -1,12 +1,12 @@
 -- What a part of a transaction makes of the tables.
-use Rattle.std.specs.Prelude.{◌≡◌, ◌≢◌, ◌++◌, ℕ, List, ◌∷◌, map, IsTrue, IsPermutation}
+use Rattle.std.specs.Prelude.{◌≡◌, ◌≢◌, ◌++◌, ℕ, List, ◌∷◌, map, filter, not, ◌&&◌, IsTrue, IsPermutation}
 use Rattle.std.specs.List.{AllByRecursion}
 use Rattle.sqlite.specs.declared.types.Value.TheVariants.{Text as Words}
 use Rattle.sqlite.specs.Order.{Row}
 use Rattle.sqlite.specs.Tree.{Trees}
 use Rattle.sqlite.specs.State.{State}
-use Rattle.row_forms.specs.Schema.{schema_7}
-use Rattle.row_forms.specs.Cells.{bodies, but_topic}
+use Rattle.row_forms.specs.Schema.{schema_9}
+use Rattle.row_forms.specs.Cells.{ENTRY, bodies, but_topic, is_of, is_placed_below}
 use Rattle.row_forms.specs.Standing.{HasIn, SameIn}
 use Rattle.row_tables.specs.Ready.{IsReady}
 
@@ -20,12 +20,17 @@ pub record Goes (P : Trees → Trees → Type 0) (old new : State) : Type 0 wher
 
 -- all tables but the one in this tree are as they were
 abbrev pub SpareOthers : ℕ → Trees → Trees → Type 0
-SpareOthers tree old new = AllByRecursion (λ t. t.tree ≢ tree → new t.tree ≡ old t.tree) schema_7.tables
+SpareOthers tree old new = AllByRecursion (λ t. t.tree ≢ tree → new t.tree ≡ old t.tree) schema_9.tables
 
 -- the rows of a topic leave one table
 pub record Clears (tree : ℕ) (topic : List ℕ) (old new : Trees) : Type 0 where
   pub rows : bodies tree (new tree) ≡ but_topic topic (bodies tree (old tree))
   pub others : SpareOthers tree old new
+
+-- the topic's messages whose places are below this one leave
+pub record Cuts (topic : List ℕ) (end : ℕ) (old new : Trees) : Type 0 where
+  pub rows : bodies ENTRY (new ENTRY) ≡ filter (λ r. not (is_of topic r && is_placed_below end r)) (bodies ENTRY (old ENTRY))
+  pub others : SpareOthers ENTRY old new
 
 -- rows come into one table
 pub record Adds (tree : ℕ) (news : List Row) (old new : Trees) : Type 0 where

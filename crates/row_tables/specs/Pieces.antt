@@ -5,11 +5,7 @@ use Rattle.std.specs.Ordering.{is_lt}
 use Rattle.sqlite.specs.declared.types.Value.TheVariants.{Int, Text as Words}
 use Rattle.sqlite.specs.Order.{Row, column, value_cmp}
 use Rattle.sqlite.specs.Tree.{Trees}
-use Rattle.row_forms.specs.Cells.{ENTRY, bodies, of_topic}
-
--- the message's place, the second column of its row, is below this one
-abbrev pub is_below : ℕ → Row → Bool
-is_below end row = is_lt (value_cmp (column row 1) (Int (pos end)))
+use Rattle.row_forms.specs.Cells.{ENTRY, bodies, is_below, of_topic}
 
 -- it is from one place on and below another
 abbrev pub is_within : ℕ → ℕ → Row → Bool
@@ -23,10 +19,10 @@ messages_of topic db = of_topic topic (bodies ENTRY (db ENTRY))
 abbrev pub ShowsWithin : List ℕ → ℕ → ℕ → List Row → Trees → Type 0
 ShowsWithin topic from end rows db = IsPermutation (map (λ (r : Row). Words topic ∷ r) rows) (filter (is_within from end) (messages_of topic db))
 
--- the first row that is shown begins with a value below 0, as NULL is
-abbrev pub first_is_negative : List Row → Bool
-first_is_negative [] = false
-first_is_negative (row ∷ rows) = is_lt (value_cmp (column row 0) (Int (pos 0)))
+-- the first row that is shown begins with a value below this number, as NULL does
+abbrev pub first_is_below : ℕ → List Row → Bool
+first_is_below end [] = false
+first_is_below end (row ∷ rows) = is_lt (value_cmp (column row 0) (Int (pos end)))
 
 -- a message of the topic has a place below this one
 abbrev pub has_below : List ℕ → ℕ → Trees → Bool
@@ -36,6 +32,6 @@ has_below topic end db = list_any (is_below end) (messages_of topic db)
 abbrev pub has_from : List ℕ → ℕ → Trees → Bool
 has_from topic end db = list_any (λ row. not (is_below end row)) (messages_of topic db)
 
--- a message of the topic has no place below this one
-abbrev pub has_others : List ℕ → ℕ → Trees → Bool
-has_others topic end db = list_any (λ row. not (is_within 0 end row)) (messages_of topic db)
+-- a message of the topic has no place from the one on and below the other
+abbrev pub has_others : List ℕ → ℕ → ℕ → Trees → Bool
+has_others topic from end db = list_any (λ row. not (is_within from end row)) (messages_of topic db)

@@ -1,5 +1,5 @@
 -- Whether a database has the tables of a version, and how one version becomes the next.
-use Rattle.std.specs.Prelude.{◌≡◌, ℕ, List, [], ◌∷◌, pos, map}
+use Rattle.std.specs.Prelude.{◌≡◌, ◌⊎◌, ℕ, List, [], ◌∷◌, pos, map}
 use Rattle.std.specs.List.{AllByRecursion}
 use Rattle.sqlite.specs.declared.types.Value.TheVariants.{Int}
 use Rattle.sqlite.specs.Order.{Row, column}
@@ -8,8 +8,8 @@ use Rattle.sqlite.specs.Tree.{Trees}
 use Rattle.sqlite.specs.Effect.{Database, IsDatabase}
 use Rattle.sqlite_trees.specs.View.{IsShaped}
 use Rattle.sqlite_trees.specs.declared.store.Shape.TheVariants as shape
-use Rattle.row_forms.specs.Schema.{schema_6, schema_7}
-use Rattle.row_forms.specs.Cells.{META, TOPIC, ENTRY, SUB, ACK, DEAD, REDELIVERY}
+use Rattle.row_forms.specs.Schema.{schema_6, schema_7, schema_9}
+use Rattle.row_forms.specs.Cells.{META, TOPIC, ENTRY, SUB, ACK, DEAD, REDELIVERY, AUTHOR, RETENTION}
 
 -- the id and the version in each row of the first table, whose id is the rowid
 abbrev pub versions : List Row → List Row
@@ -34,10 +34,14 @@ abbrev pub IsVersion1 : Database → Type 0
 IsVersion1 = IsOf schema_6 1
 
 -- the seven tables are there, of version 2
-abbrev pub IsReady : Database → Type 0
-IsReady = IsOf schema_7 2
+abbrev pub IsVersion2 : Database → Type 0
+IsVersion2 = IsOf schema_7 2
 
--- the seven tables are there, of version 2, and no topic has rows
+-- the nine tables are there, of version 3
+abbrev pub IsReady : Database → Type 0
+IsReady = IsOf schema_9 3
+
+-- the nine tables are there, of version 3, and no topic has rows
 pub record IsBlank (db : Database) : Type 0 where
   pub ready : IsReady db
   pub sound : IsDatabase db
@@ -47,10 +51,13 @@ pub record IsBlank (db : Database) : Type 0 where
   pub acks : db.trees ACK ≡ []
   pub deads : db.trees DEAD ≡ []
   pub counts : db.trees REDELIVERY ≡ []
+  pub authors : db.trees AUTHOR ≡ []
+  pub retentions : db.trees RETENTION ≡ []
 
 -- version 1 became version 2: all rows of topics stay, and the new table has none
 pub record BecomesVersion2 (old new : Database) : Type 0 where
-  pub ready : IsReady new
+  pub was : IsVersion1 old
+  pub is : IsVersion2 new
   pub sound : IsDatabase new
   pub topics : new.trees TOPIC ≡ old.trees TOPIC
   pub entries : new.trees ENTRY ≡ old.trees ENTRY
@@ -58,3 +65,21 @@ pub record BecomesVersion2 (old new : Database) : Type 0 where
   pub acks : new.trees ACK ≡ old.trees ACK
   pub deads : new.trees DEAD ≡ old.trees DEAD
   pub counts : new.trees REDELIVERY ≡ []
+
+-- version 2 became version 3: all rows of topics stay, and the new tables have none
+pub record BecomesVersion3 (old new : Database) : Type 0 where
+  pub was : IsVersion2 old
+  pub is : IsReady new
+  pub sound : IsDatabase new
+  pub topics : new.trees TOPIC ≡ old.trees TOPIC
+  pub entries : new.trees ENTRY ≡ old.trees ENTRY
+  pub subs : new.trees SUB ≡ old.trees SUB
+  pub acks : new.trees ACK ≡ old.trees ACK
+  pub deads : new.trees DEAD ≡ old.trees DEAD
+  pub counts : new.trees REDELIVERY ≡ old.trees REDELIVERY
+  pub authors : new.trees AUTHOR ≡ []
+  pub retentions : new.trees RETENTION ≡ []
+
+-- an earlier version became a later one, by one step or by both
+abbrev pub IsRaised : Database → Database → Type 0
+IsRaised old new = BecomesVersion2 old new ⊎ (BecomesVersion3 old new ⊎ ((mid : Database) × BecomesVersion2 old mid × BecomesVersion3 mid new))

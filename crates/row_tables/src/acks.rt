@@ -8,7 +8,7 @@ ghost use Rattle.row_tables.specs.Ready.{IsReady};
 ghost use Rattle.row_tables.specs.Goes.{Goes, Stays, Clears, Adds, Takes, Shows};
 ghost use Rattle.row_tables.specs.Ordered.{AreSortedBy};
 
-use crate::numbers::{signed, took_one};
+use crate::numbers::{placed, took_one};
 use row_forms::AckRow;
 use sqlite::{Alter, Error, Row, Transaction, params};
 
@@ -18,8 +18,8 @@ pub fn add<S: Alter>(tx: &mut Transaction<'_, S>, topic: &str, row: &AckRow) -> 
     ensures survives { Survives (state S.Store tx.old.conn.now) (state S.Store tx.new.conn.now) (λ _. ⊥) }
     ensures done { HasCleanDisk (state S.Store tx.new.conn.now) → OnOk result (Goes (Adds ACK (ack_cells topic.now row.now ∷ [])) (state S.Store tx.old.conn.now) (state S.Store tx.new.conn.now)) }
 {
-    let first = signed(row.first)?;
-    let last = signed(row.last)?;
+    let first = placed(row.first)?;
+    let last = placed(row.last)?;
     tx.execute(
         "INSERT INTO ack (topic, sub, first, last) VALUES (?1, ?2, ?3, ?4)",
         params![topic, row.sub.as_str(), first, last],
@@ -33,8 +33,8 @@ pub fn remove<S: Alter>(tx: &mut Transaction<'_, S>, topic: &str, row: &AckRow) 
     ensures survives { Survives (state S.Store tx.old.conn.now) (state S.Store tx.new.conn.now) (λ _. ⊥) }
     ensures done { HasCleanDisk (state S.Store tx.new.conn.now) → OnOk result (Goes (Takes ACK (ack_cells topic.now row.now ∷ [])) (state S.Store tx.old.conn.now) (state S.Store tx.new.conn.now)) }
 {
-    let first = signed(row.first)?;
-    let last = signed(row.last)?;
+    let first = placed(row.first)?;
+    let last = placed(row.last)?;
     let count = tx.execute(
         "DELETE FROM ack WHERE topic = ?1 AND sub = ?2 AND first = ?3 AND last = ?4",
         params![topic, row.sub.as_str(), first, last],

@@ -8,7 +8,7 @@ ghost use Rattle.row_tables.specs.Ready.{IsReady};
 ghost use Rattle.row_tables.specs.Goes.{Goes, Stays, Clears, Adds, Takes, Shows};
 ghost use Rattle.row_tables.specs.Ordered.{AreSortedBy};
 
-use crate::numbers::{signed, took_one};
+use crate::numbers::{placed, took_one};
 use row_forms::CountRow;
 use sqlite::{Alter, Error, Row, Transaction, params};
 
@@ -18,7 +18,7 @@ pub fn add<S: Alter>(tx: &mut Transaction<'_, S>, topic: &str, row: &CountRow) -
     ensures survives { Survives (state S.Store tx.old.conn.now) (state S.Store tx.new.conn.now) (λ _. ⊥) }
     ensures done { HasCleanDisk (state S.Store tx.new.conn.now) → OnOk result (Goes (Adds REDELIVERY (count_cells topic.now row.now ∷ [])) (state S.Store tx.old.conn.now) (state S.Store tx.new.conn.now)) }
 {
-    let place = signed(row.place)?;
+    let place = placed(row.place)?;
     tx.execute(
         "INSERT INTO redelivery (topic, sub, idx, times) VALUES (?1, ?2, ?3, ?4)",
         params![topic, row.sub.as_str(), place, row.times],
@@ -36,7 +36,7 @@ pub fn remove<S: Alter>(
     ensures survives { Survives (state S.Store tx.old.conn.now) (state S.Store tx.new.conn.now) (λ _. ⊥) }
     ensures done { HasCleanDisk (state S.Store tx.new.conn.now) → OnOk result (Goes (Takes REDELIVERY (count_cells topic.now row.now ∷ [])) (state S.Store tx.old.conn.now) (state S.Store tx.new.conn.now)) }
 {
-    let place = signed(row.place)?;
+    let place = placed(row.place)?;
     let count = tx.execute(
         "DELETE FROM redelivery WHERE topic = ?1 AND sub = ?2 AND idx = ?3 AND times = ?4",
         params![topic, row.sub.as_str(), place, row.times],

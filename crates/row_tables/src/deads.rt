@@ -8,7 +8,7 @@ ghost use Rattle.row_tables.specs.Ready.{IsReady};
 ghost use Rattle.row_tables.specs.Goes.{Goes, Stays, Clears, Adds, Takes, Shows};
 ghost use Rattle.row_tables.specs.Ordered.{AreSortedBy};
 
-use crate::numbers::{signed, took_one};
+use crate::numbers::{placed, signed, took_one};
 use row_forms::DeadRow;
 use sqlite::{Alter, Error, Row, Transaction, params};
 
@@ -19,7 +19,7 @@ pub fn add<S: Alter>(tx: &mut Transaction<'_, S>, topic: &str, row: &DeadRow) ->
     ensures done { HasCleanDisk (state S.Store tx.new.conn.now) → OnOk result (Goes (Adds DEAD (dead_cells topic.now row.now ∷ [])) (state S.Store tx.old.conn.now) (state S.Store tx.new.conn.now)) }
 {
     let ordinal = signed(row.ordinal)?;
-    let place = signed(row.place)?;
+    let place = placed(row.place)?;
     tx.execute(
         "INSERT INTO dead (topic, sub, ordinal, idx, target) VALUES (?1, ?2, ?3, ?4, ?5)",
         params![topic, row.sub.as_str(), ordinal, place, row.target.as_str()],
@@ -38,7 +38,7 @@ pub fn remove<S: Alter>(
     ensures done { HasCleanDisk (state S.Store tx.new.conn.now) → OnOk result (Goes (Takes DEAD (dead_cells topic.now row.now ∷ [])) (state S.Store tx.old.conn.now) (state S.Store tx.new.conn.now)) }
 {
     let ordinal = signed(row.ordinal)?;
-    let place = signed(row.place)?;
+    let place = placed(row.place)?;
     let count = tx.execute(
         "DELETE FROM dead WHERE topic = ?1 AND sub = ?2 AND ordinal = ?3 AND idx = ?4 AND target = ?5",
         params![topic, row.sub.as_str(), ordinal, place, row.target.as_str()],

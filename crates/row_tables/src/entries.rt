@@ -1,19 +1,21 @@
 // The table `entry`: one row a message.
-ghost use Rattle.std.specs.Prelude.{◌≡◌, [], ◌∷◌, FitsSigned, OnOk, IfOk, IsTrue, pos};
+ghost use Rattle.std.specs.Prelude.{◌≡◌, ℕ, [], ◌∷◌, FitsSigned, OnOk, IfOk, IsTrue, pos};
 ghost use Rattle.std.specs.Int.{w64};
 ghost use Rattle.sqlite.specs.State.{HasCleanDisk, KeepsCommit, Survives};
 ghost use Rattle.sqlite.specs.Held.{state};
 ghost use Rattle.sqlite.specs.declared.types.Value.TheVariants.{Int, Text as Words};
 ghost use Rattle.row_forms.specs.Cells.{ENTRY};
 ghost use Rattle.row_forms.specs.Forms.{entry_row, key_cells};
+ghost use Rattle.row_forms.specs.Places.{number_of};
 ghost use Rattle.row_forms.specs.Properties.{properties_text};
 ghost use Rattle.row_tables.specs.Ready.{IsReady};
-ghost use Rattle.row_tables.specs.Goes.{Goes, Stays, Clears, Adds};
+ghost use Rattle.row_tables.specs.Goes.{Goes, Stays, Clears, Cuts, Adds};
 ghost use Rattle.row_tables.specs.Ordered.{AreSortedBy};
-ghost use Rattle.row_tables.specs.Pieces.{ShowsWithin, first_is_negative, has_below, has_from, has_others};
+ghost use Rattle.row_tables.specs.Pieces.{ShowsWithin, first_is_below, has_below, has_from, has_others};
 
-use crate::numbers::signed;
+use crate::numbers::{placed, signed};
 use position_core::{Entry, Key};
+use row_forms::Place;
 use sqlite::{Alter, Error, Row, Transaction, params};
 use sqlite_value::order::compare;
 use sqlite_value::value::ValueRef;
@@ -39,18 +41,18 @@ fn sequence_of(entry: &Entry) -> i64
 pub fn add<S: Alter>(
     tx: &mut Transaction<'_, S>,
     topic: &str,
-    place: u64,
+    place: Place,
     entry: &Entry,
     properties: &str,
 ) -> Result<(), Error>
     requires { properties.now ≡ properties_text entry.now.body.properties }
     ensures same_reference { tx.new.conn.ghost_name ≡ tx.old.conn.ghost_name }
     ensures survives { Survives (state S.Store tx.old.conn.now) (state S.Store tx.new.conn.now) (λ _. ⊥) }
-    ensures done { HasCleanDisk (state S.Store tx.new.conn.now) → OnOk result (Goes (Adds ENTRY (entry_row topic.now place entry.now ∷ [])) (state S.Store tx.old.conn.now) (state S.Store tx.new.conn.now)) }
+    ensures done { HasCleanDisk (state S.Store tx.new.conn.now) → OnOk result (Goes (Adds ENTRY (entry_row topic.now (number_of place) entry.now ∷ [])) (state S.Store tx.old.conn.now) (state S.Store tx.new.conn.now)) }
 {
     let content = entry.body.content();
     let (has_key, key) = key_parts(&content.key);
-    let place = signed(place)?;
+    let place = placed(place)?;
     let ledger = signed(entry.position.ledger)?;
     let number = signed(entry.position.entry)?;
     let sequence = sequence_of(entry);
@@ -84,6 +86,20 @@ pub fn clear<S: Alter>(tx: &mut Transaction<'_, S>, topic: &str) -> Result<(), E
     Ok(())
 }
 
+/// Deletes the messages of a topic whose places are below this one.
+pub fn cut<S: Alter>(tx: &mut Transaction<'_, S>, topic: &str, end: u64) -> Result<(), Error>
+    ensures same_reference { tx.new.conn.ghost_name ≡ tx.old.conn.ghost_name }
+    ensures survives { Survives (state S.Store tx.old.conn.now) (state S.Store tx.new.conn.now) (λ _. ⊥) }
+    ensures done { HasCleanDisk (state S.Store tx.new.conn.now) → OnOk result (Goes (Cuts topic.now end) (state S.Store tx.old.conn.now) (state S.Store tx.new.conn.now)) }
+{
+    let end = signed(end)?;
+    tx.execute(
+        "DELETE FROM entry WHERE topic = ?1 AND idx < ?2",
+        params![topic, end],
+    )?;
+    Ok(())
+}
+
 /// The messages of a topic from one place on and below another, by their places.
 pub fn read_within<S: Alter>(
     tx: &mut Transaction<'_, S>,
@@ -106,32 +122,33 @@ pub fn read_within<S: Alter>(
     )
 }
 
-/// Whether the first place that is shown is below 0, as NULL is.
-fn first_is_negative(rows: &[Row]) -> Result<bool, Error>
-    ensures { IfOk result (λ negative. negative ≡ first_is_negative rows.now) }
+/// Whether the first place that is shown is below this number, as NULL is.
+fn first_is_below(rows: &[Row], end: i64) -> Result<bool, Error>
+    ensures { IfOk result (λ below. (n : ℕ) → end ≡ pos n → below ≡ first_is_below n rows.now) }
 {
     match rows {
         [row, ..] => {
             let place = row.get_ref(0)?;
-            Ok(compare(place, ValueRef::Int(0)).is_lt())
+            Ok(compare(place, ValueRef::Int(end)).is_lt())
         }
         [] => Ok(false),
     }
 }
 
-/// Whether a message of the topic has a place below 0. Only the first place is read.
-fn has_negative<S: Alter>(tx: &mut Transaction<'_, S>, topic: &str) -> Result<bool, Error>
+/// Whether a message of the topic has a place below this one. Only the first place is read.
+fn has_below<S: Alter>(tx: &mut Transaction<'_, S>, topic: &str, end: u64) -> Result<bool, Error>
     ensures same_reference { tx.new.conn.ghost_name ≡ tx.old.conn.ghost_name }
     ensures survives { Survives (state S.Store tx.old.conn.now) (state S.Store tx.new.conn.now) (λ _. ⊥) }
     ensures done { HasCleanDisk (state S.Store tx.new.conn.now) → OnOk result (Goes Stays (state S.Store tx.old.conn.now) (state S.Store tx.new.conn.now)) }
     ensures kept { HasCleanDisk (state S.Store tx.new.conn.now) → IsTrue (state S.Store tx.old.conn.now).in_transaction → KeepsCommit (state S.Store tx.old.conn.now) (state S.Store tx.new.conn.now) }
-    ensures found { HasCleanDisk (state S.Store tx.new.conn.now) → IfOk result (λ found. IsReady (state S.Store tx.old.conn.now).now → found ≡ has_below topic.now 0 (state S.Store tx.old.conn.now).now.trees) }
+    ensures found { HasCleanDisk (state S.Store tx.new.conn.now) → IfOk result (λ found. IsReady (state S.Store tx.old.conn.now).now → found ≡ has_below topic.now end (state S.Store tx.old.conn.now).now.trees) }
 {
+    let end = signed(end)?;
     let first = tx.query_all(
         "SELECT idx FROM entry WHERE topic = ?1 ORDER BY idx LIMIT 1",
         params![topic],
     )?;
-    first_is_negative(first.as_slice())
+    first_is_below(first.as_slice(), end)
 }
 
 /// Whether a message of the topic has this place, or one after it. Only one place is read.
@@ -150,19 +167,21 @@ fn has_from<S: Alter>(tx: &mut Transaction<'_, S>, topic: &str, end: u64) -> Res
     Ok(!others.is_empty())
 }
 
-/// Whether a message of the topic has no place below this one. Each half of the answer is one step into the index.
+/// Whether a message of the topic has no place from the one on and below the other. Each half of the answer is one step
+/// into the index.
 pub fn has_others<S: Alter>(
     tx: &mut Transaction<'_, S>,
     topic: &str,
+    from: u64,
     end: u64,
 ) -> Result<bool, Error>
     ensures same_reference { tx.new.conn.ghost_name ≡ tx.old.conn.ghost_name }
     ensures survives { Survives (state S.Store tx.old.conn.now) (state S.Store tx.new.conn.now) (λ _. ⊥) }
     ensures done { HasCleanDisk (state S.Store tx.new.conn.now) → OnOk result (Goes Stays (state S.Store tx.old.conn.now) (state S.Store tx.new.conn.now)) }
     ensures kept { HasCleanDisk (state S.Store tx.new.conn.now) → IsTrue (state S.Store tx.old.conn.now).in_transaction → KeepsCommit (state S.Store tx.old.conn.now) (state S.Store tx.new.conn.now) }
-    ensures found { HasCleanDisk (state S.Store tx.new.conn.now) → IfOk result (λ found. IsReady (state S.Store tx.old.conn.now).now → found ≡ has_others topic.now end (state S.Store tx.old.conn.now).now.trees) }
+    ensures found { HasCleanDisk (state S.Store tx.new.conn.now) → IfOk result (λ found. IsReady (state S.Store tx.old.conn.now).now → found ≡ has_others topic.now from end (state S.Store tx.old.conn.now).now.trees) }
 {
-    if has_negative(tx, topic)? {
+    if has_below(tx, topic, from)? {
         return Ok(true);
     }
     has_from(tx, topic, end)

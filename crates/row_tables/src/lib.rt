@@ -3,10 +3,12 @@
 #![tactic(auto)]
 
 pub mod acks;
+pub mod authors;
 pub mod counts;
 pub mod deads;
 pub mod entries;
 mod numbers;
+pub mod retentions;
 mod side_rows;
 pub mod subs;
 pub mod topics;

@@ -11,6 +11,7 @@ use Rattle.delivery_machine.specs.Words.{is_at, is_named, members_of, removed}
 use Rattle.delivery_machine.specs.Refusals.{dropping_refused}
 use Rattle.delivery_machine.proofs.Behind.{same_name}
 use Rattle.delivery_machine.proofs.Places.{removed_there}
+use Rattle.topic_log.specs.Written.{all_of}
 use Rattle.dedup_core.specs.Sequences.{AgreesWith}
 use Rattle.dispatchers.specs.declared.dispatch.Dispatch.{Dispatch}
 use Rattle.dispatchers.specs.Told.{AreTold}
@@ -88,5 +89,5 @@ module _ (old new : Parts) (name : List ℕ) (place : ℕ) (there : Some place �
       one : (x : Placed) × (Some x ≡ slice_get old.subscriptions.items place) × (x ≡ get_or old.subscriptions.items place x)
       one = one_stands (is_placed name) old.subscriptions.items place there
 
-  pub dropped_numbers : AgreesWith (log_of old) old.log.numbers → AgreesWith (log_of new) new.log.numbers
-  dropped_numbers agree = subst (λ (t : Parts). AgreesWith (log_of t) t.log.numbers) (sym rest) agree
+  pub dropped_numbers : AgreesWith (all_of old.log) old.log.numbers → AgreesWith (all_of new.log) new.log.numbers
+  dropped_numbers agree = subst (λ (t : Parts). AgreesWith (all_of t.log) t.log.numbers) (sym rest) agree

@@ -50,7 +50,7 @@ abbrev pub admin_outcome : Reply → Outcome
 admin_outcome (Refused JournalFull) = Closes (refusing JournalFull)
 admin_outcome (Refused fault) = Answers (Administered (Refused fault))
 admin_outcome Done = Answers (Administered Done)
-admin_outcome (Stats kind members mark_delete acknowledged live pending dead) = Answers (Administered (Stats kind members mark_delete acknowledged live pending dead))
+admin_outcome (Stats kind members mark_delete acknowledged live pending dead gone oldest) = Answers (Administered (Stats kind members mark_delete acknowledged live pending dead gone oldest))
 admin_outcome reply = Passes
 
 -- what comes of the reply to what a text asked for

@@ -1,13 +1,13 @@
 -- What commands ask for.
 use Rattle.std.specs.Prelude.{ℕ, Option, Some, None}
 use Rattle.delivery_machine.specs.declared.event.Event.{Event}
-use Rattle.delivery_machine.specs.declared.event.Event.TheVariants.{Ack, AckUpTo, Nack, Permit, Seek, SeekTime, Skip, DropSubscription, Stats}
+use Rattle.delivery_machine.specs.declared.event.Event.TheVariants.{Ack, AckUpTo, Nack, Permit, Seek, SeekTime, Skip, DropSubscription, Stats, SetRetention}
 use Rattle.session_links.specs.declared.request.Request.{Request}
 use Rattle.session_links.specs.declared.request.Request.TheVariants.{DeleteTopic, Event as OfEvent}
 use Rattle.wire_json.specs.declared.commands.Command.{Command}
 use Rattle.wire_json.specs.declared.commands.Command.TheVariants.{Acknowledge, AcknowledgeUpTo, NegativeAcknowledge, Permit as Permitting, IsEndOfTopic}
 use Rattle.wire_json.specs.declared.admins.AdminCommand.{AdminCommand}
-use Rattle.wire_json.specs.declared.admins.AdminCommand.TheVariants.{Seek as Seeking, SeekTime as SeekingTime, Skip as Skipping, DropSubscription as Dropping, Stats as Showing, DeleteTopic as Deleting}
+use Rattle.wire_json.specs.declared.admins.AdminCommand.TheVariants.{Seek as Seeking, SeekTime as SeekingTime, Skip as Skipping, DropSubscription as Dropping, Stats as Showing, Keep as Keeping, DeleteTopic as Deleting}
 
 -- the event that the consumer's command asks for; none asks whether the topic has an end
 abbrev pub event_of_command : ℕ → ℕ → Command → Option Event
@@ -24,4 +24,5 @@ request_of_admin (SeekingTime subscription time) = OfEvent (SeekTime subscriptio
 request_of_admin (Skipping subscription count) = OfEvent (Skip subscription count)
 request_of_admin (Dropping subscription) = OfEvent (DropSubscription subscription)
 request_of_admin (Showing subscription) = OfEvent (Stats subscription)
+request_of_admin (Keeping retention) = OfEvent (SetRetention retention)
 request_of_admin Deleting = DeleteTopic

@@ -93,6 +93,8 @@ fn admin_outcome(reply: &Reply) -> Outcome
             live,
             pending,
             dead,
+            gone,
+            oldest,
         } => Outcome::Answers(Answer::Administered(Reply::Stats {
             kind: *kind,
             members: *members,
@@ -101,6 +103,8 @@ fn admin_outcome(reply: &Reply) -> Outcome
             live: *live,
             pending: *pending,
             dead: *dead,
+            gone: *gone,
+            oldest: *oldest,
         })),
         _ => Outcome::Passes,
     }

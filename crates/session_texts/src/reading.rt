@@ -148,6 +148,7 @@ fn request_of_admin(command: AdminCommand) -> Request
             Request::Event(Event::DropSubscription { subscription })
         }
         AdminCommand::Stats { subscription } => Request::Event(Event::Stats { subscription }),
+        AdminCommand::Keep { retention } => Request::Event(Event::SetRetention { retention }),
         AdminCommand::DeleteTopic => Request::DeleteTopic,
     }
 }

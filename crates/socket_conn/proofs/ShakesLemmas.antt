@@ -11,7 +11,7 @@ use Rattle.socket_conn.specs.declared.conn.SocketConn.{SocketConn}
 use Rattle.socket_conn.specs.declared.head.Upgrade.{Upgrade}
 use Rattle.socket_conn.specs.declared.held.Held.{Held}
 use Rattle.socket_conn.specs.declared.shaking.Shaken.{Shaken}
-use Rattle.socket_conn.specs.declared.shaking.Shaken.TheVariants.{Open, Waits, Failed}
+use Rattle.socket_conn.specs.declared.shaking.Shaken.TheVariants.{Open, Plain, Waits, Failed}
 use Rattle.socket_conn.specs.declared.shaking.Shaking.{Shaking}
 use Rattle.tungstenite.proofs.SocketLemmas.{take-nil}
 use Rattle.tungstenite.specs.Socket.{Socket, IsFresh}
@@ -75,5 +75,6 @@ module _ {S : Type 0} where
   pub looked : (remaining : S → Option (List ℕ)) (old last : Shaking S) (shaken : Shaken S) → HasHeard remaining old last → Judges last shaken
       → ((new : Shaking S) → ¬ (shaken ≡ Waits new)) → Shakes remaining old shaken
   looked remaining old last (Open conn target) heard judged other = (last, heard, judged)
+  looked remaining old last (Plain stream request) heard judged other = (last, heard, judged.0, judged.1)
   looked remaining old last (Waits new) heard judged other = absurd (other new refl)
   looked remaining old last Failed heard judged other = tt

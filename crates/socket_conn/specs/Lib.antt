@@ -3,3 +3,4 @@ pub mod State
 pub mod Talks
 pub mod Heads
 pub mod Shakes
+pub mod Answering

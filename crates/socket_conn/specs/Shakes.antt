@@ -3,14 +3,14 @@ use Rattle.std.specs.Prelude.{◌≡◌, ⊤, ℕ, List, [], ◌++◌, drop, Opt
 use Rattle.std.specs.Io.KnownBytes.{Consumes}
 use Rattle.std.specs.declared.alloc.Global.{Global}
 use Rattle.std.specs.declared.string.String.{String}
-use Rattle.socket_conn.specs.Heads.{IsUpgrade}
+use Rattle.socket_conn.specs.Heads.{IsRequest, IsUpgrade}
 use Rattle.socket_conn.specs.State.{begun}
 use Rattle.socket_conn.specs.declared.conn.SocketConn.{SocketConn}
 use Rattle.socket_conn.specs.declared.head.Upgrade.{Upgrade}
 use Rattle.socket_conn.specs.declared.held.Held.{Held}
 use Rattle.socket_conn.specs.declared.shaking.Heard.{Heard}
 use Rattle.socket_conn.specs.declared.shaking.Shaken.{Shaken}
-use Rattle.socket_conn.specs.declared.shaking.Shaken.TheVariants.{Open, Waits, Failed}
+use Rattle.socket_conn.specs.declared.shaking.Shaken.TheVariants.{Open, Plain, Waits, Failed}
 use Rattle.socket_conn.specs.declared.shaking.Shaking.{Shaking}
 use Rattle.tungstenite.specs.Socket.{IsFresh}
 use Rattle.websocket.specs.declared.protocol.config.Role.TheVariants.{Server}
@@ -47,13 +47,16 @@ module _ {S : Type 0} where
   -- what a look at the bytes so far comes to
   abbrev pub Judges : Shaking S → Shaken S → Type 0
   Judges old (Open conn target) = Opens old.head.items old.stream.inner conn target
+  Judges old (Plain stream request) = (stream ≡ old.stream.inner) × IsRequest old.head.items request
   Judges old (Waits new) = new ≡ old
   Judges old Failed = ⊤
 
-  -- how far the connection has come: it is open, with the bytes that came up to then; or waits for more,
-  -- where the stream was asked and had nothing to give; or has failed
+  -- how far the connection has come: it is open, or asks for something else, with the bytes that came up to then; or waits for
+  -- more, where the stream was asked and had nothing to give; or has failed
   abbrev pub Shakes : (S → Option (List ℕ)) → Shaking S → Shaken S → Type 0
   Shakes remaining old (Open conn target) =
       (last : Shaking S) × HasHeard remaining old last × Opens last.head.items last.stream.inner conn target
+  Shakes remaining old (Plain stream request) =
+      (last : Shaking S) × HasHeard remaining old last × (stream ≡ last.stream.inner) × IsRequest last.head.items request
   Shakes remaining old (Waits new) = HasHeard remaining old new × ¬ (new.stream.dry ≡ old.stream.dry)
   Shakes remaining old Failed = ⊤

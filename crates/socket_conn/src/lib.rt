@@ -1,6 +1,7 @@
 //! A session's connection over a WebSocket on a stream that does not block.
 #![tactic(auto)]
 
+mod answering;
 mod conn;
 mod head;
 mod held;
@@ -8,8 +9,9 @@ mod outcomes;
 mod shaking;
 mod waits;
 
+pub use answering::{Answered, Answering};
 pub use conn::SocketConn;
-pub use head::{Head, Upgrade, read_head};
+pub use head::{Head, Request, Upgrade, read_head};
 pub use held::Held;
 pub use shaking::{Shaken, Shaking};
 pub use waits::CountsWaits;

@@ -1,12 +1,12 @@
 // A connection whose request is on its way (RFC 6455, section 4.2), on a stream that does not block.
 ghost use Rattle.std.specs.Prelude.{◌≡◌, [], IfOk, drop};
-ghost use Rattle.socket_conn.specs.Heads.{IsUpgrade};
+ghost use Rattle.socket_conn.specs.Heads.{IsRequest, IsUpgrade};
 ghost use Rattle.socket_conn.specs.declared.conn.SocketConn.{SocketConn};
 ghost use Rattle.socket_conn.specs.declared.held.Held.{Held};
 ghost use Rattle.socket_conn.specs.Shakes.{Begins, Hears, Judges, Shakes};
 
 use crate::conn::SocketConn;
-use crate::head::{Head, Upgrade, read_head};
+use crate::head::{Head, Request, Upgrade, read_head};
 use crate::held::{Held, socket_of};
 use crate::waits::CountsWaits;
 use std::alloc::{AllocError, Global};
@@ -42,9 +42,11 @@ pub struct Shaking<S: Read + Write + Drop> {
 pub enum Shaken<S: Read + Write + Drop> {
     /// It asks for a WebSocket with this target. Nothing has been sent: the answer goes out once the connection is let go.
     Open(SocketConn<Held<S>>, String),
+    /// It asks for none. This is its stream, and what came behind the head is dropped.
+    Plain(S, Request),
     /// The stream is to be ready first.
     Waits(Shaking<S>),
-    /// It asks for none, or has ended, or there is no memory.
+    /// It has ended, or its head is too long, or there is no memory.
     Failed,
 }
 
@@ -140,7 +142,8 @@ impl<S: Read + Write + Drop> Shaking<S> {
         match read_head(self.alloc, self.head.as_slice()) {
             Ok(Head::Partial) => Shaken::Waits(self),
             Ok(Head::Upgrade(upgrade)) => self.upgraded(upgrade),
-            Ok(Head::Other) | Err(_) => Shaken::Failed,
+            Ok(Head::Plain(request)) => self.plain(request),
+            Err(_) => Shaken::Failed,
         }
     }
 
@@ -157,6 +160,20 @@ impl<S: Read + Write + Drop> Shaking<S> {
         } = self;
         let rest = behind(alloc, head, upgrade.len);
         opened(alloc, stream.into_inner(), upgrade, rest)
+    }
+
+    /// The stream, to answer the request.
+    fn plain(self, request: Request) -> Shaken<S>
+        requires { IsRequest self.head.items request }
+        ensures { Judges self result }
+    {
+        let Shaking {
+            alloc: _,
+            stream,
+            head: _,
+            reads: _,
+        } = self;
+        Shaken::Plain(stream.into_inner(), request)
     }
 
     /// Goes on as far as the stream is ready.

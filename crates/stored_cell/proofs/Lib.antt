@@ -1,3 +1,4 @@
 pub mod SafeKept
+pub mod GoingOver
 pub mod Letters
 pub mod Sound

@@ -1,5 +1,5 @@
 -- What a step, a view and a store make of the letters that are safe, and of those that are kept.
-use Rattle.std.proofs.Common.{◌≡◌, ℕ, ◌≤◌, List, [], ◌∷◌, false, refl, ap, sym, subst, ◌∙◌, arith, ◌⊎◌, inl, inr, Contains, true≢false}
+use Rattle.std.proofs.Common.{◌≡◌, ℕ, ◌+◌, ◌≤◌, List, [], ◌∷◌, false, refl, ap, sym, subst, ◌∙◌, arith, ◌⊎◌, inl, inr, Contains, true≢false}
 use Rattle.std.specs.Prelude.{All}
 use Rattle.std.proofs.lemmas.List.Elements.{All-head, All-contains, All-contains_itself, All-weaker}
 use Rattle.delivery_machine.specs.State.{State, DeadLetter, fresh}
@@ -126,4 +126,4 @@ safe_opened s kept is name =
     (All-contains_itself (dead_in (snapshot_in kept) name))
 
 pub none_fresh : (s : State) → s ≡ fresh s.name s.ledger_size → HasNoneStored s
-none_fresh s is = record { durable = ap (λ (u : State). u.durable) is; safe = λ name. ap (λ (u : State). safe_of u name) is }
+none_fresh s is = record { durable = ap (λ (u : State). u.gone + u.durable) is; safe = λ name. ap (λ (u : State). safe_of u name) is }

@@ -1,9 +1,8 @@
 -- What a stored cell keeps, after each of its calls.
-use Rattle.std.proofs.Common.{◌≡◌, ℕ, zero, suc, ◌≤◌, ◌++◌, List, [], ◌∷◌, slice_index_or, Bool, true, false, Option, Some, None, IfSome, MatchOption, length, inl, inr, refl, sym, ap, subst, ◌∙◌, arith, length-append, true≢false}
-use Rattle.std.specs.Prelude.{All, ◌||◌, min, max, nat_lt, if◌then◌else◌}
+use Rattle.std.proofs.Common.{◌≡◌, ℕ, zero, suc, ◌+◌, ◌-◌, ◌≤◌, ◌++◌, List, [], ◌∷◌, slice_index_or, Bool, true, false, Option, Some, None, IfSome, MatchOption, length, inl, inr, refl, sym, ap, subst, ◌∙◌, arith, true≢false}
+use Rattle.std.specs.Prelude.{All, ◌||◌, drop, min, max, nat_lt, if◌then◌else◌}
 use Rattle.std.proofs.lemmas.List.Elements.{All-append, All-nil}
 use mathlib.Core.List.{IsPrefix}
-use base.Growing.{prefix_trans}
 use Rattle.delivery_machine.specs.State.{State, fresh}
 use Rattle.delivery_machine.specs.Snapshot.{Snapshot, snapshot_of, restarted}
 use Rattle.delivery_machine.specs.Places.{KeptTopic, snapshot_in}
@@ -15,17 +14,15 @@ use Rattle.delivery_machine.specs.declared.event.Event.{Event}
 use Rattle.delivery_machine.specs.declared.event.Event.TheVariants.{Stored, StoredTo}
 use Rattle.delivery_machine.specs.declared.reply.Reply.{Reply}
 use Rattle.delivery_machine.specs.declared.reply.Reply.TheVariants.{Durable}
-use Rattle.delivery_machine.proofs.Growing.{step_grows, prefix_same}
+use Rattle.delivery_machine.proofs.Growing.{step_grows}
 use Rattle.delivery_machine.proofs.ReachedOn.{reached_fresh, reached_restarted}
 use Rattle.journal_lines.specs.Lines.{line}
 use Rattle.journal_lines.proofs.Legality.{legal_snoc}
 use Rattle.topic_shared.specs.Kept.{Kept, IsVacant, StoresLine, spoken_for, with_promise}
 use Rattle.stored_cell.specs.Noted.{Noted, GoesOn, IsOfNow, IsOfView, IsStored, marked}
 use Rattle.stored_cell.specs.Held.{Held, IsBeginning, KeepsSafe, KeepsLetters, IsProof, HasNothing, HasNoneStored, IsAtRest, IsSound, bases_of, outstanding_in}
+use Rattle.stored_cell.proofs.GoingOver.{goes_same, goes_further, reaches_within}
 use Rattle.stored_cell.proofs.SafeKept.{reached_on, safe_on, none_on, letters_on, safe_viewed, letters_viewed, safe_confirmed, safe_all, safe_opened, none_fresh}
-
-prefix_shorter : {A : Type 0} (xs ys : List A) → IsPrefix xs ys → length xs ≤ length ys
-prefix_shorter xs ys p = let whole = ap length p.1 in omega (arith, whole, length-append xs p.0)
 
 some_weaker : {A : Type 0} (o : Option A) (P Q : A → Type 0) → ((x : A) → P x → Q x) → IfSome o P → IfSome o Q
 some_weaker None P Q all h = h
@@ -41,7 +38,8 @@ beginning_grows s t e r kept step at =
     let been = at.events in
     record {
       name = at.name ∙ sym grown.name;
-      log = prefix_trans kept.log s.log t.log at.log grown.log;
+      gone = let low = at.gone in let more = grown.gone in omega (arith, low, more);
+      log = goes_further kept.gone s.gone grown.went t.gone kept.log s.log t.log at.gone grown.gone at.log grown.log;
       events = (been.0, been.1 ++ line 0 e r ∷ [], been.2, legal_snoc been.0 been.1 s (line 0 e r) t been.3 step);
     }
 
@@ -49,14 +47,15 @@ beginning_grows s t e r kept step at =
 beginning_of : (s : State) (kept : KeptTopic) → snapshot_in kept ≡ snapshot_of s → IsBeginning s kept
 beginning_of s kept same = record {
   name = ap (λ (x : Snapshot). x.name) same;
-  log = subst (IsPrefix kept.log) (ap (λ (x : Snapshot). x.log) same) (prefix_same kept.log);
+  gone = let is : kept.gone ≡ s.gone = ap (λ (x : Snapshot). x.gone) same in omega (arith, is);
+  log = subst (λ (x : Snapshot). IsPrefix (drop (x.gone - kept.gone) kept.log) x.log) same (goes_same kept.gone kept.log);
   events = (s, [], inl same, refl);
 }
 
 proof_grows : (s t : State) (e : Event) (r : Reply) (n : Noted) → Step s e r t → IsReached s → is_storing e ≡ false → IsProof s n → IsProof t n
 proof_grows s t e r n step reached silent at = record {
   kept = beginning_grows s t e r n.kept step at.kept;
-  durable = subst (λ d. d ≤ length n.kept.log) (sym ((step_grows s e r t step).durable silent)) at.durable;
+  durable = subst (λ d. d ≤ n.kept.gone + length n.kept.log) (sym ((step_grows s e r t step).durable silent)) at.durable;
   safe = safe_on s e r t n.kept step reached silent at.safe;
   stored = at.stored;
 }
@@ -70,7 +69,7 @@ none_grows s t e r step reached silent at = record {
 -- what is durable is of the log
 durable_within : (s : State) (o : Option Noted) → MatchOption o (HasNoneStored s) (IsProof s) → s.durable ≤ length s.log
 durable_within s None none = omega (arith, none.durable)
-durable_within s (Some n) at = omega (arith, at.durable, prefix_shorter n.kept.log s.log at.kept.log)
+durable_within s (Some n) at = reaches_within n.kept.gone s.gone s.durable n.kept.log s.log at.kept.gone at.kept.log at.durable
 
 -- a promise leaves the state as it was
 pub promise_stays : (k : Kept) → (with_promise k).state ≡ k.state
@@ -112,7 +111,8 @@ all_go_on s kept bases same begin n d less =
     let at = begin n d less in
     record {
       name = ap (λ (x : Snapshot). x.name) same ∙ sym at.name;
-      log = subst (IsPrefix (slice_index_or bases n d).log) (sym (ap (λ (x : Snapshot). x.log) same)) at.log;
+      gone = subst (λ (x : Snapshot). (slice_index_or bases n d).gone ≤ x.gone) (sym same) at.gone;
+      log = subst (λ (x : Snapshot). IsPrefix (drop (x.gone - (slice_index_or bases n d).gone) (slice_index_or bases n d).log) x.log) (sym same) at.log;
       events = (at.events.0, s, at.events.1, at.events.2, at.events.3, same);
     }
 
@@ -170,7 +170,8 @@ pub sound_restarted : (k : Kept) (n : Noted) → IsSoundSnapshot (snapshot_in n.
 sound_restarted k n sound viewed is stands =
     let kept : IsBeginning k.state n.kept = record {
       name = sym (ap (λ (s : State). s.name) is);
-      log = subst (IsPrefix n.kept.log) (sym (ap (λ (s : State). s.log) is)) (prefix_same n.kept.log);
+      gone = subst (λ (s : State). n.kept.gone ≤ s.gone) (sym is) (omega arith);
+      log = subst (λ (s : State). IsPrefix (drop (s.gone - n.kept.gone) n.kept.log) s.log) (sym is) (goes_same n.kept.gone n.kept.log);
       events = (k.state, [], inr is, refl);
     } in
     record {
@@ -178,7 +179,7 @@ sound_restarted k n sound viewed is stands =
       stored = (kept, stands);
       durable = λ _. record {
         kept = kept;
-        durable = subst (λ d. d ≤ length n.kept.log) (sym (ap (λ (s : State). s.durable) is)) (omega arith);
+        durable = subst (λ (s : State). s.gone + s.durable ≤ n.kept.gone + length n.kept.log) (sym is) (omega arith);
         safe = safe_opened k.state n.kept is;
         stored = stands;
       };
@@ -205,7 +206,7 @@ sound_called h l e r sound step promised viewed =
       within = λ said.
           let both = or_false h.by_word (is_storing e) said in
           some_weaker h.outstanding _ _ (λ (kept : KeptTopic) within.
-          (subst (λ d. d ≤ length kept.log) (sym (grown.durable both.1)) within.0, safe_on h.cell.state e r l.state kept step sound.reached both.1 within.1)) (sound.within both.0);
+          (subst (λ d. d ≤ kept.gone + length kept.log) (sym (grown.durable both.1)) within.0, safe_on h.cell.state e r l.state kept step sound.reached both.1 within.1)) (sound.within both.0);
       letters = some_weaker h.outstanding _ _ (λ kept at. letters_on h.cell.state e r l.state kept step sound.reached at) sound.letters;
       promised = λ some. promised ∙ sound.promised some;
       views = subst (λ (v : State). IfSome h.outstanding (λ (kept : KeptTopic). snapshot_in kept ≡ snapshot_of v)) (sym viewed) sound.views;
@@ -226,6 +227,7 @@ pub sound_viewed : (h : Held) (l : Kept) (kept : KeptTopic) → IsSound h → l.
     → IsSound (record h { cell = l; outstanding = Some kept })
 sound_viewed h l kept sound same last promised viewed =
     let log : kept.log ≡ l.state.log = ap (λ (x : Snapshot). x.log) viewed in
+    let gone : kept.gone ≡ l.state.gone = ap (λ (x : Snapshot). x.gone) viewed in
     record {
       reached = subst IsReached (sym same) sound.reached;
       stored = subst (λ (s : State). IfSome h.stored (λ n. IsBeginning s n.kept × IsStored n)) (sym same) sound.stored;
@@ -233,7 +235,7 @@ sound_viewed h l kept sound same last promised viewed =
       outstanding = beginning_of l.state kept viewed;
       within = λ said.
           let all : l.state.durable ≤ length l.state.log = subst (λ (s : State). s.durable ≤ length s.log) (sym same) (durable_within h.cell.state h.stored (sound.durable said)) in
-          (omega (arith, all, ap length log), safe_viewed l.state kept viewed);
+          (omega (arith, all, gone, ap length log), safe_viewed l.state kept viewed);
       letters = letters_viewed l.state kept viewed;
       promised = λ _. promised;
       views = viewed ∙ ap snapshot_of (sym last);
@@ -242,7 +244,7 @@ sound_viewed h l kept sound same last promised viewed =
     }
 
 pub sound_confirmed : (h : Held) (l : Kept) (n : Noted) (count : ℕ) → IsSound h → h.outstanding ≡ Some n.kept → IsStored n
-    → StoresLine h.cell (StoredTo (length n.kept.log) n.kept.next_ordinal) count l
+    → StoresLine h.cell (StoredTo (n.kept.gone + length n.kept.log) n.kept.next_ordinal) count l
     → IsSound (record { cell = l; stored = Some n; outstanding = None; by_word = h.by_word })
 sound_confirmed h l n count sound viewed stands stores =
     let before : IsBeginning h.cell.state n.kept = subst (λ o. IfSome o (IsBeginning h.cell.state)) viewed sound.outstanding in
@@ -252,12 +254,12 @@ sound_confirmed h l n count sound viewed stands stores =
       reached = reached_on h.cell.state told (Durable count) l.state stores.step sound.reached;
       stored = (kept, stands);
       durable = λ said.
-          let within = subst (λ o. IfSome o (λ (kept : KeptTopic). (h.cell.state.durable ≤ length kept.log) × KeepsSafe h.cell.state kept)) viewed (sound.within said) in
-          let most : h.cell.state.durable ≤ length n.kept.log = within.0 in
+          let within = subst (λ o. IfSome o (λ (kept : KeptTopic). (h.cell.state.gone + h.cell.state.durable ≤ kept.gone + length kept.log) × KeepsSafe h.cell.state kept)) viewed (sound.within said) in
+          let most : h.cell.state.gone + h.cell.state.durable ≤ n.kept.gone + length n.kept.log = within.0 in
           record {
             kept = kept;
-            durable = omega (arith, after, most);
-            safe = safe_confirmed h.cell.state (length n.kept.log) (Durable count) l.state n.kept stores.step sound.reached letters within.1;
+            durable = omega (arith, gone, after, most);
+            safe = safe_confirmed h.cell.state (n.kept.gone + length n.kept.log) (Durable count) l.state n.kept stores.step sound.reached letters within.1;
             stored = stands;
           };
       outstanding = tt;
@@ -270,9 +272,12 @@ sound_confirmed h l n count sound viewed stands stores =
     }
   where
     told : Event
-    told = StoredTo (length n.kept.log) n.kept.next_ordinal
+    told = StoredTo (n.kept.gone + length n.kept.log) n.kept.next_ordinal
 
-    after : l.state.durable ≡ max h.cell.state.durable (min (length n.kept.log) (length h.cell.state.log))
+    gone : l.state.gone ≡ h.cell.state.gone
+    gone = ap (λ (s : State). s.gone) stores.step.1.1
+
+    after : l.state.durable ≡ max h.cell.state.durable (min (n.kept.gone + length n.kept.log - h.cell.state.gone) (length h.cell.state.log))
     after = ap (λ (s : State). s.durable) stores.step.1.1
 
 -- all that there is is durable, since a snapshot of now was stored
@@ -281,13 +286,15 @@ pub sound_all : (h : Held) (l : Kept) (n : Noted) (count : ℕ) → IsSound h �
 sound_all h l n count sound now stands stores =
     let kept = beginning_grows h.cell.state l.state Stored (Durable count) n.kept stores.step (beginning_of h.cell.state n.kept now) in
     let log : n.kept.log ≡ h.cell.state.log = ap (λ (x : Snapshot). x.log) now in
+    let gone : n.kept.gone ≡ h.cell.state.gone = ap (λ (x : Snapshot). x.gone) now in
+    let same : l.state.gone ≡ h.cell.state.gone = ap (λ (s : State). s.gone) stores.step.1.1 in
     let after : l.state.durable ≡ length h.cell.state.log = ap (λ (s : State). s.durable) stores.step.1.1 in
     record {
       reached = reached_on h.cell.state Stored (Durable count) l.state stores.step sound.reached;
       stored = (kept, stands);
       durable = λ _. record {
         kept = kept;
-        durable = omega (arith, after, ap length log);
+        durable = omega (arith, gone, same, after, ap length log);
         safe = safe_all h.cell.state (Durable count) l.state n.kept stores.step sound.reached now;
         stored = stands;
       };

@@ -1,5 +1,5 @@
 -- A topic with its journal and with what of it is stored, and why what it calls durable, or safe to be moved, is stored.
-use Rattle.std.specs.Prelude.{◌≡◌, ℕ, ◌≤◌, ◌⊎◌, ◌++◌, Bool, true, false, List, [], ◌∷◌, Option, None, Some, IfSome, IsSome, MatchOption, length, All, Contains}
+use Rattle.std.specs.Prelude.{◌≡◌, ℕ, ◌≤◌, ◌+◌, ◌-◌, ◌⊎◌, ◌++◌, Bool, true, false, List, [], ◌∷◌, Option, None, Some, IfSome, IsSome, MatchOption, length, drop, All, Contains}
 use mathlib.Core.List.{IsPrefix}
 use Rattle.delivery_machine.specs.State.{State, Subscription, fresh}
 use Rattle.delivery_machine.specs.Places.{KeptTopic, snapshot_in}
@@ -19,10 +19,11 @@ pub record Held : Type 0 where
   pub outstanding : Option KeptTopic
   pub by_word : Bool
 
--- it is kept of this topic, whose log begins with the kept one, and events alone led from it to here
+-- it is kept of this topic, whose log begins with what of the kept one has not gone since, and events alone led from it to here
 pub record IsBeginning (s : State) (kept : KeptTopic) : Type 0 where
   pub name : kept.name ≡ s.name
-  pub log : IsPrefix kept.log s.log
+  pub gone : kept.gone ≤ s.gone
+  pub log : IsPrefix (drop (s.gone - kept.gone) kept.log) s.log
   pub events : (first : State) × (lines : List Line) × IsOfView first kept × Legal first lines s
 
 -- each letter that is safe to be moved, of whatever subscription, is among the dead letters that are kept of that subscription
@@ -34,16 +35,17 @@ pub record KeepsLetters (s : State) (kept : KeptTopic) : Type 0 where
   pub next : kept.next_ordinal ≤ s.next_ordinal
   pub letters : (name : List ℕ) → All (λ d. Contains (dead_in (snapshot_in kept) name) d ⊎ kept.next_ordinal ≤ d.ordinal) (dead_of s name)
 
--- all that is durable, and each letter that is safe, is in what is kept of the topic, and that stands in rows that were committed
+-- all that is durable, whether it is gone since or not, and each letter that is safe, is in what is kept of the topic, and that stands
+-- in rows that were committed
 pub record IsProof (s : State) (n : Noted) : Type 0 where
   pub kept : IsBeginning s n.kept
-  pub durable : s.durable ≤ length n.kept.log
+  pub durable : s.gone + s.durable ≤ n.kept.gone + length n.kept.log
   pub safe : KeepsSafe s n.kept
   pub stored : IsStored n
 
 -- nothing is durable, and no letter is safe
 pub record HasNoneStored (s : State) : Type 0 where
-  pub durable : s.durable ≡ 0
+  pub durable : s.gone + s.durable ≡ 0
   pub safe : (name : List ℕ) → safe_of s name ≡ []
 
 -- what is durable, and each letter that is safe, stands in rows that were committed, but for what a caller's word made so
@@ -78,7 +80,7 @@ pub record IsSound (h : Held) : Type 0 where
   pub stored : IfSome h.stored (λ n. IsBeginning h.cell.state n.kept × IsStored n)
   pub durable : IsDurable h
   pub outstanding : IfSome h.outstanding (IsBeginning h.cell.state)
-  pub within : h.by_word ≡ false → IfSome h.outstanding (λ kept. (h.cell.state.durable ≤ length kept.log) × KeepsSafe h.cell.state kept)
+  pub within : h.by_word ≡ false → IfSome h.outstanding (λ kept. (h.cell.state.gone + h.cell.state.durable ≤ kept.gone + length kept.log) × KeepsSafe h.cell.state kept)
   pub letters : IfSome h.outstanding (KeepsLetters h.cell.state)
   pub promised : IsSome h.outstanding → h.cell.promised ≡ true
   -- what is outstanding is kept of the last view, and where nothing is, what was stored last is

@@ -1,5 +1,5 @@
 -- What a history of stores names: what is kept of a topic, or the rows that a commit left.
-use Rattle.std.specs.Prelude.{◌≡◌, ◌⊎◌, ◌&&◌, ℕ, Bool, true, List, [], ◌∷◌, Option, None, Some, IsPermutation}
+use Rattle.std.specs.Prelude.{◌≡◌, ◌⊎◌, ◌&&◌, ◌-◌, ◌≤◌, ℕ, Bool, true, List, [], ◌∷◌, Option, None, Some, IsPermutation, drop}
 use mathlib.Core.List.{IsPrefix}
 use Rattle.position_core.specs.TopicName.{topic_text}
 use Rattle.sqlite.specs.Tree.{Trees}
@@ -8,7 +8,7 @@ use Rattle.delivery_machine.specs.State.{State as Machine}
 use Rattle.delivery_machine.specs.Snapshot.{snapshot_of, restarted}
 use Rattle.delivery_machine.specs.Places.{KeptTopic, snapshot_in}
 use Rattle.journal_lines.specs.Lines.{Line, Legal}
-use Rattle.row_forms.specs.Cells.{TOPIC, ENTRY, SUB, ACK, DEAD, REDELIVERY, bodies, of_topic}
+use Rattle.row_forms.specs.Cells.{TOPIC, ENTRY, SUB, ACK, DEAD, REDELIVERY, AUTHOR, RETENTION, bodies, of_topic}
 use Rattle.row_forms.specs.Forms.{TopicRows, AreRowsOf}
 
 -- the rows of all topics, table by table
@@ -20,6 +20,8 @@ all_rows db = record {
   acks = bodies ACK (db ACK);
   deads = bodies DEAD (db DEAD);
   counts = bodies REDELIVERY (db REDELIVERY);
+  authors = bodies AUTHOR (db AUTHOR);
+  retentions = bodies RETENTION (db RETENTION);
 }
 
 -- among the rows of all topics, those of this topic are these, in any order
@@ -30,6 +32,8 @@ pub record HasAmong (topic : List ℕ) (rows all : TopicRows) : Type 0 where
   pub acks : IsPermutation rows.acks (of_topic topic all.acks)
   pub deads : IsPermutation rows.deads (of_topic topic all.deads)
   pub counts : IsPermutation rows.counts (of_topic topic all.counts)
+  pub authors : IsPermutation rows.authors (of_topic topic all.authors)
+  pub retentions : IsPermutation rows.retentions (of_topic topic all.retentions)
 
 -- the topic's rows among these are those of what is kept of it
 abbrev pub StandsAmong : KeptTopic → TopicRows → Type 0
@@ -52,6 +56,9 @@ nothing_kept = record {
   ledger_size = 0;
   ledger = 0;
   next_ordinal = 0;
+  gone = 0;
+  authors = [];
+  retention = None;
   log = [];
   subscriptions = [];
 }
@@ -79,8 +86,10 @@ IsOfView viewed kept = (snapshot_in kept ≡ snapshot_of viewed) ⊎ (viewed ≡
 abbrev pub IsOfNow : Machine → KeptTopic → Type 0
 IsOfNow s kept = (snapshot_in kept ≡ snapshot_of s) ⊎ (snapshot_of (restarted (snapshot_in kept)) ≡ snapshot_of s)
 
--- both are of one topic, the second log begins with the first, and events alone lead from the first to the second
+-- both are of one topic, the second log begins with what of the first has not gone since, and events alone lead from the first to the
+-- second
 pub record GoesOn (base kept : KeptTopic) : Type 0 where
   pub name : kept.name ≡ base.name
-  pub log : IsPrefix base.log kept.log
+  pub gone : base.gone ≤ kept.gone
+  pub log : IsPrefix (drop (kept.gone - base.gone) base.log) kept.log
   pub events : (first last : Machine) × (lines : List Line) × IsOfView first base × Legal first lines last × (snapshot_in kept ≡ snapshot_of last)

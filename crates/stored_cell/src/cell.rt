@@ -15,7 +15,7 @@ ghost use Rattle.stored_cell.specs.Held.{IsAtRest, IsDurable};
 ghost use Rattle.stored_cell.specs.Noted.{IsOfNow, IsOfView};
 
 use crate::kept::Kept;
-use crate::viewed::{Stored, Viewed};
+use crate::viewed::{Stored, Viewed, had_at};
 use delivery_machine::{Event, Fault, Snapshot, Topic};
 use marks::Naming;
 use std::marker::Model;
@@ -93,7 +93,7 @@ impl<T: Topic + Drop, J: Naming> StoredCell<T, J> {
     {
         StoredCell {
             cell,
-            stored: Some(Stored::new(kept, snapshot.log().count() as u64)),
+            stored: Some(Stored::new(kept, had_at(snapshot))),
             outstanding: None,
             by_word: false,
         }

@@ -1,5 +1,5 @@
 // The three steps of a store, as a topic takes part in them: it is viewed, and later what was stored is confirmed.
-ghost use Rattle.std.specs.Prelude.{ℕ, ◌≡◌, ◌++◌, ◌⊎◌, ◌≤◌, ◌↔◌, Err, None, Some, IfOk, IfErr, IfSome, OnOk, OnErr, IsTrue, IsFalse, length, false, true};
+ghost use Rattle.std.specs.Prelude.{ℕ, ◌≡◌, ◌+◌, ◌++◌, ◌⊎◌, ◌≤◌, ◌↔◌, Err, None, Some, IfOk, IfErr, IfSome, OnOk, OnErr, IsTrue, IsFalse, length, false, true};
 ghost use Rattle.position_core.specs.declared.fault.Fault.TheVariants.{NoMemory, JournalFull, StoreFailed};
 ghost use Rattle.delivery_machine.specs.Snapshot.{snapshot_of};
 ghost use Rattle.delivery_machine.specs.Places.{snapshot_in};
@@ -78,12 +78,12 @@ impl<T: Opened + Drop, J: Naming> StoredCell<T, J> {
     }
 
     /// Makes durable what was stored, if it is what was viewed last: the store holds its messages and its
-    /// deaths. Whether it was. What a caller's word made durable is so by that word still.
+    /// deaths, whatever was trimmed since. Whether it was. What a caller's word made durable is so by that word still.
     pub fn confirm(&mut self, kept: Kept<J>) -> bool
         ensures nothing { IsFalse result → self.new ≡ self.old }
         ensures outstanding { IsTrue result → self.old.outstanding ≡ Some kept.kept }
         ensures stored { IsTrue result → (self.new.stored ≡ Some kept) × (self.new.outstanding ≡ None) }
-        ensures line { IsTrue result → (count : ℕ) × StoresLine self.old.cell (StoredTo (length kept.kept.log) kept.kept.next_ordinal) count self.new.cell }
+        ensures line { IsTrue result → (count : ℕ) × StoresLine self.old.cell (StoredTo (kept.kept.gone + length kept.kept.log) kept.kept.next_ordinal) count self.new.cell }
         ensures word { self.new.by_word ≡ self.old.by_word }
         ensures durable { self.old.cell.state.durable ≤ self.new.cell.state.durable }
     {

@@ -1,9 +1,10 @@
 // A snapshot that is to be stored.
-ghost use Rattle.std.specs.Prelude.{◌≡◌, All, Contains, IsTrue};
+ghost use Rattle.std.specs.Prelude.{◌≡◌, ◌+◌, All, Contains, IsTrue, length};
 ghost use Rattle.stored_cell.specs.Noted.{GoesOn};
 
 use crate::bases::Bases;
 use crate::notes::Note;
+use crate::viewed::had_at;
 use delivery_machine::Snapshot;
 use marks::{Mark, Naming};
 use std::marker::Model;
@@ -57,6 +58,13 @@ impl<J: Naming> Part<J> {
         ensures { result.now ≡ self.now.kept }
     {
         &self.snapshot
+    }
+
+    /// How many messages the topic had, those that are gone among them.
+    pub fn length(&self) -> u64
+        ensures { result ≡ self.now.kept.gone + length self.now.kept.log }
+    {
+        had_at(&self.snapshot)
     }
 
     /// The snapshot, with its own mark.

@@ -1,5 +1,5 @@
 // A stored cell as what a keeper makes a round of, under one hold of its lock.
-ghost use Rattle.std.specs.Prelude.{◌≡◌, ◌⊎◌, ◌↔◌, All, IfErr, OnOk, OnErr, Err, None, Some, length, true, false};
+ghost use Rattle.std.specs.Prelude.{◌≡◌, ◌+◌, ◌⊎◌, ◌↔◌, All, IfErr, OnOk, OnErr, Err, None, Some, length, true, false};
 ghost use Rattle.position_core.specs.declared.fault.Fault.TheVariants.{NoMemory, JournalFull};
 ghost use Rattle.delivery_machine.specs.Snapshot.{snapshot_of};
 ghost use Rattle.delivery_machine.specs.Places.{snapshot_in};
@@ -70,12 +70,12 @@ impl<T: Opened + Drop, J: Naming> StoredCell<T, J> {
         durable
     }
 
-    /// Makes durable all that the topic has, since it stands in rows that were committed: a snapshot with so
-    /// many messages. How much is durable then.
+    /// Makes durable all that the topic has, since it stands in rows that were committed: a snapshot up to
+    /// so many of all messages that the topic had. How much is durable then.
     pub fn confirm_all(&mut self, kept: Kept<J>, count: u64) -> u64
         requires promised { self.old.cell.promised ≡ true }
         requires now { snapshot_in kept.kept ≡ snapshot_of self.old.cell.state }
-        requires count { count ≡ length kept.kept.log }
+        requires count { count ≡ kept.kept.gone + length kept.kept.log }
         ensures line { StoresLine (record self.old.cell { viewed = self.old.cell.state; unsaved = false }) Stored result self.new.cell }
         ensures stored { (self.new.stored ≡ Some kept) × (self.new.outstanding ≡ None) }
         ensures word { self.new.by_word ≡ false }

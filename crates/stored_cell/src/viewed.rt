@@ -1,5 +1,6 @@
-// Snapshots that were viewed or stored, with how much they hold.
-ghost use Rattle.std.specs.Prelude.{◌≡◌, length};
+// Snapshots that were viewed or stored, with how far they reach.
+ghost use Rattle.std.specs.Prelude.{◌≡◌, ◌+◌, length};
+ghost use Rattle.delivery_machine.specs.Places.{MayRestart};
 ghost use Rattle.stored_cell.specs.Noted.{IsStored};
 
 use crate::kept::Kept;
@@ -8,6 +9,15 @@ use delivery_machine::Snapshot;
 use marks::{Mark, Naming};
 use position_core::Ordinal;
 use std::marker::Model;
+
+/// How many messages the topic had at the snapshot, those that were gone among them: a trim leaves that number as it is.
+pub(crate) fn had_at(snapshot: &Snapshot) -> u64
+    ensures value { result ≡ snapshot.now.gone + length snapshot.now.log }
+    ensures restarts { MayRestart snapshot.now }
+{
+    let stay = snapshot.log().count() as u64;
+    snapshot.gone() + stay
+}
 
 /// A snapshot that was viewed and is not confirmed. Contracts see the snapshot.
 pub struct Viewed<J: Naming> {
@@ -27,7 +37,7 @@ impl<J: Naming> Drop for Viewed<J> {
 }
 
 impl<J: Naming> Model for Viewed<J> {
-    ghost use Rattle.std.specs.Prelude.{◌≡◌, length};
+    ghost use Rattle.std.specs.Prelude.{◌≡◌, ◌+◌, length};
     ghost use Rattle.std.specs.Coded.{codes};
     ghost use Rattle.delivery_machine.specs.Codes.{coded_places, coded_counts};
     ghost use Rattle.delivery_machine.specs.Places.{KeptTopic};
@@ -38,7 +48,7 @@ impl<J: Naming> Model for Viewed<J> {
 
     ghost view = { λ v. v.mark.kept };
 
-    ghost invariant = { λ v. (v.count ≡ length v.mark.kept.log) × (v.ordinal ≡ v.mark.kept.next_ordinal) };
+    ghost invariant = { λ v. (v.count ≡ v.mark.kept.gone + length v.mark.kept.log) × (v.ordinal ≡ v.mark.kept.next_ordinal) };
 }
 
 impl<J: Naming> Viewed<J> {
@@ -48,7 +58,7 @@ impl<J: Naming> Viewed<J> {
     {
         Viewed {
             mark,
-            count: snapshot.log().count() as u64,
+            count: had_at(snapshot),
             ordinal: snapshot.next_ordinal(),
         }
     }
@@ -59,9 +69,9 @@ impl<J: Naming> Viewed<J> {
         &self.mark
     }
 
-    /// How many messages its log has.
+    /// How many messages the topic had, those that were gone among them.
     pub fn length(&self) -> u64
-        ensures { result ≡ length self.now.log }
+        ensures { result ≡ self.now.gone + length self.now.log }
     {
         self.count
     }
@@ -87,7 +97,7 @@ impl<J: Naming> Drop for Stored<J> {
 }
 
 impl<J: Naming> Model for Stored<J> {
-    ghost use Rattle.std.specs.Prelude.{◌≡◌, length};
+    ghost use Rattle.std.specs.Prelude.{◌≡◌, ◌+◌, length};
     ghost use Rattle.std.specs.Coded.{codes};
     ghost use Rattle.delivery_machine.specs.Codes.{coded_places, coded_counts};
     ghost use Rattle.stored_cell.specs.Noted.{Noted, IsStored};
@@ -98,12 +108,12 @@ impl<J: Naming> Model for Stored<J> {
 
     ghost view = { λ s. s.kept };
 
-    ghost invariant = { λ s. (s.count ≡ length s.kept.kept.log) × IsStored s.kept };
+    ghost invariant = { λ s. (s.count ≡ s.kept.kept.gone + length s.kept.kept.log) × IsStored s.kept };
 }
 
 impl<J: Naming> Stored<J> {
     pub fn new(kept: Kept<J>, count: u64) -> Self
-        requires { count ≡ length kept.kept.log }
+        requires { count ≡ kept.kept.gone + length kept.kept.log }
         ensures value { result ≡ kept }
         ensures stands { IsStored result }
     {
@@ -117,9 +127,9 @@ impl<J: Naming> Stored<J> {
         &self.kept
     }
 
-    /// How many messages its log has.
+    /// How many messages the topic had, those that were gone among them.
     pub fn length(&self) -> u64
-        ensures { result ≡ length self.now.kept.log }
+        ensures { result ≡ self.now.kept.gone + length self.now.kept.log }
     {
         self.count
     }

@@ -142,6 +142,7 @@ fn is_kept_once_done(event: &Event) -> bool
             | Event::SeekTime { .. }
             | Event::Skip { .. }
             | Event::DropSubscription { .. }
+            | Event::SetRetention { .. }
             | Event::DeadDone { .. }
     )
 }
@@ -154,7 +155,8 @@ fn changes_snapshot(event: &Event, reply: &Reply) -> bool
         | Reply::Subscribed { .. }
         | Reply::Released { .. }
         | Reply::Rewound { .. }
-        | Reply::Died { .. } => true,
+        | Reply::Died { .. }
+        | Reply::Trimmed(_) => true,
         Reply::Done => is_kept_once_done(event),
         _ => false,
     }

@@ -1,5 +1,5 @@
 -- A topic that goes on from a snapshot.
-use Rattle.std.proofs.Common.{◌≡◌, ℕ, ◌+◌, ◌<◌, ◌≤◌, ◌^◌, List, [], ◌∷◌, ◌++◌, map, length, take, get_or, All, Some, inl, inr, refl, sym, ap, ap₂, ◌∙◌, arith, subst}
+use Rattle.std.proofs.Common.{◌≡◌, ℕ, ◌+◌, ◌<◌, ◌^◌, List, [], ◌∷◌, ◌++◌, map, length, take, get_or, All, Some, inl, inr, refl, sym, ap, ap₂, ◌∙◌, arith, subst}
 use Rattle.std.specs.Prelude.{min, slice_get}
 use Rattle.std.proofs.Math.ListN.{length-append}
 use Rattle.std.proofs.lemmas.Bool.{cases_lt}
@@ -52,12 +52,13 @@ map-twice f g [] = refl
 map-twice f g (x ∷ xs) = ap (λ ys. g (f x) ∷ ys) (map-twice f g xs)
 
 pub goes_on : (kept : KeptTopic) (t : Parts) → t.name ≡ kept.name → t.log.log.ledger_size ≡ kept.ledger_size → t.log.log.ledger ≡ min (kept.ledger + 1) (2 ^ 62 + 1) → t.next_ordinal ≡ kept.next_ordinal
+    → t.log.gone ≡ kept.gone → t.log.authors ≡ kept.authors → t.log.retention ≡ kept.retention
     → t.log.next_producer ≡ 1 → t.members.next ≡ 1 → log_of t ≡ kept.log → t.log.durable ≡ length (log_of t) → t.log.producers ≡ [] → t.members.members ≡ []
     → map (sub_in (log_of t)) t.subscriptions.items ≡ map (over (log_of t)) kept.subscriptions → state_of t ≡ restarted (snapshot_in kept)
-goes_on kept t name size ledger ordinal producer consumer log durable producers members subs =
+goes_on kept t name size ledger ordinal gone authors retention producer consumer log durable producers members subs =
     let all : map (sub_in (log_of t)) t.subscriptions.items ≡ map subscription_from (map (kept_in kept.log) kept.subscriptions) = subs ∙ ap (λ (ls : List Entry). map (over ls) kept.subscriptions) log ∙ map-twice (kept_in kept.log) subscription_from kept.subscriptions in
     let long : t.log.durable ≡ length kept.log = durable ∙ ap length log in
-    cc (name, size, ledger, ordinal, producer, consumer, log, long, producers, members, all)
+    cc (name, size, ledger, ordinal, gone, authors, retention, producer, consumer, log, long, producers, members, all)
 
 -- one more dispatcher agrees
 pub one_more_told : (s : State) (ds longer : List Dispatch) (i : ℕ) (d : Dispatch) → length ds ≡ i → longer ≡ ds ++ d ∷ []

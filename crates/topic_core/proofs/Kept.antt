@@ -1,8 +1,9 @@
 -- What is kept of a topic is the machine's snapshot of it.
-use Rattle.std.proofs.Common.{◌≡◌, ℕ, ◌≤◌, List, [], ◌∷◌, map, length, All, refl, sym, ap, ◌∙◌, subst}
+use Rattle.std.proofs.Common.{◌≡◌, ℕ, ◌≤◌, List, [], ◌∷◌, map, length, Option, refl, sym, ap, subst}
 use Rattle.std.proofs.lemmas.List.Elements.{All-map, All-weaker}
 use Rattle.position_core.specs.declared.message.Entry.{Entry}
-use Rattle.delivery_machine.specs.State.{State, Subscription}
+use Rattle.delivery_machine.specs.State.{Author}
+use Rattle.delivery_machine.specs.declared.retention.Retention.{Retention}
 use Rattle.delivery_machine.specs.Snapshot.{KeptSubscription, Snapshot, snapshot_of}
 use Rattle.delivery_machine.specs.Snapshot as machine
 use Rattle.delivery_machine.specs.Places.{AreBelow, KeptPlaces, KeptTopic, MayRestart, kept_in, snapshot_in}
@@ -19,6 +20,9 @@ topic_kept t = record {
   ledger_size = t.log.log.ledger_size;
   ledger = t.log.log.ledger;
   next_ordinal = t.next_ordinal;
+  gone = t.log.gone;
+  authors = t.log.authors;
+  retention = t.log.retention;
   log = log_of t;
   subscriptions = map kept_of t.subscriptions.items;
 }
@@ -38,6 +42,7 @@ may_restart t reached tied short = record {
       (All-weaker (IsPlacedIn (log_of t) t.members.members) (λ (p : Placed). AreBelow (length (log_of t)) p.places) (λ p placed. placed.within) t.subscriptions.items tied);
 }
 
-pub kept_same : (t : Parts) (name : _) (size ledger ordinal : ℕ) (log : List Entry) (subs : List KeptPlaces) → name ≡ t.name → size ≡ t.log.log.ledger_size → ledger ≡ t.log.log.ledger → ordinal ≡ t.next_ordinal → log ≡ log_of t → subs ≡ map kept_of t.subscriptions.items
-    → ◌≡◌ {A = KeptTopic} (record { name = name; ledger_size = size; ledger = ledger; next_ordinal = ordinal; log = log; subscriptions = subs }) (topic_kept t)
-kept_same t name size ledger ordinal log subs a b c d e f = cc (a, b, c, d, e, f)
+pub kept_same : (t : Parts) (name : _) (size ledger ordinal gone : ℕ) (authors : List Author) (retention : Option Retention) (log : List Entry) (subs : List KeptPlaces) → name ≡ t.name → size ≡ t.log.log.ledger_size → ledger ≡ t.log.log.ledger → ordinal ≡ t.next_ordinal
+    → gone ≡ t.log.gone → authors ≡ t.log.authors → retention ≡ t.log.retention → log ≡ log_of t → subs ≡ map kept_of t.subscriptions.items
+    → ◌≡◌ {A = KeptTopic} (record { name = name; ledger_size = size; ledger = ledger; next_ordinal = ordinal; gone = gone; authors = authors; retention = retention; log = log; subscriptions = subs }) (topic_kept t)
+kept_same t name size ledger ordinal gone authors retention log subs a b c d e f g h i = cc (a, b, c, d, e, f, g, h, i)

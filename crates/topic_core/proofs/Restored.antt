@@ -1,5 +1,5 @@
 -- What was kept of a subscription, over the log again.
-use Rattle.std.proofs.Common.{◌≡◌, ℕ, ◌<◌, ◌≤◌, List, [], ◌∷◌, map, length, Some, None, Option, Bool, true, false, refl, ap, ap₂, ◌∙◌, sym, slice_get, subst}
+use Rattle.std.proofs.Common.{◌≡◌, ℕ, List, [], Some, None, Option, Bool, true, false, refl, ap, ap₂, ◌∙◌, sym, slice_get, subst}
 use Rattle.std.specs.Prelude.{◌||◌, ◌&&◌, not, is_some, nat_eq}
 use Rattle.std.specs.List.{filter, list_any}
 use Rattle.std.specs.Ordering.{nat_cmp}
@@ -12,18 +12,17 @@ use Rattle.position_core.specs.declared.position.Position.{Position}
 use Rattle.log_pieces.specs.Pieces.{index_of, stands_at}
 use Rattle.position_core.specs.declared.held.Held.{Held}
 use Rattle.position_core.specs.Position.{position_cmp, same_position}
-use Rattle.delivery_machine.specs.Places.{KeptPlaces, kept_in, positions_at}
+use Rattle.delivery_machine.specs.Places.{KeptPlaces, positions_at}
 use Rattle.delivery_machine.specs.WellFormed.{has_message}
 use Rattle.delivery_machine.specs.Words.{is_live}
 use Rattle.delivery_machine.proofs.Places.{none_passes}
 use Rattle.delivery_machine.specs.State.{DeadLetter}
-use Rattle.delivery_machine.specs.Snapshot.{subscription_from}
 use Rattle.delivery_machine.proofs.Deciding.{and_second}
 use Rattle.topic_subscriptions.specs.Placed.{IsLiveIn, IsPlacedIn, IsRising, Placed, StandAt, is_live_at, restored_from, sub_in}
 use Rattle.topic_subscriptions.proofs.Changes.{stands}
 use Rattle.topic_subscriptions.proofs.Dying.{dead_at, dead_below}
 use Rattle.topic_subscriptions.proofs.Links.{contains_at}
-use Rattle.topic_core.specs.Restored.{IsAlone, IsRestoredFrom, IsSoundOver}
+use Rattle.topic_core.specs.Restored.{IsRestoredFrom, IsSoundOver}
 
 -- a message of the log has an index
 index_there : (log : List Entry) (q : Position) → has_message log q ≡ true → (i : ℕ) × (index_of q log ≡ Some i)

@@ -4,7 +4,9 @@ ghost use Rattle.topic_served.specs.Served.{IsBound, IsSettled, state_in};
 
 use delivery_events::{dead_done, dead_next, dispatch, nack};
 use delivery_machine::{Event, Reply};
-use log_events::{add_producer, drop_producer, progress, publish, stored, stored_to};
+use log_events::{
+    add_producer, drop_producer, progress, publish, set_retention, stored, stored_to, trim,
+};
 use member_events::{collect, leave, permit, subscribe};
 use message_events::{ack, ack_up_to, stats};
 use seek_events::{drop_subscription, seek, seek_time, skip};
@@ -30,6 +32,8 @@ pub(crate) fn answer(served: &mut Served, event: &Event) -> Reply
         Event::Stored => stored(served),
         Event::StoredTo { length, ordinal } => stored_to(served, *length, *ordinal),
         Event::Progress => progress(served),
+        Event::Trim { keep, before, most } => trim(served, *keep, *before, *most),
+        Event::SetRetention { retention } => set_retention(served, *retention),
         Event::Subscribe {
             subscription,
             kind,

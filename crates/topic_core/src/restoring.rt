@@ -9,7 +9,8 @@ ghost use Rattle.dedup_core.specs.Sequences.{AgreesWith};
 ghost use Rattle.dispatchers.specs.Agreeing.{agrees};
 ghost use Rattle.dispatchers.specs.Told.{AreTold};
 ghost use Rattle.topic_subscriptions.specs.Placed.{IsPlacedIn, sub_in};
-ghost use Rattle.topic_parts.specs.Parts.{AreTied, log_of, state_of};
+ghost use Rattle.topic_log.specs.Written.{all_of};
+ghost use Rattle.topic_parts.specs.Parts.{AreTied, state_of};
 ghost use Rattle.topic_served.specs.Served.{IsSettled, state_in};
 ghost use Rattle.topic_core.specs.Restored.{IsAlone, IsRestoredFrom, IsSoundOver};
 
@@ -65,18 +66,28 @@ fn parts_of(alloc: Global, snapshot: &Snapshot) -> Result<Parts, AllocError>
     ensures reached { IfOk result (λ parts. IsReached (state_of parts)) }
     ensures tied { IfOk result AreTied }
     ensures alone { IfOk result (λ parts. All IsAlone parts.subscriptions.items) }
-    ensures numbers { IfOk result (λ parts. AgreesWith (log_of parts) parts.log.numbers) }
+    ensures numbers { IfOk result (λ parts. AgreesWith (all_of parts.log) parts.log.numbers) }
 {
     let name = snapshot.name().clone()?;
+    let authors = snapshot.authors().to_vec(alloc)?;
     let pieces = match snapshot.log().clone() {
         Ok(pieces) => pieces,
         Err(e) => {
             drop(name);
+            drop(authors);
             return Err(e);
         }
     };
     let ledger = ledger_after(snapshot);
-    let log = match TopicLog::restored(alloc, pieces, ledger, snapshot.ledger_size()) {
+    let log = match TopicLog::restored(
+        alloc,
+        snapshot.gone(),
+        authors,
+        snapshot.retention(),
+        pieces,
+        ledger,
+        snapshot.ledger_size(),
+    ) {
         Ok(log) => log,
         Err(e) => {
             drop(name);

@@ -24,7 +24,7 @@ fn kept_of_all(
     Ok(kept)
 }
 
-/// The snapshot of the state, which shares the messages. Takes a step for each segment of the log, each range
+/// The snapshot of the state, which shares the messages. Takes a step for each segment of the log, each author, each range
 /// of acknowledged messages and each dead letter, and of a subscription in which a message was redelivered one for
 /// each message that is pending or counted.
 pub(crate) fn snapshot(served: &Served) -> Result<Snapshot, AllocError>
@@ -34,10 +34,12 @@ pub(crate) fn snapshot(served: &Served) -> Result<Snapshot, AllocError>
     let parts = &served.parts;
     let _length = parts.log.len();
     let name = parts.name.clone()?;
+    let authors = parts.log.authors()?;
     let log = match parts.log.pieces() {
         Ok(log) => log,
         Err(e) => {
             drop(name);
+            drop(authors);
             return Err(e);
         }
     };
@@ -47,11 +49,15 @@ pub(crate) fn snapshot(served: &Served) -> Result<Snapshot, AllocError>
             parts.log.ledger_size(),
             parts.log.ledger(),
             parts.next_ordinal,
+            parts.log.gone(),
+            authors,
+            parts.log.retention(),
             log,
             subscriptions,
         )),
         Err(e) => {
             drop(name);
+            drop(authors);
             drop(log);
             Err(e)
         }

@@ -5,7 +5,7 @@ ghost use Rattle.delivery_machine.specs.State.{fresh};
 use crate::answering::answer;
 use crate::restoring::restored;
 use crate::saving::snapshot;
-use delivery_machine::{Deliveries, Event, Opened, Reply, Saved, Snapshot, Topic};
+use delivery_machine::{Deliveries, Event, Opened, Reply, Retention, Saved, Snapshot, Topic};
 use log_events::stored;
 use member_events::out_copy;
 use position_core::{ConsumerNumber, Fault, LedgerSize, TopicName};
@@ -60,6 +60,10 @@ impl Topic for TopicCore {
 
     fn out_copy(&self, consumer: ConsumerNumber) -> Result<Deliveries, Fault> {
         out_copy(&self.served, consumer)
+    }
+
+    fn retention(&self) -> Option<Retention> {
+        self.served.parts.log.retention()
     }
 }
 

@@ -1,6 +1,8 @@
 pub mod Writers
 pub mod Told
-pub mod Renumbered
+pub mod Remembering
+pub mod Restored
+pub mod Forgetting
 pub mod Gaps
 pub mod Free
 pub mod Earlier

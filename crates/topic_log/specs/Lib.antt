@@ -1,3 +1,4 @@
 pub mod Written
 pub mod Names
 pub mod Publishing
+pub mod Trimming

@@ -1,21 +1,20 @@
 -- The names that the topic makes of numbers: which are in use, and what is kept so that the search for a free one is short.
 use Rattle.std.specs.Prelude.{◌≡◌, ℕ, ◌<◌, ◌==◌, Bool, true, false, ◌||◌, List, is_some}
-use Rattle.std.specs.List.{list_any, All}
+use Rattle.std.specs.List.{list_any, find, All}
 use Rattle.std.specs.List.Sorted.{IsStrictlySortedBy}
 use Rattle.std.specs.Ordering.{nat_cmp}
 use Rattle.std.specs.Str.{bytes_eq}
 use Rattle.std.specs.FinMap as map_of
-use Rattle.delivery_machine.specs.State.{Producer}
-use Rattle.delivery_machine.specs.Words.{is_by}
+use Rattle.delivery_machine.specs.State.{Author, Producer}
+use Rattle.delivery_machine.specs.Trimming.{is_author}
 use Rattle.delivery_machine.specs.Producing.{auto_name}
-use Rattle.position_core.specs.declared.message.Entry.{Entry}
 use Rattle.dedup_core.specs.Sequences.{Numbers}
 
--- the log has a message under the name of the number
-abbrev pub is_written : List Entry → ℕ → Bool
-is_written log n = list_any (is_by (auto_name n)) log
+-- one of the producers has the name of the number
+abbrev pub is_written : List Author → ℕ → Bool
+is_written authors n = is_some (find (is_author (auto_name n)) authors)
 
--- the same, where the numbers agree with the log
+-- the same, where the numbers agree with the producers
 abbrev pub is_numbered : Numbers → ℕ → Bool
 is_numbered numbers n = is_some (map_of.get numbers (auto_name n))
 

@@ -10,7 +10,6 @@ use Rattle.delivery_machine.specs.Run.{Answers}
 use Rattle.delivery_machine.specs.declared.event.Event.TheVariants.{Publish}
 use Rattle.delivery_machine.specs.declared.reply.Reply.TheVariants.{Published}
 use Rattle.entry_log.specs.Log.{next_in, is_full_log}
-use Rattle.dedup_core.specs.Sequences.{IsAbove}
 use Rattle.topic_log.specs.Written.{Written, written_in}
 
 -- the message that the producer hands in, as it stands next in the log, which has room for it
@@ -19,5 +18,4 @@ pub record IsNextOf (w : Written) (producer : ℕ) (sequence : ℤ) (body : Cont
   pub next : e.position ≡ next_in w.log
   pub sender : IsSomeAnd (find (is_producer producer) w.producers) (λ p. e.producer ≡ p.name)
   pub numbered : e.sequence ≡ sequence
-  pub above : IsAbove w.log.log e.producer e.sequence
-  pub step : (s : State) → Answers (written_in w s) (Publish producer sequence body now) (Published e.position (length w.log.log + 1)) (with_message (written_in w s) e)
+  pub step : (s : State) → Answers (written_in w s) (Publish producer sequence body now) (Published e.position (w.gone + length w.log.log + 1)) (with_message (written_in w s) e)

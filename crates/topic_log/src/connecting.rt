@@ -16,7 +16,7 @@ impl TopicLog {
     ghost use Rattle.delivery_machine.specs.Producing.{IsGiven, IsLeastFree};
     ghost use Rattle.delivery_machine.specs.declared.event.Event.TheVariants.{AddProducer, DropProducer};
     ghost use Rattle.dedup_core.specs.Sequences.{AgreesWith};
-    ghost use Rattle.topic_log.specs.Written.{written_in};
+    ghost use Rattle.topic_log.specs.Written.{all_of, written_in};
 
     /// Whether the name that is asked for, if any, is connected.
     fn is_busy(&self, asked: &Option<ProducerName>) -> bool
@@ -35,10 +35,10 @@ impl TopicLog {
         self.producers.len() >= 256 || self.next_producer >= 1 << 63
     }
 
-    /// The least number of which the topic may make a name. A name of the log is passed over once, and a gap
+    /// The least number of which the topic may make a name. A name that has messages is passed over once, and a gap
     /// is looked at each time, of which there are at most as many as producers may be connected.
     fn free_number(&mut self) -> Result<u64, AllocError>
-        requires { AgreesWith self.old.log.log self.old.numbers }
+        requires { AgreesWith (all_of self.old) self.old.numbers }
         ensures free { IfOk result (λ n. (s : State) → IsLeastFree (written_in self.old s) n) }
         ensures same { self.new ≡ self.old }
     {
@@ -63,7 +63,7 @@ impl TopicLog {
         &mut self,
         asked: &Option<ProducerName>,
     ) -> Result<(ProducerName, Option<u64>), AllocError>
-        requires { AgreesWith self.old.log.log self.old.numbers }
+        requires { AgreesWith (all_of self.old) self.old.numbers }
         ensures given { IfOk result (λ given. (s : State) → IsGiven (written_in self.old s) asked.now given.0 given.1) }
         ensures same { self.new ≡ self.old }
     {
@@ -90,8 +90,11 @@ impl TopicLog {
 
     /// Connects a producer, under a name of the topic's making where it asks for none.
     pub fn add_producer(&mut self, asked: &Option<ProducerName>, base: Base) -> Reply
-        requires { AgreesWith self.old.log.log self.old.numbers }
+        requires { AgreesWith (all_of self.old) self.old.numbers }
         ensures answers { (s : State) → Answers (written_in self.old s) (AddProducer asked.now base) result (written_in self.new s) }
+        ensures gone { self.new.gone ≡ self.old.gone }
+        ensures authors { self.new.authors ≡ self.old.authors }
+        ensures retention { self.new.retention ≡ self.old.retention }
         ensures log { self.new.log ≡ self.old.log }
         ensures numbers { self.new.numbers ≡ self.old.numbers }
         ensures durable { self.new.durable ≡ self.old.durable }
@@ -106,7 +109,7 @@ impl TopicLog {
             return Reply::Refused(Fault::NoMemory);
         };
         let producer = self.next_producer;
-        let last = self.sequences.last(&name, base.number());
+        let last = self.last_number(&name, base);
         if self.connect(name, base).is_err() {
             return Reply::Refused(Fault::NoMemory);
         }
@@ -117,9 +120,12 @@ impl TopicLog {
         }
     }
 
-    /// The producer leaves. Its messages stay.
+    /// The producer leaves. Its messages and their numbers stay.
     pub fn drop_producer(&mut self, producer: ProducerNumber) -> Reply
         ensures answers { (s : State) → Answers (written_in self.old s) (DropProducer producer) result (written_in self.new s) }
+        ensures gone { self.new.gone ≡ self.old.gone }
+        ensures authors { self.new.authors ≡ self.old.authors }
+        ensures retention { self.new.retention ≡ self.old.retention }
         ensures log { self.new.log ≡ self.old.log }
         ensures numbers { self.new.numbers ≡ self.old.numbers }
         ensures durable { self.new.durable ≡ self.old.durable }

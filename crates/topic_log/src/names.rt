@@ -1,7 +1,6 @@
 // The names that the topic makes for producers without one: `auto-0` and on.
-ghost use Rattle.std.specs.Prelude.{◌≡◌, ◌≤◌, ◌<◌, ℕ, false, true, is_some, not, IfOk};
+ghost use Rattle.std.specs.Prelude.{◌≡◌, ◌≤◌, ◌<◌, ℕ, false, true, not, IfOk};
 ghost use Rattle.std.specs.List.{filter, find};
-ghost use Rattle.std.specs.FinMap as map_of;
 ghost use Rattle.delivery_machine.specs.Producing.{auto_name};
 ghost use Rattle.topic_log.specs.Names.{AreGaps, is_numbered, is_taken};
 
@@ -22,18 +21,11 @@ pub(crate) fn auto_name(alloc: Global, number: u64) -> Result<ProducerName, Allo
     }
 }
 
-/// Whether messages of the name have a number: then it is the last one, whatever the base.
-pub(crate) fn is_writer(sequences: &Sequences, name: &ProducerName) -> bool
-    ensures { result ≡ is_some (map_of.get sequences.now name.now) }
-{
-    sequences.last(name, 0) == sequences.last(name, 1)
-}
-
 fn is_numbered(alloc: Global, sequences: &Sequences, number: u64) -> Result<bool, AllocError>
     ensures { IfOk result (λ is. is ≡ is_numbered sequences.now number) }
 {
     let name = auto_name(alloc, number)?;
-    Ok(is_writer(sequences, &name))
+    Ok(sequences.has(&name))
 }
 
 fn is_taken(
@@ -45,10 +37,10 @@ fn is_taken(
     ensures { IfOk result (λ is. is ≡ is_taken producers.now sequences.now number) }
 {
     let name = auto_name(alloc, number)?;
-    Ok(is_connected(producers, &name) || is_writer(sequences, &name))
+    Ok(is_connected(producers, &name) || sequences.has(&name))
 }
 
-/// The gaps that are still none of the log's names.
+/// The gaps whose names still have no message.
 pub(crate) fn left_of(
     alloc: Global,
     sequences: &Sequences,

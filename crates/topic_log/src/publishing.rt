@@ -4,7 +4,9 @@ ghost use Rattle.std.specs.Prelude.{◌≡◌, IfOk};
 use crate::producer::{Producer, producer_at};
 use crate::topic_log::TopicLog;
 use delivery_machine::Reply;
-use position_core::{Body, Entry, Fault, Message, Moment, Position, ProducerName, ProducerNumber};
+use position_core::{
+    Base, Body, Entry, Fault, Message, Moment, Position, ProducerName, ProducerNumber,
+};
 use std::alloc::{AllocError, Global};
 
 fn message_of(
@@ -28,19 +30,18 @@ fn message_of(
 }
 
 impl TopicLog {
-    ghost use Rattle.std.specs.Prelude.{◌≡◌, ◌<◌, ◌++◌, ◌∷◌, [], List, false, length, min, max, int_le, IfErr, IfOk, OnOk, OnErr};
+    ghost use Rattle.std.specs.Prelude.{◌≡◌, ◌<◌, ◌+◌, ◌-◌, false, length, min, max, int_le, IfErr, IfOk, OnOk, OnErr};
     ghost use Rattle.std.specs.List.{find};
     ghost use Rattle.std.specs.Option.{option_copied};
-    ghost use Rattle.std.specs.FinMap as map_of;
     ghost use Rattle.position_core.specs.declared.message.Entry.{Entry};
     ghost use Rattle.delivery_machine.specs.State.{State};
-    ghost use Rattle.delivery_machine.specs.Words.{is_producer, last_sequence};
+    ghost use Rattle.delivery_machine.specs.Words.{is_producer, known, last_sequence};
     ghost use Rattle.delivery_machine.specs.Run.{Answers};
-    ghost use Rattle.delivery_machine.specs.Producing.{with_message};
+    ghost use Rattle.delivery_machine.specs.Producing.{durable_to, with_message};
     ghost use Rattle.delivery_machine.specs.declared.event.Event.TheVariants.{Publish};
     ghost use Rattle.entry_log.specs.Log.{appended, is_full_log, next_in, popped};
-    ghost use Rattle.dedup_core.specs.Sequences.{AgreesWith, IsAbove};
-    ghost use Rattle.topic_log.specs.Written.{Written, written_in};
+    ghost use Rattle.dedup_core.specs.Sequences.{AgreesWith, offered};
+    ghost use Rattle.topic_log.specs.Written.{Written, all_of, written_in};
     ghost use Rattle.topic_log.specs.Publishing.{IsNextOf};
 
     /// The connected producer of the number.
@@ -57,12 +58,20 @@ impl TopicLog {
         self.entries.is_full()
     }
 
+    /// The last number that is known of the name, or the base where none is.
+    pub(crate) fn last_number(&self, name: &ProducerName, base: Base) -> i64
+        requires { AgreesWith (all_of self.now) self.now.numbers }
+        ensures { (s : State) → result ≡ last_sequence (known (written_in self.now s)) name.now base }
+    {
+        self.sequences.last(name, base.number())
+    }
+
     /// Whether a message of the producer was published before.
     fn is_duplicate(&self, sender: &Producer, sequence: i64) -> bool
-        requires { AgreesWith self.now.log.log self.now.numbers }
-        ensures { result ≡ int_le sequence (last_sequence self.now.log.log sender.now.name sender.now.base) }
+        requires { AgreesWith (all_of self.now) self.now.numbers }
+        ensures { (s : State) → result ≡ int_le sequence (last_sequence (known (written_in self.now s)) sender.now.name sender.now.base) }
     {
-        sequence <= self.sequences.last(sender.name(), sender.base().number())
+        sequence <= self.last_number(sender.name(), sender.base())
     }
 
     /// The message that the producer hands in, as it is to stand in the log; or what the producer is told.
@@ -73,7 +82,7 @@ impl TopicLog {
         body: &Body,
         now: Moment,
     ) -> Result<Message, Reply>
-        requires { AgreesWith self.now.log.log self.now.numbers }
+        requires { AgreesWith (all_of self.now) self.now.numbers }
         ensures message { IfOk result (IsNextOf self.now producer sequence body.now now) }
         ensures told { IfErr result (λ reply. (s : State) → Answers (written_in self.now s) (Publish producer sequence body.now now) reply (written_in self.now s)) }
     {
@@ -81,9 +90,7 @@ impl TopicLog {
             return Err(Reply::Refused(Fault::NoSession));
         };
         if self.is_duplicate(sender, sequence) {
-            return Err(Reply::Duplicate {
-                length: self.len() as u64,
-            });
+            return Err(Reply::Duplicate { length: self.had() });
         }
         if self.is_full() {
             return Err(Reply::Refused(Fault::TopicFull));
@@ -118,13 +125,17 @@ impl TopicLog {
         self.gaps.clear();
     }
 
-    /// Notes the number of a message that was appended under the name. Nothing changes where there is no memory.
+    /// Notes the number of the last message, which was appended under the name. Nothing changes where there is no
+    /// memory.
     pub fn note(&mut self, name: &ProducerName, sequence: i64) -> Result<(), AllocError>
-        ensures ok { OnOk result (self.new ≡ record self.old { numbers = map_of.insert self.old.numbers name.now sequence }) }
+        ensures ok { OnOk result (self.new ≡ record self.old { numbers = offered name.now sequence (self.old.gone + length self.old.log.log - 1) self.old.numbers }) }
         ensures err { OnErr result (self.new ≡ self.old) }
-        ensures agrees { OnOk result ((log : List Entry) (e : Entry) → AgreesWith log self.old.numbers → e.producer ≡ name.now → e.sequence ≡ sequence → IsAbove log name.now sequence → AgreesWith (log ++ e ∷ []) self.new.numbers) }
+        ensures agrees { OnOk result ((w : Written) (e : Entry) → self.old ≡ record w { log = appended e w.log } → AgreesWith (all_of w) w.numbers
+            → e.producer ≡ name.now → e.sequence ≡ sequence → AgreesWith (all_of self.new) self.new.numbers) }
     {
-        self.sequences.offer(name, sequence)
+        let index = self.had().saturating_sub(1);
+        self.sequences.offer(name, sequence, index)?;
+        Ok(())
     }
 
     /// All messages are stored.
@@ -134,10 +145,12 @@ impl TopicLog {
         self.durable = self.entries.len();
     }
 
-    /// The first messages are stored, so many, and those that were.
+    /// So many of all messages that the topic has had are stored, and those that were.
     pub fn store_to(&mut self, count: u64)
-        ensures { self.new ≡ record self.old { durable = max self.old.durable (min count (length self.old.log.log)) } }
+        ensures value { self.new ≡ record self.old { durable = max self.old.durable (min (count - self.old.gone) (length self.old.log.log)) } }
+        ensures machine { (s : State) → self.new.durable ≡ durable_to (written_in self.old s) count }
     {
+        let count = count.saturating_sub(self.gone);
         let kept = count.min(self.entries.len() as u64) as usize;
         self.durable = self.durable.max(kept);
     }

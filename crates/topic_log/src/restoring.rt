@@ -1,75 +1,87 @@
 // The log of a topic that begins again from a snapshot.
-ghost use Rattle.std.specs.Prelude.{◌≡◌, ◌+◌, ◌<◌, ◌≤◌, ◌++◌, ◌∷◌, ◌^◌, [], List, None, IfOk, OnOk, All, int_le, length, map, not, false};
-ghost use Rattle.std.specs.FinMap as map_of;
-ghost use Rattle.std.specs.Option.{option_map_or};
+ghost use Rattle.std.specs.Prelude.{◌≡◌, ◌+◌, ◌<◌, ◌≤◌, ◌^◌, ℕ, [], List, None, IfOk, OnOk, All, length, map};
+ghost use Rattle.std.specs.List.{IsDistinct};
 ghost use Rattle.std.specs.List.Sorted.{IsStrictlySortedBy};
-ghost use Rattle.position_core.specs.declared.message.Entry.{Entry};
+ghost use Rattle.std.specs.Str.{bytes_eq};
 ghost use Rattle.position_core.specs.Position.{position_cmp};
+ghost use Rattle.delivery_machine.specs.State.{Author};
+ghost use Rattle.delivery_machine.specs.Trimming.{with_authors};
+ghost use Rattle.delivery_machine.specs.WellFormed.{AreAuthors};
 ghost use Rattle.log_pieces.specs.Pieces.{joined};
 ghost use Rattle.dedup_core.specs.Sequences.{AgreesWith};
+ghost use Rattle.topic_log.specs.Written.{all_of};
 
-use crate::names::is_writer;
 use crate::topic_log::TopicLog;
 use dedup_core::Sequences;
+use delivery_machine::{Author, Retention};
 use entry_log::EntryLog;
 use log_pieces::Pieces;
-use position_core::{LedgerSize, Message, ProducerName};
+use position_core::LedgerSize;
 use std::alloc::{AllocError, Global};
 
-/// Whether the name has no number, or a less one.
-fn is_above(sequences: &Sequences, name: &ProducerName, sequence: i64) -> bool
-    ensures { result ≡ not (option_map_or (λ last. int_le sequence last) (map_of.get sequences.now name.now) false) }
-{
-    !(is_writer(sequences, name) && sequence <= sequences.last(name, 0))
-}
-
-/// Keeps the message's number, where it is above those of its name.
-fn keep_greatest(sequences: &mut Sequences, message: &Message) -> Result<(), AllocError>
-    ensures { OnOk result ((log : List Entry) → AgreesWith log sequences.old → AgreesWith (log ++ message.now ∷ []) sequences.new) }
-{
-    let entry = message.entry();
-    if !is_above(sequences, &entry.producer, entry.sequence) {
-        return Ok(());
-    }
-    sequences.offer(&entry.producer, entry.sequence)
-}
-
-/// The last number of each name in the log.
-fn numbers_of(alloc: Global, pieces: &Pieces) -> Result<Sequences, AllocError>
-    ensures { IfOk result (AgreesWith (joined pieces.now)) }
+/// The numbers that are remembered of messages that are gone.
+fn numbers_of(alloc: Global, authors: &[Author]) -> Result<Sequences, AllocError>
+    requires { IsDistinct bytes_eq (map (λ a. a.name) authors.now) }
+    ensures { IfOk result (AgreesWith authors.now) }
 {
     let mut sequences = Sequences::new(alloc);
-    for index in 0..pieces.count() {
-        let Some(message) = pieces.get(index) else {
-            unreachable!();
-        };
-        keep_greatest(&mut sequences, message)?;
+    'each: for i in 0..authors.len() {
+        let author = &authors[i];
+        sequences.offer(&author.name, author.sequence, author.index)?;
     }
     Ok(sequences)
 }
 
+/// With those of the messages of the log, which so many were before.
+fn add_messages(sequences: &mut Sequences, gone: u64, pieces: &Pieces) -> Result<(), AllocError>
+    requires { gone + length (joined pieces.now) < 2 ^ 64 }
+    ensures { OnOk result ((authors : List Author) → AreAuthors gone authors → AgreesWith authors sequences.old
+        → AgreesWith (with_authors gone (joined pieces.now) authors) sequences.new) }
+{
+    for index in 0..pieces.count() {
+        let Some(message) = pieces.get(index) else {
+            unreachable!();
+        };
+        let entry = message.entry();
+        sequences.offer(&entry.producer, entry.sequence, gone + index as u64)?;
+    }
+    Ok(())
+}
+
 impl TopicLog {
-    /// The messages of a snapshot, all stored, and a ledger after theirs, into which further messages go;
-    /// nobody is connected.
+    /// The messages of a snapshot, all stored, and a ledger after theirs, into which further messages go; so many
+    /// messages are gone before them, of which the authors are remembered; nobody is connected.
     pub fn restored(
         alloc: Global,
+        gone: u64,
+        authors: Vec<Author>,
+        retention: Option<Retention>,
         pieces: Pieces,
         ledger: u64,
         ledger_size: LedgerSize,
     ) -> Result<Self, AllocError>
+        requires room { gone ≤ 2 ^ 62 }
+        requires remembered { AreAuthors gone authors.items }
         requires rising { IsStrictlySortedBy position_cmp (map (λ e. e.position) (joined pieces)) }
         requires before { All (λ e. e.position.ledger < ledger) (joined pieces) }
         requires bounded { ledger ≤ 2 ^ 62 + 1 }
         requires short { length (joined pieces) ≤ 1048576 }
+        ensures gone { IfOk result (λ t. t.gone ≡ gone) }
+        ensures authors { IfOk result (λ t. t.authors ≡ authors.items) }
+        ensures retention { IfOk result (λ t. t.retention ≡ retention) }
         ensures log { IfOk result (λ t. t.log ≡ record { log = joined pieces; ledger = ledger; ledger_size = ledger_size; undo = None }) }
         ensures stored { IfOk result (λ t. t.durable ≡ length (joined pieces)) }
         ensures producers { IfOk result (λ t. (t.producers ≡ []) × (t.next_producer ≡ 1)) }
-        ensures agrees { IfOk result (λ t. AgreesWith (joined pieces) t.numbers) }
+        ensures agrees { IfOk result (λ t. AgreesWith (all_of t) t.numbers) }
     {
-        let sequences = numbers_of(alloc, &pieces)?;
+        let mut sequences = numbers_of(alloc, &authors)?;
+        add_messages(&mut sequences, gone, &pieces)?;
         let durable = pieces.count();
         Ok(TopicLog {
             alloc,
+            gone,
+            authors,
+            retention,
             entries: EntryLog::restored(pieces, ledger, ledger_size),
             sequences,
             durable,

@@ -1,5 +1,5 @@
 // The log of a topic, and who may write to it.
-ghost use Rattle.std.specs.Prelude.{◌≡◌, ◌≤◌, [], IfOk, length, map, nat_le, slice_get, take};
+ghost use Rattle.std.specs.Prelude.{◌≡◌, ◌+◌, ◌≤◌, ◌^◌, [], IfOk, length, map, nat_le, slice_get, take};
 ghost use Rattle.std.specs.List.{position_or_len};
 ghost use Rattle.std.specs.Option.{option_copied};
 ghost use Rattle.std.specs.List.Sorted.{IsStrictlySortedBy};
@@ -7,15 +7,17 @@ ghost use Rattle.position_core.specs.Position.{position_cmp};
 ghost use Rattle.log_pieces.specs.Pieces.{index_of, joined};
 ghost use Rattle.delivery_machine.specs.State.{State};
 ghost use Rattle.delivery_machine.specs.Words.{next_position};
+ghost use Rattle.delivery_machine.specs.Producing.{had};
 ghost use Rattle.delivery_machine.specs.Run.{Answers};
 ghost use Rattle.delivery_machine.specs.declared.event.Event.TheVariants.{Progress};
 ghost use Rattle.entry_log.specs.Log.{next_in};
 ghost use Rattle.dedup_core.specs.Sequences.{AgreesWith};
 ghost use Rattle.topic_log.specs.Written.{blank, written_in};
 
+use crate::authors::copy_of;
 use crate::producer::Producer;
 use dedup_core::Sequences;
-use delivery_machine::Reply;
+use delivery_machine::{Author, Reply, Retention};
 use entry_log::EntryLog;
 use log_pieces::Pieces;
 use position_core::{LedgerSize, Message, Moment, Position, ProducerNumber};
@@ -23,15 +25,19 @@ use std::alloc::{AllocError, Global};
 use std::marker::Model;
 
 /// The messages of a topic with the last sequence number of each name, and the connected producers. A
-/// message is appended first and noted then, so the numbers agree with the log only where a clause says so.
+/// message is appended first and noted then, so the numbers agree with the messages only where a clause says
+/// so. Messages count from the first of the log, but for replies, which have those that are gone before it too.
 pub struct TopicLog {
     pub(crate) alloc: Global,
+    pub(crate) gone: u64,
+    pub(crate) authors: Vec<Author>,
+    pub(crate) retention: Option<Retention>,
     pub(crate) entries: EntryLog,
     pub(crate) sequences: Sequences,
     pub(crate) durable: usize,
     pub(crate) producers: Vec<Producer>,
     pub(crate) next_producer: ProducerNumber,
-    /// The log has messages under the names that the topic makes of the numbers below, but for the gaps:
+    /// There were messages under the names that the topic makes of the numbers below, but for the gaps:
     /// those of connected producers without a message, as far as the last search saw them.
     pub(crate) first_auto: u64,
     pub(crate) gaps: Vec<u64>,
@@ -41,6 +47,9 @@ impl Drop for TopicLog {
     fn drop(self) {
         let TopicLog {
             alloc: _,
+            gone: _,
+            authors: _,
+            retention: _,
             entries: _,
             sequences: _,
             durable: _,
@@ -62,6 +71,9 @@ impl Model for TopicLog {
     ghost coded = { Prim.hlevel (codes, coded_numbers) };
 
     ghost view = { λ t. record {
+      gone = t.gone;
+      authors = t.authors.items;
+      retention = t.retention;
       log = t.entries;
       numbers = t.sequences;
       durable = t.durable;
@@ -69,7 +81,7 @@ impl Model for TopicLog {
       next_producer = t.next_producer;
     } };
 
-    ghost invariant = { λ t. IsKept t.entries.log t.durable t.first_auto t.gaps.items };
+    ghost invariant = { λ t. IsKept t.gone t.authors.items t.entries.log t.durable t.first_auto t.gaps.items };
 }
 
 impl TopicLog {
@@ -80,6 +92,9 @@ impl TopicLog {
     {
         TopicLog {
             alloc,
+            gone: 0,
+            authors: Vec::new(alloc),
+            retention: None,
             entries: EntryLog::new(alloc, ledger_size),
             sequences: Sequences::new(alloc),
             durable: 0,
@@ -88,6 +103,35 @@ impl TopicLog {
             first_auto: 0,
             gaps: Vec::new(alloc),
         }
+    }
+
+    /// How many messages stood before those of the log, and are gone.
+    pub fn gone(&self) -> u64
+        ensures value { result ≡ self.now.gone }
+        ensures bounded { result ≤ 2 ^ 62 }
+    {
+        self.gone
+    }
+
+    /// What is remembered of the messages that are gone.
+    pub fn authors(&self) -> Result<Vec<Author>, AllocError>
+        ensures { IfOk result (λ authors. authors.items ≡ self.now.authors) }
+    {
+        copy_of(self.alloc, &self.authors)
+    }
+
+    /// The topic's own rule of what is kept, where it has one.
+    pub fn retention(&self) -> Option<Retention>
+        ensures { result ≡ self.now.retention }
+    {
+        self.retention
+    }
+
+    /// From now on the topic has this rule of its own, or none.
+    pub fn set_retention(&mut self, retention: Option<Retention>)
+        ensures { self.new ≡ record self.old { retention = retention } }
+    {
+        self.retention = retention;
     }
 
     /// How many messages the log has. Their positions rise.
@@ -159,13 +203,22 @@ impl TopicLog {
         self.entries.next_position()
     }
 
-    /// How much of the log is stored.
+    /// How many messages the topic has had, those among them that are gone.
+    pub fn had(&self) -> u64
+        ensures value { result ≡ self.now.gone + length self.now.log.log }
+        ensures machine { (s : State) → result ≡ had (written_in self.now s) }
+    {
+        self.gone + self.entries.len() as u64
+    }
+
+    /// How many of all messages are stored.
     pub fn progress(&self) -> Reply
         ensures { (s : State) → Answers (written_in self.now s) Progress result (written_in self.now s) }
     {
+        let length = self.entries.len();
         Reply::Progress {
-            durable: self.durable as u64,
-            length: self.entries.len() as u64,
+            durable: self.gone + self.durable as u64,
+            length: self.gone + length as u64,
         }
     }
 }

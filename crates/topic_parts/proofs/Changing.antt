@@ -1,5 +1,5 @@
 -- One of the subscriptions changes.
-use Rattle.std.proofs.Common.{◌≡◌, ℕ, ◌<◌, ◌≤◌, List, map, length, Some, None, Option, All, get_or, set, slice_get, refl, ap, ◌∙◌, sym, subst}
+use Rattle.std.proofs.Common.{◌≡◌, ℕ, ◌<◌, ◌≤◌, List, map, length, Some, All, get_or, set, slice_get, refl, ap, ◌∙◌, sym, subst}
 use Rattle.std.specs.List.{find, position}
 use Rattle.std.specs.Prelude.{Vec}
 use Rattle.std.specs.Vec.{with_item}

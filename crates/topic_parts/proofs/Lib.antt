@@ -8,3 +8,4 @@ pub mod Changing
 pub mod Held
 pub mod Leaves
 pub mod Sought
+pub mod Gone

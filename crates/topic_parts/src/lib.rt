@@ -9,6 +9,7 @@ mod finding;
 mod holding;
 mod parts;
 mod seeking;
+mod trimming;
 
 pub use at::At;
 pub use parts::Parts;

@@ -57,6 +57,8 @@ fn is_stored(event: &Event) -> bool
         | Event::Skip { .. }
         | Event::DropSubscription { .. }
         | Event::Stats { .. }
+        | Event::Trim { .. }
+        | Event::SetRetention { .. }
         | Event::Dispatch { .. }
         | Event::Collect { .. }
         | Event::DeadNext { .. }

@@ -3,3 +3,4 @@ pub mod Visible
 pub mod Settled
 pub mod Merging
 pub mod Over
+pub mod Going

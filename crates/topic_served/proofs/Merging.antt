@@ -1,16 +1,14 @@
 -- Acknowledging again, and acknowledging what is acknowledged.
-use Rattle.std.proofs.Common.{◌≡◌, ℕ, List, [], ◌∷◌, map, Some, None, Option, Bool, true, false, cond, get_or, refl, ap, ap₂, ◌∙◌, sym, subst, Contains, arith, length, ◌<◌, suc, true≢false}
-use Rattle.std.specs.Prelude.{◌||◌, ◌&&◌, not, is_some}
+use Rattle.std.proofs.Common.{◌≡◌, ℕ, List, [], ◌∷◌, map, Some, None, Option, Bool, true, false, cond, refl, ap, ap₂, ◌∙◌, sym, subst, true≢false}
+use Rattle.std.specs.Prelude.{◌||◌, not}
 use Rattle.std.specs.List.{filter, find}
-use Rattle.std.specs.Str.{bytes_eq}
 use Rattle.std.specs.FinSet as set_of
 use Rattle.std.specs.FinMap as map_of
-use Rattle.std.proofs.lemmas.List.Elements.{All-contains}
 use Rattle.position_core.specs.declared.position.Position.{Position}
 use Rattle.position_core.specs.declared.held.Held.{Held}
 use Rattle.position_core.specs.Position.{position_cmp, positions_total, exact_positions}
 use Rattle.delivery_machine.specs.State.{State, Member, Subscription}
-use Rattle.delivery_machine.specs.Words.{changed, is_at, is_named, is_held_by}
+use Rattle.delivery_machine.specs.Words.{changed, is_at, is_named}
 use Rattle.delivery_machine.specs.Acknowledging.{acknowledging, forgetting, is_one_of, with_acknowledged, without}
 use Rattle.delivery_machine.specs.declared.delivery.Delivery.{Delivery}
 

@@ -1,5 +1,5 @@
 -- The first messages of the log, where all of them are acknowledged.
-use Rattle.std.proofs.Common.{◌≡◌, ℕ, zero, suc, ◌<◌, ◌+◌, List, [], ◌∷◌, map, take, length, Some, None, Option, Bool, true, false, cond, get_or, slice_get, refl, ap, ◌∙◌, sym, subst, Contains, arith, true≢false}
+use Rattle.std.proofs.Common.{◌≡◌, ℕ, zero, suc, ◌<◌, List, [], ◌∷◌, map, Some, None, Option, Bool, true, false, cond, get_or, slice_get, refl, ap, ◌∙◌, sym, subst, Contains, arith, true≢false}
 use Rattle.std.specs.Prelude.{◌||◌, not, is_some, IsTrue}
 use Rattle.std.specs.List.{find, position}
 use Rattle.std.specs.Option.{option_map_or}
@@ -12,7 +12,7 @@ use Rattle.position_core.specs.declared.position.Position.{Position}
 use Rattle.position_core.specs.declared.message.Entry.{Entry}
 use Rattle.position_core.specs.declared.held.Held.{Held}
 use Rattle.position_core.specs.Position.{same_position}
-use Rattle.delivery_machine.specs.State.{State, Member, Subscription}
+use Rattle.delivery_machine.specs.State.{Member, Subscription}
 use Rattle.delivery_machine.specs.Words.{is_at, is_held_at, is_held_by, is_named}
 use Rattle.delivery_machine.specs.Acknowledging.{forgetting, is_one_of, without}
 use Rattle.delivery_machine.specs.Places.{positions_at}
@@ -20,7 +20,7 @@ use Rattle.delivery_machine.specs.WellFormed.{IsSentWell, IsWellFormed}
 use Rattle.delivery_machine.specs.declared.delivery.Delivery.{Delivery}
 use Rattle.delivery_machine.proofs.Behind.{same_name}
 use Rattle.delivery_machine.proofs.Tended.{position_is}
-use Rattle.topic_subscriptions.specs.Placed.{IsLiveIn, IsPlacedIn, IsRising, Placed, is_live_at, is_placed, sub_in}
+use Rattle.topic_subscriptions.specs.Placed.{IsLiveIn, IsPlacedIn, IsRising, Placed, is_placed, sub_in}
 use Rattle.topic_subscriptions.proofs.Links.{contains_at}
 use Rattle.topic_parts.specs.Parts.{log_of, state_of}
 use Rattle.topic_parts.specs.declared.parts.Parts.{Parts}

@@ -1,5 +1,5 @@
 -- What holds of a topic between events.
-use Rattle.std.proofs.Common.{◌≡◌, ℕ, List, Some, None, Bool, true, false, refl, ap, ◌∙◌, sym, true≢false}
+use Rattle.std.proofs.Common.{◌≡◌, ℕ, Some, None, true, ap, ◌∙◌, sym, true≢false}
 use Rattle.std.specs.Prelude.{is_some}
 use Rattle.std.specs.List.{find, position}
 use Rattle.std.proofs.lemmas.List.Elements.{All-contains}

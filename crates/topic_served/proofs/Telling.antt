@@ -1,5 +1,5 @@
 -- What a change of the parts means to the dispatchers.
-use Rattle.std.proofs.Common.{◌≡◌, ℕ, ◌<◌, List, [], ◌∷◌, Bool, set, arith, map, length, Some, Option, refl, ap, ◌∙◌, sym, subst, subst₂, get_or, slice_get}
+use Rattle.std.proofs.Common.{◌≡◌, ℕ, ◌<◌, List, [], ◌∷◌, Bool, set, arith, length, Some, Option, refl, ap, ◌∙◌, sym, subst, subst₂, get_or, slice_get}
 use Rattle.std.specs.List.{position}
 use Rattle.std.specs.Option.{option_map}
 use Rattle.std.proofs.lemmas.List.{get_or_default, length-map}

@@ -3,7 +3,8 @@ use Rattle.delivery_machine.specs.State.{State}
 use Rattle.delivery_machine.specs.Laws.{IsReached}
 use Rattle.dedup_core.specs.Sequences.{AgreesWith}
 use Rattle.dispatchers.specs.Told.{AreTold}
-use Rattle.topic_parts.specs.Parts.{AreTied, log_of, state_of}
+use Rattle.topic_log.specs.Written.{all_of}
+use Rattle.topic_parts.specs.Parts.{AreTied, state_of}
 use Rattle.topic_served.specs.declared.served.Served.{Served}
 
 -- the machine's state that it is in
@@ -12,7 +13,7 @@ state_in c = state_of c.parts
 
 -- its parts are tied to one another, and each dispatcher agrees with its subscription
 pub record IsBound (c : Served) : Type 0 where
-  pub numbers : AgreesWith (log_of c.parts) c.parts.log.numbers
+  pub numbers : AgreesWith (all_of c.parts.log) c.parts.log.numbers
   pub tied : AreTied c.parts
   pub told : AreTold c.dispatchers.items (state_in c)
 

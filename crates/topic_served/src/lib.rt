@@ -5,5 +5,6 @@ mod acknowledging;
 mod looking;
 mod seeking;
 mod served;
+mod trimming;
 
 pub use served::Served;

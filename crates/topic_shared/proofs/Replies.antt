@@ -1,19 +1,21 @@
 -- Which replies an event may have.
 use Rattle.std.proofs.Common.{◌≡◌, Bool, true, false, List, refl, ap, ◌∙◌, sym, true≢false, ℕ, Some, None, Option}
-use Rattle.std.specs.Prelude.{◌+◌, length, if◌then◌else◌}
+use Rattle.std.specs.Prelude.{◌+◌, if◌then◌else◌}
 use Rattle.std.specs.List.{find}
 use Rattle.std.specs.Option.{option_map_or}
 use Rattle.delivery_machine.specs.State.{State, Subscription}
 use Rattle.delivery_machine.specs.State as state
 use Rattle.position_core.specs.declared.message.Entry.{Entry}
 use Rattle.delivery_machine.specs.Words.{is_named, is_producer, next_position}
+use Rattle.delivery_machine.specs.Producing.{had}
 use Rattle.delivery_machine.specs.Refusals.{is_duplicate}
+use Rattle.delivery_machine.specs.Trimming.{Trims}
 use Rattle.delivery_machine.specs.Dying.{next_letter}
 use Rattle.delivery_machine.specs.Ticking.{Ticks}
 use Rattle.delivery_machine.specs.Delivering.{Dispatches}
 use Rattle.delivery_machine.specs.Run.{Step, Takes}
 use Rattle.delivery_machine.specs.declared.event.Event.{Event}
-use Rattle.delivery_machine.specs.declared.event.Event.TheVariants.{AddProducer, DropProducer, Publish, Stored, StoredTo, Progress, Subscribe, Leave, Permit, Ack, AckUpTo, Nack, Tick, Seek, SeekTime, Skip, DropSubscription, Stats, Dispatch, Collect, DeadNext, DeadDone}
+use Rattle.delivery_machine.specs.declared.event.Event.TheVariants.{AddProducer, DropProducer, Publish, Stored, StoredTo, Progress, Subscribe, Leave, Permit, Ack, AckUpTo, Nack, Tick, Seek, SeekTime, Skip, DropSubscription, Stats, Dispatch, Collect, DeadNext, DeadDone, Trim, SetRetention}
 use Rattle.delivery_machine.specs.declared.reply.Reply.{Reply}
 use Rattle.delivery_machine.specs.declared.reply.Reply.TheVariants.{ProducerAdded, Subscribed, Published, Duplicate, Refused, Dead, NoDead}
 use Rattle.delivery_machine.proofs.Firsts.{some_elim}
@@ -39,12 +41,17 @@ sent_fits s name now sub (ProducerAdded producer auto last) t h = absurd h
 sent_fits s name now sub (Subscribed consumer) t h = absurd h
 sent_fits s name now sub reply t h = refl
 
+trim_fits : (s : State) (keep before most : ℕ) (r : Reply) (t : State) → Trims s keep before most r t → fits (Trim keep before most) r ≡ true
+trim_fits s keep before most (ProducerAdded producer auto last) t h = absurd h
+trim_fits s keep before most (Subscribed consumer) t h = absurd h
+trim_fits s keep before most reply t h = refl
+
 takes_fits : (s : State) (e : Event) (r : Reply) (t : State) → Takes s e r t → fits e r ≡ true
 takes_fits s (AddProducer name base) r t h = ap (fits (AddProducer name base)) h.3.0
 takes_fits s (DropProducer producer) r t h = ap (fits (DropProducer producer)) h.0
 takes_fits s (Publish producer sequence body now) r t h =
     some_elim (find (is_producer producer) s.producers) _ (fits (Publish producer sequence body now) r ≡ true) h (λ p found h.
-    ap (fits (Publish producer sequence body now)) h.0 ∙ fits_if (Publish producer sequence body now) (is_duplicate s p sequence) (Duplicate (length s.log)) (Published (next_position s) (length s.log + 1)) refl refl)
+    ap (fits (Publish producer sequence body now)) h.0 ∙ fits_if (Publish producer sequence body now) (is_duplicate s p sequence) (Duplicate (had s)) (Published (next_position s) (had s + 1)) refl refl)
 takes_fits s Stored r t h = ap (fits Stored) h.0
 takes_fits s (StoredTo count ordinal) r t h = ap (fits (StoredTo count ordinal)) h.0
 takes_fits s Progress r t h = ap (fits Progress) h.0
@@ -70,6 +77,8 @@ takes_fits s (DeadNext name) r t h =
     shown None reply = ap (fits (DeadNext name)) reply
     shown (Some letter) reply = ap (fits (DeadNext name)) reply
 takes_fits s (DeadDone name ordinal) r t h = some_elim (find (is_named name) s.subscriptions) _ (fits (DeadDone name ordinal) r ≡ true) h (λ sub found h. ap (fits (DeadDone name ordinal)) h.0)
+takes_fits s (Trim keep before most) r t h = trim_fits s keep before most r t h
+takes_fits s (SetRetention retention) r t h = ap (fits (SetRetention retention)) h.0
 
 step_fits : (s : State) (e : Event) (r : Reply) (t : State) → Step s e r t → fits e r ≡ true
 step_fits s e (Refused fault) t h = refl

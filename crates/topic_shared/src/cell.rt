@@ -13,7 +13,7 @@ ghost use Rattle.topic_seats.specs.Seats.{IsFree, without_seat};
 use crate::journal::Journal;
 use crate::receipt::Receipt;
 use crate::room::{make_room, needs, note_consumer, note_producer};
-use delivery_machine::{ConsumerNumber, Event, Fault, ProducerNumber, Reply, Topic};
+use delivery_machine::{ConsumerNumber, Event, Fault, ProducerNumber, Reply, Retention, Topic};
 use journal_lines::{Draft, Line};
 use std::alloc::Global;
 use std::marker::Model;
@@ -346,6 +346,13 @@ impl<T: Topic> Cell<T> {
         ensures same { IsFalse result → snapshot_of self.now.state ≡ snapshot_of self.now.viewed }
     {
         self.unsaved
+    }
+
+    /// The topic's own rule of what is kept, where it has one.
+    pub fn retention(&self) -> Option<Retention>
+        ensures { result ≡ self.now.state.retention }
+    {
+        self.topic.retention()
     }
 
     /// Takes a free seat, by its number, from 1 on. Refused (F21) where all are taken.

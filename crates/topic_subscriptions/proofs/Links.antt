@@ -191,7 +191,7 @@ one_acknowledged log places i e rising at =
 -- ---- the first places
 
 -- whether a message of the log is among the first
-is_first : (q : Position) (n : ℕ) (log : List Entry) (i : ℕ) (e : Entry) → slice_get log i ≡ Some e → e.position ≡ q → ((j : ℕ) (d : Entry) → slice_get log j ≡ Some d → same_position q d.position ≡ eq_by_cmp nat_cmp i j) → is_one_of (map (λ (e : Entry). e.position) (take n log)) q ≡ ltb i n
+pub is_first : (q : Position) (n : ℕ) (log : List Entry) (i : ℕ) (e : Entry) → slice_get log i ≡ Some e → e.position ≡ q → ((j : ℕ) (d : Entry) → slice_get log j ≡ Some d → same_position q d.position ≡ eq_by_cmp nat_cmp i j) → is_one_of (map (λ (e : Entry). e.position) (take n log)) q ≡ ltb i n
 is_first q zero log i e at is alone = none_first i
   where
     none_first : (i : ℕ) → false ≡ ltb i 0

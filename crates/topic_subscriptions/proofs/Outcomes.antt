@@ -147,12 +147,14 @@ listed [] all within =
     omega (arith, none, same)
 listed (k ∷ ks) all within = one_listed (set.from_list ks) all k within (listed ks all (λ q at. within q (in_more (set.from_list ks) k q at)))
 
+pub listed_again : (s : set.FinSet nat_cmp) → set.from_list (set.items s) ≡ s
+listed_again s = same_numbers _ _ (λ q. set.contains-from_list nat_cmp_total (set.items s) q ∙ sym (set.contains-items s q))
+
 -- of the closed places those are acknowledged that are not owed
 pub parted : (all owed : set.FinSet nat_cmp) → AreWithin owed all → set.len (set.difference all owed) + set.len owed ≡ set.len all
-parted all owed within = subst (λ (u : set.FinSet nat_cmp). set.len (set.difference all u) + set.len u ≡ set.len all) same (listed (set.items owed) all (λ q at. within q (ap (λ (u : set.FinSet nat_cmp). set.contains u q) (sym same) ∙ at)))
-  where
-    same : set.from_list (set.items owed) ≡ owed
-    same = same_numbers _ _ (λ q. set.contains-from_list nat_cmp_total (set.items owed) q ∙ sym (set.contains-items owed q))
+parted all owed within =
+    subst (λ (u : set.FinSet nat_cmp). set.len (set.difference all u) + set.len u ≡ set.len all) (listed_again owed)
+    (listed (set.items owed) all (λ q at. within q (ap (λ (u : set.FinSet nat_cmp). set.contains u q) (sym (listed_again owed)) ∙ at)))
 
 -- ---- a message is acknowledged
 

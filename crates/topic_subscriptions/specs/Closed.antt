@@ -6,6 +6,7 @@ use Rattle.std.specs.List.{filter}
 use Rattle.std.specs.Ordering.{nat_cmp}
 use Rattle.std.specs.FinSet as set
 use Rattle.delivery_machine.specs.Codes.{coded_places}
+use Rattle.ack_ranges.specs.Lowered.{lowered}
 
 -- `places` is what is acknowledged, and `buried` what died and is not acknowledged
 pub record Outcomes : Type 0 where
@@ -26,6 +27,10 @@ with_acknowledged place o = record { places = set.insert o.places place; buried 
 
 abbrev pub with_buried : ℕ → Outcomes → Outcomes
 with_buried place o = record o { buried = set.insert o.buried place }
+
+-- the first places are gone, so many, and the others stand as much lower
+abbrev pub lowered_by : ℕ → Outcomes → Outcomes
+lowered_by count o = record { places = lowered count o.places; buried = lowered count o.buried }
 
 -- of the dead those are buried that are not acknowledged
 abbrev pub outcomes_of : set.FinSet nat_cmp → List ℕ → Outcomes

@@ -18,6 +18,7 @@ use Rattle.delivery_machine.specs.Places.{AreBelow, KeptPlaces, positions_at}
 use Rattle.log_pieces.specs.Pieces.{index_of}
 use Rattle.delivery_machine.specs.Shares.{Shares, no_shares, shares_with, shares_without, is_share_of}
 use Rattle.delivery_machine.specs.ShareSets.{AreShares}
+use Rattle.ack_ranges.specs.Lowered.{lowered}
 use Rattle.ack_ranges.specs.Ranges.{below}
 use Rattle.pending_core.specs.Pending as pending
 use Rattle.dead_core.specs.Letters as letters
@@ -86,6 +87,10 @@ pub record IsNextLive (p : Placed) (from place : ℕ) : Type 0 where
   pub after : from ≤ place
   pub live : is_live_at p place ≡ true
   pub least : (k : ℕ) → from ≤ k → k < place → is_live_at p k ≡ false
+
+-- the first messages are acknowledged, so many
+abbrev pub AreAcknowledged : ℕ → Placed → Type 0
+AreAcknowledged count p = (place : ℕ) → place < count → set.contains p.places place ≡ true
 
 -- ---- snapshots
 
@@ -179,3 +184,7 @@ sought_to end dead p = record p {
   buried = set.from_list (filter (λ place. nat_le end place) dead);
   pending = pending.nothing_pending;
 }
+
+-- the first messages are gone, so many, and the others stand as much lower
+abbrev pub trimmed_to : ℕ → Placed → Placed
+trimmed_to count p = record p { places = lowered count p.places; buried = lowered count p.buried }

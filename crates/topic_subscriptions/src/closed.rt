@@ -1,10 +1,10 @@
 // The places of a subscription's messages that are acknowledged or dead.
-ghost use Rattle.std.specs.Prelude.{◌≡◌, ◌+◌, ◌<◌, ◌≤◌, ◌^◌, ℕ, List, [], true, false, OnOk, OnErr, IfOk, IfSome, IfNone};
+ghost use Rattle.std.specs.Prelude.{◌≡◌, ◌+◌, ◌<◌, ◌≤◌, ◌^◌, ◌%◌, ℕ, List, [], true, false, OnOk, OnErr, IfOk, IfSome, IfNone};
 ghost use Rattle.std.specs.List.{All, count_by};
 ghost use Rattle.std.specs.FinSet as set;
 ghost use Rattle.ack_ranges.specs.Ranges.{IsNextMissing, below, numbers};
 ghost use Rattle.place_bits.specs.Places.{IsNext, NoneFrom};
-ghost use Rattle.topic_subscriptions.specs.Closed.{is_open, outcomes_of, with_acknowledged, with_buried};
+ghost use Rattle.topic_subscriptions.specs.Closed.{is_open, lowered_by, outcomes_of, with_acknowledged, with_buried};
 
 use crate::less::less;
 use ack_ranges::AckSet;
@@ -150,6 +150,17 @@ impl Closed {
             }
             Err(failed) => Err(failed),
         }
+    }
+
+    /// The first places go, so many, which are all acknowledged, and the others stand as much lower. Takes
+    /// no memory, and a step for each 64 places that there is room for among the owed.
+    pub(crate) fn trim(&mut self, count: u64)
+        requires whole { count % 64 ≡ 0 }
+        requires acknowledged { (k : ℕ) → k < count → set.contains self.old.places k ≡ true }
+        ensures { self.new ≡ lowered_by count self.old }
+    {
+        self.all.forget_below(count);
+        self.owed.shift_down(count);
     }
 
     /// With these places acknowledged, and of the others those dead that are named.

@@ -9,7 +9,9 @@ mod messages;
 mod sought;
 mod subscription;
 mod subscriptions;
+mod trimming;
 
 pub use sought::Sought;
 pub use subscription::Subscription;
 pub use subscriptions::{place_for, place_of_subscription};
+pub use trimming::trim_each;

@@ -1,5 +1,5 @@
 -- Each written text reads back as the object that it means.
-use Rattle.std.proofs.Common.{◌≡◌, ℕ, ◌<◌, ◌^◌, List, [], ◌∷◌, ◌++◌, Option, Some, None, refl, sym, ap, ◌∙◌, arith}
+use Rattle.std.proofs.Common.{◌≡◌, ℕ, zero, suc, ◌<◌, ◌^◌, List, [], ◌∷◌, ◌++◌, Option, Some, None, refl, sym, ap, ◌∙◌, arith}
 use Rattle.json.specs.Tree.{MembersHaveNumbers, members_depth}
 use Rattle.json.proofs.Printed.Decimals.{IsNumber-decimal}
 use Rattle.json.specs.Json.{Json, document}
@@ -76,14 +76,26 @@ small PushMode = omega arith
 small HashOverlap = omega arith
 small MixedPolicy = omega arith
 
-statistics_back : (kind : Kind) (members : ℕ) (mark_delete : Option Position) (acknowledged live pending dead : ℕ) → HasFittingCounts (Stats kind members mark_delete acknowledged live pending dead)
-    → (let fields = statistics_fields kind members mark_delete acknowledged live pending dead in document (object_text fields) ≡ Some (object_with fields))
-statistics_back kind members None acknowledged live pending dead (m, a, l, p, d) =
-    reads_back (statistics_fields kind members None acknowledged live pending dead)
+statistics_back : (kind : Kind) (members : ℕ) (mark_delete : Option Position) (acknowledged live pending dead gone : ℕ) (oldest : Option ℕ) → HasFittingCounts (Stats kind members mark_delete acknowledged live pending dead gone oldest)
+    → (let fields = statistics_fields kind members mark_delete acknowledged live pending dead gone oldest in document (object_text fields) ≡ Some (object_with fields))
+statistics_back kind members None acknowledged live pending dead zero oldest (m, a, l, p, d, g, o) =
+    reads_back (statistics_fields kind members None acknowledged live pending dead zero oldest)
     (IsNumber-decimal acknowledged a, (IsNumber-decimal dead d, (tt, (IsNumber-decimal live l, (IsNumber-decimal members m, (IsNumber-decimal pending p, (tt, tt))))))) (omega arith)
-statistics_back kind members (Some position) acknowledged live pending dead (m, a, l, p, d) =
-    reads_back (statistics_fields kind members (Some position) acknowledged live pending dead)
+statistics_back kind members None acknowledged live pending dead (suc more) None (m, a, l, p, d, g, o) =
+    reads_back (statistics_fields kind members None acknowledged live pending dead (suc more) None)
+    (IsNumber-decimal acknowledged a, (IsNumber-decimal dead d, (IsNumber-decimal (suc more) g, (tt, (IsNumber-decimal live l, (IsNumber-decimal members m, (IsNumber-decimal pending p, (tt, tt)))))))) (omega arith)
+statistics_back kind members None acknowledged live pending dead (suc more) (Some moment) (m, a, l, p, d, g, o) =
+    reads_back (statistics_fields kind members None acknowledged live pending dead (suc more) (Some moment))
+    (IsNumber-decimal acknowledged a, (IsNumber-decimal dead d, (IsNumber-decimal (suc more) g, (tt, (IsNumber-decimal live l, (IsNumber-decimal members m, (IsNumber-decimal moment o, (IsNumber-decimal pending p, (tt, tt))))))))) (omega arith)
+statistics_back kind members (Some position) acknowledged live pending dead zero oldest (m, a, l, p, d, g, o) =
+    reads_back (statistics_fields kind members (Some position) acknowledged live pending dead zero oldest)
     (IsNumber-decimal acknowledged a, (IsNumber-decimal dead d, (tt, (IsNumber-decimal live l, (tt, (IsNumber-decimal members m, (IsNumber-decimal pending p, (tt, tt)))))))) (omega arith)
+statistics_back kind members (Some position) acknowledged live pending dead (suc more) None (m, a, l, p, d, g, o) =
+    reads_back (statistics_fields kind members (Some position) acknowledged live pending dead (suc more) None)
+    (IsNumber-decimal acknowledged a, (IsNumber-decimal dead d, (IsNumber-decimal (suc more) g, (tt, (IsNumber-decimal live l, (tt, (IsNumber-decimal members m, (IsNumber-decimal pending p, (tt, tt))))))))) (omega arith)
+statistics_back kind members (Some position) acknowledged live pending dead (suc more) (Some moment) (m, a, l, p, d, g, o) =
+    reads_back (statistics_fields kind members (Some position) acknowledged live pending dead (suc more) (Some moment))
+    (IsNumber-decimal acknowledged a, (IsNumber-decimal dead d, (IsNumber-decimal (suc more) g, (tt, (IsNumber-decimal live l, (tt, (IsNumber-decimal members m, (IsNumber-decimal moment o, (IsNumber-decimal pending p, (tt, tt)))))))))) (omega arith)
 
 same_fields : (a b : List (List ℕ × Json)) → (let x : Option (List (List ℕ × Json)) = Some a in x ≡ Some b) → document (object_text a) ≡ Some (object_with a) → document (object_text b) ≡ Some (object_with b)
 same_fields a b is back = let one : a ≡ b = cc in rw (sym one) back
@@ -91,6 +103,6 @@ same_fields a b is back = let one : a ≡ b = cc in rw (sym one) back
 pub admins_read_back : AdminsReadBack
 admins_read_back Done fields fit is = same_fields done_fields fields is (reads_back done_fields (tt, tt) (omega arith))
 admins_read_back (Refused fault) fields fit is = same_fields (refused_fields fault) fields is (reads_back (refused_fields fault) (IsNumber-decimal (number_of fault) (small fault), (tt, tt)) (omega arith))
-admins_read_back (Stats kind members mark_delete acknowledged live pending dead) fields fit is =
-    same_fields (statistics_fields kind members mark_delete acknowledged live pending dead) fields is (statistics_back kind members mark_delete acknowledged live pending dead fit)
+admins_read_back (Stats kind members mark_delete acknowledged live pending dead gone oldest) fields fit is =
+    same_fields (statistics_fields kind members mark_delete acknowledged live pending dead gone oldest) fields is (statistics_back kind members mark_delete acknowledged live pending dead gone oldest fit)
 admins_read_back reply fields fit is = absurd (cc)

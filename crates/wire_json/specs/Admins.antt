@@ -7,10 +7,12 @@ use Rattle.position_core.specs.declared.fault.Fault.{Fault}
 use Rattle.position_core.specs.declared.fault.Fault.TheVariants.{BadId, BadJson}
 use Rattle.delivery_machine.specs.declared.event.Target.{Target}
 use Rattle.delivery_machine.specs.declared.event.Target.TheVariants.{Earliest, Latest, At}
+use Rattle.delivery_machine.specs.declared.retention.Retention.{Retention}
+use Rattle.delivery_machine.specs.declared.retention.Retention.TheVariants.{All, Messages, Age}
 use Rattle.json_values.specs.Fields.{ok_as}
 use Rattle.json_values.specs.Objects.{between, object_of, text_at, whole_at}
 use Rattle.wire_json.specs.declared.admins.AdminCommand.{AdminCommand}
-use Rattle.wire_json.specs.declared.admins.AdminCommand.TheVariants.{Seek, SeekTime, Skip, DropSubscription, Stats, DeleteTopic}
+use Rattle.wire_json.specs.declared.admins.AdminCommand.TheVariants.{Seek, SeekTime, Skip, DropSubscription, Stats, Keep, DeleteTopic}
 use Rattle.wire_json.specs.Ids.{id_of}
 
 -- a text that is a name
@@ -44,6 +46,37 @@ moment_in d = ok_or (option_and_then (between 0 253402300799999) (whole_at (code
 abbrev pub count_in : Data → Result ℕ Fault
 count_in d = ok_or (option_and_then (between 0 2147483647) (whole_at (codes "messages") d)) BadJson
 
+-- a rule by its name: all is kept, or what the broker keeps
+abbrev pub rule_named : List ℕ → Result (Option Retention) Fault
+rule_named name =
+    if bytes_eq name (codes "all") then Ok (Some All)
+    else (if bytes_eq name (codes "default") then Ok None else Err BadJson)
+
+-- so many messages are kept
+abbrev pub messages_in : ℕ → Option Retention
+messages_in n = option_map Messages (between 0 1048576 n)
+
+-- those are kept that are not older, in milliseconds
+abbrev pub age_in : ℕ → Option Retention
+age_in n = option_map Age (between 0 253402300799999 n)
+
+-- so many messages where their number is there, and else by age
+abbrev pub rule_by : Option ℕ → Data → Option Retention
+rule_by (Some n) d = messages_in n
+rule_by None d = option_and_then age_in (whole_at (codes "millis") d)
+
+abbrev pub rule_counted : Data → Option Retention
+rule_counted d = rule_by (whole_at (codes "messages") d) d
+
+-- the name of a rule goes before its numbers
+abbrev pub rule_from : Option (List ℕ) → Data → Result (Option Retention) Fault
+rule_from (Some name) d = rule_named name
+rule_from None d = ok_or (option_map Some (rule_counted d)) BadJson
+
+-- what a topic is to keep
+abbrev pub rule_in : Data → Result (Option Retention) Fault
+rule_in d = rule_from (text_at (codes "keep") d) d
+
 -- the command of the type, for the subscription
 abbrev pub admin_named : List ℕ → List ℕ → Data → Result AdminCommand Fault
 admin_named type subscription d =
@@ -58,10 +91,10 @@ abbrev pub admin_for : List ℕ → Option (List ℕ) → Data → Result AdminC
 admin_for type None d = Err BadJson
 admin_for type (Some subscription) d = admin_named type subscription d
 
--- the type has to be there; the deletion of the topic is for no subscription, and one that is there is not looked at
+-- the type has to be there; the deletion of the topic and its rule are for no subscription, and one that is there is not looked at
 abbrev pub admin_from : Option (List ℕ) → Data → Result AdminCommand Fault
 admin_from None d = Err BadJson
-admin_from (Some type) d = if bytes_eq type (codes "deleteTopic") then Ok DeleteTopic else admin_for type (subscription_in d) d
+admin_from (Some type) d = if bytes_eq type (codes "deleteTopic") then Ok DeleteTopic else (if bytes_eq type (codes "keep") then ok_as Keep (rule_in d) else admin_for type (subscription_in d) d)
 
 -- what is no object is no command
 abbrev pub admin_in : Option Data → Result AdminCommand Fault

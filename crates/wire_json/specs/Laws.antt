@@ -1,5 +1,5 @@
 -- What holds of the texts: an id is a position's one text, and each written text reads back as the object that it means.
-use Rattle.std.specs.Prelude.{◌≡◌, ◌↔◌, ◌<◌, ◌^◌, List, ℕ, Option, Some, ⊤}
+use Rattle.std.specs.Prelude.{◌≡◌, ◌↔◌, ◌<◌, ◌^◌, List, ℕ, Option, Some, IfSome, ⊤}
 use Rattle.json.specs.Json.{Json, document}
 use Rattle.position_core.specs.declared.message.Entry.{Entry}
 use Rattle.position_core.specs.declared.position.Position.{Position}
@@ -32,9 +32,10 @@ DeliveriesReadBack =
     (message : Entry) (count : ℕ) (text : List ℕ) → count < 2 ^ 64 → IsDelivery message count text
     → (time : List ℕ) × IsTimeText message.time time × (document text ≡ Some (object_with (delivery_fields time message count)))
 
--- each count has at most 64 bits
+-- each number has at most 64 bits
 abbrev pub HasFittingCounts : Reply → Type 0
-HasFittingCounts (Stats kind members mark_delete acknowledged live pending dead) = (members < 2 ^ 64) × (acknowledged < 2 ^ 64) × (live < 2 ^ 64) × (pending < 2 ^ 64) × (dead < 2 ^ 64)
+HasFittingCounts (Stats kind members mark_delete acknowledged live pending dead gone oldest) =
+    (members < 2 ^ 64) × (acknowledged < 2 ^ 64) × (live < 2 ^ 64) × (pending < 2 ^ 64) × (dead < 2 ^ 64) × (gone < 2 ^ 64) × IfSome oldest (λ moment. moment < 2 ^ 64)
 HasFittingCounts reply = ⊤
 
 -- what answers an administrator

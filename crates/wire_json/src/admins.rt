@@ -3,10 +3,10 @@ ghost use Rattle.std.specs.Prelude.{◌≡◌, IfOk, Some};
 ghost use Rattle.serde_json.specs.View.{view};
 ghost use Rattle.json_values.specs.Fields.{ok_as};
 ghost use Rattle.json_values.specs.Objects.{between};
-ghost use Rattle.wire_json.specs.Admins.{admin_for, admin_in, admin_named, admin_of, count_in, moment_in, subscription_in, target_in, target_of};
+ghost use Rattle.wire_json.specs.Admins.{admin_for, admin_in, admin_named, admin_of, age_in, count_in, messages_in, moment_in, rule_counted, rule_in, rule_named, subscription_in, target_in, target_of};
 
 use crate::commands::id_of;
-use delivery_machine::Target;
+use delivery_machine::{KeptAge, KeptMessages, Retention, Target};
 use json_values::{object_of, text_at, whole_at};
 use position_core::{Fault, Moment, SkipLength, SubscriptionName};
 use serde_json::Value;
@@ -37,6 +37,10 @@ pub enum AdminCommand {
     /// How far the subscription is.
     Stats {
         subscription: SubscriptionName,
+    },
+    /// What the topic keeps of the messages that every subscription has done with; without one, what its broker keeps.
+    Keep {
+        retention: Option<Retention>,
     },
     /// The whole topic goes.
     DeleteTopic,
@@ -107,6 +111,76 @@ fn count_in(object: &Value) -> Result<SkipLength, Fault>
     match whole_at("messages", object) {
         Some(number) => count_from(number).ok_or(Fault::BadJson),
         None => Err(Fault::BadJson),
+    }
+}
+
+/// What a name says to keep: all, or what the broker keeps.
+fn rule_named(name: &str) -> Result<Option<Retention>, Fault>
+    ensures { result ≡ rule_named name.now }
+{
+    if name == "all" {
+        return Ok(Some(Retention::All));
+    }
+    if name == "default" {
+        Ok(None)
+    } else {
+        Err(Fault::BadJson)
+    }
+}
+
+fn messages_in(number: u64) -> Option<Retention>
+    ensures { result ≡ messages_in number }
+{
+    if number > 1_048_576 {
+        return None;
+    }
+    match KeptMessages::new(number as u32) {
+        Some(messages) => Some(Retention::Messages(messages)),
+        None => None,
+    }
+}
+
+fn age_in(number: u64) -> Option<Retention>
+    ensures { result ≡ age_in number }
+{
+    match KeptAge::new(number) {
+        Some(age) => Some(Retention::Age(age)),
+        None => None,
+    }
+}
+
+/// How much is to be kept, where no name says it: so many messages, or else those of so many milliseconds.
+fn rule_counted(object: &Value) -> Option<Retention>
+    ensures { result ≡ rule_counted (view object.now) }
+{
+    match whole_at("messages", object) {
+        Some(number) => messages_in(number),
+        None => match whole_at("millis", object) {
+            Some(number) => age_in(number),
+            None => None,
+        },
+    }
+}
+
+/// What a topic is to keep.
+fn rule_in(object: &Value) -> Result<Option<Retention>, Fault>
+    ensures { result ≡ rule_in (view object.now) }
+{
+    match text_at("keep", object) {
+        Some(name) => rule_named(name),
+        None => match rule_counted(object) {
+            Some(rule) => Ok(Some(rule)),
+            None => Err(Fault::BadJson),
+        },
+    }
+}
+
+fn keep(object: &Value) -> Result<AdminCommand, Fault>
+    ensures { result ≡ ok_as AdminCommand.Keep (rule_in (view object.now)) }
+{
+    match rule_in(object) {
+        Ok(retention) => Ok(AdminCommand::Keep { retention }),
+        Err(fault) => Err(fault),
     }
 }
 
@@ -192,6 +266,9 @@ fn admin_in(alloc: Global, object: &Value) -> Result<Result<AdminCommand, Fault>
     };
     if name == "deleteTopic" {
         return Ok(Ok(AdminCommand::DeleteTopic));
+    }
+    if name == "keep" {
+        return Ok(keep(object));
     }
     admin_for(alloc, name, object)
 }

@@ -1,12 +1,12 @@
 // What an administrator is answered.
 ghost use Rattle.std.specs.Prelude.{◌≡◌, [], ◌∷◌, ◌++◌, codes, is_some, IfOk, IfSome, IfNone, OnOk, string_bytes};
 ghost use Rattle.json_values.specs.Written.{field_text, leading, object_text};
-ghost use Rattle.wire_json.specs.Statistics.{admin_text, done_fields, early_fields, kind_field, kind_text, late_fields, mark_delete_field, number_field, refused_fields, result_field, statistics_fields};
+ghost use Rattle.wire_json.specs.Statistics.{admin_text, done_fields, early_fields, gone_field, kind_field, kind_text, late_fields, mark_delete_field, number_field, oldest_field, refused_fields, result_field, statistics_fields};
 
 use crate::answers::begin;
 use delivery_machine::Reply;
 use json_values::{push_decimal, push_quoted};
-use position_core::{Fault, Kind, Position};
+use position_core::{Fault, Kind, Moment, Position};
 use std::alloc::AllocError;
 
 /// How many bytes an answer has at most.
@@ -107,14 +107,45 @@ struct Statistics {
     live: u64,
     pending: u64,
     dead: u64,
+    gone: u64,
+    /// In milliseconds.
+    oldest: Option<u64>,
+}
+
+fn push_gone(out: &mut String, gone: u64) -> Result<(), AllocError>
+    ensures { OnOk result (string_bytes out.new ≡ string_bytes out.old ++ leading (gone_field gone)) }
+{
+    if gone == 0 {
+        return Ok(());
+    }
+    push_number(out, "gone", gone)
+}
+
+fn millis_of(moment: Option<Moment>) -> Option<u64>
+    ensures { result ≡ moment }
+{
+    match moment {
+        Some(moment) => Some(moment.millis()),
+        None => None,
+    }
+}
+
+fn push_oldest(out: &mut String, gone: u64, oldest: Option<u64>) -> Result<(), AllocError>
+    ensures { OnOk result (string_bytes out.new ≡ string_bytes out.old ++ leading (oldest_field gone oldest)) }
+{
+    match oldest {
+        Some(moment) if gone > 0 => push_number(out, "oldest", moment),
+        _ => Ok(()),
+    }
 }
 
 /// Appends what stands before `markDelete`.
 fn push_early(out: &mut String, of: Statistics) -> Result<(), AllocError>
-    ensures { OnOk result (string_bytes out.new ≡ string_bytes out.old ++ leading (early_fields of.kind of.acknowledged of.live of.dead)) }
+    ensures { OnOk result (string_bytes out.new ≡ string_bytes out.old ++ leading (early_fields of.kind of.acknowledged of.live of.dead of.gone)) }
 {
     push_number(out, "acknowledged", of.acknowledged)?;
     push_number(out, "dead", of.dead)?;
+    push_gone(out, of.gone)?;
     push_kind(out, of.kind)?;
     push_number(out, "live", of.live)?;
     Ok(())
@@ -122,15 +153,16 @@ fn push_early(out: &mut String, of: Statistics) -> Result<(), AllocError>
 
 /// Appends what stands after `markDelete`, but for the result.
 fn push_late(out: &mut String, of: Statistics) -> Result<(), AllocError>
-    ensures { OnOk result (string_bytes out.new ≡ string_bytes out.old ++ leading (late_fields of.members of.pending)) }
+    ensures { OnOk result (string_bytes out.new ≡ string_bytes out.old ++ leading (late_fields of.members of.pending of.gone of.oldest)) }
 {
     push_number(out, "members", of.members)?;
+    push_oldest(out, of.gone, of.oldest)?;
     push_number(out, "pending", of.pending)?;
     Ok(())
 }
 
 fn statistics_text(out: &mut String, of: Statistics) -> Result<(), AllocError>
-    ensures { OnOk result (string_bytes out.new ≡ object_text (statistics_fields of.kind of.members of.mark_delete of.acknowledged of.live of.pending of.dead)) }
+    ensures { OnOk result (string_bytes out.new ≡ object_text (statistics_fields of.kind of.members of.mark_delete of.acknowledged of.live of.pending of.dead of.gone of.oldest)) }
 {
     push_brace(out)?;
     push_early(out, of)?;
@@ -158,6 +190,8 @@ pub fn admin_text(out: &mut String, reply: &Reply) -> Result<bool, AllocError>
             live,
             pending,
             dead,
+            gone,
+            oldest,
         } => statistics_text(
             out,
             Statistics {
@@ -168,6 +202,8 @@ pub fn admin_text(out: &mut String, reply: &Reply) -> Result<bool, AllocError>
                 live: *live,
                 pending: *pending,
                 dead: *dead,
+                gone: *gone,
+                oldest: millis_of(*oldest),
             },
         )?,
         _ => return Ok(false),

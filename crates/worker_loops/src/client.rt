@@ -1,13 +1,14 @@
 // A connection that a worker serves.
-use crate::house::{House, Turned};
+use crate::house::{After, House, Turned};
 use crate::post::Doorbell;
 use crate::rounds::{ENDED, PINGED, SHAKING};
 use delivery_machine::Moment;
 use mio::net::TcpStream;
-use socket_conn::{Shaken, Shaking};
+use socket_conn::{Answered, Answering, Request, Shaken, Shaking};
 use std::alloc::Global;
 use std::io::Eprint;
 use std::mem;
+use std::net::Shutdown;
 use std::sync::{Arc, Wait};
 
 /// How far a connection is.
@@ -15,6 +16,8 @@ use std::sync::{Arc, Wait};
 pub(crate) enum Stage<G: Drop> {
     /// Its request has not come whole.
     Shaking(Shaking<TcpStream>),
+    /// It asked for no WebSocket, and its response has not gone whole.
+    Answering(Answering<TcpStream>),
     Open(G),
     /// At its end.
     Gone,
@@ -29,6 +32,13 @@ pub(crate) enum Look {
     Due,
     /// It is at its end.
     Over,
+}
+
+/// The response has gone whole. Its client hears so before the connection is dropped.
+fn see_off(answering: Answering<TcpStream>) {
+    let stream = answering.into_inner();
+    let _ = stream.shutdown(Shutdown::Write);
+    drop(stream);
 }
 
 /// A connection that a worker serves. Times are those of the worker's rounds.
@@ -65,6 +75,7 @@ impl<G: Drop> Client<G> {
         match &mut self.stage {
             Stage::Open(guest) => house.note_readable(guest),
             Stage::Shaking(_) => {}
+            Stage::Answering(_) => {}
             Stage::Gone => {}
         }
     }
@@ -88,9 +99,18 @@ impl<G: Drop> Client<G> {
                     Look::Due
                 }
             }
-            Stage::Shaking(_) if now.saturating_sub(self.came) >= SHAKING => Look::Over,
-            Stage::Shaking(_) => Look::Fine,
+            Stage::Shaking(_) => self.look_at_request(now),
+            Stage::Answering(_) => self.look_at_request(now),
             Stage::Gone => Look::Over,
+        }
+    }
+
+    /// One without a session is given up where its request, and the response, have taken too long.
+    fn look_at_request(&self, now: u64) -> Look {
+        if now.saturating_sub(self.came) >= SHAKING {
+            Look::Over
+        } else {
+            Look::Fine
         }
     }
 
@@ -105,6 +125,7 @@ impl<G: Drop> Client<G> {
         self.bell.hear();
         match mem::replace(&mut self.stage, Stage::Gone) {
             Stage::Shaking(shaking) => self.shake(rt, alloc, house, shaking, now),
+            Stage::Answering(answering) => self.answer_on(answering),
             Stage::Open(guest) => self.turn(rt, house, guest, now),
             Stage::Gone => Turned::gone(),
         }
@@ -132,8 +153,51 @@ impl<G: Drop> Client<G> {
                     None => Turned::gone(),
                 }
             }
+            Shaken::Plain(stream, request) => self.answer(rt, alloc, house, stream, request, now),
             Shaken::Failed => Turned::gone(),
         }
+    }
+
+    /// The first turn of a connection that asked for no WebSocket.
+    fn answer<H: House<Guest = G>, R: Wait + Eprint>(
+        &mut self,
+        rt: &R,
+        alloc: Global,
+        house: &H,
+        stream: TcpStream,
+        request: Request,
+        now: Moment,
+    ) -> Turned {
+        match house.answer(rt, alloc, now, request) {
+            Some(response) => self.answer_on(Answering::start(stream, response)),
+            None => {
+                drop(stream);
+                Turned::without_change(After::Gone)
+            }
+        }
+    }
+
+    /// A turn of a connection whose response has not gone whole.
+    fn answer_on(&mut self, mut answering: Answering<TcpStream>) -> Turned {
+        let after = match answering.advance() {
+            Answered::Whole => {
+                see_off(answering);
+                After::Gone
+            }
+            Answered::GoesOn => {
+                self.come_to(Stage::Answering(answering));
+                After::Again
+            }
+            Answered::Waits => {
+                self.come_to(Stage::Answering(answering));
+                After::Rest
+            }
+            Answered::Failed => {
+                drop(answering);
+                After::Gone
+            }
+        };
+        Turned::without_change(after)
     }
 
     fn turn<H: House<Guest = G>, R: Wait + Eprint>(

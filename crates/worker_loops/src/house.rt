@@ -4,7 +4,7 @@ ghost use Rattle.std.specs.Prelude.{◌≡◌, None};
 use crate::post::Doorbell;
 use delivery_machine::Moment;
 use mio::net::TcpStream;
-use socket_conn::{Held, SocketConn};
+use socket_conn::{Held, Request, SocketConn};
 use std::alloc::Global;
 use std::io::Eprint;
 use std::rt::Clock;
@@ -25,7 +25,8 @@ pub enum After {
 #[derive(Clone, Copy, Debug, PartialEq, Eq)]
 pub struct Turned {
     pub after: After,
-    /// How much it may have changed: as many times as it took texts, and at least once, since a moment may have come.
+    /// How much it may have changed: as many times as it took texts, and at least once where it has a session, since a moment
+    /// may have come.
     pub made: u64,
     /// When the connection is to be looked at again, in milliseconds since 1970.
     pub due: Option<u64>,
@@ -41,6 +42,19 @@ impl Turned {
         Turned {
             after: After::Gone,
             made: 1,
+            due: None,
+        }
+    }
+
+    /// Nothing was changed in the turn.
+    pub fn without_change(after: After) -> Turned
+        ensures after { result.after ≡ after }
+        ensures made { result.made ≡ 0 }
+        ensures due { result.due ≡ None }
+    {
+        Turned {
+            after,
+            made: 0,
             due: None,
         }
     }
@@ -78,6 +92,15 @@ pub trait House {
         bell: &Arc<Doorbell>,
     ) -> Option<Self::Guest>;
 
+    /// The response to a request that asks for no WebSocket, as it goes out: whole, with its head. None for want of memory.
+    fn answer<R: Wait>(
+        &self,
+        rt: &R,
+        alloc: Global,
+        now: Moment,
+        request: Request,
+    ) -> Option<Vec<u8>>;
+
     /// The guest's socket has something to read.
     fn note_readable(&self, guest: &mut Self::Guest);
 
@@ -96,7 +119,7 @@ pub trait House {
     ) -> (Turned, Option<Self::Guest>);
 
     /// A worker, which has made so many changes, stores what waits, where that is little and nobody else does.
-    fn help<R: Wait>(&self, rt: &R, made: u64);
+    fn help<R: Wait + Clock>(&self, rt: &R, made: u64);
 
     /// Whether all is refused, since the store has failed.
     fn is_closed(&self) -> bool;

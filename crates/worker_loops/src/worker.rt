@@ -124,7 +124,7 @@ impl<G: Drop> Worker<G> {
     }
 
     /// Stores what waits, where that is little and nobody else does.
-    fn store<H: House<Guest = G>, R: Wait>(&mut self, rt: &R, house: &H) {
+    fn store<H: House<Guest = G>, R: Wait + Clock>(&mut self, rt: &R, house: &H) {
         let made = self.crowd.take_made();
         if made > 0 {
             house.help(rt, made);

@@ -22,6 +22,7 @@ use Rattle.broker_dir.proofs.board.Board.TheSendSync.{the_send as board_send, th
 use Rattle.broker_dir.proofs.closing.Closed.TheSendSync.{the_send as closed_send, the_sync as closed_sync}
 use Rattle.broker_dir.proofs.uses.Uses.TheSendSync.{the_send as uses_send, the_sync as uses_sync}
 use Rattle.stored_cell.proofs.opening.Terms.TheSendSync.{the_send as terms_send, the_sync as terms_sync}
+use Rattle.delivery_machine.proofs.retention.Retention.TheSendSync.{the_send as rule_send, the_sync as rule_sync}
 use Rattle.row_store.proofs.keeper.Keeper.TheSendSync.{the_send as keeper_send}
 use Rattle.worker_loops.proofs.post.Doorbell.TheSendSync.{the_send as doorbell_send, the_sync as doorbell_sync}
 use Rattle.std.specs.contracts.option.Option as Option
@@ -68,7 +69,7 @@ Inside-send T I B g v n s b c = let topic = NamedCell-send T I g v n s in let be
         search sendable,
         (
           search sendable,
-          (graves_send, (search sendable, (search sendable, (search sendable, tt)))),
+          (graves_send, (search sendable, (search sendable, (search sendable, (search sendable, tt))))),
         ),
       ),
     ),
@@ -106,8 +107,11 @@ Directory-send T K I B g v o n s k b c = let X = Arc.the_row (Shared.the_row T I
       (
         terms_send,
         (
-          as_row_send (Mutex.the_field (Table.the_row T I B g v n)) (search (sendable, crosses, t) depth 20),
-          (as_row_send (Mutex.the_field (Keeper.the_row K I n o)) (search (sendable, crosses, e) depth 20), (d, (closed_send, (uses_send, tt)))),
+          rule_send,
+          (
+            as_row_send (Mutex.the_field (Table.the_row T I B g v n)) (search (sendable, crosses, t) depth 20),
+            (as_row_send (Mutex.the_field (Keeper.the_row K I n o)) (search (sendable, crosses, e) depth 20), (d, (closed_send, (uses_send, tt)))),
+          ),
         ),
       ),
     )
@@ -119,8 +123,11 @@ Directory-sync T K I B g v o n s k b c = let X = Arc.the_row (Shared.the_row T I
       (
         terms_sync,
         (
-          as_row_sync (Mutex.the_field (Table.the_row T I B g v n)) (search (sendable, crosses, t) depth 20),
-          (as_row_sync (Mutex.the_field (Keeper.the_row K I n o)) (search (sendable, crosses, e) depth 20), (d, (closed_sync, (uses_sync, tt)))),
+          rule_sync,
+          (
+            as_row_sync (Mutex.the_field (Table.the_row T I B g v n)) (search (sendable, crosses, t) depth 20),
+            (as_row_sync (Mutex.the_field (Keeper.the_row K I n o)) (search (sendable, crosses, e) depth 20), (d, (closed_sync, (uses_sync, tt)))),
+          ),
         ),
       ),
     )

@@ -3,6 +3,7 @@
 
 mod entering;
 mod guest;
+mod pages;
 mod place;
 mod serving;
 mod waiting;

@@ -1,11 +1,12 @@
 // What all workers share: the directory of topics, to whose sessions connections come.
 use crate::entering::enter;
 use crate::guest::{Guest, turn};
+use crate::pages::page;
 use broker_dir::{Cause, Directory, Gate, moment};
 use delivery_machine::{Moment, Opened};
 use marks::Naming;
 use mio::net::TcpStream;
-use socket_conn::{Held, SocketConn};
+use socket_conn::{Held, Request, SocketConn};
 use sqlite::Alter;
 use std::alloc::Global;
 use std::io::Eprint;
@@ -57,6 +58,18 @@ impl<T: Opened + Drop, S: Alter, J: Naming, G: Gate + Drop> House for Place<T, S
         enter(rt, alloc, self, conn, target, bell)
     }
 
+    fn answer<R: Wait>(
+        &self,
+        _rt: &R,
+        alloc: Global,
+        _now: Moment,
+        request: Request,
+    ) -> Option<Vec<u8>> {
+        let response = page(alloc, &request, self.directory.is_closed());
+        drop(request);
+        response.ok()
+    }
+
     fn note_readable(&self, guest: &mut Guest<T, J>) {
         guest.note_readable();
     }
@@ -78,7 +91,7 @@ impl<T: Opened + Drop, S: Alter, J: Naming, G: Gate + Drop> House for Place<T, S
         turn(rt, self, guest, now)
     }
 
-    fn help<R: Wait>(&self, rt: &R, made: u64) {
+    fn help<R: Wait + Clock>(&self, rt: &R, made: u64) {
         self.directory.help(rt, made);
     }
 

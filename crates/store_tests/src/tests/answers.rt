@@ -18,6 +18,8 @@ pub(super) enum Answer {
         consumer: ConsumerNumber,
         position: Position,
     },
+    /// So many messages are gone by now.
+    Trimmed(u64),
     Died(Ordinal),
     Dead(Ordinal),
     /// It was done, and tests do not look how.
@@ -41,6 +43,7 @@ impl Answer {
                 consumer: *consumer,
                 position: *position,
             },
+            Reply::Trimmed(gone) => Answer::Trimmed(*gone),
             Reply::Died { ordinal, .. } => Answer::Died(*ordinal),
             Reply::Dead { ordinal, .. } => Answer::Dead(*ordinal),
             _ => Answer::Other,

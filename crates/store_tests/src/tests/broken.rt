@@ -1,8 +1,9 @@
 // Rows that are no snapshot's: each breaks one rule, is refused and stays, and once mended is loaded again.
 use super::breaks::{CONTENTS, COUNTS, LETTERS, PLACES, RUNS, SUBSCRIPTIONS, TOPICS};
+use super::front_breaks::{AUTHORS, FRONTS, RULES};
 use super::keepers::in_memory;
 use super::keeps::{Keeps, Scene};
-use super::plays::{FOUR, T, play_rounds};
+use super::plays::{FOUR, T, play_rounds, round, trimmed};
 use position_core::Fault;
 use std::process::Abort;
 
@@ -36,14 +37,14 @@ tick e 61400
 ";
 
 /// The keeper over its database after the statement.
-fn after<K: Keeps, R: Abort + AllocGlobal>(rt: &R, keeper: K, sql: &str) -> K {
+pub(super) fn after<K: Keeps, R: Abort + AllocGlobal>(rt: &R, keeper: K, sql: &str) -> K {
     let mut database = keeper.into_database();
     assert!(rt; K::execute(&mut database, sql), "{sql}");
     K::adopt(rt, database).expect(rt, "not adopted")
 }
 
 /// The topic is played, with rounds, and this is its snapshot then.
-fn filled<K: Keeps, R: Abort + AllocGlobal>(rt: &R, keeper: &mut K) -> K::Snapshot {
+pub(super) fn filled<K: Keeps, R: Abort + AllocGlobal>(rt: &R, keeper: &mut K) -> K::Snapshot {
     let mut topic = K::fresh(rt, T);
     play_rounds(rt, keeper, &mut topic, &[FOUR, PLAYED, STORED]);
     K::snapshot_of(rt, &topic)
@@ -67,6 +68,18 @@ fn check_break<K: Keeps, R: Abort + AllocGlobal>(
     mended
 }
 
+/// The same after each pair of statements.
+fn check_breaks<K: Keeps, R: Abort + AllocGlobal>(
+    rt: &R,
+    mut keeper: K,
+    snapshot: &K::Snapshot,
+    breaks: &[(&str, &str)],
+) {
+    for (wrong, right) in breaks {
+        keeper = check_break(rt, keeper, snapshot, wrong, right);
+    }
+}
+
 #[derive(Drop)]
 struct Broken {
     breaks: &'static [(&'static str, &'static str)],
@@ -75,9 +88,22 @@ struct Broken {
 impl Scene for Broken {
     fn play<K: Keeps, R: Abort + AllocGlobal>(&self, rt: &R, mut keeper: K) {
         let snapshot = filled(rt, &mut keeper);
-        for (wrong, right) in self.breaks {
-            keeper = check_break(rt, keeper, &snapshot, wrong, right);
-        }
+        check_breaks(rt, keeper, &snapshot, self.breaks);
+    }
+}
+
+/// The topic's first messages are gone.
+#[derive(Drop)]
+struct BrokenFront {
+    breaks: &'static [(&'static str, &'static str)],
+}
+
+impl Scene for BrokenFront {
+    fn play<K: Keeps, R: Abort + AllocGlobal>(&self, rt: &R, mut keeper: K) {
+        let mut topic = trimmed(rt, &mut keeper, T);
+        round(rt, &mut keeper, &mut topic);
+        let snapshot = K::snapshot_of(rt, &topic);
+        check_breaks(rt, keeper, &snapshot, self.breaks);
     }
 }
 
@@ -139,4 +165,19 @@ fn letters(rt: HostRuntime) {
 #[test]
 fn counts(rt: HostRuntime) {
     in_memory(&rt, &Broken { breaks: &COUNTS });
+}
+
+#[test]
+fn rules(rt: HostRuntime) {
+    in_memory(&rt, &Broken { breaks: &RULES });
+}
+
+#[test]
+fn fronts(rt: HostRuntime) {
+    in_memory(&rt, &BrokenFront { breaks: &FRONTS });
+}
+
+#[test]
+fn authors(rt: HostRuntime) {
+    in_memory(&rt, &BrokenFront { breaks: &AUTHORS });
 }

@@ -2,7 +2,7 @@
 use super::answers::Answer;
 use super::keepers::in_memory;
 use super::keeps::{Keeps, Scene};
-use super::plays::{FOUR, T, check_stands, play, stored};
+use super::plays::{DONE, FOUR, T, TRIM, check_stands, play, publish_more, round, stored};
 use position_core::Fault;
 use std::process::Abort;
 
@@ -128,6 +128,46 @@ fn confirm_second<K: Keeps, R: Abort + AllocGlobal>(
     check_progress::<K, R>(rt, cell, 5, 5);
     assert!(rt; K::is_stored(cell));
     check_stands(rt, keeper, cell);
+}
+
+/// Messages go between a view and its confirmation, some of which that view made durable; the next store takes their rows.
+#[derive(Drop)]
+struct Trimmed;
+
+/// 80 messages, of which 60 are stored. The first 64 go once their store is known.
+fn trim_between<K: Keeps, R: Abort + AllocGlobal>(rt: &R, keeper: &mut K, cell: &mut K::Topic) {
+    play::<K, R>(rt, cell, "trim 0 1000 64\n");
+    let part = keeper.view(rt, cell);
+    let then = K::snapshot_of(rt, cell);
+    play::<K, R>(rt, cell, "publish 1 80 - - 1000\nseek s latest\n");
+    confirm(rt, keeper, cell, part, true);
+    check_progress::<K, R>(rt, cell, 80, 81);
+    assert!(rt; keeper.stands(&then));
+    let part = keeper.view(rt, cell);
+    play::<K, R>(rt, cell, TRIM);
+    confirm(rt, keeper, cell, part, true);
+    check_progress::<K, R>(rt, cell, 81, 81);
+    check_needs::<K, R>(rt, cell, true);
+}
+
+impl Scene for Trimmed {
+    fn play<K: Keeps, R: Abort + AllocGlobal>(&self, rt: &R, mut keeper: K) {
+        let mut cell = K::fresh(rt, T);
+        play::<K, R>(rt, &mut cell, "producer p -\n");
+        publish_more::<K, R>(rt, &mut cell, 60);
+        round(rt, &mut keeper, &mut cell);
+        publish_more::<K, R>(rt, &mut cell, 20);
+        play::<K, R>(rt, &mut cell, DONE);
+        trim_between(rt, &mut keeper, &mut cell);
+        round(rt, &mut keeper, &mut cell);
+        check_stands(rt, &mut keeper, &cell);
+        assert!(rt; keeper.written().deleted == 64);
+    }
+}
+
+#[test]
+fn a_trim_between_view_and_confirmation(rt: HostRuntime) {
+    in_memory(&rt, &Trimmed);
 }
 
 /// The proof of the first of two views comes after the second view, and once more after its store.

@@ -2,28 +2,33 @@
 use super::disks::on_disks;
 use super::keepers::in_memory;
 use super::keeps::{Keeps, Scene};
-use super::plays::{FOUR, T, U, adopted, check_stands, has_none, play_rounds, resumed, round};
+use super::plays::{
+    T, U, adopted, check_stands, has_none, play_rounds, publish_more, resumed, round, trimmed,
+};
 use std::process::Abort;
 
 /// A topic whose name begins as that of `T` does.
 const LONGER: &str = "persistent://public/default/t2";
 
-/// A message that is acknowledged, and one that died.
-const MORE: &str = "subscribe s Shared 0 push:10 0 100 1 - Earliest
+/// A message that is acknowledged, one that died, and one that comes again.
+const MORE: &str = "dispatch s 1000
 dispatch s 1000
-dispatch s 1000
-ack 1 CAAQAQ==
-nack 1 CAAQAA== 1000
+ack 1 CAAQRw==
+nack 1 CAAQRg== 1000
 tick s 1100
 dispatch s 1100
-nack 1 CAAQAA== 1100
+nack 1 CAAQRg== 1100
 tick s 1200
+dispatch s 1200
+nack 1 CAAQSA== 1200
+tick s 1300
 ";
 
 /// A topic with rows in every table.
 fn filled<K: Keeps, R: Abort + AllocGlobal>(rt: &R, keeper: &mut K, name: &str) -> K::Topic {
-    let mut topic = K::fresh(rt, name);
-    play_rounds(rt, keeper, &mut topic, &[FOUR, MORE]);
+    let mut topic = trimmed(rt, keeper, name);
+    publish_more::<K, R>(rt, &mut topic, 4);
+    play_rounds(rt, keeper, &mut topic, &["", MORE]);
     topic
 }
 

@@ -1,4 +1,5 @@
 // Numbers that look random, and are the same each time.
+use delivery_machine::{KeptAge, KeptMessages, Retention};
 
 #[derive(Drop)]
 pub(super) struct Dice {
@@ -30,6 +31,16 @@ impl Dice {
             0 => "Shared",
             1 => "Key_Shared",
             _ => "Failover",
+        }
+    }
+
+    /// A rule of a topic, or none.
+    pub(super) fn rule(&mut self) -> Option<Retention> {
+        match self.roll(4) {
+            0 => Some(Retention::All),
+            1 => KeptMessages::new(7).map(Retention::Messages),
+            2 => KeptAge::new(86_400_000).map(Retention::Age),
+            _ => None,
         }
     }
 

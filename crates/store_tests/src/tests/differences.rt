@@ -1,12 +1,13 @@
 // That a change lists what differs and nothing else.
 use ack_ranges::AckSet;
-use delivery_machine::{Counts, KeptSubscription};
-use position_core::{Kind, Name};
-use row_forms::ack_difference::ack_difference;
+use delivery_machine::{Author, Counts, KeptSubscription};
+use position_core::{Kind, Name, ProducerName};
+use row_forms::SubRow;
+use row_forms::author_difference::author_difference;
 use row_forms::sub_difference::sub_difference;
-use row_forms::{AckRow, SubRow};
 use std::alloc::AllocGlobal;
 use std::process::Abort;
+use std::sync::ArcStr;
 
 fn kept<R: Abort + AllocGlobal>(
     rt: &R,
@@ -41,21 +42,6 @@ fn have_names(rows: &[SubRow], want: &[&str]) -> bool {
     left.next().is_none()
 }
 
-fn have_runs(rows: &[AckRow], want: &[(&str, u64, u64)]) -> bool {
-    let mut left = want.iter();
-    for row in rows {
-        match left.next() {
-            Some((sub, first, last)) => {
-                if *sub != row.sub.as_str() || *first != row.first || *last != row.last {
-                    return false;
-                }
-            }
-            None => return false,
-        }
-    }
-    left.next().is_none()
-}
-
 /// Which rows of subscriptions go, and which come.
 fn check_subs<R: Abort + AllocGlobal>(
     rt: &R,
@@ -69,21 +55,45 @@ fn check_subs<R: Abort + AllocGlobal>(
     assert!(rt; have_names(&subs.news, come));
 }
 
-/// Which rows of runs go, and which come.
-fn check_acks<R: Abort + AllocGlobal>(
+fn author<R: Abort + AllocGlobal>(rt: &R, name: &str, sequence: i64, index: u64) -> Author {
+    let name = ArcStr::from_str(rt.alloc(), name).expect(rt, "no memory");
+    Author {
+        name: ProducerName::new(name).expect(rt, "no name"),
+        sequence,
+        index,
+    }
+}
+
+fn have_authors(rows: &[Author], want: &[(&str, u64)]) -> bool {
+    let mut left = want.iter();
+    for row in rows {
+        match left.next() {
+            Some((name, index)) => {
+                if row.name.as_str() != *name || row.index != *index {
+                    return false;
+                }
+            }
+            None => return false,
+        }
+    }
+    left.next().is_none()
+}
+
+/// Which rows of producers go, and which come.
+fn check_authors<R: Abort + AllocGlobal>(
     rt: &R,
-    olds: &[KeptSubscription],
-    news: &[KeptSubscription],
-    gone: &[(&str, u64, u64)],
-    come: &[(&str, u64, u64)],
+    olds: &[Author],
+    news: &[Author],
+    gone: &[(&str, u64)],
+    come: &[(&str, u64)],
 ) {
-    let acks = ack_difference(rt.alloc(), olds, news).expect(rt, "no memory");
-    assert!(rt; have_runs(&acks.gone, gone));
-    assert!(rt; have_runs(&acks.news, come));
+    let authors = author_difference(rt.alloc(), olds, news).expect(rt, "no memory");
+    assert!(rt; have_authors(&authors.gone, gone));
+    assert!(rt; have_authors(&authors.news, come));
 }
 
 #[test]
-fn only_what_differs_is_listed(rt: HostRuntime) {
+fn only_subscriptions_that_differ_are_listed(rt: HostRuntime) {
     let olds = [
         kept(&rt, "a", Kind::Shared, &[(0, 2), (4, 5), (8, 9)]),
         kept(&rt, "b", Kind::Exclusive, &[(1, 3)]),
@@ -95,19 +105,27 @@ fn only_what_differs_is_listed(rt: HostRuntime) {
         kept(&rt, "d", Kind::KeyShared, &[(6, 7)]),
     ];
     check_subs(&rt, &olds, &news, &["b", "d"], &["c", "d"]);
-    check_acks(
-        &rt,
-        &olds,
-        &news,
-        &[("a", 0, 1), ("a", 8, 8), ("b", 1, 2)],
-        &[("a", 0, 2), ("a", 9, 11), ("c", 0, 0)],
-    );
+    check_subs(&rt, &news, &news, &[], &[]);
 }
 
 #[test]
-fn nothing_is_listed_where_all_is_the_same(rt: HostRuntime) {
-    let olds = [kept(&rt, "a", Kind::Shared, &[(0, 2), (4, 5)])];
-    let news = [kept(&rt, "a", Kind::Shared, &[(0, 2), (4, 5)])];
-    check_subs(&rt, &olds, &news, &[], &[]);
-    check_acks(&rt, &olds, &news, &[], &[]);
+fn only_producers_that_differ_are_listed(rt: HostRuntime) {
+    let olds = [
+        author(&rt, "p", 3, 0),
+        author(&rt, "q", 9, 5),
+        author(&rt, "r", 0, 63),
+    ];
+    let news = [
+        author(&rt, "q", 9, 5),
+        author(&rt, "s", 7, 64),
+        author(&rt, "p", 4, 127),
+    ];
+    check_authors(
+        &rt,
+        &olds,
+        &news,
+        &[("p", 0), ("r", 63)],
+        &[("s", 64), ("p", 127)],
+    );
+    check_authors(&rt, &news, &news, &[], &[]);
 }

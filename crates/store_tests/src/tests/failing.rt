@@ -6,7 +6,7 @@ use position_core::Fault;
 use std::process::Abort;
 
 const NO_TABLES: &str =
-    "DROP TABLE meta; DROP TABLE topic; DROP TABLE entry; DROP TABLE sub; DROP TABLE ack; DROP TABLE dead; DROP TABLE redelivery";
+    "DROP TABLE meta; DROP TABLE topic; DROP TABLE entry; DROP TABLE sub; DROP TABLE ack; DROP TABLE dead; DROP TABLE redelivery; DROP TABLE author; DROP TABLE retention";
 
 /// A keeper over the database without tables, whose statements may visit three rows each.
 fn with_limit<K: Keeps, R: Abort + AllocGlobal>(rt: &R, keeper: K) -> K {
@@ -156,11 +156,20 @@ impl Scene for Others {
 #[test]
 fn other_databases(rt: HostRuntime) {
     for wrong in [
-        "UPDATE meta SET version = 3",
+        "UPDATE meta SET version = 4",
+        "UPDATE meta SET version = 2",
         "UPDATE meta SET version = 1",
         "UPDATE meta SET version = 0",
         "DROP TABLE redelivery",
-        "DROP TABLE redelivery; UPDATE meta SET version = 0",
+        "DROP TABLE author",
+        "DROP TABLE retention",
+        "DROP TABLE retention; UPDATE meta SET version = 2",
+        "DROP TABLE author; UPDATE meta SET version = 2",
+        "DROP TABLE author; DROP TABLE retention",
+        "DROP TABLE author; DROP TABLE retention; UPDATE meta SET version = 1",
+        "DROP TABLE redelivery; UPDATE meta SET version = 1",
+        "DROP TABLE redelivery; DROP TABLE author; DROP TABLE retention; UPDATE meta SET version = 2",
+        "DROP TABLE redelivery; DROP TABLE author; DROP TABLE retention; UPDATE meta SET version = 0",
         "UPDATE meta SET id = 2",
         "INSERT INTO meta VALUES (2, 1)",
         "DELETE FROM meta",
@@ -174,11 +183,24 @@ fn other_databases(rt: HostRuntime) {
     }
 }
 
-const EARLIER: &str = "DROP TABLE redelivery; UPDATE meta SET version = 1";
+/// What makes a database one of an earlier version, and takes the mark of the last from it.
+const EARLIER: [(&str, &str); 2] = [
+    (
+        "DROP TABLE retention; DROP TABLE author; UPDATE meta SET version = 2",
+        "UPDATE meta SET version = 2",
+    ),
+    (
+        "DROP TABLE retention; DROP TABLE author; DROP TABLE redelivery; UPDATE meta SET version = 1",
+        "UPDATE meta SET version = 1",
+    ),
+];
 
-/// A database of version 1 is taken with its topics, and is one of the last version then.
+/// A database of an earlier version is taken with its topics, and is one of the last version then.
 #[derive(Drop)]
-struct Earlier;
+struct Earlier {
+    back: &'static str,
+    mark: &'static str,
+}
 
 impl Scene for Earlier {
     fn play<K: Keeps, R: Abort + AllocGlobal>(&self, rt: &R, mut keeper: K) {
@@ -186,14 +208,16 @@ impl Scene for Earlier {
         play::<K, R>(rt, &mut cell, FOUR);
         round(rt, &mut keeper, &mut cell);
         let mut database = keeper.into_database();
-        assert!(rt; K::execute(&mut database, EARLIER));
+        assert!(rt; K::execute(&mut database, self.back));
         let mut again = K::adopt(rt, database).expect(rt, "not adopted");
         check_stands(rt, &mut again, &cell);
-        assert!(rt; is_no_longer_taken(rt, again, "UPDATE meta SET version = 1"));
+        assert!(rt; is_no_longer_taken(rt, again, self.mark));
     }
 }
 
 #[test]
-fn an_earlier_version(rt: HostRuntime) {
-    in_memory(&rt, &Earlier);
+fn earlier_versions(rt: HostRuntime) {
+    for (back, mark) in EARLIER {
+        in_memory(&rt, &Earlier { back, mark });
+    }
 }

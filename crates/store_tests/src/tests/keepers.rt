@@ -107,8 +107,9 @@ impl<S: Alter + Drop, J: Naming> Keeps for Keeper<S, J> {
         same(one, other)
     }
 
-    fn count(snapshot: &Snapshot) -> u64 {
-        snapshot.log().count() as u64
+    fn had(snapshot: &Snapshot) -> u64 {
+        let stay = snapshot.log().count() as u64;
+        snapshot.gone().saturating_add(stay)
     }
 
     fn changed(before: &Snapshot, now: &Snapshot) -> u64 {

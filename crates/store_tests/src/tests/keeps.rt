@@ -45,8 +45,8 @@ pub(super) trait Keeps: Drop {
 
     fn is_same(one: &Self::Snapshot, other: &Self::Snapshot) -> bool;
 
-    /// How many messages it has.
-    fn count(snapshot: &Self::Snapshot) -> u64;
+    /// How many messages the topic had, those that are gone among them.
+    fn had(snapshot: &Self::Snapshot) -> u64;
 
     /// How many subscriptions went on under another kind.
     fn changed(before: &Self::Snapshot, now: &Self::Snapshot) -> u64;

@@ -2,6 +2,7 @@
 use super::answers::{Answer, line_about};
 use super::dice::Dice;
 use super::keeps::Keeps;
+use super::plays::set_rule;
 use position_core::{ConsumerNumber, Ordinal, Position};
 use std::process::Abort;
 
@@ -16,6 +17,7 @@ pub(super) struct Tally {
     pub(super) sought: u64,
     pub(super) dropped: u64,
     pub(super) changed: u64,
+    pub(super) trimmed: u64,
 }
 
 pub(super) const NOTHING: Tally = Tally {
@@ -27,6 +29,7 @@ pub(super) const NOTHING: Tally = Tally {
     sought: 0,
     dropped: 0,
     changed: 0,
+    trimmed: 0,
 };
 
 fn count_one(count: &mut u64) {
@@ -40,7 +43,12 @@ pub(super) struct Player<K: Keeps> {
     pub(super) stored: K::Snapshot,
     pub(super) dice: Dice,
     pub(super) tally: Tally,
+    /// How many messages are gone.
+    pub(super) gone: u64,
 }
+
+/// Of a log with fewer messages than that not many may go.
+const FEW: u64 = 100;
 
 impl<K: Keeps> Player<K> {
     fn ask<R: Abort + AllocGlobal>(&mut self, rt: &R, line: &str) -> Answer {
@@ -57,6 +65,14 @@ impl<K: Keeps> Player<K> {
         let line = format!(in rt.alloc(); "publish 1 {sequence} - aGk= 1000");
         if self.does(rt, line.expect(rt, "no memory").as_str()) {
             count_one(&mut self.tally.published);
+        }
+    }
+
+    /// Where there are few, so many come that some may go once they are done with.
+    fn publish_many<R: Abort + AllocGlobal>(&mut self, rt: &R) {
+        let left = self.tally.published.saturating_sub(self.gone);
+        for _ in left..FEW {
+            self.publish(rt);
         }
     }
 
@@ -160,6 +176,39 @@ impl<K: Keeps> Player<K> {
         }
     }
 
+    /// Messages that all have done with go, but for some of the last.
+    fn trim<R: Abort + AllocGlobal>(&mut self, rt: &R) {
+        let keep = self.dice.roll(20);
+        let most = self.dice.roll(200);
+        let line = format!(in rt.alloc(); "trim {keep} 1000 {most}").expect(rt, "no memory");
+        if let Answer::Trimmed(gone) = self.ask(rt, line.as_str()) {
+            self.gone = gone;
+            count_one(&mut self.tally.trimmed);
+        }
+    }
+
+    /// The subscription has done with all that is stored, but for some letters.
+    fn finish<R: Abort + AllocGlobal>(&mut self, rt: &R, name: &str) {
+        let line = format!(in rt.alloc(); "seek {name} latest").expect(rt, "no memory");
+        let _ = self.does(rt, line.as_str());
+        for _ in 0..4 {
+            self.bury(rt, name);
+        }
+    }
+
+    /// All have done with all that is stored, but for some letters.
+    fn let_go<R: Abort + AllocGlobal>(&mut self, rt: &R) {
+        for name in ["a", "b", "c"] {
+            self.finish(rt, name);
+        }
+        self.trim(rt);
+    }
+
+    fn set_rule<R: Abort>(&mut self, rt: &R) {
+        let rule = self.dice.rule();
+        set_rule::<K, R>(rt, &mut self.topic, rule);
+    }
+
     /// The subscription goes, and first all who consume.
     fn drop_one<R: Abort + AllocGlobal>(&mut self, rt: &R, name: &str) {
         for leaving in ["leave 1", "leave 2", "leave 3"] {
@@ -182,12 +231,16 @@ impl<K: Keeps> Player<K> {
 
     fn step<R: Abort + AllocGlobal>(&mut self, rt: &R) {
         let name = self.dice.name();
-        match self.dice.roll(40) {
+        match self.dice.roll(45) {
             0..=5 => self.publish(rt),
             6..=17 => self.take(rt, name),
             18..=31 => self.refuse(rt, name),
             32..=36 => self.bury(rt, name),
             37..=38 => self.seek(rt, name),
+            39..=40 => self.publish_many(rt),
+            41 => self.let_go(rt),
+            42 => self.trim(rt),
+            43 => self.set_rule(rt),
             _ => self.drop_one(rt, name),
         }
     }

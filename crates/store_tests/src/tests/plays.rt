@@ -1,6 +1,7 @@
 // Topics that are played by lines, with rounds between.
 use super::answers::Answer;
 use super::keeps::Keeps;
+use delivery_machine::{Event, Retention};
 use position_core::Fault;
 use std::process::Abort;
 
@@ -34,6 +35,49 @@ pub(super) fn play<K: Keeps, R: Abort + AllocGlobal>(rt: &R, topic: &mut K::Topi
     }
 }
 
+/// So many messages come to the topic from its first producer, who published all that it had.
+pub(super) fn publish_more<K: Keeps, R: Abort + AllocGlobal>(
+    rt: &R,
+    topic: &mut K::Topic,
+    count: u64,
+) {
+    let had = K::had(&K::snapshot_of(rt, topic));
+    for number in had..had.saturating_add(count) {
+        let line = format!(in rt.alloc(); "publish 1 {number} - aGk= 1000");
+        play_line::<K, R>(rt, topic, line.expect(rt, "no memory").as_str());
+    }
+}
+
+/// The topic has a rule of its own from now on, or none.
+pub(super) fn set_rule<K: Keeps, R: Abort>(
+    rt: &R,
+    topic: &mut K::Topic,
+    retention: Option<Retention>,
+) {
+    assert!(rt; !K::call(rt, topic, Event::SetRetention { retention }).is_refused());
+}
+
+/// A subscription that has done with all messages.
+pub(super) const DONE: &str = "subscribe s Shared 0 push:10 0 100 1 - Latest\n";
+
+/// The first 64 messages go.
+pub(super) const TRIM: &str = "trim 0 1000 64\n";
+
+/// A topic that had 70 messages, of which the first 64 are gone. It was stored before.
+pub(super) fn trimmed<K: Keeps, R: Abort + AllocGlobal>(
+    rt: &R,
+    keeper: &mut K,
+    name: &str,
+) -> K::Topic {
+    let mut topic = K::fresh(rt, name);
+    play::<K, R>(rt, &mut topic, "producer p -\n");
+    publish_more::<K, R>(rt, &mut topic, 70);
+    round(rt, keeper, &mut topic);
+    play::<K, R>(rt, &mut topic, DONE);
+    play::<K, R>(rt, &mut topic, TRIM);
+    topic
+}
+
 /// What stands of the topic is the topic as it is.
 pub(super) fn check_stands<K: Keeps, R: Abort>(rt: &R, keeper: &mut K, topic: &K::Topic) {
     assert!(rt; keeper.stands(&K::snapshot_of(rt, topic)));
@@ -50,8 +94,8 @@ pub(super) fn has_none<K: Keeps, R: Abort + AllocGlobal>(
 
 /// A round, after which all messages of the topic are durable.
 pub(super) fn round<K: Keeps, R: Abort>(rt: &R, keeper: &mut K, topic: &mut K::Topic) {
-    let count = K::count(&K::snapshot_of(rt, topic));
-    assert!(rt; keeper.round(topic) == Ok(count));
+    let had = K::had(&K::snapshot_of(rt, topic));
+    assert!(rt; keeper.round(topic) == Ok(had));
 }
 
 /// The topic is played part by part, with a round after each.

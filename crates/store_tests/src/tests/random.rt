@@ -7,7 +7,7 @@ use super::plays::{T, resumed, stored};
 use std::process::Abort;
 
 /// How many snapshots are stored and loaded.
-const SNAPSHOTS: u64 = 300;
+const SNAPSHOTS: u64 = 360;
 
 /// The topic goes on while what it had is stored.
 fn store<K: Keeps, R: Abort + AllocGlobal>(rt: &R, keeper: &mut K, player: &mut Player<K>) {
@@ -20,10 +20,7 @@ fn store<K: Keeps, R: Abort + AllocGlobal>(rt: &R, keeper: &mut K, player: &mut 
 
 fn round<K: Keeps, R: Abort + AllocGlobal>(rt: &R, keeper: &mut K, player: &mut Player<K>) {
     player.note(rt);
-    assert_eq!(rt;
-        keeper.round(&mut player.topic),
-        Ok(K::count(&player.stored))
-    );
+    assert_eq!(rt; keeper.round(&mut player.topic), Ok(K::had(&player.stored)));
 }
 
 fn keep<K: Keeps, R: Abort + AllocGlobal>(rt: &R, keeper: &mut K, player: &mut Player<K>) {
@@ -58,6 +55,7 @@ fn new_player<K: Keeps, R: Abort + AllocGlobal>(rt: &R) -> Player<K> {
         topic,
         dice: Dice::new(1),
         tally: NOTHING,
+        gone: 0,
     }
 }
 
@@ -70,6 +68,7 @@ fn check<R: Abort>(rt: &R, tally: Tally) {
     assert!(rt; tally.refused > 500 && tally.sought > 50, "{tally:?}");
     assert!(rt; tally.died > 50 && tally.moved > 40, "{tally:?}");
     assert!(rt; tally.dropped > 40 && tally.changed > 40, "{tally:?}");
+    assert!(rt; tally.trimmed > 10, "{tally:?}");
 }
 
 #[derive(Drop)]

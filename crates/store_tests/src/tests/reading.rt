@@ -14,28 +14,32 @@ use std::process::Abort;
 
 const NAME: &str = "persistent://t/n/x";
 
-const NONE: &str = "SELECT 1 LIMIT 0";
+pub(super) const NONE: &str = "SELECT 1 LIMIT 0";
 
 /// The rows of a topic of four messages and two subscriptions, table by table.
-const TABLES: [&str; 6] = [
+const TABLES: [&str; 8] = [
     "SELECT 1000, 5, 4",
     "SELECT 0, 0, 0, 'p', 0, 10, 1, 'k', '{}', x'01' UNION ALL SELECT 1, 0, 1, 'p', 1, 11, 0, '', '{\"a\":\"b\"}', x'' UNION ALL SELECT 2, 4, 0, 'q', 0, 12, 0, '', '{}', x'02' UNION ALL SELECT 3, 5, 999, 'q', 7, 13, 0, '', '{}', x'03'",
     "SELECT 'a', 2 UNION ALL SELECT 'b', 3",
     "SELECT 'a', 0, 0 UNION ALL SELECT 'a', 2, 3 UNION ALL SELECT 'b', 1, 1",
     "SELECT 'a', 1, 2, 'persistent://t/n/x-DLQ' UNION ALL SELECT 'a', 3, 1, 'persistent://t/n/x-DLQ' UNION ALL SELECT 'b', 0, 2, 'persistent://t/n/y'",
     "SELECT 'b', 0, 1 UNION ALL SELECT 'b', 3, 2147483647",
+    NONE,
+    NONE,
 ];
 
 /// The rows of a topic that has no message yet.
-const EMPTY: [&str; 6] = ["SELECT 1, 0, 0", NONE, NONE, NONE, NONE, NONE];
+const EMPTY: [&str; 8] = ["SELECT 1, 0, 0", NONE, NONE, NONE, NONE, NONE, NONE, NONE];
 
 /// Each number is the greatest that may stand there.
-const GREATEST: [&str; 6] = [
+const GREATEST: [&str; 8] = [
     "SELECT 50000, 4611686018427387905, 4611686018427387904",
     "SELECT 0, 4611686018427387904, 49999, 'p', 9223372036854775807, 253402300799999, 0, '', '{}', x''",
     "SELECT 'a', 3",
     "SELECT 'a', 0, 0",
     "SELECT 'a', 4611686018427387903, 0, 'persistent://t/n/y'",
+    NONE,
+    NONE,
     NONE,
 ];
 
@@ -64,21 +68,33 @@ fn rows<R: Abort>(rt: &R, conn: &mut Connection<MemStore>, text: &str) -> Vec<Ro
 fn rows_of<R: Abort>(
     rt: &R,
     conn: &mut Connection<MemStore>,
-    texts: [&str; 6],
+    texts: [&str; 8],
 ) -> (Vec<Row>, SideRows) {
-    let [topics, messages, subs, acks, deads, counts] = texts;
+    let [
+        topics,
+        messages,
+        subs,
+        acks,
+        deads,
+        counts,
+        authors,
+        retentions,
+    ] = texts;
     let sides = SideRows {
         topics: rows(rt, conn, topics),
         subs: rows(rt, conn, subs),
         acks: rows(rt, conn, acks),
         deads: rows(rt, conn, deads),
         counts: rows(rt, conn, counts),
+        authors: rows(rt, conn, authors),
+        retentions: rows(rt, conn, retentions),
     };
     (rows(rt, conn, messages), sides)
 }
 
 fn takes<R: Abort + AllocGlobal>(rt: &R, reader: &mut LogReader, messages: &[Row]) -> bool
-    ensures { reader.new.head ≡ reader.old.head }
+    ensures head { reader.new.head ≡ reader.old.head }
+    ensures front { reader.new.front ≡ reader.old.front }
 {
     reader.take(rt.alloc(), messages).expect(rt, "no memory")
 }
@@ -101,13 +117,13 @@ fn snapshot_in<R: Abort + AllocGlobal>(
 }
 
 /// The snapshot that the rows of these queries show.
-fn loaded<R: Abort + AllocGlobal>(rt: &R, texts: [&str; 6]) -> Option<Snapshot> {
+pub(super) fn loaded<R: Abort + AllocGlobal>(rt: &R, texts: [&str; 8]) -> Option<Snapshot> {
     let mut conn = Connection::open_in_memory(rt.alloc()).expect(rt, "no memory");
     let (messages, sides) = rows_of(rt, &mut conn, texts);
     snapshot_in(rt, &messages, &sides)
 }
 
-fn kept<R: Abort + AllocGlobal>(rt: &R, texts: [&str; 6]) -> Snapshot {
+pub(super) fn kept<R: Abort + AllocGlobal>(rt: &R, texts: [&str; 8]) -> Snapshot {
     loaded(rt, texts).expect(rt, "refused")
 }
 
@@ -179,13 +195,13 @@ fn check_b<R: Abort>(rt: &R, sub: &KeptSubscription) {
     assert!(rt; has_counts(sub, &[(FIRST, 1), (LAST, 2_147_483_647)]));
 }
 
-fn check_subs<R: Abort>(rt: &R, subs: &[KeptSubscription]) {
+pub(super) fn check_subs<R: Abort>(rt: &R, subs: &[KeptSubscription]) {
     assert!(rt; subs.len() == 2);
     check_a(rt, &subs[0]);
     check_b(rt, &subs[1]);
 }
 
-fn check_numbers<R: Abort>(rt: &R, kept: &Snapshot) {
+pub(super) fn check_numbers<R: Abort>(rt: &R, kept: &Snapshot) {
     assert!(rt; kept.ledger_size().get() == 1000);
     assert!(rt; kept.ledger() == 5 && kept.next_ordinal() == 4);
     assert!(rt; kept.log().count() == 4);
@@ -199,7 +215,7 @@ fn a_snapshot_is_read_back(rt: HostRuntime) {
 }
 
 /// So many messages, and the ordinal after the last.
-fn check_limits<R: Abort + AllocGlobal>(rt: &R, texts: [&str; 6], count: usize, next: u64) {
+fn check_limits<R: Abort + AllocGlobal>(rt: &R, texts: [&str; 8], count: usize, next: u64) {
     let kept = kept(rt, texts);
     assert!(rt; kept.log().count() == count && kept.next_ordinal() == next);
 }
@@ -227,9 +243,11 @@ fn other_rows_are_refused(rt: HostRuntime) {
 }
 
 /// The topic's two messages are live, and one ordinal is left.
-const LAST_ORDINAL: [&str; 6] = [
+const LAST_ORDINAL: [&str; 8] = [
     "SELECT 1000, 0, 4611686018427387903",
     "SELECT 0, 0, 0, 'p', 0, 10, 0, '', '{}', x'' UNION ALL SELECT 1, 0, 1, 'p', 1, 11, 0, '', '{}', x''",
+    NONE,
+    NONE,
     NONE,
     NONE,
     NONE,
@@ -237,7 +255,7 @@ const LAST_ORDINAL: [&str; 6] = [
 ];
 
 /// A topic that goes on from what these queries show.
-fn restarted<R: Abort + AllocGlobal>(rt: &R, texts: [&str; 6]) -> PlainTopic {
+fn restarted<R: Abort + AllocGlobal>(rt: &R, texts: [&str; 8]) -> PlainTopic {
     PlainTopic::restart(rt.alloc(), &kept(rt, texts)).expect(rt, "no memory")
 }
 

@@ -1,5 +1,5 @@
 // Whether two snapshots are the same, field by field, and which subscriptions changed their kind.
-use delivery_machine::{Counted, DeadLetter, KeptSubscription, Snapshot};
+use delivery_machine::{Author, Counted, DeadLetter, KeptSubscription, Snapshot};
 use log_pieces::Pieces;
 
 fn same_message(one: &Pieces, other: &Pieces, place: usize) -> bool {
@@ -63,9 +63,26 @@ fn same_numbers(one: &Snapshot, other: &Snapshot) -> bool {
         && one.next_ordinal() == other.next_ordinal()
 }
 
+fn same_authors(one: &[Author], other: &[Author]) -> bool {
+    for (one, other) in one.iter().zip(other.iter()) {
+        let is_same = one.name.is(&other.name) && one.sequence == other.sequence;
+        if !is_same || one.index != other.index {
+            return false;
+        }
+    }
+    one.len() == other.len()
+}
+
+fn same_front(one: &Snapshot, other: &Snapshot) -> bool {
+    one.gone() == other.gone()
+        && one.retention() == other.retention()
+        && same_authors(one.authors(), other.authors())
+}
+
 pub(super) fn same(one: &Snapshot, other: &Snapshot) -> bool {
     one.name().is(other.name())
         && same_numbers(one, other)
+        && same_front(one, other)
         && same_log(one.log(), other.log())
         && same_subscriptions(one.subscriptions(), other.subscriptions())
 }

@@ -1,11 +1,11 @@
-// A disk stops at each of its calls, while tables are made, while one or two topics are stored, while one is deleted, and
-// while a database of version 1 becomes one of the last version.
+// A disk stops at each of its calls, while tables are made, while one or two topics are stored, while messages of one go,
+// while one is deleted, and while a database of an earlier version becomes one of the last.
 use super::disks::Disks;
-use super::works::Work;
+use super::works::{Earlier, Work};
 use std::process::Abort;
 
 /// The work is done within so many calls of a disk.
-const MOST_CALLS: u64 = 120;
+const MOST_CALLS: u64 = 400;
 
 /// So many times in a row no disk stops: then the work is done before one would.
 const ENOUGH: u64 = 4;
@@ -79,7 +79,7 @@ impl<'a, M: Machine> Trial<'a, M> {
     /// tell.
     fn check_tells<R: Abort>(&self, rt: &R) {
         let is_told = !M::is_seen(&self.before, &self.after);
-        assert!(rt; is_told == !matches!(self.work, Work::Create | Work::Upgrade));
+        assert!(rt; is_told == !matches!(self.work, Work::Create | Work::Upgrade(_)));
     }
 
     /// Whether the files show what the work leaves, or where it was not done what was there before.
@@ -139,19 +139,27 @@ fn both<M: Machine, R: Abort + AllocGlobal>(rt: &R) -> M::Image {
     outcome.synced
 }
 
-/// The same of version 1.
-fn both_of_version_1<M: Machine, R: Abort + AllocGlobal>(rt: &R) -> M::Image {
-    let outcome = M::work(rt, &both::<M, R>(rt), Work::Downgrade, NEVER);
+/// The same of an earlier version.
+fn both_before<M: Machine, R: Abort + AllocGlobal>(rt: &R, version: Earlier) -> M::Image {
+    let outcome = M::work(rt, &both::<M, R>(rt), Work::Downgrade(version), NEVER);
     assert!(rt; outcome.done);
     outcome.synced
 }
 
-/// Tables are made in files that hold nothing, and topics stored in or deleted from some that hold two.
+/// Files that hold the rows of a topic whose first messages may go.
+fn full<M: Machine, R: Abort + AllocGlobal>(rt: &R) -> M::Image {
+    let outcome = M::work(rt, &M::empty(rt), Work::Fill, NEVER);
+    assert!(rt; outcome.done);
+    outcome.synced
+}
+
+/// Tables are made in files that hold nothing, and topics stored in or deleted from some that hold them.
 fn check_work<M: Machine, R: Abort + AllocGlobal>(rt: &R, work: Work) {
     let image = match work {
-        Work::Create => M::empty(rt),
-        Work::Upgrade => both_of_version_1::<M, R>(rt),
-        Work::Round | Work::Store | Work::Delete | Work::Downgrade => both::<M, R>(rt),
+        Work::Create | Work::Fill => M::empty(rt),
+        Work::Upgrade(version) => both_before::<M, R>(rt, version),
+        Work::Trim => full::<M, R>(rt),
+        Work::Round | Work::Store | Work::Delete | Work::Downgrade(_) => both::<M, R>(rt),
     };
     check::<M, R>(rt, &image, work);
 }
@@ -181,6 +189,16 @@ fn a_deletion_is_made_or_not(rt: HostRuntime) {
 }
 
 #[test]
+fn a_store_of_what_goes_is_made_or_not(rt: HostRuntime) {
+    check_on_disks(&rt, Work::Trim);
+}
+
+#[test]
 fn a_database_of_version_1_becomes_one_of_the_last_version_or_stays(rt: HostRuntime) {
-    check_on_disks(&rt, Work::Upgrade);
+    check_on_disks(&rt, Work::Upgrade(Earlier::One));
+}
+
+#[test]
+fn a_database_of_version_2_becomes_one_of_the_last_version_or_stays(rt: HostRuntime) {
+    check_on_disks(&rt, Work::Upgrade(Earlier::Two));
 }

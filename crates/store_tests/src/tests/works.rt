@@ -1,6 +1,6 @@
 // What is done while a disk stops.
 use super::keeps::Keeps;
-use super::plays::{T, U, play, view};
+use super::plays::{T, U, play, publish_more, round, trimmed, view};
 use std::process::Abort;
 
 const FIRST: &str = "producer p -
@@ -24,6 +24,13 @@ nack 2 CAAQAA== 1000
 tick u 1100
 ";
 
+/// The versions before the last.
+#[derive(Clone, Copy)]
+pub(super) enum Earlier {
+    One,
+    Two,
+}
+
 #[derive(Clone, Copy)]
 pub(super) enum Work {
     /// The tables are made.
@@ -34,10 +41,14 @@ pub(super) enum Work {
     Store,
     /// One topic is deleted.
     Delete,
-    /// The database is made one of version 1.
-    Downgrade,
-    /// One of version 1 is made one of the last version.
-    Upgrade,
+    /// A topic is stored whose first messages may go.
+    Fill,
+    /// They go, others come, and the topic is stored.
+    Trim,
+    /// The database is made one of an earlier version.
+    Downgrade(Earlier),
+    /// One of an earlier version is made one of the last.
+    Upgrade(Earlier),
 }
 
 fn first<K: Keeps, R: Abort + AllocGlobal>(rt: &R, name: &str) -> K::Topic {
@@ -89,6 +100,32 @@ fn are_both_stored<K: Keeps, R: Abort + AllocGlobal>(rt: &R, keeper: &mut K) -> 
     parts.len() == 2 && keeper.store(parts).is_ok()
 }
 
+fn is_filled<K: Keeps, R: Abort + AllocGlobal>(rt: &R, keeper: &mut K) -> bool {
+    let mut topic = trimmed(rt, keeper, T);
+    round(rt, keeper, &mut topic);
+    play::<K, R>(rt, &mut topic, "producer q -\npublish 2 0 - aGk= 1000\n");
+    publish_more::<K, R>(rt, &mut topic, 70);
+    round(rt, keeper, &mut topic);
+    play::<K, R>(rt, &mut topic, "seek s latest\n");
+    keeper.round(&mut topic).is_ok()
+}
+
+const TRIMMED: &str = "trim 0 1000 64
+subscribe t Shared 0 push:10 0 100 1 - Earliest
+producer r -
+publish 1 0 - aGk= 1000
+";
+
+fn is_trimmed<K: Keeps, R: Abort + AllocGlobal>(rt: &R, keeper: &mut K) -> bool {
+    match keeper.resume(rt, T) {
+        Ok(Some((_, mut topic))) => {
+            play::<K, R>(rt, &mut topic, TRIMMED);
+            keeper.round(&mut topic).is_ok()
+        }
+        _ => false,
+    }
+}
+
 /// Whether the work was done.
 pub(super) fn is_done<K: Keeps, R: Abort + AllocGlobal>(
     rt: &R,
@@ -96,17 +133,28 @@ pub(super) fn is_done<K: Keeps, R: Abort + AllocGlobal>(
     work: Work,
 ) -> bool {
     match work {
-        Work::Create | Work::Downgrade | Work::Upgrade => true,
+        Work::Create | Work::Downgrade(_) | Work::Upgrade(_) => true,
         Work::Round => is_one_stored(rt, keeper),
         Work::Store => are_both_stored(rt, keeper),
         Work::Delete => keeper.delete(rt, T).is_ok(),
+        Work::Fill => is_filled(rt, keeper),
+        Work::Trim => is_trimmed(rt, keeper),
     }
 }
 
 /// What is done with the database afterwards.
 pub(super) fn statements(work: Work) -> &'static str {
     match work {
-        Work::Downgrade => "DROP TABLE redelivery; UPDATE meta SET version = 1",
-        Work::Create | Work::Round | Work::Store | Work::Delete | Work::Upgrade => "",
+        Work::Downgrade(Earlier::One) =>
+            "DROP TABLE retention; DROP TABLE author; DROP TABLE redelivery; UPDATE meta SET version = 1",
+        Work::Downgrade(Earlier::Two) =>
+            "DROP TABLE retention; DROP TABLE author; UPDATE meta SET version = 2",
+        Work::Create
+        | Work::Round
+        | Work::Store
+        | Work::Delete
+        | Work::Fill
+        | Work::Trim
+        | Work::Upgrade(_) => "",
     }
 }

@@ -1,6 +1,7 @@
 // The plain topic and the fast one, over random lists of events.
 mod calls;
 mod dice;
+mod kept;
 mod lists;
 mod memory;
 mod pair;
@@ -22,11 +23,25 @@ const LISTS: u64 = 2_000;
 /// How many events a list has.
 const EVENTS: u64 = 30;
 
+/// Each list of so many begins with so many messages, and lets the first of them go.
+const TRIMMED: u64 = 8;
+
+const MESSAGES: u64 = 200;
+
 /// A ledger has so few messages that a list fills several.
 const IN_A_LEDGER: u32 = 3;
 
 fn check_done<R: Abort>(rt: &R, done: Result<(), Stop>, lines: &str) {
     assert!(rt; done == Ok(()), "{lines}");
+}
+
+/// The list of the number, of so many events.
+fn lines_of<R: Abort + AllocGlobal>(rt: &R, number: u64, events: u64) -> String {
+    if number % TRIMMED == TRIMMED - 1 {
+        Lines::filled(rt, number, MESSAGES, events)
+    } else {
+        Lines::random(rt, number, events)
+    }
 }
 
 /// What a topic of the type answers to the lines.
@@ -55,7 +70,7 @@ fn check_list<R: Abort + AllocGlobal>(rt: &R, seen: &mut Seen, size: LedgerSize,
 }
 
 fn check_number<R: Abort + AllocGlobal>(rt: &R, seen: &mut Seen, size: LedgerSize, number: u64) {
-    let lines = Lines::random(rt, number, EVENTS);
+    let lines = lines_of(rt, number, EVENTS);
     check_list(rt, seen, size, lines.as_str());
 }
 
@@ -90,7 +105,7 @@ fn check_pair<P: Opened + Drop, F: Opened + Drop, R: Abort + AllocGlobal>(
 fn check_events<R: Abort + AllocGlobal>(rt: &R, lists: u64, events: u64) {
     let size = LedgerSize::new(IN_A_LEDGER).expect(rt, "no size");
     for number in 0..lists {
-        let lines = Lines::random(rt, number, events);
+        let lines = lines_of(rt, number, events);
         check_pair::<PlainTopic, TopicCore, R>(rt, size, number, lines.as_str());
     }
 }
@@ -98,4 +113,19 @@ fn check_events<R: Abort + AllocGlobal>(rt: &R, lists: u64, events: u64) {
 #[test]
 fn random_lists(rt: HostRuntime) {
     check_events(&rt, LISTS, EVENTS);
+}
+
+/// A list over so many messages, of so many events.
+fn check_filled<R: Abort + AllocGlobal>(rt: &R, number: u64, messages: u64, events: u64) {
+    let size = LedgerSize::new(IN_A_LEDGER).expect(rt, "no size");
+    let lines = Lines::filled(rt, number, messages, events);
+    check_pair::<PlainTopic, TopicCore, R>(rt, size, number, lines.as_str());
+}
+
+/// Whole segments of a log go.
+#[test]
+fn lists_over_segments(rt: HostRuntime) {
+    for number in 0..2 {
+        check_filled(&rt, number, 3_000, EVENTS);
+    }
 }

@@ -4,6 +4,7 @@ ghost use Rattle.std.specs.Prelude.{◌≤◌};
 mod doubles;
 mod dying;
 mod failover;
+mod forgotten;
 mod keyed;
 mod producers;
 mod refusals;
@@ -14,6 +15,7 @@ mod seeking;
 mod shared;
 mod statistics;
 mod sticky;
+mod trimming;
 
 use delivery_machine::Opened;
 use doubles::{ByByte, Narrow};

@@ -13,7 +13,7 @@ use Rattle.dispatchers.proofs.Agreed.{told_kept}
 use Rattle.dispatchers.proofs.Offered.{offered_there, offered_waits}
 use Rattle.dispatchers.proofs.Quiet.{kept_members}
 use Rattle.dispatchers.proofs.Standing.{index_there}
-use Rattle.topic_log.specs.Written.{Written}
+use Rattle.topic_log.specs.Written.{all_of, Written}
 use Rattle.topic_members.specs.Members.{spending}
 use Rattle.topic_members.proofs.Given.{given_paid}
 use Rattle.topic_subscriptions.specs.Placed.{is_placed, sub_in}
@@ -64,7 +64,7 @@ returns-in-Ok-on_sent-clause-bound c =
     let told = told_there ds t c.hand.new.parts c.at-view.result.parts.now (handed s name d h) place (Sent c.args.index h.consumer) sub (holding d.message.position h sub) c.at-view.result.subscription.now c.index_mut.result.now c.on_sent.new.self
     c.requires.bound.told happens (c.in-Ok.ensures.ok name c.requires.place) c.at-view.ensures.parts c.at-view.ensures.subscription c.index_mut.ensures.value c.in-Ok-on_sent.ensures.ok in
     record {
-      numbers = subst (λ (w : Written). AgreesWith w.log.log w.numbers) (sym (ap (λ (p : Parts). p.log) c.spend.ensures.rest ∙ c.in-Ok.ensures.log)) c.requires.bound.numbers;
+      numbers = subst (λ (w : Written). AgreesWith (all_of w) w.numbers) (sym (ap (λ (p : Parts). p.log) c.spend.ensures.rest ∙ c.in-Ok.ensures.log)) c.requires.bound.numbers;
       tied = c.spend.ensures.tied;
       told = subst (λ (y : State). AreTold (set ds place c.on_sent.new.self) y) (sym c.spend.ensures.state)
           (told_kept (set ds place c.on_sent.new.self) u (record u { members = changed (is_member h.consumer) spending u.members }) told
@@ -98,7 +98,7 @@ returns-in-Err-on_sent-clause-bound c =
     (not_pending (state_of t) sub c.args.delivery.message (ap (is_waiting sub) (sym same) ∙ offered_waits (state_of t) sub offer good))
     c.position-position.ensures (c.in-Ok.ensures.ok name c.requires.place) (c.hand_back.ensures.state name) in
     record {
-      numbers = subst (λ (w : Written). AgreesWith w.log.log w.numbers) (sym (c.hand_back.ensures.log ∙ c.in-Ok.ensures.log)) c.requires.bound.numbers;
+      numbers = subst (λ (w : Written). AgreesWith (all_of w) w.numbers) (sym (c.hand_back.ensures.log ∙ c.in-Ok.ensures.log)) c.requires.bound.numbers;
       tied = c.hand_back.ensures.tied;
       told = subst₂ (λ (xs : List Dispatch) (y : State). AreTold xs y) (sym (written_back ds c.args.place c.index_mut.result.now c.on_sent.new.self c.index_mut.ensures.value c.in-Err-on_sent.ensures.unchanged)) (sym back) c.requires.bound.told;
     }

@@ -11,7 +11,7 @@ use Rattle.dedup_core.specs.Sequences.{AgreesWith}
 use Rattle.dead_core.specs.Letters.{next_safe}
 use Rattle.dispatch_core.specs.Changes.{Gone}
 use Rattle.dispatchers.proofs.Gone.{first_letter, gone_moved}
-use Rattle.topic_log.specs.Written.{Written}
+use Rattle.topic_log.specs.Written.{all_of, Written}
 use Rattle.topic_subscriptions.specs.Placed.{Placed, is_placed, sub_in}
 use Rattle.topic_parts.specs.Parts.{log_of, state_of}
 use Rattle.topic_parts.proofs.Changing.{named_sub, there_is}
@@ -76,7 +76,7 @@ returns-in-Ok-clause-bound c =
     let seen = ap (λ (q : Position). index_of q (log_of old)) next.stands ∙ sym c.in-Some-index_of.ensures in
     let happens = gone_moved (state_of old) name c.in-Some.place sub next.letter c.in-Some-index_of.index (about old name c.in-Some.place x.0 next.letter.position c.in-Some-index_of.index c.len-length.ensures.rising there x.1 seen) (first_letter sub next.letter first) in
     record {
-      numbers = subst (λ (w : Written). AgreesWith w.log.log w.numbers) (sym c.in-Ok.ensures.log) c.requires.bound.numbers;
+      numbers = subst (λ (w : Written). AgreesWith (all_of w) w.numbers) (sym c.in-Ok.ensures.log) c.requires.bound.numbers;
       tied = c.in-Ok.ensures.tied;
       told = told_there c.args.served.now.dispatchers.items old c.move_first.new.self c.at-view.result.parts.now (moved (state_of old) name next.letter) c.in-Some.place (Gone c.in-Some-index_of.index) sub (moving next.letter sub) c.at-view.result.subscription.now c.index_mut.result.now c.on_gone.new.self
           c.requires.bound.told happens

@@ -4,6 +4,7 @@ use Rattle.position_core.specs.declared.held.Held.{Held}
 use Rattle.delivery_machine.specs.State.{State}
 use Rattle.delivery_machine.specs.Words.{changed, is_held_at, is_named}
 use Rattle.delivery_machine.specs.Delivering.{holding}
+use Rattle.topic_log.specs.Written.{all_of}
 use Rattle.dedup_core.specs.Sequences.{AgreesWith}
 use Rattle.dispatchers.specs.Told.{AreTold}
 use Rattle.dispatchers.proofs.Agreed.{told_kept}
@@ -39,7 +40,7 @@ returns-clause-bound c =
     let held = held_some (map_of.get x.0.pending.pending c.args.position) c.args.consumer (here.some.1 x.0 (sym x.1)) in
     let new : Held = record { consumer = c.args.consumer; due = Some (c.millis.result + c.from.result) } in
     record {
-      numbers = subst (λ (t : Parts). AgreesWith (log_of t) t.log.numbers) (sym changes.rest) c.requires.bound.numbers;
+      numbers = subst (λ (t : Parts). AgreesWith (all_of t.log) t.log.numbers) (sym changes.rest) c.requires.bound.numbers;
       tied = c.set_due.ensures.tied;
       told = subst (λ (t : State). AreTold c.args.served.now.dispatchers.items t) (sym (changes.state name here.some.0))
           (told_kept c.args.served.now.dispatchers.items s (record s { subscriptions = changed (is_named name) (holding c.args.position new) s.subscriptions }) c.requires.bound.told

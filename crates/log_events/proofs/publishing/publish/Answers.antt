@@ -23,15 +23,15 @@ returns-in-Ok-append-clause-answers c =
     let s = state_in old in
     let e = c.in-Ok.message in
     published old c.append.new.log e c.requires (c.in-Ok-append.ensures.ok s)
-    (Publish c.args.producer c.args.sequence c.args.body.now c.args.now) c.position-position.result c.len.result
-    c.position-position.ensures c.len.ensures.value
-    (subst (λ (z : ℤ). Answers s (Publish c.args.producer z c.args.body.now c.args.now) (Published e.position (length (log_of old.parts) + 1)) (with_message s e)) (to_z-of_z w64 c.args.sequence c.ranges.sequence)
+    (Publish c.args.producer c.args.sequence c.args.body.now c.args.now) c.position-position.result c.had.result
+    c.position-position.ensures c.had.ensures.value
+    (subst (λ (z : ℤ). Answers s (Publish c.args.producer z c.args.body.now c.args.now) (Published e.position (old.parts.log.gone + length (log_of old.parts) + 1)) (with_message s e)) (to_z-of_z w64 c.args.sequence c.ranges.sequence)
     (c.in-Ok.ensures.message.step s))
 
 pub returns-in-Ok-append-clause-bound : goal.returns-in-Ok-append-clause-bound
 returns-in-Ok-append-clause-bound c =
     let old = c.args.served.now in
-    bound_grown old c.append.new.log c.in-Ok.message c.requires (c.in-Ok-append.ensures.ok (state_in old)) c.len.ensures.rising c.append.ensures.agrees
+    bound_grown old c.append.new.log c.in-Ok.message c.requires (c.in-Ok-append.ensures.ok (state_in old)) c.len-length.ensures.rising c.append.ensures.agrees
 
 pub returns-in-Err-append-clause-answers : goal.returns-in-Err-append-clause-answers
 returns-in-Err-append-clause-answers c =

@@ -1,4 +1,4 @@
-use Rattle.std.proofs.Common.{◌∙◌, ap, refl, length, map}
+use Rattle.std.proofs.Common.{◌+◌, ◌∙◌, ap, refl, length, map}
 use Rattle.delivery_machine.specs.declared.reply.Reply.TheVariants.{Durable}
 use Rattle.topic_log.specs.Written.{Written}
 use Rattle.topic_subscriptions.specs.Placed.{all_safe_in}
@@ -15,7 +15,7 @@ returns-clause-answers c =
     let subs = c.store_all.ensures ∙ ap (map all_safe_in) c.deref_mut.ensures.value in (
       refl,
       (
-        ap (λ n. Durable n) (c.len.ensures.value ∙ ap (λ (w : Written). length w.log.log) c.store.ensures),
+        ap (λ n. Durable n) (c.had.ensures.value ∙ ap (λ (w : Written). w.gone + length w.log.log) c.store.ensures),
         all_stored old new (is_stored (length (log_of old)) all_safe_in old c.store.new.self c.store_all.new.subscriptions c.store.ensures subs),
       ),
     )

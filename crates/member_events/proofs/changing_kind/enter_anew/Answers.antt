@@ -9,7 +9,7 @@ use Rattle.dispatchers.specs.Told.{AreTold}
 use Rattle.dispatchers.specs.declared.dispatch.Dispatch.{Dispatch}
 use Rattle.dispatchers.proofs.Spots.{set_at}
 use Rattle.dispatchers.proofs.Asking.{asks_for_free}
-use Rattle.topic_log.specs.Written.{Written}
+use Rattle.topic_log.specs.Written.{all_of, Written}
 use Rattle.topic_members.specs.Members.{joining}
 use Rattle.topic_subscriptions.specs.Placed.{Placed, is_placed, sub_in}
 use Rattle.topic_parts.specs.declared.parts.Parts.{Parts}
@@ -174,7 +174,7 @@ returns-in-Ok-entered-clause-bound c =
     let here = sym (get_or_from_slice_get (set ds place begun) place begun begun (set_at ds place begun (are_told_within ds t name place c.requires.bound.told c.requires.may.named))) in
     let v = one_stands (is_placed name) new.subscriptions.items place (may.named ∙ sym (same_place now.subscriptions.items new.subscriptions.items name c.in-Ok-entered.ensures.ok.names)) in
     record {
-      numbers = subst (λ (w : Written). AgreesWith w.log.log w.numbers) (sym c.in-Ok-entered.ensures.ok.log) c.requires.bound.numbers;
+      numbers = subst (λ (w : Written). AgreesWith (all_of w) w.numbers) (sym c.in-Ok-entered.ensures.ok.log) c.requires.bound.numbers;
       tied = c.in-Ok-entered.ensures.ok.tied;
       told = subst (λ (d : Dispatch). AreTold (set ds place d) (state_of new)) (sym c.replace.ensures.after) (subst (λ (xs : List Dispatch). AreTold xs (state_of new)) (set_twice ds place begun told)
           (told_there (set ds place begun) now new new (entered (state_of now) c.args.ranges.now m) place (Joined c.args.ranges.now m.number) (sub_in (log_of t) y) (machine.joining y.kind c.args.ranges.now m.number (sub_in (log_of t) y)) v.0 begun told

@@ -6,7 +6,7 @@ use Rattle.dedup_core.specs.Sequences.{AgreesWith}
 use Rattle.dispatchers.specs.Told.{AreTold}
 use Rattle.dispatchers.specs.declared.dispatch.Dispatch.{Dispatch}
 use Rattle.dispatchers.proofs.Asking.{asks_for_free}
-use Rattle.topic_log.specs.Written.{Written}
+use Rattle.topic_log.specs.Written.{all_of, Written}
 use Rattle.topic_members.specs.Members.{joining}
 use Rattle.topic_subscriptions.specs.Placed.{is_placed, sub_in}
 use Rattle.delivery_machine.specs.Joining as machine
@@ -44,7 +44,7 @@ returns-in-Ok-clause-bound c =
     let x = one_stands (is_placed c.args.name) t.subscriptions.items c.args.place c.requires.may.named in
     let v = one_stands (is_placed c.args.name) new.subscriptions.items c.args.place (c.requires.may.named ∙ sym (same_place t.subscriptions.items new.subscriptions.items c.args.name c.in-Ok.ensures.ok.names)) in
     record {
-      numbers = subst (λ (w : Written). AgreesWith w.log.log w.numbers) (sym c.in-Ok.ensures.ok.log) c.requires.bound.numbers;
+      numbers = subst (λ (w : Written). AgreesWith (all_of w) w.numbers) (sym c.in-Ok.ensures.ok.log) c.requires.bound.numbers;
       tied = c.in-Ok.ensures.ok.tied;
       told = told_there c.args.served.now.dispatchers.items t new new (entered (state_of t) c.args.ranges.now m) c.args.place (Joined c.args.ranges.now m.number) (sub_in (log_of t) x.0) (machine.joining x.0.kind c.args.ranges.now m.number (sub_in (log_of t) x.0)) v.0 c.index_mut.result.now c.let_in-entered.new.dispatch
           c.requires.bound.told (happens_entered t c.args.place m c.args.ranges.now x.0 c.requires.may refl x.2) c.in-Ok.ensures.ok.state refl v.1 c.index_mut.ensures.value (c.in-Ok.ensures.ok.told v.0 v.1);
@@ -61,7 +61,7 @@ returns-in-Err-clause-bound c =
     let t = c.args.served.now.parts in
     let new = c.let_in-entered.new.parts in
     record {
-      numbers = subst (λ (w : Written). AgreesWith w.log.log w.numbers) (sym (ap (λ (p : Parts). p.log) c.in-Err.ensures.stays.rest)) c.requires.bound.numbers;
+      numbers = subst (λ (w : Written). AgreesWith (all_of w) w.numbers) (sym (ap (λ (p : Parts). p.log) c.in-Err.ensures.stays.rest)) c.requires.bound.numbers;
       tied = same_ties t new c.in-Err.ensures.stays c.requires.bound.tied;
       told = subst₂ (λ (ds : List Dispatch) (u : State). AreTold ds u)
           (sym (written_back c.args.served.now.dispatchers.items c.args.place c.index_mut.result.now c.let_in-entered.new.dispatch c.index_mut.ensures.value c.in-Err.ensures.untold))

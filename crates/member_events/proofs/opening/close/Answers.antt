@@ -3,6 +3,7 @@ use Rattle.std.specs.List.{position, remove}
 use Rattle.delivery_machine.specs.State.{State, Subscription}
 use Rattle.delivery_machine.specs.Words.{is_named, removed}
 use Rattle.delivery_machine.proofs.Places.{removed_there}
+use Rattle.topic_log.specs.Written.{all_of}
 use Rattle.dedup_core.specs.Sequences.{AgreesWith}
 use Rattle.dispatchers.specs.Told.{AreTold}
 use Rattle.dispatchers.specs.declared.dispatch.Dispatch.{Dispatch}
@@ -40,7 +41,7 @@ returns-clause-bound c =
     let dropped : State = record s { subscriptions = removed (is_named name) s.subscriptions } in
     let rest = sym c.remove_subscription.ensures.rest in
     record {
-      numbers = subst (λ (v : Parts). AgreesWith (log_of v) v.log.numbers) rest c.requires.bound.numbers;
+      numbers = subst (λ (v : Parts). AgreesWith (all_of v.log) v.log.numbers) rest c.requires.bound.numbers;
       tied = subst AreTied rest
           (subst (λ (subs : List Placed). All (IsPlacedIn (log_of t) t.members.members) subs) (sym c.remove_subscription.ensures.items)
           (all_left (IsPlacedIn (log_of t) t.members.members) t.subscriptions.items c.args.place c.requires.bound.tied low));

@@ -3,6 +3,7 @@ use Rattle.std.specs.List.{insert, position, position_or_len, remove}
 use Rattle.std.proofs.lemmas.Option.{same_Some}
 use Rattle.std.specs.Ordering.{is_lt}
 use Rattle.position_core.specs.Name.{name_order}
+use Rattle.topic_log.specs.Written.{all_of}
 use Rattle.dedup_core.specs.Sequences.{AgreesWith}
 use Rattle.dispatchers.specs.Agreeing.{agrees}
 use Rattle.dispatchers.specs.Told.{AreTold}
@@ -93,7 +94,7 @@ returns-in-Ok-begin_at-clause-bound c =
     (subst (λ (v : Parts). agrees begun.begun (state_of v) (sub_in (log_of v) y)) c.in-Ok.ensures.rest begun.agreeing) in
     let same = sym (c.begin_at.ensures.parts ∙ c.in-Ok.ensures.rest) in
     record {
-      numbers = subst (λ (v : Parts). AgreesWith (log_of v) v.log.numbers) same c.requires.bound.numbers;
+      numbers = subst (λ (v : Parts). AgreesWith (all_of v.log) v.log.numbers) same c.requires.bound.numbers;
       tied = subst AreTied same
           (subst (λ (xs : List Placed). All (IsPlacedIn (log_of t) t.members.members) xs) (sym c.in-Ok.ensures.ok)
           (tied_opened t place c.args.name c.args.kind c.args.initial y rising is goes low c.requires.bound.tied c.requires.nobody));

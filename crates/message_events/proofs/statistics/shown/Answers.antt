@@ -18,6 +18,6 @@ returns c =
     let live = live_counted log members p c.args.parts.now.log.durable c.requires (omega (arith, c.durable.ensures.value, c.durable.ensures.within)) in (
       stats_are c.kind.ensures (ap (λ (xs : List ℕ). length xs) c.line.ensures ∙ many) c.mark_delete.ensures (c.number_acknowledged.ensures ∙ acknowledged)
           (c.number_live_below.ensures ∙ ap (λ (n : ℕ). count_by (is_live_at p) (numbers 0 n)) c.durable.ensures.value ∙ live)
-          (c.number_pending.ensures ∙ pending) c.number_of_dead.ensures,
+          (c.number_pending.ensures ∙ pending) c.number_of_dead.ensures c.gone.ensures.value c.oldest.ensures,
       refl,
     )

@@ -1,5 +1,5 @@
 use Rattle.std.proofs.Common.{◌∙◌}
-use Rattle.place_bits.proofs.Bits.{used_at_first, used_next, unused_next, used_in_all}
+use Rattle.place_bits.proofs.Front.{used_at_first, used_next, unused_next, used_in_all}
 use Rattle.place_bits.proofs.summed.sum_up.Goals as goal
 use Rattle.place_bits.proofs.summed.sum_up.Goals.{then-words-index-ne0, else-words-index-ne0}
 

@@ -1,5 +1,5 @@
 use Rattle.std.proofs.Common.{◌≡◌}
-use Rattle.place_bits.proofs.Bits.{UsedBelow}
+use Rattle.place_bits.proofs.Front.{UsedBelow}
 use Rattle.place_bits.proofs.summed.sum_up.Given as goal
 
 abbrev pub invariant-loop-index : goal.invariant-loop-index

@@ -54,3 +54,9 @@ returns-in-Dead c = rw c.in-Dead.is (search rules)
 
 pub returns-in-NoDead : goal.returns-in-NoDead
 returns-in-NoDead c = rw c.in-NoDead.is (search rules)
+
+pub returns-in-Trimmed : goal.returns-in-Trimmed
+returns-in-Trimmed c = rw c.in-Trimmed.is (search rules)
+
+pub returns-in-Untrimmed : goal.returns-in-Untrimmed
+returns-in-Untrimmed c = rw c.in-Untrimmed.is (search rules)

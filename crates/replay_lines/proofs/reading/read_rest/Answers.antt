@@ -63,5 +63,8 @@ returns-in-DeadNext c = rw c.in-DeadNext.is (c.read_dead_next.ensures c.args.thi
 pub returns-in-DeadDone : goal.returns-in-DeadDone
 returns-in-DeadDone c = rw c.in-DeadDone.is (c.read_dead_done.ensures c.args.this.now)
 
+pub returns-in-Trim : goal.returns-in-Trim
+returns-in-Trim c = rw c.in-Trim.is (c.read_trim.ensures c.args.this.now)
+
 pub returns-in-Restart : goal.returns-in-Restart
 returns-in-Restart c = rw c.in-Restart.is (c.read_restart.ensures c.args.this.now)

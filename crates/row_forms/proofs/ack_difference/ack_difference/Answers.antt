@@ -6,7 +6,7 @@ use Rattle.row_forms.proofs.Subs.{passed}
 use Rattle.row_forms.proofs.ack_difference.ack_difference.Goals as goal
 
 pub sides-init : goal.sides-init
-sides-init c = ([], [], c.of-walk.ensures.olds, c.of-walk.ensures.news, no_acks c.none-difference.result c.none-difference.ensures.gone c.none-difference.ensures.news)
+sides-init c = ([], [], c.of-walk.ensures.olds, c.of-walk.ensures.news, no_acks c.args.gone.was c.args.gone.now c.none-difference.result c.none-difference.ensures.gone c.none-difference.ensures.news)
 
 pub sides-preserved : goal.sides-preserved
 sides-preserved c =

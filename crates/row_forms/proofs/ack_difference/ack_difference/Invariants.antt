@@ -5,7 +5,7 @@ use Rattle.row_forms.proofs.ack_difference.ack_difference.Given as goal
 
 abbrev pub invariant-sides : goal.invariant-sides
 invariant-sides l =
-    (olds : List KeptPlaces) × (news : List KeptPlaces) × (olds ++ l.walk.olds.now ≡ l.olds) × (news ++ l.walk.news.now ≡ l.news) × AcksDiffer olds news l.difference
+    (olds : List KeptPlaces) × (news : List KeptPlaces) × (olds ++ l.walk.olds.now ≡ l.olds) × (news ++ l.walk.news.now ≡ l.news) × AcksDiffer l.gone.was l.gone.now olds news l.difference
 
 abbrev pub decreases-sides : goal.decreases-sides
 decreases-sides l = length l.walk.olds.now + length l.walk.news.now

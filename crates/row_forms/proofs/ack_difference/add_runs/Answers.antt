@@ -5,7 +5,7 @@ use Rattle.row_forms.proofs.Subs.{passed, nothing_left}
 use Rattle.row_forms.proofs.ack_difference.add_runs.Goals as goal
 
 pub sides-init : goal.sides-init
-sides-init c = ([], [], refl, refl, no_run_more c.args.sub.now c.args.difference.now)
+sides-init c = ([], [], refl, refl, no_run_more c.args.sub.now c.args.runs.gone.was c.args.runs.gone.now c.args.difference.now)
 
 pub sides-preserved : goal.sides-preserved
 sides-preserved c =
@@ -16,7 +16,7 @@ sides-preserved c =
       h.1 ++ news,
       passed _ h.0 _ _ _ h.2 c.in-Some.ensures.lefts,
       passed _ h.1 _ _ _ h.3 c.in-Some.ensures.rights,
-      runs-append c.args.sub.now c.args.difference.now c.sides.difference c.add_run.new.difference h.0 h.1 olds news h.4 c.in_ok-add_run.ensures,
+      runs-append c.args.sub.now c.args.runs.gone.was c.args.runs.gone.now c.args.difference.now c.sides.difference c.add_run.new.difference h.0 h.1 olds news h.4 c.in_ok-add_run.ensures,
     )
 
 pub returns : goal.returns

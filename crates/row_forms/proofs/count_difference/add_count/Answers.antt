@@ -1,9 +1,8 @@
 use Rattle.std.proofs.Common.{◌≡◌, List, [], sym, ◌∙◌}
 use Rattle.std.proofs.lemmas.List.Elements.{All-head}
-use Rattle.position_core.specs.declared.message.Entry.{Entry}
-use Rattle.log_pieces.specs.Pieces.{joined}
+use Rattle.row_forms.specs.Places.{seen}
 use Rattle.row_forms.specs.Changes.{count_cells}
-use Rattle.row_forms.specs.Forms.{count_row}
+use Rattle.row_forms.specs.Forms.{Span, count_row}
 use Rattle.row_forms.specs.Parts.{IsCountedIn}
 use Rattle.row_forms.proofs.Counts.{count_is, count_same}
 use Rattle.row_forms.proofs.Differences.{goes, comes, becomes, stays}
@@ -12,8 +11,8 @@ use Rattle.row_forms.proofs.count_difference.add_count.Goals as goal
 pub returns-in_ok-row_of-in-Gone : goal.returns-in_ok-row_of-in-Gone
 returns-in_ok-row_of-in-Gone c =
     let sub = c.args.sub.now in
-    let was : List Entry = joined c.args.logs.was.now in
-    let log : List Entry = joined c.args.logs.now.now in
+    let was : Span = seen c.args.logs.was in
+    let log : Span = seen c.args.logs.now in
     let old = c.in-Gone.old.now in
     let row = c.in_ok-row_of-in-Gone in
     rw c.in-Gone.is
@@ -23,8 +22,8 @@ returns-in_ok-row_of-in-Gone c =
 pub returns-in_ok-row_of-in-New : goal.returns-in_ok-row_of-in-New
 returns-in_ok-row_of-in-New c =
     let sub = c.args.sub.now in
-    let was : List Entry = joined c.args.logs.was.now in
-    let log : List Entry = joined c.args.logs.now.now in
+    let was : Span = seen c.args.logs.was in
+    let log : Span = seen c.args.logs.now in
     let new = c.in-New.new.now in
     let row = c.in_ok-row_of-in-New in
     rw c.in-New.is
@@ -34,22 +33,23 @@ returns-in_ok-row_of-in-New c =
 pub returns-then-get : goal.returns-then-get
 returns-then-get c =
     let sub = c.args.sub.now in
-    let was : List Entry = joined c.args.logs.was.now in
-    let log : List Entry = joined c.args.logs.now.now in
+    let was : Span = seen c.args.logs.was in
+    let log : Span = seen c.args.logs.now in
     let old = c.in-Both.old.now in
     let new = c.in-Both.new.now in
     let positions : old.position ≡ new.position = rw c.in-Both.is at c.requires.key in
-    let there : IsCountedIn was (old.position, old.times) = All-head (IsCountedIn was) (old.position, old.times) [] (rw c.in-Both.is at c.requires.there) in
+    let there : IsCountedIn was.log (old.position, old.times) = All-head (IsCountedIn was.log) (old.position, old.times) [] (rw c.in-Both.is at c.requires.there) in
+    let here : IsCountedIn log.log (new.position, new.times) = All-head (IsCountedIn log.log) (new.position, new.times) [] (rw c.in-Both.is at c.requires.here) in
     let times : old.times ≡ new.times = sym c.get.ensures.value ∙ c.if-get.true ∙ c.get-in-Both.ensures.value in
     rw c.in-Both.is
     (stays count_cells (λ topic. count_row topic sub was) (λ topic. count_row topic sub log) c.args.difference.now (old.position, old.times) (new.position, new.times)
-    (count_same sub was log (old.position, old.times) (new.position, new.times) c.requires.longer there positions times))
+    (count_same sub was log (old.position, old.times) (new.position, new.times) c.requires.was c.requires.now c.requires.later there here positions times))
 
 pub returns-in_ok-new-in-Both : goal.returns-in_ok-new-in-Both
 returns-in_ok-new-in-Both c =
     let sub = c.args.sub.now in
-    let was : List Entry = joined c.args.logs.was.now in
-    let log : List Entry = joined c.args.logs.now.now in
+    let was : Span = seen c.args.logs.was in
+    let log : Span = seen c.args.logs.now in
     let old = c.in-Both.old.now in
     let new = c.in-Both.new.now in
     let first = c.in_ok-old-in-Both in

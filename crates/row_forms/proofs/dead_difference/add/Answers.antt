@@ -1,16 +1,16 @@
 use Rattle.std.proofs.Common.{◌≡◌, List, [], OnOk, subst}
 use Rattle.std.proofs.lemmas.Result.{on_ok_weaker}
-use Rattle.position_core.specs.declared.message.Entry.{Entry}
-use Rattle.log_pieces.specs.Pieces.{joined}
 use Rattle.delivery_machine.specs.Places.{KeptPlaces}
+use Rattle.row_forms.specs.Places.{seen}
+use Rattle.row_forms.specs.Forms.{Span}
 use Rattle.row_forms.specs.Parts.{ExtendsByLetters}
 use Rattle.row_forms.proofs.Deads.{deads_change, deads_come, deads_go}
 use Rattle.row_forms.proofs.dead_difference.add.Goals as goal
 
 pub returns-in-Gone : goal.returns-in-Gone
 returns-in-Gone c =
-    let was : List Entry = joined c.args.logs.was.now in
-    let log : List Entry = joined c.args.logs.now.now in
+    let was : Span = seen c.args.logs.was in
+    let log : Span = seen c.args.logs.now in
     let d = c.args.difference.now in
     let e = c.add_letters.new.difference in
     let r = c.add_letters.result in
@@ -20,8 +20,8 @@ returns-in-Gone c =
 
 pub returns-in-New : goal.returns-in-New
 returns-in-New c =
-    let was : List Entry = joined c.args.logs.was.now in
-    let log : List Entry = joined c.args.logs.now.now in
+    let was : Span = seen c.args.logs.was in
+    let log : Span = seen c.args.logs.now in
     let d = c.args.difference.now in
     let e = c.add_letters-in-New.new.difference in
     let r = c.add_letters-in-New.result in
@@ -31,8 +31,8 @@ returns-in-New c =
 
 pub returns-in-Both : goal.returns-in-Both
 returns-in-Both c =
-    let was : List Entry = joined c.args.logs.was.now in
-    let log : List Entry = joined c.args.logs.now.now in
+    let was : Span = seen c.args.logs.was in
+    let log : Span = seen c.args.logs.now in
     let old = c.in-Both.old.now in
     let new = c.in-Both.new.now in
     let d = c.args.difference.now in

@@ -1,8 +1,7 @@
 use Rattle.std.proofs.Common.{List}
-use Rattle.position_core.specs.declared.message.Entry.{Entry}
-use Rattle.log_pieces.specs.Pieces.{joined}
+use Rattle.row_forms.specs.Places.{seen}
 use Rattle.row_forms.specs.Changes.{dead_cells}
-use Rattle.row_forms.specs.Forms.{dead_row}
+use Rattle.row_forms.specs.Forms.{Span, dead_row}
 use Rattle.row_forms.proofs.Deads.{letter_is, letter_same}
 use Rattle.row_forms.proofs.Differences.{goes, comes, becomes, stays}
 use Rattle.row_forms.proofs.dead_difference.add_letter.Goals as goal
@@ -10,8 +9,8 @@ use Rattle.row_forms.proofs.dead_difference.add_letter.Goals as goal
 pub returns-in_ok-row_of-in-Gone : goal.returns-in_ok-row_of-in-Gone
 returns-in_ok-row_of-in-Gone c =
     let sub = c.args.sub.now in
-    let was : List Entry = joined c.args.logs.was.now in
-    let log : List Entry = joined c.args.logs.now.now in
+    let was : Span = seen c.args.logs.was in
+    let log : Span = seen c.args.logs.now in
     let row = c.in_ok-row_of-in-Gone in
     rw c.in-Gone.is
     (goes dead_cells (λ topic. dead_row topic sub was) (λ topic. dead_row topic sub log) c.args.difference.now c.goes.new.self c.in-Gone.old.now row.field-0 c.goes.result c.goes.ensures.gone c.goes.ensures.news
@@ -20,8 +19,8 @@ returns-in_ok-row_of-in-Gone c =
 pub returns-in_ok-row_of-in-New : goal.returns-in_ok-row_of-in-New
 returns-in_ok-row_of-in-New c =
     let sub = c.args.sub.now in
-    let was : List Entry = joined c.args.logs.was.now in
-    let log : List Entry = joined c.args.logs.now.now in
+    let was : Span = seen c.args.logs.was in
+    let log : Span = seen c.args.logs.now in
     let row = c.in_ok-row_of-in-New in
     rw c.in-New.is
     (comes dead_cells (λ topic. dead_row topic sub was) (λ topic. dead_row topic sub log) c.args.difference.now c.comes.new.self c.in-New.new.now row.field-0 c.comes.result c.comes.ensures.gone c.comes.ensures.news
@@ -30,8 +29,8 @@ returns-in_ok-row_of-in-New c =
 pub returns-then-is_same : goal.returns-then-is_same
 returns-then-is_same c =
     let sub = c.args.sub.now in
-    let was : List Entry = joined c.args.logs.was.now in
-    let log : List Entry = joined c.args.logs.now.now in
+    let was : Span = seen c.args.logs.was in
+    let log : Span = seen c.args.logs.now in
     rw c.in-Both.is
     (stays dead_cells (λ topic. dead_row topic sub was) (λ topic. dead_row topic sub log) c.args.difference.now c.in-Both.old.now c.in-Both.new.now
     (letter_same sub was log c.in-Both.old.now c.in-Both.new.now (c.is_same.ensures c.if-is_same.true)))
@@ -39,8 +38,8 @@ returns-then-is_same c =
 pub returns-in_ok-new-in-Both : goal.returns-in_ok-new-in-Both
 returns-in_ok-new-in-Both c =
     let sub = c.args.sub.now in
-    let was : List Entry = joined c.args.logs.was.now in
-    let log : List Entry = joined c.args.logs.now.now in
+    let was : Span = seen c.args.logs.was in
+    let log : Span = seen c.args.logs.now in
     let first = c.in_ok-old-in-Both in
     let second = c.in_ok-new-in-Both in
     rw c.in-Both.is

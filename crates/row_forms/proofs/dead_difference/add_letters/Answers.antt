@@ -1,13 +1,13 @@
 use Rattle.std.proofs.Common.{List, [], ◌++◌}
-use Rattle.log_pieces.specs.Pieces.{joined}
 use Rattle.delivery_machine.specs.State.{DeadLetter}
+use Rattle.row_forms.specs.Places.{seen}
 use Rattle.row_forms.specs.Sides.{new_of, old_of}
 use Rattle.row_forms.proofs.Deads.{letters-append, no_letter_more}
 use Rattle.row_forms.proofs.Subs.{passed, nothing_left}
 use Rattle.row_forms.proofs.dead_difference.add_letters.Goals as goal
 
 pub sides-init : goal.sides-init
-sides-init c = ([], [], c.of-walk.ensures.olds, c.of-walk.ensures.news, no_letter_more c.args.sub.now (joined c.args.logs.was.now) (joined c.args.logs.now.now) c.args.difference.now)
+sides-init c = ([], [], c.of-walk.ensures.olds, c.of-walk.ensures.news, no_letter_more c.args.sub.now (seen c.args.logs.was) (seen c.args.logs.now) c.args.difference.now)
 
 pub sides-preserved : goal.sides-preserved
 sides-preserved c =
@@ -18,7 +18,7 @@ sides-preserved c =
       h.1 ++ news,
       passed _ h.0 _ _ _ h.2 c.in-Some.ensures.olds,
       passed _ h.1 _ _ _ h.3 c.in-Some.ensures.news,
-      letters-append c.args.sub.now (joined c.args.logs.was.now) (joined c.args.logs.now.now) c.args.difference.now c.sides.difference c.add_letter.new.difference h.0 h.1 olds news h.4 c.in_ok-add_letter.ensures,
+      letters-append c.args.sub.now (seen c.args.logs.was) (seen c.args.logs.now) c.args.difference.now c.sides.difference c.add_letter.new.difference h.0 h.1 olds news h.4 c.in_ok-add_letter.ensures,
     )
 
 pub returns : goal.returns

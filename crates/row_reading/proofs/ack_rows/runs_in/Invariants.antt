@@ -5,7 +5,7 @@ use Rattle.row_reading.proofs.ack_rows.runs_in.Given as goal
 
 abbrev pub invariant-runs : goal.invariant-runs
 invariant-runs l = record {
-  runs : BeginsWithRuns l.name l.places l.rows l.rest;
+  runs : BeginsWithRuns l.name l.gone l.places l.rows l.rest;
   below : AreBelow l.count l.places;
 }
 

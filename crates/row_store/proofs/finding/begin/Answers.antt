@@ -27,7 +27,7 @@ returns-then-is_empty-clause-found g c =
     let mid : State = state g.S.Store c.read_sides.new.tx.conn.now in
     let early : HasCleanDisk mid = omega (arith, c.has_others.ensures.survives.clean) in
     let after = (c.in_ok-sides.ensures.done early).does ready in
-    let none : has_others topic 0 first.now.trees ≡ false = sym (ap (has_others topic 0) after.1) ∙ sym (c.in_ok-has_others.ensures.found clean after.0) ∙ c.if-branch.false in
+    let none : has_others topic 0 0 first.now.trees ≡ false = sym (ap (has_others topic 0 0) after.1) ∙ sym (c.in_ok-has_others.ensures.found clean after.0) ∙ c.if-branch.false in
     none_read c.args.name.now topic c.in_ok-sides.sides first.now.trees c.requires (c.is_empty.ensures.none c.if-is_empty.true) (c.in_ok-sides.ensures.rows early ready) none
 
 pub returns-in-Some-clause-found : goal.returns-in-Some-clause-found

@@ -7,11 +7,13 @@ use delivery_machine::{Delivery, Reply};
 use marks::Naming;
 use position_core::Entry;
 use row_store::Keeper;
+use sqlite::{Connection, MemStore};
 use std::process::Abort;
 use std::rt::Clock;
 use std::sync::Wait;
 use std::sync::atomic::{AtomicU64, Ordering};
 use std::test::*;
+use stored_cell::Notes;
 
 /// A letter as it stands in its dead-letter topic: its courier, its ordinal, its payload.
 type Moved = (&'static str, i64, &'static [u8]);
@@ -107,7 +109,7 @@ fn number_in(reply: &Reply) -> u64 {
 }
 
 /// The number that the topic answers to the line.
-fn number<J: Naming, R: Abort + AllocGlobal + Wait>(
+pub(super) fn number<J: Naming, R: Abort + AllocGlobal + Wait>(
     rt: &R,
     topics: &Topics<J>,
     name: &str,
@@ -228,7 +230,7 @@ struct Stops<'a> {
     between: &'a AtomicU64,
 }
 
-fn do_steps<J: Naming, R: Abort + AllocGlobal + Wait + Clock>(
+pub(super) fn do_steps<J: Naming, R: Abort + AllocGlobal + Wait + Clock>(
     rt: &R,
     topics: &Topics<J>,
     steps: u32,
@@ -240,11 +242,20 @@ fn do_steps<J: Naming, R: Abort + AllocGlobal + Wait + Clock>(
     drop(errands);
 }
 
+/// A keeper of what is stored.
+pub(super) fn adopted<J: Naming, R: Abort + AllocGlobal>(
+    rt: &R,
+    conn: Connection<MemStore>,
+    notes: Notes<J>,
+) -> Rows<J> {
+    let keeper = Keeper::adopt(rt.alloc(), read_again(rt, conn), notes);
+    keeper.ok().expect(rt, "no rows")
+}
+
 /// The broker that is started again from what is stored.
 pub(super) fn again<J: Naming, R: Abort + AllocGlobal>(rt: &R, topics: Topics<J>) -> Topics<J> {
     let (conn, notes) = topics.into_keeper().into_parts();
-    let keeper = Keeper::adopt(rt.alloc(), read_again(rt, conn), notes);
-    open(rt, keeper.ok().expect(rt, "no rows"), 8)
+    open(rt, adopted(rt, conn, notes), 8)
 }
 
 impl<'a> Stops<'a> {

@@ -3,7 +3,7 @@ ghost use Rattle.std.specs.Prelude.{◌≡◌};
 
 use crate::tests::base::{keeper_over, terms};
 use broker_dir::{Attached, Coming, Directory, Errands, Open, Terms};
-use delivery_machine::{Event, Fault, Reply};
+use delivery_machine::{Event, Fault, Reply, Retention};
 use marks::{Naming, Unnamed};
 use position_core::TopicName;
 use replay_lines::{Line, read_line};
@@ -70,7 +70,16 @@ pub(super) fn open_with<J: Naming, R: AllocGlobal>(
     keeper: Rows<J>,
     terms: Terms,
 ) -> Topics<J> {
-    Directory::open(rt.alloc(), keeper, terms)
+    Directory::open(rt.alloc(), keeper, terms, Retention::All)
+}
+
+/// A topic that has no rule of its own keeps what this one says.
+pub(super) fn open_keeping<J: Naming, R: Abort + AllocGlobal>(
+    rt: &R,
+    keeper: Rows<J>,
+    retention: Retention,
+) -> Topics<J> {
+    Directory::open(rt.alloc(), keeper, terms(rt, 8), retention)
 }
 
 /// So many may sit at a topic.
@@ -167,6 +176,19 @@ pub(super) fn asked<J: Naming, R: Abort + AllocGlobal + Wait>(
 ) -> Reply {
     let answer = answer_to(rt, topics, seat, line);
     answer.ok().expect(rt, "no answer, or no memory")
+}
+
+/// The topic has this rule of its own from now on, or none.
+pub(super) fn set_rule<J: Naming, R: Abort + AllocGlobal + Wait>(
+    rt: &R,
+    topics: &Topics<J>,
+    seat: &Seat<J>,
+    retention: Option<Retention>,
+) {
+    let event = Event::SetRetention { retention };
+    let answer = answer_of(rt, topics, seat, Request::Event(event));
+    assert!(rt; matches!(answer, Ok(Reply::Done)));
+    drop(answer);
 }
 
 /// Whether nothing is left to do after a hundred tasks.

@@ -3,6 +3,7 @@ ghost use Rattle.std.specs.Prelude.{◌≡◌};
 
 use crate::tests::base::{keeper_over, terms};
 use broker_dir::{Directory, Gate};
+use delivery_machine::Retention;
 use marks::{Naming, Unnamed};
 use sqlite::MemStore;
 use std::io::Eprint;
@@ -38,7 +39,8 @@ fn place_over<J: Naming, G: Gate + Drop, R: Abort + AllocGlobal>(
     requires { history ≡ J.book }
 {
     let keeper = keeper_over(rt, history);
-    let place = Place::new(Directory::open(rt.alloc(), keeper, terms(rt, 2)), gate);
+    let directory = Directory::open(rt.alloc(), keeper, terms(rt, 2), Retention::All);
+    let place = Place::new(directory, gate);
     Arc::new(rt.alloc(), place).ok().expect(rt, "no memory")
 }
 

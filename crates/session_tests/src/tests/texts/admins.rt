@@ -1,6 +1,6 @@
 // What an administrator's texts ask for.
 use super::{expect, joined, number, position, refusal, repeated};
-use delivery_machine::Target;
+use delivery_machine::{Retention, Target};
 use position_core::{Fault, SubscriptionName};
 use std::process::Abort;
 use wire_json::{AdminCommand, read_admin};
@@ -11,6 +11,22 @@ fn target<R: Abort + AllocGlobal>(rt: &R, target: Target) -> String {
         Target::Earliest => joined(rt, &["earliest"]),
         Target::Latest => joined(rt, &["latest"]),
         Target::At(at) => position(rt, at),
+    }
+}
+
+/// What a topic is to keep.
+fn rule<R: Abort + AllocGlobal>(rt: &R, retention: &Option<Retention>) -> String {
+    match retention {
+        None => joined(rt, &["keep as the broker"]),
+        Some(Retention::All) => joined(rt, &["keep all"]),
+        Some(Retention::Messages(count)) => {
+            let count = number(rt, u64::from(count.get()));
+            joined(rt, &["keep ", count.as_str()])
+        }
+        Some(Retention::Age(age)) => {
+            let millis = number(rt, age.millis());
+            joined(rt, &["keep ", millis.as_str(), " ms"])
+        }
     }
 }
 
@@ -50,6 +66,7 @@ fn named<R: Abort + AllocGlobal>(rt: &R, command: &AdminCommand) -> String {
             joined(rt, &["drop ", subscription.as_str()])
         }
         AdminCommand::Stats { subscription } => joined(rt, &["stats ", subscription.as_str()]),
+        AdminCommand::Keep { retention } => rule(rt, retention),
         AdminCommand::DeleteTopic => joined(rt, &["delete"]),
     }
 }
@@ -126,6 +143,45 @@ fn the_whole_topic(rt: HostRuntime) {
         ("{\"type\":[\"deleteTopic\"]}", "F18"),
         ("\"deleteTopic\"", "F18"),
         ("{\"type\":\"deleteTopic\"", "F18"),
+    ];
+    check(&rt, table);
+}
+
+/// So is its rule.
+#[test]
+fn what_is_kept(rt: HostRuntime) {
+    let table: &[(&str, &str)] = &[
+        ("{\"type\":\"keep\",\"messages\":0}", "keep 0"),
+        (
+            "{\"type\":\"keep\",\"messages\":1048576,\"subscription\":5}",
+            "keep 1048576",
+        ),
+        ("{\"type\":\"keep\",\"messages\":1048577}", "F18"),
+        (
+            "{\"type\":\"keep\",\"messages\":1048577,\"millis\":5}",
+            "F18",
+        ),
+        (
+            "{\"type\":\"keep\",\"messages\":\"5\",\"millis\":5}",
+            "keep 5 ms",
+        ),
+        ("{\"type\":\"keep\",\"millis\":0}", "keep 0 ms"),
+        (
+            "{\"type\":\"keep\",\"millis\":253402300799999}",
+            "keep 253402300799999 ms",
+        ),
+        ("{\"type\":\"keep\",\"millis\":253402300800000}", "F18"),
+        ("{\"type\":\"keep\",\"millis\":-1}", "F18"),
+        ("{\"keep\":\"all\",\"type\":\"keep\"}", "keep all"),
+        (
+            "{\"type\":\"keep\",\"keep\":\"default\",\"messages\":5}",
+            "keep as the broker",
+        ),
+        ("{\"type\":\"keep\",\"keep\":\"All\",\"messages\":5}", "F18"),
+        ("{\"type\":\"keep\",\"keep\":5,\"messages\":5}", "keep 5"),
+        ("{\"type\":\"keep\",\"keep\":null,\"messages\":5}", "keep 5"),
+        ("{\"type\":\"keep\"}", "F18"),
+        ("{\"type\":\"keep\",\"subscription\":\"s\"}", "F18"),
     ];
     check(&rt, table);
 }

@@ -1,7 +1,7 @@
 // What an administrator is answered.
 use super::{expect, joined};
 use delivery_machine::Reply;
-use position_core::{Fault, Kind, Position};
+use position_core::{Fault, Kind, Moment, Position};
 use std::process::Abort;
 use wire_json::{admin_text, end_of_topic_text};
 
@@ -34,8 +34,14 @@ fn answers_to_commands(rt: HostRuntime) {
     );
 }
 
-/// The statistics of a subscription of the kind, with the last message up to which all are acknowledged.
-fn statistics(kind: Kind, mark_delete: Option<Position>) -> Reply {
+/// The statistics of a subscription of the kind, with the last message up to which all are acknowledged, of a topic of which
+/// so many messages are gone.
+fn statistics_of(
+    kind: Kind,
+    mark_delete: Option<Position>,
+    gone: u64,
+    oldest: Option<Moment>,
+) -> Reply {
     Reply::Stats {
         kind,
         members: 2,
@@ -44,7 +50,13 @@ fn statistics(kind: Kind, mark_delete: Option<Position>) -> Reply {
         live: 18_446_744_073_709_551_615,
         pending: 5,
         dead: 6,
+        gone,
+        oldest,
     }
+}
+
+fn statistics(kind: Kind, mark_delete: Option<Position>) -> Reply {
+    statistics_of(kind, mark_delete, 0, Moment::new(1_000))
 }
 
 fn check_kind<R: Abort + AllocGlobal>(rt: &R, kind: Kind, name: &str) {
@@ -74,6 +86,21 @@ fn statistics_with_a_position(rt: HostRuntime) {
         &rt,
         statistics(Kind::Shared, Some(at)),
         "{\"acknowledged\":3,\"dead\":6,\"kind\":\"Shared\",\"live\":18446744073709551615,\"markDelete\":\"CAAQrAI=\",\"members\":2,\"pending\":5,\"result\":\"ok\"}",
+    );
+}
+
+/// Where messages are gone it is said how many, and when the first that is kept was published.
+#[test]
+fn statistics_of_what_is_gone(rt: HostRuntime) {
+    check(
+        &rt,
+        statistics_of(Kind::Shared, None, 64, Moment::new(1_000)),
+        "{\"acknowledged\":3,\"dead\":6,\"gone\":64,\"kind\":\"Shared\",\"live\":18446744073709551615,\"members\":2,\"oldest\":1000,\"pending\":5,\"result\":\"ok\"}",
+    );
+    check(
+        &rt,
+        statistics_of(Kind::Shared, None, 64, None),
+        "{\"acknowledged\":3,\"dead\":6,\"gone\":64,\"kind\":\"Shared\",\"live\":18446744073709551615,\"members\":2,\"pending\":5,\"result\":\"ok\"}",
     );
 }
 

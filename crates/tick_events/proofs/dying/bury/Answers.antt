@@ -5,7 +5,7 @@ use Rattle.log_pieces.specs.Pieces.{index_of}
 use Rattle.delivery_machine.specs.State.{DeadLetter}
 use Rattle.delivery_machine.specs.Dying.{burying}
 use Rattle.dispatch_core.specs.Changes.{Gone}
-use Rattle.topic_log.specs.Written.{Written}
+use Rattle.topic_log.specs.Written.{all_of, Written}
 use Rattle.topic_subscriptions.specs.Placed.{is_placed, sub_in}
 use Rattle.topic_parts.specs.Holding.{buried}
 use Rattle.topic_parts.specs.Parts.{log_of, state_of}
@@ -45,7 +45,7 @@ returns-in-Ok-clause-bound c =
     let sub = sub_in (log_of old) x.0 in
     let happens = happens_buried old name place x.0 letter c.in-Some.index c.requires.place c.len-length.ensures.rising x.1 (sym (c.in-Some.ensures ∙ ap (λ (l : DeadLetter). index_of l.position (log_of old)) c.letter.view_is)) in
     record {
-      numbers = subst (λ (w : Written). AgreesWith w.log.log w.numbers) (sym c.in-Ok.ensures.log) c.requires.bound.numbers;
+      numbers = subst (λ (w : Written). AgreesWith (all_of w) w.numbers) (sym c.in-Ok.ensures.log) c.requires.bound.numbers;
       tied = c.in-Ok.ensures.tied;
       told = told_there c.args.served.now.dispatchers.items old c.bury.new.self c.at-view.result.parts.now (buried (state_of old) name letter) place (Gone c.in-Some.index) sub (burying letter sub) c.at-view.result.subscription.now c.index_mut.result.now c.on_gone.new.self
           c.requires.bound.told happens (c.in-Ok.ensures.ok name c.requires.place) c.at-view.ensures.parts c.at-view.ensures.subscription c.index_mut.ensures.value c.on_gone.ensures;

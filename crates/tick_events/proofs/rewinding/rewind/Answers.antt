@@ -4,7 +4,7 @@ use Rattle.dedup_core.specs.Sequences.{AgreesWith}
 use Rattle.delivery_machine.specs.Ticking.{redelivered, redelivering}
 use Rattle.dispatch_core.specs.Changes.{Reset}
 use Rattle.dispatchers.proofs.Resetting.{reset_redelivered}
-use Rattle.topic_log.specs.Written.{Written}
+use Rattle.topic_log.specs.Written.{all_of, Written}
 use Rattle.topic_subscriptions.specs.Placed.{Placed, is_placed, sub_in}
 use Rattle.topic_parts.specs.Parts.{log_of, state_of}
 use Rattle.topic_parts.proofs.Changing.{placed_there, there_is}
@@ -38,7 +38,7 @@ returns-clause-bound c =
     let happens = reset_redelivered (state_of old) name place sub (named_place old name place c.requires.place) (at_place old place x.0 x.1) ps
     (λ q h is. all_listed_there old name place x.0 c.requires.place x.2 c.requires.bound.tied q (ap is_some is)) in
     record {
-      numbers = subst (λ (w : Written). AgreesWith w.log.log w.numbers) (sym c.take_all_back.ensures.log) c.requires.bound.numbers;
+      numbers = subst (λ (w : Written). AgreesWith (all_of w) w.numbers) (sym c.take_all_back.ensures.log) c.requires.bound.numbers;
       tied = c.take_all_back.ensures.tied;
       told = told_there c.args.served.now.dispatchers.items old c.take_all_back.new.parts c.at-view.result.parts.now (redelivered (state_of old) name ps) place Reset sub (redelivering ps sub) c.at-view.result.subscription.now c.index_mut.result.now c.reset.new.self
           c.requires.bound.told happens (c.take_all_back.ensures.state x.0 (sym x.1)) c.at-view.ensures.parts c.at-view.ensures.subscription c.index_mut.ensures.value c.reset.ensures;

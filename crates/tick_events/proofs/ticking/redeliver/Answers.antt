@@ -2,7 +2,7 @@ use Rattle.std.proofs.Common.{[], ◌∷◌, subst, sym, arith}
 use Rattle.dedup_core.specs.Sequences.{AgreesWith}
 use Rattle.delivery_machine.specs.Ticking.{redelivered, redelivering}
 use Rattle.dispatch_core.specs.Changes.{Released}
-use Rattle.topic_log.specs.Written.{Written}
+use Rattle.topic_log.specs.Written.{all_of, Written}
 use Rattle.topic_subscriptions.specs.Placed.{is_placed, sub_in}
 use Rattle.topic_parts.specs.Parts.{log_of, state_of}
 use Rattle.topic_served.proofs.Telling.{one_stands, place_within, told_there}
@@ -35,7 +35,7 @@ returns-clause-bound c =
     let sub = sub_in (log_of old) x.0 in
     let happens = happens_released old name place x.0 q c.requires.place x.2 (c.requires.pending x.0 (sym x.1)) c.len-length.ensures.rising c.requires.well x.1 c.in-Some.index (sym c.in-Some.ensures) in
     record {
-      numbers = subst (λ (w : Written). AgreesWith w.log.log w.numbers) (sym c.redeliver.ensures.log) c.requires.bound.numbers;
+      numbers = subst (λ (w : Written). AgreesWith (all_of w) w.numbers) (sym c.redeliver.ensures.log) c.requires.bound.numbers;
       tied = c.redeliver.ensures.tied;
       told = told_there c.args.served.now.dispatchers.items old c.redeliver.new.self c.at-view.result.parts.now (redelivered (state_of old) name (q ∷ [])) place (Released c.in-Some.index) sub (redelivering (q ∷ []) sub) c.at-view.result.subscription.now c.index_mut.result.now c.on_released.new.self
           c.requires.bound.told happens (c.redeliver.ensures.state name c.requires.place) c.at-view.ensures.parts c.at-view.ensures.subscription c.index_mut.ensures.value c.on_released.ensures;

@@ -1,5 +1,4 @@
 use Rattle.std.proofs.Common.{[], rules}
-use Rattle.std.proofs.lemmas.List.Elements.{All-push}
 use Rattle.topic_subscriptions.specs.Placed.{IsPlacedIn}
 use Rattle.topic_core.specs.Restored.{IsAlone}
 use Rattle.topic_core.proofs.Goes.{one_more, push_all}

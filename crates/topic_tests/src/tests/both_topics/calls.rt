@@ -12,12 +12,12 @@ pub(super) fn topic_name<R: Abort + AllocGlobal>(rt: &R) -> TopicName {
     name.expect(rt, "no memory").expect(rt, "no name")
 }
 
-fn plain_topic<R: Abort + AllocGlobal>(rt: &R) -> PlainTopic {
+pub(super) fn plain_topic<R: Abort + AllocGlobal>(rt: &R) -> PlainTopic {
     let size = LedgerSize::new(3).expect(rt, "no size");
     PlainTopic::new(rt.alloc(), topic_name(rt), size)
 }
 
-fn fast_topic<R: Abort + AllocGlobal>(rt: &R) -> TopicCore {
+pub(super) fn fast_topic<R: Abort + AllocGlobal>(rt: &R) -> TopicCore {
     let size = LedgerSize::new(3).expect(rt, "no size");
     TopicCore::new(rt.alloc(), topic_name(rt), size)
 }
@@ -30,7 +30,7 @@ fn event_in<R: AllocGlobal>(rt: &R, name: &TopicName, line: &str) -> Option<Even
 }
 
 /// The event that the line stands for.
-fn event_of<R: Abort + AllocGlobal>(rt: &R, line: &str) -> Event {
+pub(super) fn event_of<R: Abort + AllocGlobal>(rt: &R, line: &str) -> Event {
     event_in(rt, &topic_name(rt), line).expect(rt, "no event")
 }
 
@@ -45,14 +45,14 @@ fn push_events<R: Abort + AllocGlobal>(rt: &R, events: &mut Vec<Event>, lines: &
 }
 
 /// The events that the lines stand for.
-fn events_of<R: Abort + AllocGlobal>(rt: &R, lines: &str) -> Vec<Event> {
+pub(super) fn events_of<R: Abort + AllocGlobal>(rt: &R, lines: &str) -> Vec<Event> {
     let mut events = Vec::new(rt.alloc());
     push_events(rt, &mut events, lines);
     events
 }
 
 /// Tells the topic of the events, whatever it answers.
-fn tell<T: Topic>(topic: &mut T, events: &[Event]) {
+pub(super) fn tell<T: Topic>(topic: &mut T, events: &[Event]) {
     for event in events {
         drop(topic.apply(event));
     }

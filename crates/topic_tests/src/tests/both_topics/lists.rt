@@ -1,4 +1,6 @@
 // Lists of events, as lines, that look random.
+mod trimming;
+
 use super::dice::Dice;
 use position_core::Position;
 use std::process::Abort;
@@ -17,20 +19,27 @@ pub(super) struct Lines {
     dice: Dice,
     text: String,
     published: u64,
+    /// What stands before so many messages is mostly done with.
+    front: u64,
     joined: u64,
     now: u64,
 }
 
 impl Lines {
-    /// So many lines, those of the number.
-    pub(super) fn random<R: Abort + AllocGlobal>(rt: &R, number: u64, events: u64) -> String {
-        let mut lines = Lines {
+    fn new<R: AllocGlobal>(rt: &R, number: u64) -> Self {
+        Lines {
             dice: Dice::new(number),
             text: String::new(rt.alloc()),
             published: 0,
+            front: 0,
             joined: 0,
             now: 1_000,
-        };
+        }
+    }
+
+    /// The lines of so many events, those of the number.
+    pub(super) fn random<R: Abort + AllocGlobal>(rt: &R, number: u64, events: u64) -> String {
+        let mut lines = Lines::new(rt, number);
         for _ in 0..events {
             lines.next(rt);
         }
@@ -118,9 +127,11 @@ impl Lines {
 
     /// A message that may be there.
     fn message(&mut self) -> Position {
-        let ledgers = (self.published / 3).saturating_add(2);
+        let first = self.front / 3;
+        let ledgers = (self.published / 3).saturating_sub(first);
+        let ledger = self.dice.roll(ledgers.saturating_add(2));
         Position {
-            ledger: self.dice.roll(ledgers),
+            ledger: first.saturating_add(ledger),
             entry: self.dice.roll(3),
         }
     }
@@ -173,6 +184,13 @@ impl Lines {
 
     fn publish<R: Abort + AllocGlobal>(&mut self, rt: &R) {
         let producer = self.producer();
+        self.publish_by(rt, producer);
+        if self.dice.roll(4) != 0 {
+            self.add_text(rt, "stored");
+        }
+    }
+
+    fn publish_by<R: Abort + AllocGlobal>(&mut self, rt: &R, producer: u64) {
         let key = self.key();
         let sequence = self.sequence();
         self.published = self.published.saturating_add(1);
@@ -185,9 +203,6 @@ impl Lines {
             Word::Number(self.now),
         ];
         self.add(rt, &words);
-        if self.dice.roll(4) != 0 {
-            self.add_text(rt, "stored");
-        }
     }
 
     fn join_or_leave<R: Abort + AllocGlobal>(&mut self, rt: &R) {
@@ -383,7 +398,7 @@ impl Lines {
         self.add(rt, &[Word::Text("deaddone"), of, Word::Number(ordinal)]);
     }
 
-    /// A subscription goes on elsewhere, is looked at, or goes.
+    /// A subscription goes on elsewhere, is looked at, or goes; or messages go.
     fn go_elsewhere<R: Abort + AllocGlobal>(&mut self, rt: &R) {
         let of = Word::Text(self.subscription());
         let id = self.message();
@@ -396,6 +411,7 @@ impl Lines {
             4..=5 => self.add(rt, &[Word::Text("seektime"), of, Word::Number(time)]),
             6..=7 => self.add(rt, &[Word::Text("skip"), of, Word::Number(count)]),
             8 => self.add(rt, &[Word::Text("dropsub"), of]),
+            9 => self.trim(rt),
             _ => self.add(rt, &[Word::Text("stats"), of]),
         }
     }

@@ -1,7 +1,7 @@
 // The plain topic and the fast one, asked the same.
 use super::calls::topic_name;
 use super::dice::Dice;
-use delivery_machine::{Event, Opened, Reply};
+use delivery_machine::{Event, KeptAge, KeptMessages, Opened, Reply, Retention};
 use position_core::{Fault, LedgerSize, TopicName};
 use replay_lines::{Line, Unread, read_line};
 use std::alloc::Global;
@@ -9,8 +9,10 @@ use std::io::BufRead;
 use std::process::Abort;
 use topic_restart::Restartable;
 
-/// A store of a part has fewer messages than this, which may be more than there are.
-const MOST_STORED: u64 = 24;
+/// A store of a part has fewer messages than one of these, which may be more than there are.
+const FEW_STORED: u64 = 24;
+
+const MOST_STORED: u64 = 400;
 
 fn is_refused_memory(answer: &Result<Reply, Fault>) -> bool {
     matches!(answer, Err(_) | Ok(Reply::Refused(Fault::NoMemory)))
@@ -82,6 +84,11 @@ impl<P: Opened + Drop, F: Opened + Drop> Pair<P, F> {
         matches!(event, Event::Stored) && self.dice.roll(3) == 0
     }
 
+    /// Whether another rule of what is kept is to come in place of the event.
+    fn sets_retention(&mut self, event: &Event) -> bool {
+        matches!(event, Event::Progress) && self.dice.roll(2) == 0
+    }
+
     /// Both answer the event alike.
     fn ask<R: Abort>(&mut self, rt: &R, event: &Event, line: &str) {
         let plainly = ask(&mut self.plain, event);
@@ -98,19 +105,44 @@ impl<P: Opened + Drop, F: Opened + Drop> Pair<P, F> {
         assert!(rt; plainly.is_some() && fastly == plainly);
     }
 
+    fn retention(&mut self) -> Option<Retention> {
+        match self.dice.roll(4) {
+            0 => None,
+            1 => Some(Retention::All),
+            2 => KeptMessages::new(10).map(Retention::Messages),
+            _ => KeptAge::new(self.dice.roll(3)).map(Retention::Age),
+        }
+    }
+
+    fn ask_retention<R: Abort>(&mut self, rt: &R, line: &str) {
+        let retention = self.retention();
+        let event = Event::SetRetention { retention };
+        self.ask(rt, &event, line);
+        drop(event);
+    }
+
+    fn number_stored(&mut self) -> u64 {
+        match self.dice.roll(2) {
+            0 => self.dice.roll(FEW_STORED),
+            _ => self.dice.roll(MOST_STORED),
+        }
+    }
+
     fn ask_part<R: Abort>(&mut self, rt: &R, line: &str) {
         let part = Event::StoredTo {
-            length: self.dice.roll(MOST_STORED),
+            length: self.number_stored(),
             ordinal: self.dice.roll(4),
         };
         self.ask(rt, &part, line);
         drop(part);
     }
 
-    /// The event, or at times a store of a part in place of one of all: no line has that.
+    /// The event, or at times one that no line has.
     fn ask_chosen<R: Abort>(&mut self, rt: &R, event: &Event, line: &str) {
         if self.stores_part(event) {
             self.ask_part(rt, line);
+        } else if self.sets_retention(event) {
+            self.ask_retention(rt, line);
         } else {
             self.ask(rt, event, line);
         }

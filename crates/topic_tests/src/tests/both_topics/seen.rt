@@ -2,7 +2,7 @@
 use std::io::BufRead;
 use std::process::Abort;
 
-const KINDS: usize = 19;
+const KINDS: usize = 21;
 
 /// The words with which replies begin, none of them the beginning of another.
 const WORDS: [&str; KINDS] = [
@@ -23,6 +23,8 @@ const WORDS: [&str; KINDS] = [
     "dead",
     "nodead",
     "stats",
+    "trimmed",
+    "untrimmed",
     "refused",
     "restarted",
 ];

@@ -7,9 +7,9 @@ use Rattle.wire_json.proofs.statistics.statistics_text.Goals as goal
 pub returns : goal.returns
 returns c =
     let of = c.args.of in
-    let early = early_fields of.kind of.acknowledged of.live of.dead in
+    let early = early_fields of.kind of.acknowledged of.live of.dead of.gone in
     let mark = mark_delete_field of.mark_delete in
-    let late = late_fields of.members of.pending in
+    let late = late_fields of.members of.pending of.gone of.oldest in
     finish early (mark ++ late) (result_field (codes "ok")) _ _
-    (follow early mark late _ _ (follow early [] mark _ _ (follow [] [] early _ _ c.in_ok-push_brace.ensures c.in_ok-push_early.ensures) c.in_ok-push_mark_delete.ensures) c.in_ok-push_late.ensures)
+    (follow early mark late _ _ (follow [] early mark _ _ (follow [] [] early _ _ c.in_ok-push_brace.ensures c.in_ok-push_early.ensures) c.in_ok-push_mark_delete.ensures) c.in_ok-push_late.ensures)
     c.in_ok-push_result.ensures

@@ -1,4 +1,4 @@
-use Rattle.std.proofs.Common.{◌≤◌, List, length, sym, subst, arith, ap}
+use Rattle.std.proofs.Common.{List, length, sym, subst, arith, ap}
 use Rattle.position_core.specs.declared.message.Entry.{Entry}
 use Rattle.entry_log.specs.Kept.{IsAt}
 use Rattle.entry_log.proofs.Keeping.{at_none}

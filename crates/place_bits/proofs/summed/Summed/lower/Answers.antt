@@ -1,4 +1,4 @@
-use Rattle.place_bits.proofs.Bits.{has_later}
+use Rattle.place_bits.proofs.Front.{has_later}
 use Rattle.place_bits.proofs.summed.Summed.lower.Goals as goal
 
 pub returns-clause-has : goal.returns-clause-has

@@ -8,8 +8,8 @@ use Rattle.plain_topic.proofs.lists.Lists.restarted.Goals as goal
 
 pub returns-clause-state : goal.returns-clause-state
 returns-clause-state c =
-    goes_on c.args.snapshot.now c.in_ok-name.name c.ledger_size.result c.ledger_after.result c.next_ordinal.result 1 1 c.len-durable.result c.in_ok-log.log.items c.new.result.items c.new-2.result.items c.in_ok-subscriptions.subscriptions.items
-    (search rules) (search rules) (search rules) (search rules) refl refl (search rules) (search rules) (search rules) (search rules) (search rules)
+    goes_on c.args.snapshot.now c.in_ok-name.name c.ledger_size.result c.ledger_after.result c.next_ordinal.result 1 1 c.gone.result c.in_ok-authors.authors.items c.retention.result c.len-durable.result c.in_ok-log.log.items c.new.result.items c.new-2.result.items c.in_ok-subscriptions.subscriptions.items
+    (search rules) (search rules) (search rules) (search rules) refl refl (search rules) (search rules) (search rules) (search rules) (search rules) (search rules) (search rules) (search rules)
 
 pub returns-clause-reached : goal.returns-clause-reached
 returns-clause-reached c =

@@ -5,5 +5,6 @@ use Rattle.row_reading.proofs.log_reader.LogReader.take.Given as goal
 abbrev pub invariant-rows : goal.invariant-rows
 invariant-rows l = record {
   head : l.self.head ≡ l.initial.self.head;
-  rows : GoOn l.initial.self.log (take l.row-index l.rows) l.self.log;
+  front : l.self.front ≡ l.initial.self.front;
+  rows : GoOn l.initial.self.front.gone l.initial.self.log (take l.row-index l.rows) l.self.log;
 }

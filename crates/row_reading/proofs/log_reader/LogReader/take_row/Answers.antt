@@ -1,4 +1,4 @@
-use Rattle.std.proofs.Common.{◌≡◌, ◌++◌, ◌∷◌, [], List, pos, ap, sym, subst, ◌∙◌, length, length-append, arith}
+use Rattle.std.proofs.Common.{◌≡◌, ℕ, ◌+◌, ◌++◌, ◌∷◌, [], List, pos, ap, sym, subst, ◌∙◌, length, length-append, arith}
 use Rattle.std.specs.Prelude.{◌≤ℤ◌}
 use Rattle.std.proofs.lemmas.List.Elements.{All-push}
 use Rattle.position_core.specs.declared.message.Entry.{Entry}
@@ -21,9 +21,10 @@ invariant_of-self-in-Some c =
     let pushed : joined c.push.new.self ≡ log ++ e ∷ [] = c.in_ok-push-in-Some.ensures.ok in
     record {
       ordinal = before.ordinal;
+      gone = before.gone;
       sound = subst (λ l. IsWellFormedLog head.ledger_size head.ledger l) (sym pushed) (log_more head.ledger_size head.ledger (last_position log) log e before.sound (above_last log before.sound.positions) next);
       sequences = subst CountFromZero (sym pushed) (All-push (λ (m : Entry). pos 0 ≤ℤ m.sequence) log e before.sequences from_zero);
-      short = omega (arith, ap length pushed, length-append log (e ∷ []), c.count-place.ensures, c.if-place-ge-MOST.false);
+      short = omega (arith, ap length pushed, length-append log (e ∷ []), c.count-count.ensures, c.if-count-ge-MOST.false);
     }
 
 pub returns-in_ok-push-in-Some-clause-rows : goal.returns-in_ok-push-in-Some-clause-rows
@@ -32,17 +33,17 @@ returns-in_ok-push-in-Some-clause-rows c =
     let log : List Entry = joined c.self.inside.log in
     let e : Entry = c.in-Some.message in
     let row : Row = c.args.row.now in
-    let same : log ≡ c.args.self.now.log = ap (λ (r : ReadSoFar). r.log) c.self.view_is in
     let shown = rw c.in-Some.is at c.in_ok-message.ensures.shown in
-    let here : IsEntryAt (length log) row e = subst (λ n. IsEntryAt n row e) c.count-place.ensures shown in
+    let gone : ℕ = c.self.inside.front.gone in
+    let here : IsEntryAt (gone + length log) row e = subst (λ n. IsEntryAt (gone + n) row e) c.count-count.ensures shown in
     let pushed : joined c.push.new.self ≡ log ++ e ∷ [] = c.in_ok-push-in-Some.ensures.ok in
-    subst (λ (l : List Entry). GoOn l (row ∷ []) (joined c.push.new.self)) same (subst (GoOn log (row ∷ [])) (sym pushed) (row_goes_on log row e here)) topic
+    subst (λ (r : ReadSoFar). GoOn r.front.gone r.log (row ∷ []) (joined c.push.new.self)) c.self.view_is (subst (GoOn gone log (row ∷ [])) (sym pushed) (row_goes_on gone log row e here)) topic
 
 pub returns-in-None-clause-all_read : goal.returns-in-None-clause-all_read
 returns-in-None-clause-all_read c =
     λ e readable shown next short.
     let before : ReadSoFar = c.args.self.now in
     let none = rw (c.in-None.is, c.last_of.ensures) at c.in_ok-message.ensures.all_read in
-    let same : before ≡ record { head = c.self.inside.head; log = joined c.self.inside.log } = sym c.self.view_is in
-    let here : IsEntryAt c.count-place.result c.args.row.now e = subst (λ n. IsEntryAt n c.args.row.now e) (ap (λ (r : ReadSoFar). length r.log) same ∙ sym c.count-place.ensures) shown in
+    let same : before ≡ record { head = c.self.inside.head; front = c.self.inside.front; log = joined c.self.inside.log } = sym c.self.view_is in
+    let here : IsEntryAt (c.self.inside.front.gone + c.count-count.result) c.args.row.now e = subst (λ n. IsEntryAt n c.args.row.now e) (ap (λ (r : ReadSoFar). r.front.gone + length r.log) same ∙ ap (λ n. c.self.inside.front.gone + n) (sym c.count-count.ensures)) shown in
     absurd (none e readable here (subst (λ (r : ReadSoFar). IsNext r.head.ledger_size r.head.ledger (last_position r.log) e.position) same next))

@@ -5,7 +5,7 @@ use Rattle.sqlite.specs.State.{HasCleanDisk}
 use Rattle.sqlite.specs.Held.{state}
 use Rattle.delivery_machine.specs.Places.{KeptTopic}
 use Rattle.row_forms.specs.Standing.{Stands}
-use Rattle.row_store.proofs.Deletions.{deleted, others_stand}
+use Rattle.row_store.proofs.Deletions.{deleted, leaves, others_stand}
 use Rattle.row_store.proofs.Standing.{read_beside}
 use Rattle.row_store.proofs.keeper.Keeper.delete.Goals as goal
 
@@ -37,3 +37,9 @@ invariant_of-self-2 g c =
           let before = c.self.invariant.2 c.if-self.false early (c.in-Ok-delete.ensures.deleted clean).was_shown in
           read_beside (topic_text c.args.name.now) old.now.trees new.now.trees k.reading c.forget_reading.new.reading (does clean).1.1 (rw again at c.forget_reading.ensures.left) (rw again at c.forget_reading.ensures.others) before,
     )
+
+pub returns-in-Err-clause-left : goal.returns-in-Err-clause-left
+returns-in-Err-clause-left g c =
+    let k = c.self.inside in
+    let text : c.as_str.result.now ≡ topic_text c.args.name.now = c.as_str.ensures.value ∙ c.in-Ok.ensures in
+    rw (← c.self.view_is) (λ _. rw text at (leaves g.S.Store k.conn c.delete.new.conn k.failed k.known.items c.as_str.result.now c.self.invariant.0 c.if-self.false c.delete.ensures.crash.clean c.delete.ensures.crash))

@@ -1,4 +1,4 @@
-use Rattle.std.proofs.Common.{rules, ◌≡◌, subst, sym, Some, None, length}
+use Rattle.std.proofs.Common.{rules, ◌≡◌, ◌+◌, subst, sym, Some, None, length}
 use Rattle.delivery_machine.specs.declared.event.Event.TheVariants.{StoredTo}
 use Rattle.topic_shared.specs.Kept.{StoresLine}
 use Rattle.stored_cell.specs.Noted.{Noted, IsStored}
@@ -11,7 +11,7 @@ invariant_of-self g c =
     let kept = c.new.ensures.value in
     let viewed : c.in-Some.viewed ≡ c.args.kept.kept = search rules in
     let count = c.confirm.result in
-    let line : StoresLine c.self.inside.cell (StoredTo (length c.args.kept.kept.log) c.args.kept.kept.next_ordinal) count c.confirm.new.self = search rules in
+    let line : StoresLine c.self.inside.cell (StoredTo (c.args.kept.kept.gone + length c.args.kept.kept.log) c.args.kept.kept.next_ordinal) count c.confirm.new.self = search rules in
     let stands : IsStored c.args.kept = subst IsStored kept c.new.ensures.stands in
     let outstanding : c.self.inside.outstanding ≡ Some c.args.kept.kept = search rules in
     subst (λ (n : Noted). IsSound (record { cell = c.confirm.new.self; stored = Some n; outstanding = None; by_word = c.self.inside.by_word })) (sym kept)

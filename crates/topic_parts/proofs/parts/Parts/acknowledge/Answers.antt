@@ -5,7 +5,7 @@ use Rattle.std.specs.FinMap as map_of
 use Rattle.position_core.specs.declared.held.Held.{Held}
 use Rattle.delivery_machine.specs.State.{Member, Subscription}
 use Rattle.delivery_machine.specs.Acknowledging.{acknowledging}
-use Rattle.topic_subscriptions.specs.Placed.{IsPlacedIn, Placed, acknowledged_at, is_live_at, sub_in}
+use Rattle.topic_subscriptions.specs.Placed.{IsPlacedIn, Placed, is_live_at, sub_in}
 use Rattle.topic_parts.specs.Leaving.{left_out_of}
 use Rattle.topic_parts.specs.Parts.{AreTied, log_of, state_of}
 use Rattle.topic_parts.specs.declared.parts.Parts.{Parts}

@@ -1,9 +1,9 @@
-use Rattle.std.proofs.Common.{◌∙◌, sym, ap, subst, arith, take}
+use Rattle.std.proofs.Common.{sym, subst, arith, take}
 use Rattle.dispatch_core.specs.Changes.{Reset}
 use Rattle.delivery_machine.specs.Seeking.{seeking, sought}
 use Rattle.dedup_core.specs.Sequences.{AgreesWith}
 use Rattle.dispatchers.proofs.Resetting.{reset_sought}
-use Rattle.topic_log.specs.Written.{Written}
+use Rattle.topic_log.specs.Written.{all_of, Written}
 use Rattle.topic_subscriptions.specs.Placed.{is_placed, sub_in}
 use Rattle.topic_parts.specs.Parts.{log_of, state_of}
 use Rattle.topic_served.proofs.Telling.{at_place, named_place, one_stands, place_within, told_there}
@@ -26,7 +26,7 @@ returns-in-Ok-clause-bound c =
     let sub = sub_in (log_of old) x.0 in
     let happens = reset_sought (state_of old) name c.args.place sub (named_place old name c.args.place c.requires.place) (at_place old c.args.place x.0 x.1) c.args.end in
     record {
-      numbers = subst (λ (w : Written). AgreesWith w.log.log w.numbers) (sym c.in-Ok.ensures.log) c.requires.bound.numbers;
+      numbers = subst (λ (w : Written). AgreesWith (all_of w) w.numbers) (sym c.in-Ok.ensures.log) c.requires.bound.numbers;
       tied = c.in-Ok.ensures.tied;
       told = told_there c.args.self.now.dispatchers.items old c.seek.new.self c.at-view.result.parts.now (sought (state_of old) name c.args.end) c.args.place Reset sub (seeking (take c.args.end (log_of old)) sub) c.at-view.result.subscription.now c.index_mut.result.now c.reset.new.self
           c.requires.bound.told happens (c.in-Ok.ensures.ok name c.requires.place) c.at-view.ensures.parts c.at-view.ensures.subscription c.index_mut.ensures.value c.reset.ensures;

@@ -1,7 +1,4 @@
-use Rattle.std.proofs.Common.{◌≡◌, ◌∙◌, sym, ap, arith, Some, None, true, false, Bool, ℕ}
-use Rattle.std.specs.Prelude.{nat_lt}
-use Rattle.std.proofs.lemmas.Bool.Decides.{nat_tests}
-use Rattle.log_pieces.specs.Pieces.{index_of}
+use Rattle.std.proofs.Common.{◌∙◌, sym}
 use Rattle.delivery_machine.specs.Words.{has_position}
 use Rattle.topic_parts.specs.Parts.{log_of}
 use Rattle.topic_served.proofs.Visible.{any_taken, none_taken, below, not_below}

@@ -1,0 +1,10 @@
+use Rattle.std.proofs.Common.{ap, ◌∙◌, set, get_or}
+use Rattle.std.proofs.lemmas.List.Edits.{map_over_more}
+use Rattle.delivery_machine.specs.Trimming.{without_messages}
+use Rattle.plain_lists.proofs.trimming.forget_messages.Goals as goal
+
+pub loop-subscription-preserved : goal.loop-subscription-preserved
+loop-subscription-preserved c =
+    let item = get_or c.loop-subscription.subscriptions c.loop-subscription.subscription-index c.subscription-item.result in
+    ap (set c.loop-subscription.subscriptions c.loop-subscription.subscription-index) c.forget.ensures
+    ∙ map_over_more (without_messages c.args.positions.now) c.args.subscriptions.now c.loop-subscription.subscriptions c.loop-subscription.subscription-index item c.loop-subscription-test.true c.loop-subscription.invariant (ap (get_or c.loop-subscription.subscriptions c.loop-subscription.subscription-index) c.subscription-item.is)

@@ -1,0 +1,11 @@
+use Rattle.sqlite.specs.declared.error.Error.TheVariants.{SqliteFailure}
+use Rattle.sqlite.specs.declared.error.ErrorCode.TheVariants.{TransactionState}
+use Rattle.row_tables.proofs.PartLemmas.{running_or, read_back}
+use Rattle.row_tables.proofs.PerTable.{adds_retention}
+use Rattle.row_tables.proofs.retentions.add.Goals as goal
+
+pub returns-clause-done : goal.returns-clause-done
+returns-clause-done g c clean =
+    running_or c.args.tx.now.conn.now.in_transaction c.in_ok-execute.field-0 (SqliteFailure TransactionState) c.in_ok-execute.was c.execute.ensures.ended (λ running.
+    let passed = rw (c.params-to_sql.ensures, c.params-to_sql-2.ensures, c.params-to_sql-3.ensures, c.params-to_sql-4.ensures) at (c.in_ok-execute.ensures.runs clean running) in
+    adds_retention c.args.topic.now c.args.row.now.gone c.args.row.now.kind c.args.row.now.amount _ _ c.in_ok-execute.field-0 (rw (read_back c.in_ok-gone.ensures.value c.in_ok-gone.ensures.within, read_back c.in_ok-amount.ensures.value c.in_ok-amount.ensures.within) at passed))

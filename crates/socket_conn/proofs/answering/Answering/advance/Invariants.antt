@@ -1,0 +1,6 @@
+use Rattle.std.specs.Io.KnownBytes.{Keeps}
+use Rattle.socket_conn.specs.Answering.{sent_and_left}
+use Rattle.socket_conn.proofs.answering.Answering.advance.Given as goal
+
+abbrev pub invariant-loop : goal.invariant-loop
+invariant-loop g l = Keeps (sent_and_left g.S.Write.contents l.fn.self) (sent_and_left g.S.Write.contents l.self)
