@@ -101,19 +101,21 @@ def text_of(payload, context=None):
 
 
 class Broker:
-    """The program, over a database in a folder of its own."""
+    """The program, over a database in a folder of its own, with more words after the number of workers."""
 
-    def __init__(self, program, port, workers=4, folder=None):
-        self.program, self.port, self.workers = program, port, workers
+    def __init__(self, program, port, workers=4, folder=None, more=()):
+        self.program, self.port, self.workers, self.more = program, port, workers, more
         self.folder = folder or tempfile.mkdtemp(prefix='broker-', dir=os.environ.get('ROOM', '.'))
         self.database = f'{self.folder}/broker.db'
         self.start()
 
     def start(self):
         self.process = subprocess.Popen(
-            [self.program, self.database, f'127.0.0.1:{self.port}', str(self.workers)],
+            [self.program, self.database, f'127.0.0.1:{self.port}', str(self.workers), *self.more],
             stdout=subprocess.PIPE)
+        before = time.time()
         assert self.process.stdout.readline().startswith(b'listening')
+        self.took = time.time() - before
 
     def kill(self):
         self.process.kill()

@@ -1,7 +1,7 @@
 #!/usr/bin/env python3
 # One topic that is used without an end: endless.c publishes and consumes, while the broker is killed once a minute. At the end
 # the file, the memory and a start are looked at. It wants gcc and Debian's sqlite3.
-# endless.py PROGRAM [-count N] [-keep RULE] [-subs N] [-type T] [-consumers N] [-keys N] [-dead N] [-slow US] [-every SECONDS] [port]
+# endless.py PROGRAM [port] [-count N] [-keep RULE] [-subs N] [-type T] [-consumers N] [-keys N] [-dead N] [-slow US] [-every SECONDS]
 import argparse
 import os
 import subprocess
@@ -27,16 +27,6 @@ given = words.parse_args()
 HERE = os.path.dirname(os.path.abspath(__file__))
 
 
-class Endless(Broker):
-    def start(self):
-        self.process = subprocess.Popen(
-            [self.program, self.database, f'127.0.0.1:{self.port}', str(self.workers), f'keep={given.keep}'],
-            stdout=subprocess.PIPE)
-        before = time.time()
-        assert self.process.stdout.readline().startswith(b'listening')
-        self.took = time.time() - before
-
-
 def size(broker):
     return sum(os.path.getsize(f'{broker.folder}/{name}') for name in os.listdir(broker.folder))
 
@@ -44,7 +34,7 @@ def size(broker):
 with tempfile.TemporaryDirectory() as room:
     client = f'{room}/endless'
     subprocess.run(['gcc', '-O2', '-pthread', '-o', client, f'{HERE}/endless.c'], check=True)
-    broker = Endless(given.program, given.port)
+    broker = Broker(given.program, given.port, more=[f'keep={given.keep}'])
     load = subprocess.Popen([client, str(given.port), str(given.count), str(given.subs), given.type, str(given.consumers),
                              str(given.keys), str(given.dead), str(given.slow)])
     kills, most, since, starts = 0, 0, time.time(), []
@@ -58,7 +48,6 @@ with tempfile.TemporaryDirectory() as room:
             broker.start()
             starts.append(broker.took)
             kills, since = kills + 1, time.time()
-    assert load.returncode == 0, load.returncode
     time.sleep(2)
     at_end = broker.memory()
     broker.kill()
@@ -70,3 +59,4 @@ with tempfile.TemporaryDirectory() as room:
     broker.kill()
     print(f'{kills} kills; memory at most {most >> 20} MiB, at the end {at_end >> 20}, after a start {after >> 20}; '
           f'the files {size(broker) >> 20} MiB; the last start {broker.took:.2f} s')
+    assert load.returncode == 0, load.returncode

@@ -1,6 +1,6 @@
 #!/usr/bin/env python3
-# A file of version 1, as an earlier program wrote it: the broker goes on from it, and makes it one of version 3, by way of version 2. Python's own
-# library alone. The gate runs it.
+# A file of version 1, as an earlier program wrote it: the broker goes on from it, and makes it one of version 3, by way of version 2.
+# It wants Python's own library alone. The gate runs it.
 # version_1.py PROGRAM [port]
 import base64
 import json

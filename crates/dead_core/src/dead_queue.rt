@@ -7,7 +7,7 @@ ghost use Rattle.position_core.specs.Position.{position_cmp};
 ghost use Rattle.delivery_machine.specs.State.{Subscription};
 ghost use Rattle.delivery_machine.specs.Producing.{storing, storing_below};
 ghost use Rattle.delivery_machine.specs.Dying.{burying, first_safe, is_next_letter, moving};
-ghost use Rattle.dead_core.specs.Letters.{AreLettersOf, none_dead, ending_with, without_last, all_safe, safe_below, next_safe, is_next, without_first, has_before};
+ghost use Rattle.dead_core.specs.Letters.{AreLettersOf, none_dead, ending_with, without_last, all_safe, safe_below, next_safe, is_next, without_first};
 
 use delivery_machine::DeadLetter;
 use position_core::{Ordinal, Position};
@@ -171,13 +171,6 @@ impl DeadQueue {
             letters.push(self.letters[i].clone()?)?;
         }
         Ok(letters)
-    }
-
-    /// Whether a letter's message stands before the position. Takes a step for each letter.
-    pub fn has_before(&self, end: Position) -> bool
-        ensures { result ≡ has_before end self.now }
-    {
-        self.letters.iter().any(|letter| letter.position < end)
     }
 
     /// The first position at which a letter's message stands. Takes a step for each letter.

@@ -3,7 +3,6 @@ ghost use Rattle.std.specs.Prelude.{◌≡◌, ◌%◌, [], false, map, IfSome, 
 ghost use Rattle.std.specs.List.{All, Any};
 ghost use Rattle.std.specs.Ordering.{is_lt};
 ghost use Rattle.position_core.specs.Position.{position_cmp};
-ghost use Rattle.dead_core.specs.Letters.{has_before};
 ghost use Rattle.topic_subscriptions.specs.Placed.{AreAcknowledged, trimmed_to};
 
 use crate::subscription::Subscription;
@@ -17,13 +16,6 @@ impl Subscription {
         ensures none { IfNone result (self.now.letters.dead ≡ []) }
     {
         self.dead.first_position()
-    }
-
-    /// Whether a dead letter's message stands before the position. Takes a step for each letter.
-    pub fn has_dead_before(&self, end: Position) -> bool
-        ensures { result ≡ has_before end self.now.letters }
-    {
-        self.dead.has_before(end)
     }
 
     /// The first messages go, so many, which are all acknowledged, and the others stand as much lower. What

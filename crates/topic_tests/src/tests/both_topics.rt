@@ -24,7 +24,7 @@ const LISTS: u64 = 2_000;
 const EVENTS: u64 = 30;
 
 /// Each list of so many begins with so many messages, and lets the first of them go.
-const TRIMMED: u64 = 8;
+const TRIMMED: u64 = 4;
 
 const MESSAGES: u64 = 200;
 
@@ -125,7 +125,7 @@ fn check_filled<R: Abort + AllocGlobal>(rt: &R, number: u64, messages: u64, even
 /// Whole segments of a log go.
 #[test]
 fn lists_over_segments(rt: HostRuntime) {
-    for number in 0..2 {
+    for number in 0..10 {
         check_filled(&rt, number, 3_000, EVENTS);
     }
 }

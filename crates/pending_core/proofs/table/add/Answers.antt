@@ -1,4 +1,4 @@
-use Rattle.std.proofs.Common.{refl, arith}
+use Rattle.std.proofs.Common.{refl}
 use Rattle.pending_core.proofs.Found.{held_added, count_added}
 use Rattle.pending_core.proofs.Tied.{tied_added}
 use Rattle.pending_core.proofs.table.add.Goals as goal

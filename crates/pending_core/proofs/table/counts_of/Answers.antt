@@ -1,10 +1,8 @@
-use Rattle.std.proofs.Common.{◌≡◌, ◌≤◌, ◌<◌, ◌++◌, ◌∷◌, [], ◌∙◌, map, ap, sym, subst, arith, Some, None, Option, ℕ, IsTrue, All, refl, inl, inr, true≢false}
+use Rattle.std.proofs.Common.{◌≡◌, ◌≤◌, ◌<◌, ◌++◌, ◌∷◌, [], ◌∙◌, map, ap, sym, subst, arith, Some, None, ℕ, All, refl, inl, inr, true≢false}
 use Rattle.std.proofs.lemmas.Bool.{cases_lt}
 use Rattle.std.proofs.lemmas.List.{map-append}
 use Rattle.std.specs.Map.Iter.{deref_pair}
 use Rattle.std.specs.FinMap as map_of
-use Rattle.position_core.specs.Position.{position_cmp}
-use Rattle.position_core.specs.declared.position.Position.{Position}
 use Rattle.delivery_machine.specs.Counts.{IsAfterAll}
 use Rattle.pending_core.specs.declared.kept.Kept.{Kept}
 use Rattle.pending_core.specs.Pending.{most_count}

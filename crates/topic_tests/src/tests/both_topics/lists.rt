@@ -125,11 +125,11 @@ impl Lines {
         self.joined.saturating_sub(back)
     }
 
-    /// A message that may be there.
+    /// A message that may be there, mostly soon after those that are done with.
     fn message(&mut self) -> Position {
         let first = self.front / 3;
         let ledgers = (self.published / 3).saturating_sub(first);
-        let ledger = self.dice.roll(ledgers.saturating_add(2));
+        let ledger = self.dice.roll(ledgers.min(4).saturating_add(2));
         Position {
             ledger: first.saturating_add(ledger),
             entry: self.dice.roll(3),
@@ -302,11 +302,16 @@ impl Lines {
         self.add(rt, &words);
     }
 
-    /// Sends up to three messages.
     fn send<R: Abort + AllocGlobal>(&mut self, rt: &R) {
+        let subscription = self.subscription();
+        self.send_in(rt, subscription);
+    }
+
+    /// Sends up to three messages.
+    fn send_in<R: Abort + AllocGlobal>(&mut self, rt: &R, subscription: &str) {
         let words = [
             Word::Text("dispatch"),
-            Word::Text(self.subscription()),
+            Word::Text(subscription),
             Word::Number(self.now),
         ];
         let times = self.dice.roll(3);

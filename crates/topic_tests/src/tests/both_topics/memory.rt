@@ -11,5 +11,5 @@ fn a_refusal_changes_nothing(rt: HostRuntime) {
 /// The same where messages go.
 #[test]
 fn a_refused_trim_changes_nothing(rt: HostRuntime) {
-    check_filled(&rt, 1, 80, 12);
+    check_filled(&rt, 2, 80, 30);
 }

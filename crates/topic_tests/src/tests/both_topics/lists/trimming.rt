@@ -28,11 +28,14 @@ impl Lines {
         self.add_text(rt, "producer p -");
         self.add_text(rt, "producer q 1");
         self.add_text(rt, "producer - -");
-        self.join_at(rt, "subscribe shared Shared 0 push:100 0 0 1 - Earliest");
-        self.join_at(
-            rt,
-            "subscribe keyed Key_Shared 0 push:100 200 0 0 - Earliest",
-        );
+        self.join_both(rt);
+    }
+
+    fn join_both<R: Abort + AllocGlobal>(&mut self, rt: &R) {
+        let shared = "subscribe shared Shared 0 push:100 0 0 1 - Earliest";
+        let keyed = "subscribe keyed Key_Shared 0 push:100 200 0 1 - Earliest";
+        self.join_at(rt, shared);
+        self.join_at(rt, keyed);
     }
 
     fn join_at<R: Abort + AllocGlobal>(&mut self, rt: &R, line: &str) {
@@ -52,13 +55,25 @@ impl Lines {
 
     /// One more event, or what lets messages go; or so many messages more.
     fn next_or_trim<R: Abort + AllocGlobal>(&mut self, rt: &R, messages: u64) {
-        match self.dice.roll(24) {
-            0..=3 => self.get_done(rt),
-            4..=5 => self.trim(rt),
-            6 => self.restart(rt),
-            7 => self.fill(rt, messages),
+        match self.dice.roll(48) {
+            0..=6 => self.get_done(rt),
+            7..=9 => self.trim(rt),
+            10..=15 => self.send_both(rt),
+            16..=17 => self.fill(rt, messages),
+            18 => self.come_back(rt),
             _ => self.next(rt),
         }
+    }
+
+    fn send_both<R: Abort + AllocGlobal>(&mut self, rt: &R) {
+        self.send_in(rt, "shared");
+        self.send_in(rt, "keyed");
+    }
+
+    /// The topic goes on from what is stored, and the consumers join again.
+    fn come_back<R: Abort + AllocGlobal>(&mut self, rt: &R) {
+        self.restart(rt);
+        self.join_both(rt);
     }
 
     /// Mostly all subscriptions go on to the same message; then those before it may go.
