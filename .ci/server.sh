@@ -1,6 +1,6 @@
 #!/usr/bin/env bash
 # Tries the program that was proved over real sockets, from outside: each refusal with its code, requests that ask for no
-# WebSocket, whoever comes and goes, and a disk that takes no more. It wants Python's own library alone.
+# WebSocket, what is seen of the broker, whoever comes and goes, and a disk that takes no more. It wants Python's own library alone.
 set -euo pipefail
 cd "$(dirname "$0")/.."
 program=$PWD/crates/pulsar_broker/out/pulsar_broker
@@ -15,6 +15,7 @@ port() {
 
 python3 bench/server/refusals.py "$program" "$(port)"
 python3 bench/server/plain.py "$program" "$(port)"
+python3 bench/server/seen.py "$program" "$(port)"
 python3 bench/server/version_1.py "$program" "$(port)"
 python3 bench/server/offline.py "$program" "$(port)"
 python3 bench/server/opens.py "$program" 60 "$(port)"

@@ -74,6 +74,8 @@ ctl publish errands one two three --key k
 ctl consume errands worker --count 2 -v
 ctl --json stats errands worker | tee "$room/stats"
 grep -q '"acknowledged": 2.*"live": 1' "$room/stats"
+ctl topics | tee "$room/topics"
+grep -q '  worker  *Exclusive  *1 ' "$room/topics"
 ctl seek errands worker earliest
 ctl skip errands worker 1
 ctl consume errands worker --wait 1 | diff - <(printf 'two\nthree\n')

@@ -1,8 +1,10 @@
 #!/usr/bin/env python3
 # Clients of all kinds come and go, read or do not, acknowledge, give back or forget: in the end a quiet consumer of
 # each subscription gets all that is left, so no wake-up was lost on the way. Each message was acknowledged then, or
-# stands in the topic of dead letters, once.
+# stands in the topic of dead letters, once. Meanwhile somebody looks at the overview and the metrics each second; once all
+# rests, the overview has each message, acknowledged or dead.
 # churn.py PROGRAM [rounds] [port] [first round]
+import http.client
 import json
 import random
 import socket
@@ -21,6 +23,20 @@ TOPICS, PRODUCERS, CONSUMERS, CHURN = 3, 2, 4, 4.0
 FORGOTTEN, STILL = 20, 3.0
 IN_ORDER = ['Exclusive', 'Failover']
 KINDS = [*IN_ORDER, 'Shared', 'Key_Shared']
+
+
+def page(path):
+    conn = http.client.HTTPConnection('127.0.0.1', port, timeout=10)
+    conn.request('GET', path)
+    answer = conn.getresponse()
+    assert answer.status == 200, (path, answer.status)
+    body = answer.read()
+    conn.close()
+    return body
+
+
+def sum_of(sub):
+    return sub['acknowledged'] + sub['waiting'] + sub['pending'] + sub['dead']
 
 
 class Round:
@@ -178,9 +194,29 @@ class Round:
         for thread in threads:
             thread.join()
 
+    def look(self):
+        """Looks each second, as Prometheus does and the page: no subscription has more messages than its topic."""
+        while self.goes_on():
+            page('/metrics')
+            for topic in json.loads(page('/overview'))['topics']:
+                for sub in topic['subscriptions']:
+                    # (a message that is dead may be acknowledged too, until its letter is moved)
+                    assert sum_of(sub) - sub['dead'] <= topic['kept'], (topic, sub)
+            time.sleep(1)
+
+    def check_rest(self):
+        """All rests: what was published is in each subscription, to the message."""
+        for topic in json.loads(page('/overview'))['topics']:
+            place = topic['name'].rsplit('-', 1)[-1]
+            if f'/churn-{self.number}-' in topic['name'] and place.isdigit():
+                count = len(self.published.get(int(place), ()))
+                for sub in topic['subscriptions']:
+                    if not sum_of(sub) == topic['kept'] == count:
+                        self.faults.append((topic['name'], sub, topic['kept'], count))
+
     def play(self):
         dice = random.Random(self.number)
-        jobs = []
+        jobs = [(self.look,)]
         for place in range(TOPICS):
             for _ in range(PRODUCERS):
                 jobs.append((self.publish, place, random.Random(dice.random())))
@@ -190,6 +226,7 @@ class Round:
         self.all_do(jobs)
         self.all_do([(self.drain, place, kind, random.Random(dice.random()))
                      for place in range(TOPICS) for kind in KINDS])
+        self.check_rest()
         return sum(len(texts) for texts in self.published.values())
 
 

@@ -4,6 +4,7 @@
 # fail by a limit on the size of files, which is another one each time, so that it fails in another call. The gate runs it.
 # full.py PROGRAM [times] [port]
 import base64
+import http.client
 import os
 import resource
 import signal
@@ -12,6 +13,7 @@ import subprocess
 import sys
 import tempfile
 import threading
+import time
 
 from client import Client, consumer, producer, text_of
 
@@ -54,21 +56,49 @@ def publish(topic, found):
         found.append(got['messageId'])
 
 
+def health():
+    """The status of /health; none where nobody answers."""
+    conn = http.client.HTTPConnection('127.0.0.1', port, timeout=5)
+    try:
+        conn.request('GET', '/health')
+        return conn.getresponse().status
+    except (OSError, http.client.HTTPException):
+        return None
+    finally:
+        conn.close()
+
+
+def watch(seen):
+    """Asks for the health until nobody answers, and notes when each question was begun."""
+    while not seen or seen[-1][1]:
+        begun = time.time()
+        seen.append((begun, health()))
+
+
 def fill(folder, most):
     """How many publishes of two topics were answered ok before the disk failed."""
     process = start(folder, most)
     quiet = [consumer(port, 'a', 's'), consumer(port, 'c', 's'), Client(port, '/ws/v2/admin/persistent/public/default/c')]
     found = {'a': [], 'b': []}
     threads = [threading.Thread(target=publish, args=(topic, found[topic])) for topic in found]
-    for thread in threads:
+    assert health() == 200
+    seen, failed = [], []
+    watcher = threading.Thread(target=watch, args=(seen,))
+    for thread in [watcher, *threads]:
         thread.start()
     for thread in threads:
         thread.join()
+        failed.append(time.time())
     for client in quiet:
         got = last(client)
         assert got == (4008, 'F16'), got
     assert process.wait(30) == 3
-    said = process.stderr.read().decode().splitlines()
+    watcher.join()
+    # (whoever asks once a session was told of the failure is told too)
+    late = [status for begun, status in seen if begun > failed[0]]
+    assert 200 not in late, late
+    unwell.append([status for _, status in seen].count(503))
+    said = [line for line in process.stderr.read().decode().splitlines() if not line.startswith('level=')]
     assert len(said) == 2 and said[0].startswith(f'{folder}/broker.db: ') and said[1] == 'store failed', said
     return found, said[0].split(': ', 1)[1]
 
@@ -91,11 +121,12 @@ def look(folder, found):
     assert whole == [('ok',)], whole
 
 
-count, whys = 0, set()
+count, whys, unwell = 0, set(), []
 for turn in range(times):
     folder = tempfile.mkdtemp(prefix='broker-', dir=os.environ.get('ROOM', '.'))
     found, why = fill(folder, LEAST + turn * STEP)
     look(folder, found)
     count += sum(len(ids) for ids in found.values())
     whys.add(why)
-print(f'{times} disks took no more: {count} publishes were answered ok, each is found; it said {sorted(whys)}')
+print(f'{times} disks took no more: {count} publishes were answered ok, each is found; it said {sorted(whys)}; '
+      f'/health was answered 503 {sum(unwell)} times, and never 200 once a session was told')

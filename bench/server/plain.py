@@ -67,7 +67,7 @@ try:
     asks('a head of 8,193 bytes', '400 Bad Request', 'bad request\n', [head(b'GET /health HTTP/1.1', 8193)])
     asks('101 lines', '400 Bad Request', 'bad request\n', [b'GET /health HTTP/1.1\r\n' + b'a: b\r\n' * 101 + b'\r\n'])
     asks('no head', '400 Bad Request', 'bad request\n', [b'\x16\x03\x01\x02\0\x01\0'])
-    is_read('GET', '/', 404, b'not found\n')
+    is_read('GET', '/nothing', 404, b'not found\n')
     is_read('GET', '/ws/v2/producer/persistent/public/default/t', 404, b'not found\n')
     is_read('GET', '/health', 400, b'bad request\n', UPGRADE)
     is_read('GET', '/health', 400, b'bad request\n', UPGRADE | {'Sec-WebSocket-Key': 'short'})

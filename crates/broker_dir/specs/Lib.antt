@@ -4,4 +4,5 @@ pub mod Ends
 pub mod Handing
 pub mod Listing
 pub mod Refusing
+pub mod Seeing
 pub mod Trimming

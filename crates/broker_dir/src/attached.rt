@@ -57,6 +57,15 @@ pub enum Coming<T: Opened + Drop, J: Naming, B: Bell + Drop> {
     Waits(Waiter<B>),
 }
 
+/// Why a call was refused, where it was.
+fn fault_of(answer: &Result<Reply, Fault>) -> Option<Fault> {
+    match answer {
+        Ok(Reply::Refused(fault)) => Some(*fault),
+        Err(fault) => Some(*fault),
+        _ => None,
+    }
+}
+
 /// The calls of the one at a seat: each is one hold of the topic's lock, and of no other.
 #[derive(Drop)]
 pub struct Seated<'a, T: Opened + Drop, S: Alter, J: Naming, B: Bell + Drop, R: Wait, G: Gate> {
@@ -64,6 +73,8 @@ pub struct Seated<'a, T: Opened + Drop, S: Alter, J: Naming, B: Bell + Drop, R: 
     pub(crate) directory: &'a Directory<T, S, J, B>,
     pub(crate) attached: &'a Attached<T, J, B>,
     pub(crate) gate: &'a G,
+    /// Why the last call was refused, where it was.
+    pub(crate) refused: Option<Fault>,
 }
 
 impl<'a, T: Opened + Drop, S: Alter, J: Naming, B: Bell + Drop, R: Wait, G: Gate> Seated<
@@ -81,6 +92,13 @@ impl<'a, T: Opened + Drop, S: Alter, J: Naming, B: Bell + Drop, R: Wait, G: Gate
             return Err(Fault::StoreFailed);
         }
         Asked::of(event)
+    }
+
+    /// Why the last call was refused, where it was.
+    pub fn refused(&self) -> Option<Fault>
+        ensures { result ≡ self.now.refused }
+    {
+        self.refused
     }
 
     fn answer(&self, asked: &Asked, event: Event) -> Result<Reply, Fault> {
@@ -121,9 +139,11 @@ impl<'a, T: Opened + Drop, S: Alter, J: Naming, B: Bell + Drop, R: Wait, G: Gate
     ghost calls = { λ c. None };
 
     fn call(&mut self, request: Request) -> Result<Reply, Fault> {
-        match request {
+        let answer = match request {
             Request::Event(event) => self.ask(event),
             Request::DeleteTopic => self.directory.delete(self.rt, &self.attached.topic),
-        }
+        };
+        self.refused = fault_of(&answer);
+        answer
     }
 }

@@ -9,6 +9,7 @@ use crate::directory::Directory;
 use crate::gate::Gate;
 use crate::opening::found_in;
 use crate::topic::Shared;
+use crate::visitors::Visitor;
 use delivery_machine::{Fault, Opened, TopicName};
 use marks::Naming;
 use row_forms::topic_text;
@@ -63,6 +64,12 @@ impl<T: Opened + Drop, S: Alter, J: Naming, B: Bell + Drop> Directory<T, S, J, B
         }
     }
 
+    /// The one at the seat says who it is, to those who look.
+    pub fn introduce<R: Wait>(&self, rt: &R, attached: &Attached<T, J, B>, visitor: Visitor) {
+        let mut inside = attached.topic.inside.lock(rt);
+        inside.visitors.enter(attached.seat, visitor);
+    }
+
     /// Lends the one at the seat its calls.
     pub fn caller<'a, R: Wait, G: Gate>(
         &'a self,
@@ -75,6 +82,7 @@ impl<T: Opened + Drop, S: Alter, J: Naming, B: Bell + Drop> Directory<T, S, J, B
             directory: self,
             attached,
             gate,
+            refused: None,
         }
     }
 

@@ -1,7 +1,7 @@
 // The time of day, in milliseconds, and the clock that never goes back.
 use delivery_machine::Moment;
 use std::rt::Clock;
-use std::time::{Instant, SystemTime, UNIX_EPOCH};
+use std::time::{Duration, Instant, SystemTime, UNIX_EPOCH};
 
 /// The moment that it is; none where the clock tells none.
 pub(crate) fn read<R: Clock>(rt: &R) -> Option<Moment> {
@@ -22,4 +22,9 @@ pub fn moment<R: Clock>(rt: &R, last: Moment) -> Moment {
 /// What the clock shows that never goes back; none where it cannot be read.
 pub(crate) fn instant<R: Clock>(rt: &R) -> Option<Instant> {
     Instant::now(rt).ok()
+}
+
+/// How long it was from the one to the other, where both could be read.
+pub(crate) fn since(began: Option<Instant>, ended: Option<Instant>) -> Option<Duration> {
+    Some(ended?.duration_since(began?))
 }

@@ -78,6 +78,7 @@ impl<T: Opened + Drop, S: Alter, J: Naming, B: Bell + Drop> Directory<T, S, J, B
         match delete_from(self.alloc, &mut *table, &mut *keeper, &mut *inside) {
             Ok(()) => {
                 topic.note_over();
+                self.counts.unload();
                 inside.bells.ring_all(rt);
                 Ok(())
             }

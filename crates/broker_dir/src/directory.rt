@@ -1,6 +1,9 @@
 // The directory: topics by name, the keeper of all, and what waits to be stored.
+ghost use Rattle.std.specs.Prelude.{◌≡◌};
+
 use crate::board::Board;
 use crate::closing::Closed;
+use crate::counts::Counts;
 use crate::table::Table;
 use crate::topic::Shared;
 use crate::uses::Uses;
@@ -27,6 +30,7 @@ pub struct Directory<T: Opened + Drop, S: Alter, J: Naming, B: Bell + Drop> {
     /// Set once the store has failed: from then on all is refused (F16).
     pub(crate) closed: Closed,
     pub(crate) uses: Uses,
+    pub(crate) counts: Counts,
 }
 
 impl<T: Opened + Drop, S: Alter + Drop, J: Naming, B: Bell + Drop> Drop for Directory<T, S, J, B> {
@@ -40,13 +44,16 @@ impl<T: Opened + Drop, S: Alter + Drop, J: Naming, B: Bell + Drop> Drop for Dire
             board: _,
             closed: _,
             uses: _,
+            counts: _,
         } = self;
     }
 }
 
 impl<T: Opened + Drop, S: Alter, J: Naming, B: Bell + Drop> Directory<T, S, J, B> {
     /// Over the database of the keeper; no topic is open. A topic that has no rule of its own keeps what this one says.
-    pub fn open(alloc: Global, keeper: Keeper<S, J>, terms: Terms, retention: Retention) -> Self {
+    pub fn open(alloc: Global, keeper: Keeper<S, J>, terms: Terms, retention: Retention) -> Self
+        ensures { result.retention ≡ retention }
+    {
         Directory {
             alloc,
             terms,
@@ -56,6 +63,7 @@ impl<T: Opened + Drop, S: Alter, J: Naming, B: Bell + Drop> Directory<T, S, J, B
             board: Board::new(alloc),
             closed: Closed::new(),
             uses: Uses::new(),
+            counts: Counts::new(alloc),
         }
     }
 
@@ -70,6 +78,7 @@ impl<T: Opened + Drop, S: Alter, J: Naming, B: Bell + Drop> Directory<T, S, J, B
             board: _,
             closed: _,
             uses: _,
+            counts: _,
         } = self;
         keeper.into_inner()
     }

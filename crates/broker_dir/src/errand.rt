@@ -28,6 +28,8 @@ pub struct Errands<T: Opened + Drop, J: Naming, B: Bell + Drop> {
     due: Option<Due>,
     /// What its last task was: after a store, or a piece of a topic, it has the right to store until it asks for another.
     pub(crate) did: Did,
+    /// When the topic was begun that is being opened piece by piece.
+    pub(crate) loading: Option<Instant>,
 }
 
 impl<T: Opened + Drop, J: Naming, B: Bell + Drop> Drop for Errands<T, J, B> {
@@ -39,6 +41,7 @@ impl<T: Opened + Drop, J: Naming, B: Bell + Drop> Drop for Errands<T, J, B> {
             looks: _,
             due: _,
             did: _,
+            loading: _,
         } = self;
     }
 }
@@ -62,6 +65,7 @@ impl<T: Opened + Drop, J: Naming, B: Bell + Drop> Errands<T, J, B> {
             looks: Looks::new(),
             due: None,
             did: Did::Other,
+            loading: None,
         })
     }
 

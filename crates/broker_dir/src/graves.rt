@@ -1,6 +1,7 @@
 // The subscriptions of a topic, and in which of them letters may lie dead.
 ghost use Rattle.std.specs.Prelude.{◌≡◌, IfErr};
 
+use crate::tallies::Traffic;
 use delivery_machine::{Event, Fault, KeptSubscription, Reply, SubscriptionName};
 use std::alloc::Global;
 
@@ -18,6 +19,7 @@ pub(crate) struct Grave {
     is_open: bool,
     /// A courier is under way for it, of which there is one at most.
     has_courier: bool,
+    traffic: Traffic,
 }
 
 impl Grave {
@@ -29,6 +31,7 @@ impl Grave {
             is_viewed: false,
             is_open,
             has_courier: false,
+            traffic: Traffic::new(),
         }
     }
 
@@ -173,13 +176,22 @@ impl Graves {
         }
     }
 
-    /// A letter died in the subscription.
-    pub(crate) fn bury(&mut self, name: &SubscriptionName) {
+    /// A consumer of the subscription was answered so, by which a letter may have died.
+    pub(crate) fn note(&mut self, name: &SubscriptionName, reply: &Reply) {
         let found = self.place_of(name);
         if let Some(place) = found
             && let Some(grave) = self.graves.get_mut(place)
         {
-            grave.has_died = true;
+            grave.has_died |= matches!(reply, Reply::Died { .. });
+            grave.traffic.note(reply);
+        }
+    }
+
+    /// What came of what the subscription's consumers asked.
+    pub(crate) fn traffic(&self, name: &SubscriptionName) -> Traffic {
+        match self.graves.iter().find(|grave| grave.name.is(name)) {
+            Some(grave) => grave.traffic,
+            None => Traffic::new(),
         }
     }
 

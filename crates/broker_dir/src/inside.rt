@@ -5,12 +5,15 @@ ghost use Rattle.topic_shared.specs.Kept.{is_end};
 ghost use Rattle.stored_cell.specs.Held.{IsAtRest};
 ghost use Rattle.broker_dir.specs.Ends.{entry_refusal, is_ending, refused_at};
 ghost use Rattle.broker_dir.specs.Handing.{HandsOn};
+ghost use Rattle.broker_dir.specs.Trimming.{MayAnswer, most_after as most_going, rule_of as rule_by, trim_by as trims_by};
 ghost use Rattle.topic_seats.specs.Seats.{IsFree, without_seat};
 
 use crate::graves::{Change, Graves};
 use crate::named_cell::NamedCell;
 use crate::stage::{Stage, is_ending};
+use crate::tallies::{Tallies, ends_producer};
 use crate::trimming::{most_after, rule_of, trim_by};
+use crate::visitors::Visitors;
 use delivery_machine::{Event, Fault, Moment, Opened, Reply, Retention, Snapshot};
 use marks::Naming;
 use row_store::OpenCell;
@@ -26,13 +29,21 @@ const LONG: u64 = 4_096;
 const PINNED: u64 = 1_024;
 
 /// By this number an event is asked for which nobody sits down: no seat has it.
-const VISITOR: u64 = u64::MAX;
+pub(crate) const VISITOR: u64 = u64::MAX;
 
 /// Whether the event calls something durable: only the store may do that, by its confirmation.
 fn is_storing(event: &Event) -> bool
     ensures { result ≡ is_storing event.now }
 {
     matches!(event, Event::Stored | Event::StoredTo { .. })
+}
+
+/// Whether the reply to a consumer is noted at its subscription.
+fn is_of_subscription(reply: &Reply) -> bool {
+    matches!(
+        reply,
+        Reply::Sent { .. } | Reply::Released { .. } | Reply::Rewound { .. } | Reply::Died { .. }
+    )
 }
 
 /// What a topic's lock guards.
@@ -54,6 +65,8 @@ pub(crate) struct Inside<T: Opened + Drop, J: Naming, B: Bell + Drop> {
     pub(crate) used: u64,
     /// How many messages had gone when its journal last began anew for that.
     rolled_at: u64,
+    pub(crate) tallies: Tallies,
+    pub(crate) visitors: Visitors,
 }
 
 /// A topic that may leave, by the number of its last use: nobody is connected, and what is stored of it is the topic as it is.
@@ -108,6 +121,8 @@ impl<T: Opened + Drop, J: Naming, B: Bell + Drop> Inside<T, J, B> {
             is_awaited: false,
             used: 0,
             rolled_at: gone,
+            tallies: Tallies::new(),
+            visitors: Visitors::new(alloc),
         };
         match inside.graves.know(snapshot.subscriptions()) {
             Ok(()) => Ok(inside),
@@ -158,6 +173,7 @@ impl<T: Opened + Drop, J: Naming, B: Bell + Drop> Inside<T, J, B> {
     {
         self.topic.exit(seat);
         self.bells.exit(rt, seat);
+        self.visitors.exit(seat);
     }
 
     /// One event of the one at the seat. Those are rung to whom it leads. Refused before the topic hears of it where the topic
@@ -206,8 +222,10 @@ impl<T: Opened + Drop, J: Naming, B: Bell + Drop> Inside<T, J, B> {
         ensures stays { result ≢ Err Fault.JournalFull → self.new.stage ≡ self.old.stage }
         ensures name { self.new.topic.name ≡ self.old.topic.name }
     {
+        let ends = ends_producer(&event);
         match self.topic.call(seat, event) {
             Ok(receipt) => {
+                self.tallies.note(ends, &receipt.reply);
                 self.answered(rt, seat, asked, change, &receipt.reply);
                 Ok(receipt.reply)
             }
@@ -267,10 +285,10 @@ impl<T: Opened + Drop, J: Naming, B: Bell + Drop> Inside<T, J, B> {
     {
         self.bells.answered(rt, seat, asked, reply);
         self.graves.answered(change, reply);
-        if let Reply::Died { .. } = reply
+        if is_of_subscription(reply)
             && let Some(name) = self.bells.subscription(seat)
         {
-            self.graves.bury(name);
+            self.graves.note(name, reply);
         }
         self.roll_if_long();
     }
@@ -397,6 +415,7 @@ impl<T: Opened + Drop, J: Naming, B: Bell + Drop> Inside<T, J, B> {
     /// Messages go that every subscription has done with and that nothing keeps, by the topic's own rule or the broker's: at
     /// most twice as many as came since the store before. Where that is refused (F1, F15) the next store asks again.
     pub(crate) fn trim(&mut self, broker: Retention, now: Option<Moment>, came: u64)
+        ensures asks { MayAnswer (trims_by (rule_by self.old.topic.cell.cell.state.retention broker) now (most_going came)) self.old.topic.cell.cell.state self.new.topic.cell.cell.state }
         ensures name { self.new.topic.name ≡ self.old.topic.name }
         ensures stage { self.new.stage ≡ self.old.stage }
     {
@@ -419,6 +438,7 @@ impl<T: Opened + Drop, J: Naming, B: Bell + Drop> Inside<T, J, B> {
 
     /// So many messages have gone.
     fn roll_if_pinned(&mut self, gone: u64)
+        ensures state { self.new.topic.cell.cell.state ≡ self.old.topic.cell.cell.state }
         ensures name { self.new.topic.name ≡ self.old.topic.name }
         ensures stage { self.new.stage ≡ self.old.stage }
     {
@@ -434,7 +454,7 @@ impl<T: Opened + Drop, J: Naming, B: Bell + Drop> Inside<T, J, B> {
         self.is_behind = true;
     }
 
-    fn roll_if_long(&mut self)
+    pub(crate) fn roll_if_long(&mut self)
         ensures state { self.new.topic.cell.cell.state ≡ self.old.topic.cell.cell.state }
         ensures name { self.new.topic.name ≡ self.old.topic.name }
         ensures stage { self.new.stage ≡ self.old.stage }

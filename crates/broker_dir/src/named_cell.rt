@@ -138,6 +138,14 @@ impl<T: Opened + Drop, J: Naming> NamedCell<T, J> {
         self.cell.roll();
     }
 
+    /// What the topic has now, to look at.
+    pub(crate) fn view(&self) -> Result<Snapshot, Fault>
+        ensures ok { IfOk result (λ kept. snapshot_in kept ≡ snapshot_of self.now.cell.cell.state) }
+        ensures fault { IfErr result (λ fault. fault ≡ Fault.NoMemory) }
+    {
+        self.cell.view()
+    }
+
     /// The topic as it is, to be stored.
     pub(crate) fn view_by<S: Alter>(&mut self, keeper: &mut Keeper<S, J>) -> Result<Part<J>, Fault>
         ensures keeper { keeper.new ≡ keeper.old }

@@ -224,6 +224,7 @@ impl<T: Opened + Drop, S: Alter, J: Naming, B: Bell + Drop> Directory<T, S, J, B
             return Err(Fault::NoMemory);
         }
         self.make_place(rt, table, room);
+        self.counts.load();
         if sends {
             self.board.send(rt, errand);
         } else {

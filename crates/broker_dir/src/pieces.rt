@@ -6,7 +6,9 @@ ghost use Rattle.indexmap.specs.IndexMap.{get_by_text};
 ghost use Rattle.position_core.specs.TopicName.{topic_text};
 ghost use Rattle.broker_dir.specs.Listing.{most_open};
 
+use crate::clock::{instant, since};
 use crate::directory::Directory;
+use crate::errand::Errands;
 use crate::inside::Inside;
 use crate::opening::{clone_of, found_in};
 use crate::stage::Stage;
@@ -59,21 +61,30 @@ impl<T: Opened + Drop, S: Alter, J: Naming, B: Bell + Drop> Directory<T, S, J, B
 
     /// Reads a piece of the topic that was asked for first, with the right to store. Where that was the last one, the right is
     /// let go of, and the topic is made and opened, which takes a while where it has many messages.
-    pub(crate) fn open_on<R: Wait + Clock>(&self, rt: &R) {
+    pub(crate) fn open_on<R: Wait + Clock>(&self, rt: &R, errands: &mut Errands<T, J, B>) {
         let Some(opening) = self.first_opening(rt) else {
             return;
+        };
+        let began = match errands.loading.take() {
+            Some(began) => Some(began),
+            None => instant(rt),
         };
         match self.read_on(rt, &opening.name) {
             Ok(Some(loaded)) => {
                 self.step_aside(rt);
                 let outcome = self.open_read(rt, &opening.name, loaded);
+                let took = since(began, instant(rt));
+                self.counts.note_load(rt, &opening.name, took);
                 self.end_opening(rt, opening, outcome);
             }
             // (who waits for one that has no rows any more comes again, and makes it or is refused)
             Ok(None) => self.end_opening(rt, opening, Outcome::Open),
             Err(why) => match why.fault() {
                 Some(fault) => self.end_opening(rt, opening, Outcome::Refused(fault)),
-                None => drop(opening),
+                None => {
+                    errands.loading = began;
+                    drop(opening);
+                }
             },
         }
     }

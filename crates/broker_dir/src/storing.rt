@@ -4,7 +4,7 @@ ghost use Rattle.sqlite.specs.State.{HasCleanDisk};
 ghost use Rattle.sqlite.specs.Held.{state};
 ghost use Rattle.row_store.specs.Keeping.{StoresAll, kepts};
 
-use crate::clock::read;
+use crate::clock::{instant, read, since};
 use crate::closing::Unstored;
 use crate::directory::Directory;
 use crate::errand::Errands;
@@ -146,7 +146,7 @@ impl<T: Opened + Drop, S: Alter, J: Naming, B: Bell + Drop> Directory<T, S, J, B
         errands.did = did_by(&task);
         match task {
             Task::Store(topics) => self.store(rt, topics.as_slice()),
-            Task::Open => self.open_on(rt),
+            Task::Open => self.open_on(rt, errands),
             Task::Errand(topic) => self.begin_errand(rt, topic, errands),
             Task::Look => {
                 errands.call_due(rt);
@@ -230,8 +230,11 @@ impl<T: Opened + Drop, S: Alter, J: Naming, B: Bell + Drop> Directory<T, S, J, B
         ensures memory { result ≡ Err Unstored.NoMemory → (keeper.new.failed ≡ false) × (keeper.new ≡ keeper.old) }
     {
         let Batch { parts, seen } = batch;
+        let began = instant(rt);
         match keeper.store(parts) {
             Ok(kept) => {
+                self.counts
+                    .store(rt, keeper.written(), since(began, instant(rt)));
                 self.confirm_all(rt, topics, seen.as_slice(), kept);
                 Ok(())
             }

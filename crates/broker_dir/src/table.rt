@@ -12,7 +12,7 @@ use delivery_machine::{Fault, Opened, TopicName};
 use indexmap::IndexMap;
 use marks::Naming;
 use session_bells::Bell;
-use std::alloc::Global;
+use std::alloc::{AllocError, Global};
 use std::sync::{Arc, Wait};
 
 /// How many topics may be open.
@@ -58,6 +58,15 @@ impl<T: Opened + Drop, J: Naming, B: Bell + Drop> Table<T, J, B> {
         ensures { result ≡ length self.now.list.topics.entries }
     {
         self.list.topics.len()
+    }
+
+    /// The names of the open topics, in the order of opening.
+    pub(crate) fn names(&self, alloc: Global) -> Result<Vec<String>, AllocError> {
+        let mut names = Vec::with_capacity(alloc, self.count())?;
+        for name in self.list.topics.keys() {
+            names.push(name.clone()?)?;
+        }
+        Ok(names)
     }
 
     /// The topic, which was not open, is open under its name. False for want of memory.

@@ -1,6 +1,6 @@
 // What a topic is asked to let go of, by the rule that it has or its broker.
 ghost use Rattle.std.specs.Prelude.{◌≡◌, ◌-◌, Some};
-ghost use Rattle.broker_dir.specs.Trimming.{rule_of, trim_by};
+ghost use Rattle.broker_dir.specs.Trimming.{most_after, rule_of, trim_by};
 
 use crate::directory::Directory;
 use crate::topic::Shared;
@@ -14,7 +14,9 @@ use std::sync::{Arc, Wait};
 const FEW: u64 = 64;
 
 /// How many messages may go after a store of so many: more than came, so that deletes keep up.
-pub(crate) fn most_after(stored: u64) -> u64 {
+pub(crate) fn most_after(stored: u64) -> u64
+    ensures { result ≡ most_after stored }
+{
     stored.saturating_mul(2).max(FEW)
 }
 

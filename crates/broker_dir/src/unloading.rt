@@ -3,6 +3,7 @@ ghost use Rattle.std.specs.Prelude.{◌≡◌, ◌≤◌, ◌<◌, ◌⊎◌, If
 ghost use Rattle.std.specs.List.{remove};
 ghost use Rattle.broker_dir.specs.Listing.{HasRoom, after_making, most_open, names_of};
 
+use crate::clock::{instant, since};
 use crate::directory::Directory;
 use crate::errand::Errands;
 use crate::inside::Rested;
@@ -12,6 +13,7 @@ use delivery_machine::Opened;
 use marks::Naming;
 use session_bells::Bell;
 use sqlite::Alter;
+use std::rt::Clock;
 use std::sync::{Arc, Wait};
 
 /// Where a further topic has room.
@@ -124,6 +126,7 @@ impl<T: Opened + Drop, S: Alter, J: Naming, B: Bell + Drop> Directory<T, S, J, B
         let Some(topic) = table.remove(place) else {
             return;
         };
+        self.counts.unload();
         let mut keeper = self.keeper.lock(rt);
         keeper.forget(&topic.name);
         drop(keeper);
@@ -142,16 +145,20 @@ impl<T: Opened + Drop, S: Alter, J: Naming, B: Bell + Drop> Directory<T, S, J, B
             && is_blank_at(rt, table, place)
         {
             drop(table.remove(place));
+            self.counts.unload();
         }
     }
 
     /// Topics leave that nobody uses, and nobody has used for five minutes, and those whose journals are full; the others are
     /// asked to trim. It looks at them once a minute.
-    pub(crate) fn look<R: Wait>(&self, rt: &R, errands: &mut Errands<T, J, B>) {
+    pub(crate) fn look<R: Wait + Clock>(&self, rt: &R, errands: &mut Errands<T, J, B>) {
         let time = errands.time;
         if errands.looks.is_due(time) {
             let last = errands.looks.mark(self.uses.made(), time);
+            let before = self.counts.unloads();
             self.unload(rt, last);
+            let took = since(time, instant(rt));
+            self.counts.note_unloads(rt, before, took);
             self.see_all_out(rt);
             self.trim_each(rt, errands.now);
         }

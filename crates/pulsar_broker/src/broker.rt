@@ -6,7 +6,8 @@ ghost use Rattle.row_tables.specs.Ready.{AreKeyed};
 
 use crate::arguments::Asked;
 use crate::causes::{Why, say_why};
-use broker_dir::{Directory, Open, Terms};
+use broker_dir::{Directory, Open, Terms, moment};
+use delivery_machine::Moment;
 use marks::{Naming, Unnamed};
 use position_core::LedgerSize;
 use row_store::Keeper;
@@ -15,13 +16,13 @@ use std::alloc::AllocGlobal;
 use std::io::{Eprint, Print};
 use std::marker::Brand;
 use std::net::{Net, TcpListener, TcpStream};
-use std::rt::Clock;
+use std::rt::{Clock, Files};
 use std::sync::{Arc, Wait};
 use std::thread::Threads;
 use stored_cell::{Note, Notes};
 use topic_core::TopicCore;
 use topic_shared::{LineLimit, SeatCount};
-use worker_pool::{Ended, Limits, Place, serve};
+use worker_pool::{About, Ended, Limits, Place, VERSION, serve};
 
 /// How the program ends.
 #[derive(Clone, Copy, Debug, PartialEq, Eq)]
@@ -80,6 +81,7 @@ fn serve_named<
         + Clock
         + Print
         + Eprint
+        + Files
         + AllocGlobal
         + Copy
         + Send
@@ -104,8 +106,14 @@ fn serve_named<
     let Some(terms) = terms() else {
         return Fate::CannotServe;
     };
+    let Some(first) = Moment::new(0) else {
+        return Fate::CannotServe;
+    };
     let directory = Directory::open(alloc, keeper, terms, asked.keep);
-    let place: Place<TopicCore, S, J, Open> = Place::new(directory, Open);
+    let about = About {
+        started: moment(rt, first),
+    };
+    let place: Place<TopicCore, S, J, Open> = Place::new(directory, Open, about);
     let Ok(place) = Arc::new(alloc, place) else {
         return Fate::CannotServe;
     };
@@ -116,6 +124,10 @@ fn serve_named<
         return Fate::CannotServe;
     };
     let _ = println!(rt; "listening {}", asked.address);
+    let _ = eprintln!(rt;
+        "level=info msg=\"started\" version={VERSION} database={} address={} workers={}",
+        asked.database, asked.address, asked.workers
+    );
     let limits = Limits {
         workers: asked.workers,
         connections: asked.connections,
@@ -134,6 +146,7 @@ pub fn serve_over<
         + Clock
         + Print
         + Eprint
+        + Files
         + AllocGlobal
         + Copy
         + Send

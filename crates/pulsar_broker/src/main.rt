@@ -4,15 +4,18 @@
 mod arguments;
 mod broker;
 mod causes;
+mod help;
 
 use arguments::read_arguments;
 use broker::{Fate, serve_over};
 use causes::{say_why, why_unopened};
+use help::HELP;
 use row_found::{open, open_in_memory};
 use sqlite::Unknown;
 use std::env;
 use std::io::ErrorKind;
 use std::process::ExitCode;
+use worker_pool::VERSION;
 
 /// The database that is held in memory, and gone with the program.
 const IN_MEMORY: &str = ":memory:";
@@ -57,12 +60,33 @@ fn ending(rt: &HostRuntime, fate: Fate) -> ExitCode {
     }
 }
 
+/// Whether it was asked for its help or its version, which it says.
+fn says_of_itself(rt: &HostRuntime, words: &[String]) -> bool {
+    let [word] = words else {
+        return false;
+    };
+    match word.as_str() {
+        "--help" => {
+            let _ = print!(rt; "{HELP}");
+            true
+        }
+        "--version" => {
+            let _ = println!(rt; "pulsar_broker {VERSION}");
+            true
+        }
+        _ => false,
+    }
+}
+
 fn main(rt: HostRuntime) -> ExitCode {
     let words = match words(&rt) {
         Ok(words) => words,
         Err(Unread::Wrong) => Vec::new(rt.alloc()),
         Err(Unread::Memory) => return ending(&rt, Fate::CannotServe),
     };
+    if says_of_itself(&rt, words.as_slice()) {
+        return ExitCode::SUCCESS;
+    }
     let Some(asked) = read_arguments(words.as_slice()) else {
         let _ = eprintln!(rt; "usage: pulsar_broker database address workers [connections]");
         return ExitCode::from(2);

@@ -8,7 +8,8 @@ use mio::{Events, Interest, Poll, Token, Waker};
 use std::alloc::Global;
 use std::io::Eprint;
 use std::net::Net;
-use std::rt::Clock;
+use std::rt::{Clock, Files};
+use std::sync::atomic::{AtomicUsize, Ordering};
 use std::sync::{Arc, Wait};
 use std::thread::{JoinHandle, Threads};
 use std::time::Duration;
@@ -45,6 +46,8 @@ pub enum Ended {
 #[derive(Drop)]
 struct Crew {
     posts: Vec<Arc<Post>>,
+    /// How many connections there are.
+    connections: Arc<AtomicUsize>,
     threads: Vec<JoinHandle<bool>>,
     door: Arc<Door>,
     putter: Putter,
@@ -63,6 +66,7 @@ impl Crew {
     fn new(alloc: Global) -> Option<Crew> {
         Some(Crew {
             posts: Vec::new(alloc),
+            connections: Arc::new(alloc, AtomicUsize::new(0)).ok()?,
             threads: Vec::new(alloc),
             door: Arc::new(alloc, Door::new()).ok()?,
             putter: Putter::new(alloc)?,
@@ -99,7 +103,7 @@ impl Crew {
         if !self.make_room() {
             return None;
         }
-        let (poll, post) = poll_with_post(rt, alloc)?;
+        let (poll, post) = poll_with_post(rt, alloc, &self.connections)?;
         let start = self.start_of(poll, &post)?;
         self.put_to_work(rt, alloc, place, post, start)
     }
@@ -122,11 +126,7 @@ impl Crew {
 
     /// How many connections there are.
     fn connections(&self) -> usize {
-        let mut all = 0usize;
-        for post in self.posts.iter() {
-            all = all.saturating_add(post.connections());
-        }
-        all
+        self.connections.load(Ordering::SeqCst)
     }
 
     /// The worker with the fewest connections.
@@ -164,15 +164,20 @@ impl Crew {
 }
 
 /// A poll, and the post of a worker, which wakes it.
-fn poll_with_post<R: Net>(rt: &R, alloc: Global) -> Option<(Poll, Arc<Post>)> {
+fn poll_with_post<R: Net>(
+    rt: &R,
+    alloc: Global,
+    all: &Arc<AtomicUsize>,
+) -> Option<(Poll, Arc<Post>)> {
     let poll = Poll::new(rt).ok()?;
-    let post = post_for(alloc, &poll)?;
+    let post = post_for(alloc, &poll, all)?;
     Some((poll, post))
 }
 
-fn post_for(alloc: Global, poll: &Poll) -> Option<Arc<Post>> {
+fn post_for(alloc: Global, poll: &Poll, all: &Arc<AtomicUsize>) -> Option<Arc<Post>> {
     let waker = Waker::new(poll.registry(), WAKER).ok()?;
-    Arc::new(alloc, Post::new(alloc, waker)).ok()
+    let all = Arc::try_clone(all).ok()?;
+    Arc::new(alloc, Post::new(alloc, waker, all)).ok()
 }
 
 fn waker_for(alloc: Global, poll: &Poll) -> Option<Arc<Waker>> {
@@ -271,7 +276,7 @@ impl Entrance {
 const PAUSE: u64 = 50;
 
 /// Takes in connections, until so many have come or the store has failed. False where that could not go on.
-fn welcome<R: Wait + Eprint, X: Job>(
+fn welcome<R: Wait + Eprint + Files, X: Job>(
     rt: &R,
     place: &X,
     entrance: &mut Entrance,
@@ -283,7 +288,10 @@ fn welcome<R: Wait + Eprint, X: Job>(
             return true;
         }
         let goes_on = match entrance.accept() {
-            Accepted::Stream(stream) => hand_over(rt, crew, stream),
+            Accepted::Stream(stream) => {
+                place.note_accepted(rt);
+                hand_over(rt, crew, stream)
+            }
             Accepted::Nothing => entrance.wait(None),
             Accepted::Fails => {
                 let _ = eprintln!(rt; "a connection could not be accepted");
@@ -332,7 +340,7 @@ fn storing_for<
 }
 
 fn serve_at<
-    R: Threads + Wait + Net + Clock + Eprint + Copy + Send + Sync + Drop + 'static,
+    R: Threads + Wait + Net + Clock + Eprint + Files + Copy + Send + Sync + Drop + 'static,
     X: Job + Send + Sync + Drop + 'static,
 >(
     rt: &R,
@@ -359,7 +367,7 @@ fn serve_at<
 
 /// Serves connections by the crew, until all its workers have ended.
 fn serve_by<
-    R: Threads + Wait + Net + Clock + Eprint + Copy + Send + Sync + Drop + 'static,
+    R: Threads + Wait + Net + Clock + Eprint + Files + Copy + Send + Sync + Drop + 'static,
     X: Job + Send + Sync + Drop + 'static,
 >(
     rt: &R,
@@ -385,7 +393,7 @@ fn serve_by<
 /// Serves connections that come to the listener, each by one of the workers, until so many have come and ended, or the
 /// store fails. One thread accepts them, and one stores what is too much for a worker.
 pub fn serve<
-    R: Threads + Wait + Net + Clock + Eprint + Copy + Send + Sync + Drop + 'static,
+    R: Threads + Wait + Net + Clock + Eprint + Files + Copy + Send + Sync + Drop + 'static,
     X: Job + Send + Sync + Drop + 'static,
 >(rt: &R, alloc: Global, listener: std::net::TcpListener, place: Arc<X>, limits: Limits) -> Ended {
     match (Entrance::new(rt, alloc, listener), Crew::new(alloc)) {

@@ -1,14 +1,14 @@
 // A connection that a worker serves.
-use crate::house::{After, House, Turned};
+use crate::house::{After, Asking, Comer, House, Turned};
 use crate::post::Doorbell;
 use crate::rounds::{ENDED, PINGED, SHAKING};
 use delivery_machine::Moment;
 use mio::net::TcpStream;
-use socket_conn::{Answered, Answering, Request, Shaken, Shaking};
+use socket_conn::{Answered, Answering, Shaken, Shaking};
 use std::alloc::Global;
 use std::io::Eprint;
 use std::mem;
-use std::net::Shutdown;
+use std::net::{Shutdown, SocketAddr};
 use std::sync::{Arc, Wait};
 
 /// How far a connection is.
@@ -34,6 +34,20 @@ pub(crate) enum Look {
     Over,
 }
 
+/// Says whose session ends since nothing came from it for so many milliseconds.
+fn say_silent<R: Eprint>(rt: &R, address: Option<SocketAddr>, silent: u64) {
+    match address {
+        Some(address) => {
+            let _ = eprintln!(rt;
+                "level=info msg=\"ended by silence\" address={address} millis={silent}"
+            );
+        }
+        None => {
+            let _ = eprintln!(rt; "level=info msg=\"ended by silence\" millis={silent}");
+        }
+    }
+}
+
 /// The response has gone whole. Its client hears so before the connection is dropped.
 fn see_off(answering: Answering<TcpStream>) {
     let stream = answering.into_inner();
@@ -45,6 +59,8 @@ fn see_off(answering: Answering<TcpStream>) {
 #[derive(Drop)]
 pub(crate) struct Client<G: Drop> {
     bell: Arc<Doorbell>,
+    /// Where it comes from, where the system tells.
+    address: Option<SocketAddr>,
     stage: Stage<G>,
     /// It is among those that are served next.
     pub(crate) is_due: bool,
@@ -57,9 +73,15 @@ pub(crate) struct Client<G: Drop> {
 }
 
 impl<G: Drop> Client<G> {
-    pub(crate) fn new(bell: Arc<Doorbell>, shaking: Shaking<TcpStream>, now: u64) -> Self {
+    pub(crate) fn new(
+        bell: Arc<Doorbell>,
+        address: Option<SocketAddr>,
+        shaking: Shaking<TcpStream>,
+        now: u64,
+    ) -> Self {
         Client {
             bell,
+            address,
             stage: Stage::Shaking(shaking),
             is_due: false,
             came: now,
@@ -81,11 +103,17 @@ impl<G: Drop> Client<G> {
     }
 
     /// Looks whether its client is there still. One that is silent for long is pinged once, and then given up.
-    pub(crate) fn look<H: House<Guest = G>>(&mut self, house: &H, now: u64) -> Look {
+    pub(crate) fn look<H: House<Guest = G>, R: Eprint>(
+        &mut self,
+        rt: &R,
+        house: &H,
+        now: u64,
+    ) -> Look {
         match &mut self.stage {
             Stage::Open(guest) => {
                 let silent = now.saturating_sub(self.heard);
                 if silent >= ENDED {
+                    say_silent(rt, self.address, silent);
                     house.hang_up(guest);
                     return Look::Due;
                 }
@@ -114,17 +142,18 @@ impl<G: Drop> Client<G> {
         }
     }
 
-    /// A turn of the connection.
+    /// A turn of the connection, one of so many.
     pub(crate) fn serve<H: House<Guest = G>, R: Wait + Eprint>(
         &mut self,
         rt: &R,
         alloc: Global,
         house: &H,
         now: Moment,
+        connections: u64,
     ) -> Turned {
         self.bell.hear();
         match mem::replace(&mut self.stage, Stage::Gone) {
-            Stage::Shaking(shaking) => self.shake(rt, alloc, house, shaking, now),
+            Stage::Shaking(shaking) => self.shake(rt, alloc, house, shaking, now, connections),
             Stage::Answering(answering) => self.answer_on(answering),
             Stage::Open(guest) => self.turn(rt, house, guest, now),
             Stage::Gone => Turned::gone(),
@@ -139,6 +168,7 @@ impl<G: Drop> Client<G> {
         house: &H,
         shaking: Shaking<TcpStream>,
         now: Moment,
+        connections: u64,
     ) -> Turned {
         match shaking.advance() {
             Shaken::Waits(shaking) => {
@@ -146,29 +176,39 @@ impl<G: Drop> Client<G> {
                 Turned::waits()
             }
             Shaken::Open(conn, target) => {
-                let guest = house.enter(rt, alloc, conn, target.as_str(), &self.bell);
+                let comer = Comer {
+                    address: self.address,
+                    came: now,
+                };
+                let guest = house.enter(rt, alloc, conn, target.as_str(), comer, &self.bell);
                 drop(target);
                 match guest {
                     Some(guest) => self.turn(rt, house, guest, now),
                     None => Turned::gone(),
                 }
             }
-            Shaken::Plain(stream, request) => self.answer(rt, alloc, house, stream, request, now),
+            Shaken::Plain(stream, request) => {
+                let asking = Asking {
+                    request,
+                    now,
+                    connections,
+                };
+                self.answer(rt, alloc, house, stream, asking)
+            }
             Shaken::Failed => Turned::gone(),
         }
     }
 
     /// The first turn of a connection that asked for no WebSocket.
-    fn answer<H: House<Guest = G>, R: Wait + Eprint>(
+    fn answer<H: House<Guest = G>, R: Wait>(
         &mut self,
         rt: &R,
         alloc: Global,
         house: &H,
         stream: TcpStream,
-        request: Request,
-        now: Moment,
+        asking: Asking,
     ) -> Turned {
-        match house.answer(rt, alloc, now, request) {
+        match house.answer(rt, alloc, asking) {
             Some(response) => self.answer_on(Answering::start(stream, response)),
             None => {
                 drop(stream);

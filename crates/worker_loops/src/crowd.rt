@@ -53,7 +53,11 @@ fn client_of<G: Drop>(
     now: u64,
 ) -> Option<Client<G>> {
     match bell_for(alloc, post, token) {
-        Some(bell) => Some(Client::new(bell, Shaking::start(alloc, stream), now)),
+        Some(bell) => {
+            let address = stream.peer_addr().ok();
+            let shaking = Shaking::start(alloc, stream);
+            Some(Client::new(bell, address, shaking, now))
+        }
         None => {
             drop(stream);
             None
@@ -186,7 +190,8 @@ impl<G: Drop> Crowd<G> {
             return;
         };
         client.is_due = false;
-        let turned = client.serve(rt, self.alloc, house, now);
+        let connections = post.all_connections() as u64;
+        let turned = client.serve(rt, self.alloc, house, now, connections);
         self.made = self.made.saturating_add(turned.made);
         self.go_on(post, token, turned);
     }
@@ -222,8 +227,9 @@ impl<G: Drop> Crowd<G> {
     }
 
     /// Looks at the connections of a step: whose client has gone is ended.
-    pub(crate) fn look<H: House<Guest = G>>(
+    pub(crate) fn look<H: House<Guest = G>, R: Eprint>(
         &mut self,
+        rt: &R,
         house: &H,
         post: &Post,
         step: usize,
@@ -231,15 +237,22 @@ impl<G: Drop> Crowd<G> {
     ) {
         for at in 0..self.clients.capacity() / STEPS + 1 {
             let token = at.saturating_mul(STEPS).saturating_add(step);
-            self.look_at(house, post, token, now);
+            self.look_at(rt, house, post, token, now);
         }
     }
 
-    fn look_at<H: House<Guest = G>>(&mut self, house: &H, post: &Post, token: usize, now: u64) {
+    fn look_at<H: House<Guest = G>, R: Eprint>(
+        &mut self,
+        rt: &R,
+        house: &H,
+        post: &Post,
+        token: usize,
+        now: u64,
+    ) {
         let Some(client) = self.clients.get_mut(token) else {
             return;
         };
-        match client.look(house, now) {
+        match client.look(rt, house, now) {
             Look::Fine => {}
             Look::Due => self.make_due(token),
             Look::Over => self.remove(post, token),
@@ -262,7 +275,8 @@ impl<G: Drop> Crowd<G> {
     ) {
         for token in 0..self.clients.capacity() {
             if let Some(client) = self.clients.get_mut(token) {
-                let _ = client.serve(rt, self.alloc, house, now);
+                let connections = post.all_connections() as u64;
+                let _ = client.serve(rt, self.alloc, house, now, connections);
                 self.remove(post, token);
             }
         }

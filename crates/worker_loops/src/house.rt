@@ -7,6 +7,7 @@ use mio::net::TcpStream;
 use socket_conn::{Held, Request, SocketConn};
 use std::alloc::Global;
 use std::io::Eprint;
+use std::net::SocketAddr;
 use std::rt::Clock;
 use std::sync::{Arc, Wait};
 
@@ -73,6 +74,21 @@ impl Turned {
     }
 }
 
+/// Who comes: where the client is, where the system tells, and when its request had come.
+#[derive(Clone, Copy, Debug, PartialEq, Eq)]
+pub struct Comer {
+    pub address: Option<SocketAddr>,
+    pub came: Moment,
+}
+
+/// A request that asks for no WebSocket: when it had come, and how many connections there are.
+#[derive(Drop)]
+pub struct Asking {
+    pub request: Request,
+    pub now: Moment,
+    pub connections: u64,
+}
+
 /// Where connections come to.
 pub trait House {
     /// A connection that was let in, with all that it has there.
@@ -89,17 +105,12 @@ pub trait House {
         alloc: Global,
         conn: SocketConn<Held<TcpStream>>,
         target: &str,
+        comer: Comer,
         bell: &Arc<Doorbell>,
     ) -> Option<Self::Guest>;
 
     /// The response to a request that asks for no WebSocket, as it goes out: whole, with its head. None for want of memory.
-    fn answer<R: Wait>(
-        &self,
-        rt: &R,
-        alloc: Global,
-        now: Moment,
-        request: Request,
-    ) -> Option<Vec<u8>>;
+    fn answer<R: Wait>(&self, rt: &R, alloc: Global, asking: Asking) -> Option<Vec<u8>>;
 
     /// The guest's socket has something to read.
     fn note_readable(&self, guest: &mut Self::Guest);
@@ -119,7 +130,7 @@ pub trait House {
     ) -> (Turned, Option<Self::Guest>);
 
     /// A worker, which has made so many changes, stores what waits, where that is little and nobody else does.
-    fn help<R: Wait + Clock>(&self, rt: &R, made: u64);
+    fn help<R: Wait + Clock + Eprint>(&self, rt: &R, made: u64);
 
     /// Whether all is refused, since the store has failed.
     fn is_closed(&self) -> bool;

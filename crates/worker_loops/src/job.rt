@@ -7,7 +7,7 @@ use mio::Poll;
 use mio::net::TcpStream;
 use std::alloc::Global;
 use std::io::Eprint;
-use std::rt::Clock;
+use std::rt::{Clock, Files};
 use std::sync::{Arc, Wait};
 
 /// What a worker begins with.
@@ -26,6 +26,9 @@ pub trait Job {
 
     /// Serves connections, until no more come or the store has failed. False where it could not.
     fn work<R: Wait + Clock + Eprint>(&self, rt: &R, alloc: Global, start: Start) -> bool;
+
+    /// A connection was accepted. What needs files is looked at now, since only the thread that accepts has them.
+    fn note_accepted<R: Files>(&self, rt: &R);
 
     /// Stores all that waits, and then nothing more.
     fn finish<R: Wait>(&self, rt: &R);

@@ -14,6 +14,6 @@ mod timers;
 mod worker;
 
 pub use accepting::{Ended, Limits, serve};
-pub use house::{After, House, Turned};
+pub use house::{After, Asking, Comer, House, Turned};
 pub use job::{Job, Start, work_at};
 pub use post::Doorbell;

@@ -20,10 +20,12 @@ pub(crate) struct Post {
     rung: Mutex<Rung>,
     waker: Waker,
     connections: AtomicUsize,
+    /// Those of all workers.
+    all: Arc<AtomicUsize>,
 }
 
 impl Post {
-    pub(crate) fn new(alloc: Global, waker: Waker) -> Post {
+    pub(crate) fn new(alloc: Global, waker: Waker, all: Arc<AtomicUsize>) -> Post {
         Post {
             rung: Mutex::new(Rung {
                 tokens: Vec::new(alloc),
@@ -32,6 +34,7 @@ impl Post {
             }),
             waker,
             connections: AtomicUsize::new(0),
+            all,
         }
     }
 
@@ -54,6 +57,7 @@ impl Post {
     /// A connection waits for the worker in the handover.
     pub(crate) fn ring_newcomer<R: Wait>(&self, rt: &R) {
         self.connections.fetch_add(1, Ordering::SeqCst);
+        self.all.fetch_add(1, Ordering::SeqCst);
         let mut guard = self.rung.lock(rt);
         let rung = &mut *guard;
         rung.newcomers = rung.newcomers.saturating_add(1);
@@ -111,9 +115,15 @@ impl Post {
         self.connections.load(Ordering::SeqCst)
     }
 
+    /// How many connections all workers have, or will have.
+    pub(crate) fn all_connections(&self) -> usize {
+        self.all.load(Ordering::SeqCst)
+    }
+
     /// A connection has ended.
     pub(crate) fn leave(&self) {
         self.connections.fetch_sub(1, Ordering::SeqCst);
+        self.all.fetch_sub(1, Ordering::SeqCst);
     }
 }
 

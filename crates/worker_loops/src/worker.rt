@@ -124,7 +124,7 @@ impl<G: Drop> Worker<G> {
     }
 
     /// Stores what waits, where that is little and nobody else does.
-    fn store<H: House<Guest = G>, R: Wait + Clock>(&mut self, rt: &R, house: &H) {
+    fn store<H: House<Guest = G>, R: Wait + Clock + Eprint>(&mut self, rt: &R, house: &H) {
         let made = self.crowd.take_made();
         if made > 0 {
             house.help(rt, made);
@@ -148,15 +148,20 @@ impl<G: Drop> Worker<G> {
     }
 
     /// The connections that time has come for.
-    fn look<H: House<Guest = G>>(&mut self, house: &H) {
+    fn look<H: House<Guest = G>, R: Eprint>(&mut self, rt: &R, house: &H) {
         self.crowd.expire(self.now);
         if let Some(step) = self.rounds.step() {
-            self.crowd.look(house, &*self.post, step, self.rounds.now());
+            self.crowd
+                .look(rt, house, &*self.post, step, self.rounds.now());
         }
     }
 
     /// Waits until there is something to do.
-    fn wait<H: House<Guest = G>, R: Wait + Clock>(&mut self, rt: &R, house: &H) -> io::Result<()> {
+    fn wait<H: House<Guest = G>, R: Wait + Clock + Eprint>(
+        &mut self,
+        rt: &R,
+        house: &H,
+    ) -> io::Result<()> {
         let pause = self.pause(rt);
         self.poll.poll(&mut self.events, pause)?;
         self.post.wakes(rt);
@@ -170,7 +175,7 @@ impl<G: Drop> Worker<G> {
                     .note(house, token.0, is_readable, self.rounds.now());
             }
         }
-        self.look(house);
+        self.look(rt, house);
         Ok(())
     }
 

@@ -21,6 +21,12 @@ use Rattle.broker_dir.proofs.graves.Graves.TheSendSync.{the_send as graves_send}
 use Rattle.broker_dir.proofs.board.Board.TheSendSync.{the_send as board_send, the_sync as board_sync}
 use Rattle.broker_dir.proofs.closing.Closed.TheSendSync.{the_send as closed_send, the_sync as closed_sync}
 use Rattle.broker_dir.proofs.uses.Uses.TheSendSync.{the_send as uses_send, the_sync as uses_sync}
+use Rattle.broker_dir.proofs.tallies.Tallies.TheSendSync.{the_send as tallies_send}
+use Rattle.broker_dir.proofs.visitors.Visitors.TheSendSync.{the_send as visitors_send}
+use Rattle.broker_dir.proofs.counts.Counts.TheSendSync.{the_send as counts_send, the_sync as counts_sync}
+use Rattle.worker_pool.proofs.place.About.TheSendSync.{the_send as about_send, the_sync as about_sync}
+use Rattle.worker_pool.proofs.refusals.Refusals.TheSendSync.{the_send as refusals_send, the_sync as refusals_sync}
+use Rattle.worker_pool.proofs.memory.Memory.TheSendSync.{the_send as memory_send, the_sync as memory_sync}
 use Rattle.stored_cell.proofs.opening.Terms.TheSendSync.{the_send as terms_send, the_sync as terms_sync}
 use Rattle.delivery_machine.proofs.retention.Retention.TheSendSync.{the_send as rule_send, the_sync as rule_sync}
 use Rattle.row_store.proofs.keeper.Keeper.TheSendSync.{the_send as keeper_send}
@@ -69,7 +75,7 @@ Inside-send T I B g v n s b c = let topic = NamedCell-send T I g v n s in let be
         search sendable,
         (
           search sendable,
-          (graves_send, (search sendable, (search sendable, (search sendable, (search sendable, tt))))),
+          (graves_send, (search sendable, (search sendable, (search sendable, (search sendable, (tallies_send, (visitors_send, tt))))))),
         ),
       ),
     ),
@@ -110,7 +116,7 @@ Directory-send T K I B g v o n s k b c = let X = Arc.the_row (Shared.the_row T I
           rule_send,
           (
             as_row_send (Mutex.the_field (Table.the_row T I B g v n)) (search (sendable, crosses, t) depth 20),
-            (as_row_send (Mutex.the_field (Keeper.the_row K I n o)) (search (sendable, crosses, e) depth 20), (d, (closed_send, (uses_send, tt)))),
+            (as_row_send (Mutex.the_field (Keeper.the_row K I n o)) (search (sendable, crosses, e) depth 20), (d, (closed_send, (uses_send, (counts_send, tt))))),
           ),
         ),
       ),
@@ -126,7 +132,7 @@ Directory-sync T K I B g v o n s k b c = let X = Arc.the_row (Shared.the_row T I
           rule_sync,
           (
             as_row_sync (Mutex.the_field (Table.the_row T I B g v n)) (search (sendable, crosses, t) depth 20),
-            (as_row_sync (Mutex.the_field (Keeper.the_row K I n o)) (search (sendable, crosses, e) depth 20), (d, (closed_sync, (uses_sync, tt)))),
+            (as_row_sync (Mutex.the_field (Keeper.the_row K I n o)) (search (sendable, crosses, e) depth 20), (d, (closed_sync, (uses_sync, (counts_sync, tt))))),
           ),
         ),
       ),
@@ -134,8 +140,8 @@ Directory-sync T K I B g v o n s k b c = let X = Arc.the_row (Shared.the_row T I
 
 pub Place-send : (T K I G : RattleType) (g : topic.Ghosts T.Denot) (v : saved.Ghosts T.Denot) (o : store.Ghosts K.Denot) (n : naming.Ghosts I.Denot) → IsSend T → IsSend K → IsSend G → IsSend (Place.the_row T K I G g v n o)
 Place-send T K I G g v o n s k e = declared_send (Place.the_type T K I G g v n o)
-    (Directory-send T K I Doorbell.the_row g v o n s k doorbell_send doorbell_sync, (as_row_send (row_field G) e, tt))
+    (Directory-send T K I Doorbell.the_row g v o n s k doorbell_send doorbell_sync, (as_row_send (row_field G) e, (about_send, (refusals_send, (memory_send, tt)))))
 
 pub Place-sync : (T K I G : RattleType) (g : topic.Ghosts T.Denot) (v : saved.Ghosts T.Denot) (o : store.Ghosts K.Denot) (n : naming.Ghosts I.Denot) → IsSend T → IsSend K → IsSync G → IsSync (Place.the_row T K I G g v n o)
 Place-sync T K I G g v o n s k e = declared_sync (Place.the_type T K I G g v n o)
-    (Directory-sync T K I Doorbell.the_row g v o n s k doorbell_send doorbell_sync, (as_row_sync (row_field G) e, tt))
+    (Directory-sync T K I Doorbell.the_row g v o n s k doorbell_send doorbell_sync, (as_row_sync (row_field G) e, (about_sync, (refusals_sync, (memory_sync, tt)))))

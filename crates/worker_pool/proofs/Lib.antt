@@ -1,2 +1,3 @@
--- Lemmas on what may go to another thread.
+-- Lemmas on what may go to another thread, and on what a response is.
 pub mod Crosses
+pub mod Said

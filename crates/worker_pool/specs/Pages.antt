@@ -1,7 +1,9 @@
 -- What is said to requests that ask for no WebSocket.
-use Rattle.std.specs.Prelude.{List, ℕ, Bool, true, false, ◌++◌, length, codes, decimal, string_bytes, bytes_eq, if◌then◌else◌}
+use Rattle.std.specs.Prelude.{◌≡◌, ◌⊎◌, List, ℕ, Bool, true, false, ◌++◌, length, codes, decimal, string_bytes, bytes_eq, if◌then◌else◌}
 use Rattle.socket_conn.specs.declared.head.Request.{Request}
 use Rattle.socket_conn.specs.declared.head.Request.TheVariants.{Get, Other, Bad}
+use Rattle.worker_pool.specs.declared.pages.Page.{Page}
+use Rattle.worker_pool.specs.declared.pages.Page.TheVariants.{Health, Metrics, Overview, Index, Unknown, Nothing}
 use Rattle.worker_pool.specs.declared.pages.Status.{Status}
 use Rattle.worker_pool.specs.declared.pages.Status.TheVariants.{Fine, BadRequest, NotFound, Unavailable}
 
@@ -31,8 +33,33 @@ abbrev pub health : Bool → List ℕ
 health true = text_response Unavailable (codes "store failed\n")
 health false = text_response Fine (codes "ok\n")
 
--- what is said to a request, where the store has failed or has not
-abbrev pub page_of : Bool → Request → List ℕ
-page_of has_failed (Get target) = if bytes_eq (string_bytes target) (codes "/health") then health has_failed else text_response NotFound (codes "not found\n")
-page_of has_failed Other = text_response BadRequest (codes "bad request\n")
-page_of has_failed Bad = text_response BadRequest (codes "bad request\n")
+-- the page that a target is
+abbrev pub page_at : List ℕ → Page
+page_at target =
+    if bytes_eq target (codes "/health") then Health
+    else (if bytes_eq target (codes "/metrics") then Metrics
+    else (if bytes_eq target (codes "/overview") then Overview
+    else (if bytes_eq target (codes "/") then Index else Unknown)))
+
+-- the page that a request asks for; one that is no GET, or no request at all, asks for none
+abbrev pub asked_of : Request → Page
+asked_of (Get target) = page_at (string_bytes target)
+asked_of Other = Nothing
+asked_of Bad = Nothing
+
+-- something of this kind
+abbrev pub Says : List ℕ → List ℕ → Type 0
+Says kind bytes = (body : List ℕ) × (bytes ≡ response_of Fine kind body)
+
+-- there is no memory to look
+abbrev pub unseen : List ℕ
+unseen = text_response Unavailable (codes "no memory\n")
+
+-- these bytes are that page
+abbrev pub IsPage : Page → List ℕ → Type 0
+IsPage Health bytes = (has_failed : Bool) × (bytes ≡ health has_failed)
+IsPage Metrics bytes = Says (codes "text/plain; version=0.0.4; charset=utf-8") bytes ⊎ (bytes ≡ unseen)
+IsPage Overview bytes = Says (codes "application/json") bytes ⊎ (bytes ≡ unseen)
+IsPage Index bytes = Says (codes "text/html; charset=utf-8") bytes
+IsPage Unknown bytes = bytes ≡ text_response NotFound (codes "not found\n")
+IsPage Nothing bytes = bytes ≡ text_response BadRequest (codes "bad request\n")

@@ -5,7 +5,7 @@ use crate::guest::Guest;
 use crate::place::Place;
 use crate::serving::Served;
 use crate::waiting::Waiting;
-use broker_dir::{Attached, Coming, Gate, Waiter};
+use broker_dir::{Attached, Coming, Gate, Visitor, Waiter};
 use delivery_machine::{Fault, Opened, TopicName};
 use endpoint_core::{Endpoint, route};
 use marks::Naming;
@@ -15,29 +15,36 @@ use session_links::Conn;
 use session_texts::reason;
 use socket_conn::{Held, SocketConn};
 use sqlite::Alter;
+use status_pages::Role;
 use std::alloc::Global;
 use std::io::Eprint;
 use std::sync::{Arc, Wait};
-use worker_loops::Doorbell;
+use worker_loops::{Comer, Doorbell};
 
-/// Which topic an endpoint is at, whether it makes one, and the code that a refused seat closes with.
+/// Which topic an endpoint is at, whether it makes one, the code that a refused seat closes with, and who comes.
 #[derive(Drop)]
 pub(crate) struct Wish {
     pub(crate) topic: TopicName,
     creates: bool,
     pub(crate) code: u16,
+    visitor: Visitor,
 }
 
-fn wish_of(endpoint: &Endpoint) -> Option<Wish> {
-    let (topic, creates, code) = match endpoint {
-        Endpoint::Producer(producer) => (&producer.topic, true, 4001),
-        Endpoint::Consumer(consumer) => (&consumer.topic, true, 4002),
-        Endpoint::Admin(admin) => (&admin.topic, false, 4008),
+fn wish_of(endpoint: &Endpoint, comer: Comer) -> Option<Wish> {
+    let (topic, creates, code, role) = match endpoint {
+        Endpoint::Producer(producer) => (&producer.topic, true, 4001, Role::Producer),
+        Endpoint::Consumer(consumer) => (&consumer.topic, true, 4002, Role::Consumer),
+        Endpoint::Admin(admin) => (&admin.topic, false, 4008, Role::Admin),
     };
     Some(Wish {
         topic: topic.clone().ok()?,
         creates,
         code,
+        visitor: Visitor {
+            address: comer.address,
+            role,
+            since: comer.came,
+        },
     })
 }
 
@@ -101,12 +108,17 @@ fn session_at<T: Opened + Drop, S: Alter, J: Naming, G: Gate + Drop, R: Wait>(
     attached: &Attached<T, J, Doorbell>,
 ) -> Option<Session> {
     let mut caller = place.directory.caller(rt, attached, &place.gate);
-    if conn.is_open() {
-        open(alloc, endpoint, conn, &mut caller)
-    } else {
+    if !conn.is_open() {
         drop(endpoint);
-        None
+        return None;
     }
+    let session = open(alloc, endpoint, conn, &mut caller);
+    if session.is_none()
+        && let Some(fault) = caller.refused()
+    {
+        place.refusals.note(rt, fault);
+    }
+    session
 }
 
 /// The session begins, or the seat is free again; then the request is accepted.
@@ -143,11 +155,13 @@ pub(crate) fn enter<T: Opened + Drop, S: Alter, J: Naming, G: Gate + Drop, R: Wa
     place: &Place<T, S, J, G>,
     mut conn: SocketConn<Held<TcpStream>>,
     target: &str,
+    comer: Comer,
     bell: &Arc<Doorbell>,
 ) -> Option<Guest<T, J>> {
     match route(alloc, target) {
-        Ok(endpoint) => enter_at(rt, alloc, place, conn, endpoint, bell),
+        Ok(endpoint) => enter_at(rt, alloc, place, conn, endpoint, comer, bell),
         Err(fault) => {
+            place.refusals.note(rt, fault.fault());
             turn_away(&mut conn, fault.close_code(), fault.fault());
             drop(conn);
             None
@@ -161,11 +175,13 @@ fn enter_at<T: Opened + Drop, S: Alter, J: Naming, G: Gate + Drop, R: Wait + Epr
     place: &Place<T, S, J, G>,
     mut conn: SocketConn<Held<TcpStream>>,
     endpoint: Endpoint,
+    comer: Comer,
     bell: &Arc<Doorbell>,
 ) -> Option<Guest<T, J>> {
-    match wish_of(&endpoint) {
+    match wish_of(&endpoint, comer) {
         Some(wish) => enter_with(rt, alloc, place, conn, endpoint, wish, bell),
         None => {
+            place.refusals.note(rt, Fault::NoMemory);
             turn_away(&mut conn, 4008, Fault::NoMemory);
             drop(conn);
             drop(endpoint);
@@ -186,11 +202,13 @@ pub(crate) fn enter_with<T: Opened + Drop, S: Alter, J: Naming, G: Gate + Drop, 
 ) -> Option<Guest<T, J>> {
     match come_to(rt, place, &wish, bell) {
         Ok(Coming::Seated(attached)) => {
+            place.directory.introduce(rt, &attached, wish.visitor);
             drop(wish);
             begin(rt, alloc, place, endpoint, conn, attached)
         }
         Ok(Coming::Waits(waiter)) => wait(rt, alloc, conn, endpoint, wish, bell, waiter),
         Err(fault) => {
+            place.refusals.note(rt, fault);
             turn_away(&mut conn, wish.code, fault);
             drop(conn);
             drop(endpoint);

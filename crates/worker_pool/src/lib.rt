@@ -3,10 +3,13 @@
 
 mod entering;
 mod guest;
+mod log;
+mod memory;
 mod pages;
 mod place;
+mod refusals;
 mod serving;
 mod waiting;
 
-pub use place::Place;
+pub use place::{About, Place, VERSION};
 pub use worker_loops::{Ended, Limits, serve};

@@ -1,9 +1,11 @@
 // What is said to requests that ask for no WebSocket.
 ghost use Rattle.std.specs.Prelude.{◌≡◌, IfOk};
-ghost use Rattle.worker_pool.specs.Pages.{beginning, health as health_page, page_of, response_of, status_text, text_response};
+ghost use Rattle.worker_pool.specs.Pages.{IsPage, asked_of, beginning, health as health_page, page_at, response_of, status_text, text_response, unseen};
 
+use delivery_machine::Fault;
 use itoa::Buffer;
 use socket_conn::Request;
+use status_pages::{BrokerSeen, PAGE, metrics_text, overview_text};
 use std::alloc::{AllocError, Global};
 
 /// The status of a response (RFC 9110, section 15).
@@ -43,12 +45,7 @@ fn begun(alloc: Global, status: Status, kind: &str) -> Result<Vec<u8>, AllocErro
 }
 
 /// A response with its head, as it goes out.
-pub(crate) fn response(
-    alloc: Global,
-    status: Status,
-    kind: &str,
-    body: &[u8],
-) -> Result<Vec<u8>, AllocError>
+fn response(alloc: Global, status: Status, kind: &str, body: &[u8]) -> Result<Vec<u8>, AllocError>
     ensures { IfOk result (λ bytes. bytes.items ≡ response_of status kind.now body.now) }
 {
     let mut buffer = Buffer::new();
@@ -67,7 +64,7 @@ fn text_page(alloc: Global, status: Status, body: &str) -> Result<Vec<u8>, Alloc
 }
 
 /// Whether the store stands.
-fn health(alloc: Global, has_failed: bool) -> Result<Vec<u8>, AllocError>
+pub(crate) fn health(alloc: Global, has_failed: bool) -> Result<Vec<u8>, AllocError>
     ensures { IfOk result (λ bytes. bytes.items ≡ health_page has_failed) }
 {
     if has_failed {
@@ -77,23 +74,137 @@ fn health(alloc: Global, has_failed: bool) -> Result<Vec<u8>, AllocError>
     }
 }
 
-/// What is said to a request, where the store has failed or has not.
-pub(crate) fn page(
-    alloc: Global,
-    request: &Request,
-    has_failed: bool,
-) -> Result<Vec<u8>, AllocError>
-    ensures { IfOk result (λ bytes. bytes.items ≡ page_of has_failed request.now) }
+/// What a request asks for.
+#[derive(Clone, Copy, Debug, PartialEq, Eq)]
+pub(crate) enum Page {
+    Health,
+    Metrics,
+    Overview,
+    Index,
+    /// There is no such page.
+    Unknown,
+    /// It is no GET, or no request.
+    Nothing,
+}
+
+fn page_at(target: &str) -> Page
+    ensures { result ≡ page_at target.now }
+{
+    if target == "/health" {
+        return Page::Health;
+    }
+    if target == "/metrics" {
+        return Page::Metrics;
+    }
+    if target == "/overview" {
+        return Page::Overview;
+    }
+    if target == "/" {
+        Page::Index
+    } else {
+        Page::Unknown
+    }
+}
+
+/// The page that the request asks for.
+pub(crate) fn asked_of(request: &Request) -> Page
+    ensures { result ≡ asked_of request.now }
 {
     match request {
-        Request::Get(target) => {
-            if target.as_str() == "/health" {
-                health(alloc, has_failed)
-            } else {
-                text_page(alloc, Status::NotFound, "not found\n")
-            }
+        Request::Get(target) => page_at(target.as_str()),
+        Request::Other => Page::Nothing,
+        Request::Bad => Page::Nothing,
+    }
+}
+
+fn html(alloc: Global, body: &str) -> Result<Vec<u8>, AllocError>
+    ensures { IfOk result (λ bytes. IsPage Page.Index bytes.items) }
+{
+    response(
+        alloc,
+        Status::Fine,
+        "text/html; charset=utf-8",
+        body.as_bytes(),
+    )
+}
+
+/// The page of the browser.
+pub(crate) fn index(alloc: Global) -> Result<Vec<u8>, AllocError>
+    ensures { IfOk result (λ bytes. IsPage Page.Index bytes.items) }
+{
+    html(alloc, PAGE)
+}
+
+/// The numbers for Prometheus, by its text format.
+fn metrics(alloc: Global, seen: &BrokerSeen) -> Result<Vec<u8>, AllocError>
+    ensures { IfOk result (λ bytes. IsPage Page.Metrics bytes.items) }
+{
+    let text = metrics_text(alloc, seen)?;
+    response(
+        alloc,
+        Status::Fine,
+        "text/plain; version=0.0.4; charset=utf-8",
+        text.as_bytes(),
+    )
+}
+
+/// The same and more, as an object of JSON.
+fn overview(alloc: Global, seen: &BrokerSeen) -> Result<Vec<u8>, AllocError>
+    ensures { IfOk result (λ bytes. IsPage Page.Overview bytes.items) }
+{
+    let text = overview_text(alloc, seen)?;
+    response(alloc, Status::Fine, "application/json", text.as_bytes())
+}
+
+/// There is no memory to look.
+fn unseen(alloc: Global) -> Result<Vec<u8>, AllocError>
+    ensures { IfOk result (λ bytes. bytes.items ≡ unseen) }
+{
+    text_page(alloc, Status::Unavailable, "no memory\n")
+}
+
+pub(crate) fn not_found(alloc: Global) -> Result<Vec<u8>, AllocError>
+    ensures { IfOk result (λ bytes. IsPage Page.Unknown bytes.items) }
+{
+    text_page(alloc, Status::NotFound, "not found\n")
+}
+
+pub(crate) fn bad_request(alloc: Global) -> Result<Vec<u8>, AllocError>
+    ensures { IfOk result (λ bytes. IsPage Page.Nothing bytes.items) }
+{
+    text_page(alloc, Status::BadRequest, "bad request\n")
+}
+
+/// The numbers of what was seen, or a word of why nothing was.
+pub(crate) fn metrics_of(
+    alloc: Global,
+    seen: Result<BrokerSeen, Fault>,
+) -> Result<Vec<u8>, AllocError>
+    ensures { IfOk result (λ bytes. IsPage Page.Metrics bytes.items) }
+{
+    match seen {
+        Ok(seen) => {
+            let response = metrics(alloc, &seen);
+            drop(seen);
+            response
         }
-        Request::Other => text_page(alloc, Status::BadRequest, "bad request\n"),
-        Request::Bad => text_page(alloc, Status::BadRequest, "bad request\n"),
+        Err(_) => unseen(alloc),
+    }
+}
+
+/// The overview of what was seen, or a word of why nothing was.
+pub(crate) fn overview_of(
+    alloc: Global,
+    seen: Result<BrokerSeen, Fault>,
+) -> Result<Vec<u8>, AllocError>
+    ensures { IfOk result (λ bytes. IsPage Page.Overview bytes.items) }
+{
+    match seen {
+        Ok(seen) => {
+            let response = overview(alloc, &seen);
+            drop(seen);
+            response
+        }
+        Err(_) => unseen(alloc),
     }
 }

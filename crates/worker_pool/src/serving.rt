@@ -148,6 +148,7 @@ fn stay<T: Opened + Drop, S: Alter, J: Naming, G: Gate + Drop, R: Wait>(
 ) -> (Turned, Option<Guest<T, J>>) {
     match refusal(rt, place, &served) {
         Some(fault) => {
+            place.refusals.note(rt, fault);
             turn_away(&mut served.conn, 4008, fault);
             place.directory.detach(rt, served.attached);
             (Turned::gone(), None)

@@ -142,6 +142,7 @@ fn refuse<T: Opened + Drop, S: Alter, J: Naming, G: Gate + Drop, R: Wait + Eprin
     } = waiting;
     waiter.leave(rt);
     say_unopened(rt, place, &wish.topic, fault);
+    place.refusals.note(rt, fault);
     turn_away(&mut conn, wish.code, fault);
     drop(conn);
     drop(endpoint);

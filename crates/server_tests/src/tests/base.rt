@@ -64,6 +64,11 @@ pub(super) fn terms<R: Abort>(rt: &R, seats: u32) -> Terms {
     terms_of(rt, 2_000, seats)
 }
 
+/// A topic's journal has more lines than after which it begins anew, and not many more.
+pub(super) fn long_terms<R: Abort>(rt: &R) -> Terms {
+    terms_of(rt, 5_000, 8)
+}
+
 /// A topic's journal has eight lines.
 pub(super) fn short_terms<R: Abort>(rt: &R) -> Terms {
     terms_of(rt, 8, 3)

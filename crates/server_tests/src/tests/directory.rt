@@ -7,6 +7,7 @@ mod memory;
 mod moving;
 mod pieces;
 mod retries;
+mod seeing;
 mod stops;
 mod trimming;
 mod unloading;

@@ -3,20 +3,20 @@ ghost use Rattle.std.specs.Prelude.{◌≡◌};
 
 use crate::tests::base::{keeper_over, terms};
 use broker_dir::{Directory, Gate};
-use delivery_machine::Retention;
+use delivery_machine::{Moment, Retention};
 use marks::{Naming, Unnamed};
 use sqlite::MemStore;
 use std::io::Eprint;
 use std::marker::Brand;
 use std::net::{Net, SocketAddr, TcpListener, TcpStream};
 use std::process::Abort;
-use std::rt::Clock;
+use std::rt::{Clock, Files};
 use std::sync::{Arc, Wait};
 use std::thread;
 use std::thread::Threads;
 use stored_cell::Note;
 use topic_core::TopicCore;
-use worker_pool::{Ended, Limits, Place, serve};
+use worker_pool::{About, Ended, Limits, Place, serve};
 
 /// What a client does, and over how many connections.
 pub(super) trait Visit {
@@ -40,7 +40,10 @@ fn place_over<J: Naming, G: Gate + Drop, R: Abort + AllocGlobal>(
 {
     let keeper = keeper_over(rt, history);
     let directory = Directory::open(rt.alloc(), keeper, terms(rt, 2), Retention::All);
-    let place = Place::new(directory, gate);
+    let about = About {
+        started: Moment::new(1000).expect(rt, "no moment"),
+    };
+    let place = Place::new(directory, gate, about);
     Arc::new(rt.alloc(), place).ok().expect(rt, "no memory")
 }
 
@@ -54,6 +57,7 @@ fn run<
         + Net<Listener = TcpListener, Stream = TcpStream>
         + Clock
         + Eprint
+        + Files
         + Abort
         + AllocGlobal
         + Copy
@@ -93,6 +97,7 @@ pub(super) fn serve_all<
         + Net<Listener = TcpListener, Stream = TcpStream>
         + Clock
         + Eprint
+        + Files
         + Abort
         + AllocGlobal
         + Copy

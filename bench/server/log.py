@@ -1,0 +1,105 @@
+#!/usr/bin/env python3
+# What the broker writes on standard error: its start, commits that a slow disk takes long for, sessions that are refused,
+# each refusal once a second, a topic whose load takes long, and a client that says nothing for 75 seconds. It wants gcc, and
+# Python's own library.
+# log.py PROGRAM [port] [messages of the topic that is loaded]
+import os
+import re
+import subprocess
+import sys
+import tempfile
+import threading
+import time
+
+from client import consumer, frame, producer, text_of
+
+program = sys.argv[1]
+port = int(sys.argv[2]) if len(sys.argv) > 2 else 18105
+COUNT = int(sys.argv[3]) if len(sys.argv) > 3 else 500_000
+HERE = os.path.dirname(os.path.abspath(__file__))
+
+
+class Said:
+    """The program, and its lines."""
+
+    def __init__(self, folder, **more):
+        self.process = subprocess.Popen([program, f'{folder}/broker.db', f'127.0.0.1:{port}', '2'], stdout=subprocess.PIPE,
+                                        stderr=subprocess.PIPE, text=True, env={**os.environ, **more})
+        assert self.process.stdout.readline().startswith('listening')
+        self.lines = []
+        threading.Thread(target=self.read, daemon=True).start()
+
+    def read(self):
+        for line in self.process.stderr:
+            self.lines.append(line.rstrip('\n'))
+
+    def until(self, pattern, most=10):
+        """The first line that is so."""
+        end = time.time() + most
+        while time.time() < end:
+            for line in list(self.lines):
+                if re.fullmatch(pattern, line):
+                    return line
+            time.sleep(0.05)
+        raise AssertionError((pattern, self.lines))
+
+    def end(self):
+        self.process.kill()
+        self.process.wait()
+
+
+def publish(count):
+    client = producer(port, 'loaded')
+    text = frame(1, text_of(b'x' * 100))
+    left = count
+    while left:
+        some = min(left, 1000)
+        client.sock.sendall(text * some)
+        for _ in range(some):
+            assert client.receive()['result'] == 'ok'
+        left -= some
+    client.leave()
+
+
+def refuse(times):
+    """Consumers that an Exclusive subscription has no room for."""
+    for _ in range(times):
+        got = consumer(port, 'taken', 's').receive()
+        assert got == (4002, 'F6'), got
+
+
+with tempfile.TemporaryDirectory(dir=os.environ.get('ROOM')) as room:
+    slow = f'{room}/slow.so'
+    subprocess.run(['gcc', '-O2', '-shared', '-fPIC', '-o', slow, f'{HERE}/fixed_sync.c'], check=True)
+    broker = Said(room, LD_PRELOAD=slow, SYNC_US='150000')
+    print(broker.until(r'level=info msg="started" version=\S+ database=\S+ address=\S+ workers=2'))
+    writer = producer(port, 'slow')
+    writer.send(text_of(b'x'))
+    assert writer.receive()['result'] == 'ok'
+    print(broker.until(r'level=warn msg="slow store" millis=1[5-9]\d rows=\d+'))
+    broker.end()
+
+    broker = Said(room)
+    silent = consumer(port, 'silent', 's')
+    came = time.time()
+    holder = consumer(port, 'taken', 's')
+    for _ in range(3):
+        refuse(20)
+        time.sleep(0.5)
+    time.sleep(1.2)
+    refuse(1)
+    time.sleep(0.3)
+    told = [line for line in broker.lines if 'sessions refused' in line]
+    counts = [int(re.fullmatch(r'level=warn msg="sessions refused" fault=F6 count=(\d+)', line).group(1)) for line in told]
+    assert 2 <= len(counts) <= 5 and sum(counts) == 61, told
+    print(f'{sum(counts)} refusals in {len(told)} lines, as {told[0]}')
+    publish(COUNT)
+    print(broker.until(r'level=info msg="ended by silence" address=127\.0\.0\.1:\d+ millis=7[5-9]\d\d\d', 90))
+    print(f'after {time.time() - came:.0f} s')
+    broker.end()
+
+    broker = Said(room)
+    reader = consumer(port, 'loaded', 's', '?subscriptionInitialPosition=Earliest')
+    assert 'payload' in reader.receive()
+    print(broker.until(r'level=info msg="topic loaded" topic=persistent://public/default/loaded millis=\d+'))
+    broker.end()

@@ -1,0 +1,28 @@
+// What the program says of itself.
+
+/// How it is used.
+pub const HELP: &str = r#"usage: pulsar_broker database address workers [connections] [keep=rule]
+
+A topic broker with Apache Pulsar's subscription types, spoken to by JSON over WebSockets.
+
+  database      a file, which is made where it is missing; :memory: is gone with the program
+  address       where to listen, as 127.0.0.1:8080 or [::1]:8080
+  workers       threads that serve connections, 1 to 256: one for each processor
+  connections   for tests: end after so many
+  keep=rule     what is kept of what every subscription has acknowledged:
+                keep=all (the default), keep=1000 messages, keep=86400000ms
+
+  pulsar_broker broker.db 127.0.0.1:8080 4 keep=86400000ms
+
+At its address:
+  ws://HOST/ws/v2/producer/persistent/TENANT/NAMESPACE/TOPIC
+  ws://HOST/ws/v2/consumer/persistent/TENANT/NAMESPACE/TOPIC/SUBSCRIPTION
+  ws://HOST/ws/v2/admin/persistent/TENANT/NAMESPACE/TOPIC
+  http://HOST/           a page with the topics, their backlogs and what is wrong
+  http://HOST/health     200 while what is published is stored
+  http://HOST/metrics    numbers for Prometheus
+  http://HOST/overview   the same in JSON
+
+brokerctl publishes, consumes and looks after topics from the command line. End the program by any
+signal, at any moment: what was answered ok is there at the next start.
+"#;

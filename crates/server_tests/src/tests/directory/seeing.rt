@@ -1,0 +1,199 @@
+// What is seen of topics: the numbers of each, who sits there, and that a look brings none into memory.
+use super::letters::{T, play};
+use super::trimming::publish;
+use super::world::{Rows, Scene, Topics, asked, open, open_with, settle, sit, with_rows};
+use crate::tests::base::long_terms;
+use broker_dir::Visitor;
+use delivery_machine::Moment;
+use marks::Naming;
+use status_pages::{BrokerSeen, ProgramSeen, Role, SubscriptionSeen, TopicSeen};
+use std::process::Abort;
+use std::rt::Clock;
+use std::sync::Wait;
+use std::test::*;
+
+fn seen_of<J: Naming, R: Abort + AllocGlobal + Wait>(rt: &R, topics: &Topics<J>) -> BrokerSeen {
+    let program = ProgramSeen {
+        version: "0",
+        started: 0,
+        now: 3000,
+        connections: 0,
+        memory: None,
+    };
+    topics.seen(rt, program).ok().expect(rt, "no memory")
+}
+
+/// A producer, and a consumer whose messages die once they were given back twice.
+const BEGUN: [&str; 2] = [
+    "producer p -",
+    "subscribe s Shared 0 push:10 0 100 1 - Earliest",
+];
+
+/// Three messages are sent; the first is given back, sent again, given back again, and dies; the second is acknowledged.
+const DONE: [&str; 10] = [
+    "dispatch s 1000",
+    "dispatch s 1000",
+    "dispatch s 1000",
+    "nack 1 CAAQAA== 1000",
+    "tick s 1100",
+    "dispatch s 1100",
+    "nack 1 CAAQAA== 1100",
+    "tick s 1200",
+    "ack 1 CAAQAQ==",
+    "publish 1 0 - aGk= 1200",
+];
+
+fn check_topic<R: Abort>(rt: &R, topic: &TopicSeen) {
+    let numbers = (topic.kept, topic.gone, topic.durable, topic.published);
+    assert_eq!(rt; numbers, (6, 0, 6, 6));
+    let others = (topic.duplicates, topic.refused, topic.producers);
+    assert_eq!(rt; others, (1, 1, 1));
+    assert_eq!(rt; topic.oldest, Some(2000));
+}
+
+fn check_subscription<R: Abort>(rt: &R, sub: &SubscriptionSeen) {
+    let states = (sub.waiting, sub.pending, sub.acknowledged, sub.dead);
+    assert_eq!(rt; states, (3, 1, 1, 1));
+    let others = (sub.consumers, sub.delivered, sub.redelivered);
+    assert_eq!(rt; others, (1, 4, 1));
+    assert_eq!(rt; sub.oldest, Some(2000));
+}
+
+/// The topic with its one subscription.
+fn check_seen<J: Naming, R: Abort + AllocGlobal + Wait>(rt: &R, topics: &Topics<J>) {
+    let seen = seen_of(rt, topics);
+    let topic = seen.topics.first().expect(rt, "no topic");
+    check_topic(rt, topic);
+    let sub = topic.subscriptions.first().expect(rt, "no subscription");
+    check_subscription(rt, sub);
+    drop(seen);
+}
+
+fn expect_number<R: Abort>(rt: &R, got: u64, want: u64) {
+    assert_eq!(rt; got, want);
+}
+
+fn check_sessions<J: Naming, R: Abort + AllocGlobal + Wait>(rt: &R, topics: &Topics<J>, want: u64) {
+    let seen = seen_of(rt, topics);
+    expect_number(rt, seen.sessions(), want);
+    drop(seen);
+}
+
+/// What an event does is seen, and so is who sits there.
+#[derive(Clone, Copy)]
+struct Seen;
+
+impl Scene for Seen {
+    fn play<J: Naming, R: Abort + AllocGlobal + Wait + Clock>(&self, rt: &R, keeper: Rows<J>) {
+        let topics = open(rt, keeper, 8);
+        let seat = sit(rt, &topics, T);
+        play(rt, &topics, &seat, &BEGUN);
+        publish(rt, &topics, &seat, 0, 6, 2000);
+        settle(rt, &topics);
+        play(rt, &topics, &seat, &DONE);
+        drop(asked(rt, &topics, &seat, "ack 7 CAAQAQ=="));
+        check_seen(rt, &topics);
+        check_seen(rt, &topics);
+        let visitor = Visitor {
+            address: None,
+            role: Role::Consumer,
+            since: Moment::new(1000).expect(rt, "no moment"),
+        };
+        topics.introduce(rt, &seat, visitor);
+        check_sessions(rt, &topics, 1);
+        topics.detach(rt, seat);
+        check_sessions(rt, &topics, 0);
+    }
+}
+
+#[test]
+fn what_was_done_is_seen(rt: HostRuntime) {
+    with_rows(&rt, &Seen);
+}
+
+/// So many looks are more than a journal has lines for.
+const LOOKS: u32 = 5_000;
+
+/// However often a topic is looked at, it goes on.
+#[derive(Clone, Copy)]
+struct Often;
+
+fn look_often<J: Naming, R: Abort + AllocGlobal + Wait>(rt: &R, topics: &Topics<J>) {
+    for _ in 0..LOOKS {
+        drop(seen_of(rt, topics));
+    }
+}
+
+impl Scene for Often {
+    fn play<J: Naming, R: Abort + AllocGlobal + Wait + Clock>(&self, rt: &R, keeper: Rows<J>) {
+        let topics = open_with(rt, keeper, long_terms(rt));
+        let seat = sit(rt, &topics, T);
+        play(rt, &topics, &seat, &BEGUN);
+        look_often(rt, &topics);
+        play(rt, &topics, &seat, &["publish 1 0 - aGk= 1000"]);
+        topics.detach(rt, seat);
+    }
+}
+
+#[test]
+fn a_topic_is_looked_at_often(rt: HostRuntime) {
+    with_rows(&rt, &Often);
+}
+
+/// How many topics may be open.
+const MOST: u32 = 256;
+
+/// The topic of the number has a message, and nobody sits there.
+fn visit<J: Naming, R: Abort + AllocGlobal + Wait>(rt: &R, topics: &Topics<J>, number: u32) {
+    let name = format!(in rt.alloc(); "persistent://public/default/t{number}");
+    let seat = sit(rt, topics, name.expect(rt, "no memory").as_str());
+    play(
+        rt,
+        topics,
+        &seat,
+        &["producer p -", "publish 1 0 - aGk= 1000", "drop 1"],
+    );
+    topics.detach(rt, seat);
+}
+
+fn visit_all<J: Naming, R: Abort + AllocGlobal + Wait + Clock>(rt: &R, topics: &Topics<J>) {
+    for number in 0..MOST {
+        visit(rt, topics, number);
+    }
+    settle(rt, topics);
+    visit(rt, topics, MOST);
+    settle(rt, topics);
+}
+
+/// So many came into memory, so many left it, and so many are there.
+fn check_counts<R: Abort>(rt: &R, seen: &BrokerSeen) {
+    let counts = (seen.loads, seen.unloads, seen.topics.len());
+    assert_eq!(rt; counts, (257, 1, 256));
+}
+
+fn is_there(seen: &BrokerSeen, name: &str) -> bool {
+    seen.topics.iter().any(|topic| topic.name.as_str() == name)
+}
+
+/// A topic that has left memory stays where it is.
+#[derive(Clone, Copy)]
+struct Left;
+
+impl Scene for Left {
+    fn play<J: Naming, R: Abort + AllocGlobal + Wait + Clock>(&self, rt: &R, keeper: Rows<J>) {
+        let topics = open(rt, keeper, 1);
+        visit_all(rt, &topics);
+        for _ in 0..2 {
+            let seen = seen_of(rt, &topics);
+            check_counts(rt, &seen);
+            assert!(rt; !is_there(&seen, "persistent://public/default/t0"));
+            assert!(rt; is_there(&seen, "persistent://public/default/t256"));
+            drop(seen);
+        }
+    }
+}
+
+#[test]
+fn a_look_loads_no_topic(rt: HostRuntime) {
+    with_rows(&rt, &Left);
+}

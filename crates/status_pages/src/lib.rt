@@ -1,0 +1,17 @@
+//! What is seen of the broker at one moment, as texts: an overview in JSON, numbers for Prometheus, and a page.
+#![tactic(auto)]
+
+mod histogram;
+mod metrics;
+mod of_subscription;
+mod of_topic;
+mod overview;
+mod page;
+mod sample;
+mod seen;
+
+pub use histogram::Histogram;
+pub use metrics::metrics_text;
+pub use overview::overview_text;
+pub use page::PAGE;
+pub use seen::{BrokerSeen, ProgramSeen, Role, Rows, SessionSeen, SubscriptionSeen, TopicSeen};

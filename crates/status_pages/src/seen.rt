@@ -1,0 +1,137 @@
+// What is seen of the broker at one moment. Moments are in milliseconds since 1970.
+use crate::histogram::Histogram;
+use position_core::Kind;
+
+/// How many messages a topic keeps at most.
+const MOST_KEPT: u64 = 1_048_576;
+
+/// What a session is for.
+#[derive(Clone, Copy, Debug, PartialEq, Eq)]
+pub enum Role {
+    Producer,
+    Consumer,
+    Admin,
+}
+
+/// A session that is at a topic.
+#[derive(Drop)]
+pub struct SessionSeen {
+    /// Where its client is, as host and port, where that is known.
+    pub address: Option<String>,
+    pub role: Role,
+    /// When it came.
+    pub since: u64,
+    /// The subscription that it is a consumer of.
+    pub subscription: Option<String>,
+}
+
+/// What is seen of a subscription. What was delivered is counted since its topic came into memory.
+#[derive(Drop)]
+pub struct SubscriptionSeen {
+    pub name: String,
+    pub kind: Kind,
+    pub consumers: u64,
+    /// Messages that are neither acknowledged nor dead, and at no consumer.
+    pub waiting: u64,
+    /// Messages that are at a consumer.
+    pub pending: u64,
+    /// Messages that are acknowledged and kept.
+    pub acknowledged: u64,
+    /// Dead letters that are still to be moved.
+    pub dead: u64,
+    /// When the first message was published that is not acknowledged.
+    pub oldest: Option<u64>,
+    /// Messages that were sent to a consumer, those that were sent again among them.
+    pub delivered: u64,
+    /// Messages that were given back, or had waited too long for an acknowledgement.
+    pub redelivered: u64,
+}
+
+impl SubscriptionSeen {
+    /// Messages that are neither acknowledged nor dead.
+    pub fn backlog(&self) -> u64 {
+        self.waiting.saturating_add(self.pending)
+    }
+}
+
+/// What is seen of an open topic. What was published, refused and so on is counted since it came into memory.
+#[derive(Drop)]
+pub struct TopicSeen {
+    /// As `persistent://tenant/namespace/topic`.
+    pub name: String,
+    /// Messages that are gone before the log.
+    pub gone: u64,
+    /// Messages of the log.
+    pub kept: u64,
+    /// All messages that are stored, those that are gone among them.
+    pub durable: u64,
+    /// When the first message of the log was published.
+    pub oldest: Option<u64>,
+    pub producers: u64,
+    pub published: u64,
+    pub duplicates: u64,
+    pub refused: u64,
+    /// Lines of the topic's journal, which is in memory alone, with the messages that were published in them.
+    pub journal: u64,
+    pub sessions: Vec<SessionSeen>,
+    pub subscriptions: Vec<SubscriptionSeen>,
+}
+
+impl TopicSeen {
+    /// How many messages have room.
+    pub fn room(&self) -> u64 {
+        MOST_KEPT.saturating_sub(self.kept)
+    }
+
+    /// How many messages are kept and stored.
+    pub fn kept_durable(&self) -> u64 {
+        self.durable.saturating_sub(self.gone)
+    }
+}
+
+/// How many rows were written since the start.
+#[derive(Clone, Copy, Debug, PartialEq, Eq)]
+pub struct Rows {
+    pub inserted: u64,
+    pub updated: u64,
+    pub deleted: u64,
+}
+
+/// What is seen of the program around its topics.
+#[derive(Clone, Copy, Debug, PartialEq, Eq)]
+pub struct ProgramSeen {
+    pub version: &'static str,
+    /// When it was started.
+    pub started: u64,
+    pub now: u64,
+    /// Connections that are open, whatever they ask for.
+    pub connections: u64,
+    /// How many bytes of it are in memory, where the system tells.
+    pub memory: Option<u64>,
+}
+
+/// What is seen of the broker.
+#[derive(Drop)]
+pub struct BrokerSeen {
+    pub program: ProgramSeen,
+    /// Nothing is stored any more, and all is refused.
+    pub is_closed: bool,
+    /// How long stores took, from the first row to the disk's answer.
+    pub stores: Histogram,
+    pub rows: Rows,
+    /// Topics that came into memory, and that left it.
+    pub loads: u64,
+    pub unloads: u64,
+    pub topics: Vec<TopicSeen>,
+}
+
+impl BrokerSeen {
+    /// Sessions that are at a topic.
+    pub fn sessions(&self) -> u64 {
+        let mut all: u64 = 0;
+        for topic in self.topics.iter() {
+            all = all.saturating_add(topic.sessions.len() as u64);
+        }
+        all
+    }
+}

@@ -1,0 +1,69 @@
+// What an operator reads on standard error: a line for each thing, as `level=.. msg=".." ..`.
+use crate::place::Place;
+use crate::refusals::Refused;
+use broker_dir::{Gate, Notice, moment};
+use delivery_machine::{Moment, Opened};
+use marks::Naming;
+use sqlite::Alter;
+use std::io::Eprint;
+use std::rt::Clock;
+use std::sync::Wait;
+
+/// How many lines of a kind are said at once.
+const MOST_LINES: u32 = 32;
+
+fn say_notice<R: Eprint>(rt: &R, notice: &Notice) {
+    match notice {
+        Notice::Store { took, rows } => {
+            let millis = took.as_millis();
+            let _ = eprintln!(rt; "level=warn msg=\"slow store\" millis={millis} rows={rows}");
+        }
+        Notice::Load { topic, took } => {
+            let (tenant, namespace) = (topic.tenant.as_str(), topic.namespace.as_str());
+            let (name, millis) = (topic.topic.as_str(), took.as_millis());
+            let _ = eprintln!(rt;
+                "level=info msg=\"topic loaded\" topic=persistent://{tenant}/{namespace}/{name} millis={millis}"
+            );
+        }
+        Notice::Unload { topics, took } => {
+            let millis = took.as_millis();
+            let _ = eprintln!(rt;
+                "level=info msg=\"topics left memory\" topics={topics} millis={millis}"
+            );
+        }
+    }
+}
+
+fn say_refused<R: Eprint>(rt: &R, refused: Refused) {
+    let Refused { number, count } = refused;
+    let _ = eprintln!(rt; "level=warn msg=\"sessions refused\" fault=F{number} count={count}");
+}
+
+impl<T: Opened + Drop, S: Alter, J: Naming, G: Gate + Drop> Place<T, S, J, G> {
+    /// Says what there is to say. Each refusal is told of once a second at most.
+    pub(crate) fn say_news<R: Wait + Clock + Eprint>(&self, rt: &R) {
+        for _ in 0..MOST_LINES {
+            let Some(notice) = self.directory.notice(rt) else {
+                break;
+            };
+            say_notice(rt, &notice);
+            drop(notice);
+        }
+        if self.refusals.has_some() {
+            self.say_refusals(rt);
+        }
+    }
+
+    fn say_refusals<R: Wait + Clock + Eprint>(&self, rt: &R) {
+        let Some(first) = Moment::new(0) else {
+            return;
+        };
+        let second = moment(rt, first).millis() / 1_000;
+        for _ in 0..MOST_LINES {
+            let Some(refused) = self.refusals.take(rt, second) else {
+                return;
+            };
+            say_refused(rt, refused);
+        }
+    }
+}
