@@ -22,8 +22,9 @@ for page in README.md docs/*.md bench/NOTES.md; do
     while read -r path; do
         [ -e "$folder/$path" ] || { echo "$page: $path is not there"; failed=1; }
     done < <(grep -oE '\]\([^)#:]+' "$page" | sed 's/^](//')
+    # (grep reads to the end: one that stops early would now and then end those before it with an error)
     while IFS='#' read -r path anchor; do
-        sed -n 's/^#* //p' "$folder/$path" | tr 'A-Z ' 'a-z-' | tr -cd 'a-z0-9_\n-' | grep -qxF -- "$anchor" ||
+        sed -n 's/^#* //p' "$folder/$path" | tr 'A-Z ' 'a-z-' | tr -cd 'a-z0-9_\n-' | grep -xF -- "$anchor" > /dev/null ||
             { echo "$page: $path has no heading $anchor"; failed=1; }
     done < <(grep -oE '\]\([^):]+#[^)]+' "$page" | sed 's/^](//')
 done

@@ -16,6 +16,8 @@ port() {
 python3 bench/server/refusals.py "$program" "$(port)"
 python3 bench/server/plain.py "$program" "$(port)"
 python3 bench/server/seen.py "$program" "$(port)"
+python3 bench/server/administer.py "$program" "$(port)"
+python3 bench/server/backup.py "$program" 5 "$(port)"
 python3 bench/server/version_1.py "$program" "$(port)"
 python3 bench/server/offline.py "$program" "$(port)"
 python3 bench/server/opens.py "$program" 60 "$(port)"

@@ -72,7 +72,7 @@ with tempfile.TemporaryDirectory(dir=os.environ.get('ROOM')) as room:
     slow = f'{room}/slow.so'
     subprocess.run(['gcc', '-O2', '-shared', '-fPIC', '-o', slow, f'{HERE}/fixed_sync.c'], check=True)
     broker = Said(room, LD_PRELOAD=slow, SYNC_US='150000')
-    print(broker.until(r'level=info msg="started" version=\S+ database=\S+ address=\S+ workers=2'))
+    print(broker.until(r'level=info msg="started" version=\S+ database=\S+ bytes=\d+ log_bytes=\d+ address=\S+ workers=2'))
     writer = producer(port, 'slow')
     writer.send(text_of(b'x'))
     assert writer.receive()['result'] == 'ok'

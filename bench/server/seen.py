@@ -130,6 +130,12 @@ def who_is_there():
     got = topic_of(seen, 'who')['sessions']
     assert {(each['address'], each['role'], each.get('subscription')) for each in got} == wanted, got
     assert all(before <= each['since'] <= seen['now'] for each in got), (before, got, seen['now'])
+    assert [each['number'] for each in got] == [1, 2, 3], got
+    publish(writer, 3)
+    ids = [message['messageId'] for message in take(reader, 3)]
+    reader.send(json.dumps({'messageId': ids[0]}))
+    until('what a consumer has', lambda seen: [(each.get('pending'), each.get('room')) for each in topic_of(seen, 'who')['sessions']]
+          == [(None, None), (2, 998), (None, None)])
     ends(looker, reader, writer)
     seen = until('all have gone', lambda seen: seen['sessions'] == 0 and seen['connections'] == 1)
     assert topic_of(seen, 'who')['sessions'] == [] and topic_of(seen, 'who')['producers'] == 0, seen
@@ -310,6 +316,7 @@ OF_SUBSCRIPTION = {'waiting_messages': 'waiting', 'pending_messages': 'pending',
 def wanted_of(seen):
     """The same numbers, by the overview."""
     found = {('is_storing', ()): 1, ('info', (('version', seen['version']),)): 1, ('sessions', ()): seen['sessions'],
+             ('backups_total', ()): seen['backups']['made'], ('backup_failures_total', ()): seen['backups']['failed'],
              ('open_topics', ()): len(seen['topics']), ('start_time_seconds', ()): seen['started'] / 1000,
              ('topic_loads_total', ()): seen['loads'], ('topic_unloads_total', ()): seen['unloads']}
     found |= {(f'rows_{key}_total', ()): value for key, value in seen['rows'].items()}

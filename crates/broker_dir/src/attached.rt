@@ -29,9 +29,10 @@ impl<T: Opened + Drop, J: Naming, B: Bell + Drop> Attached<T, J, B> {
         &self.topic.name
     }
 
-    /// Why the topic may not be used any more, where it may not: its journal is full (F15), or it was deleted (F11).
+    /// Why the one at the seat may not stay, where it may not: the topic's journal is full (F15), or the topic was deleted (F11);
+    /// or an administrator ended its session (F3).
     pub fn refusal<R: Wait>(&self, rt: &R) -> Option<Fault> {
-        self.topic.refusal(rt)
+        self.topic.refusal(rt, self.seat)
     }
 
     /// From 1 on.
@@ -141,9 +142,24 @@ impl<'a, T: Opened + Drop, S: Alter, J: Naming, B: Bell + Drop, R: Wait, G: Gate
     fn call(&mut self, request: Request) -> Result<Reply, Fault> {
         let answer = match request {
             Request::Event(event) => self.ask(event),
+            Request::CreateSubscription {
+                subscription,
+                target,
+            } => self.create(subscription, target),
+            Request::Peek {
+                subscription,
+                count,
+            } => self.peek(subscription, count),
+            Request::Disconnect { session } => self.disconnect(session),
+            Request::BackUp => self.back_up(),
             Request::DeleteTopic => self.directory.delete(self.rt, &self.attached.topic),
         };
         self.refused = fault_of(&answer);
         answer
+    }
+
+    /// Whoever sits at one topic sees no others.
+    fn overview(&mut self) -> Result<String, Fault> {
+        Err(Fault::BadRoute)
     }
 }

@@ -103,6 +103,9 @@ impl<T: Opened + Drop, S: Alter, J: Naming, B: Bell + Drop> Directory<T, S, J, B
         let topic = attached.into_topic();
         let mut inside = topic.inside.lock(rt);
         inside.exit(rt, seat);
+        if topic.has_to_go() {
+            topic.set_to_go(inside.visitors.any_to_go());
+        }
         inside.used = self.uses.next();
         let is_blank = inside.is_blank();
         let leaves = inside.wants_seeing_out();

@@ -259,17 +259,24 @@ impl<'r, 'a, T: Opened + Drop, S: Alter, J: Naming, B: Bell + Drop, R: Wait> Cal
 
     ghost calls = { λ c. None };
 
-    /// A courier deletes no topic.
+    /// A courier asks for no more than events.
     fn call(&mut self, request: Request) -> Result<Reply, Fault> {
         match (self.topic, request) {
             (Some(topic), Request::Event(event)) => {
                 self.directory.visit(self.rt, topic, event, self.awaited)
             }
-            (Some(_), Request::DeleteTopic) => Err(Fault::NoSession),
+            (Some(_), request) => {
+                drop(request);
+                Err(Fault::NoSession)
+            }
             (None, request) => {
                 drop(request);
                 Err(self.absent)
             }
         }
+    }
+
+    fn overview(&mut self) -> Result<String, Fault> {
+        Err(Fault::NoSession)
     }
 }

@@ -1,6 +1,7 @@
 // The directory: topics by name, the keeper of all, and what waits to be stored.
 ghost use Rattle.std.specs.Prelude.{◌≡◌};
 
+use crate::backup::Backups;
 use crate::board::Board;
 use crate::closing::Closed;
 use crate::counts::Counts;
@@ -31,6 +32,8 @@ pub struct Directory<T: Opened + Drop, S: Alter, J: Naming, B: Bell + Drop> {
     pub(crate) closed: Closed,
     pub(crate) uses: Uses,
     pub(crate) counts: Counts,
+    /// Where copies of the database go, where they may be made.
+    pub(crate) backups: Option<Backups>,
 }
 
 impl<T: Opened + Drop, S: Alter + Drop, J: Naming, B: Bell + Drop> Drop for Directory<T, S, J, B> {
@@ -45,6 +48,7 @@ impl<T: Opened + Drop, S: Alter + Drop, J: Naming, B: Bell + Drop> Drop for Dire
             closed: _,
             uses: _,
             counts: _,
+            backups: _,
         } = self;
     }
 }
@@ -64,6 +68,7 @@ impl<T: Opened + Drop, S: Alter, J: Naming, B: Bell + Drop> Directory<T, S, J, B
             closed: Closed::new(),
             uses: Uses::new(),
             counts: Counts::new(alloc),
+            backups: None,
         }
     }
 
@@ -79,6 +84,7 @@ impl<T: Opened + Drop, S: Alter, J: Naming, B: Bell + Drop> Directory<T, S, J, B
             closed: _,
             uses: _,
             counts: _,
+            backups: _,
         } = self;
         keeper.into_inner()
     }

@@ -32,7 +32,7 @@ const PINNED: u64 = 1_024;
 pub(crate) const VISITOR: u64 = u64::MAX;
 
 /// Whether the event calls something durable: only the store may do that, by its confirmation.
-fn is_storing(event: &Event) -> bool
+pub(crate) fn is_storing(event: &Event) -> bool
     ensures { result ≡ is_storing event.now }
 {
     matches!(event, Event::Stored | Event::StoredTo { .. })
@@ -254,7 +254,7 @@ impl<T: Opened + Drop, J: Naming, B: Bell + Drop> Inside<T, J, B> {
     }
 
     /// All who sit there are rung, so that they learn that the topic is to leave.
-    fn begin_to_leave<R: Wait>(&mut self, rt: &R)
+    pub(crate) fn begin_to_leave<R: Wait>(&mut self, rt: &R)
         ensures topic { self.new.topic ≡ self.old.topic }
         ensures stage { self.new.stage ≡ Stage.Leaving }
     {
@@ -285,6 +285,9 @@ impl<T: Opened + Drop, J: Naming, B: Bell + Drop> Inside<T, J, B> {
     {
         self.bells.answered(rt, seat, asked, reply);
         self.graves.answered(change, reply);
+        if let Reply::Subscribed { consumer } = reply {
+            self.visitors.join(seat, *consumer);
+        }
         if is_of_subscription(reply)
             && let Some(name) = self.bells.subscription(seat)
         {

@@ -1,8 +1,10 @@
 //! The directory of a broker: its topics by name, who sits at them, and how they come to be stored.
 #![tactic(auto)]
 
+mod administering;
 mod attached;
 mod attaching;
+mod backup;
 mod board;
 mod clock;
 mod closing;
@@ -37,6 +39,7 @@ mod visitors;
 mod waiting;
 
 pub use attached::{Attached, Coming, Seated};
+pub use backup::{Backups, Copied};
 pub use clock::moment;
 pub use directory::Directory;
 pub use errand::Errands;

@@ -2,15 +2,16 @@
 use crate::directory::Directory;
 use crate::stage::Stage;
 use crate::topic::Shared;
-use delivery_machine::{Fault, Opened};
+use delivery_machine::Fault;
 use marks::Naming;
 use session_bells::Bell;
 use sqlite::Alter;
 use status_pages::{BrokerSeen, ProgramSeen, TopicSeen};
 use std::alloc::Global;
 use std::sync::{Arc, Wait};
+use topic_watched::Watched;
 
-impl<T: Opened + Drop, S: Alter, J: Naming, B: Bell + Drop> Directory<T, S, J, B> {
+impl<T: Watched + Drop, S: Alter, J: Naming, B: Bell + Drop> Directory<T, S, J, B> {
     /// What is seen of the topics that are in memory, and of what was stored. Topics are in the order in which they were
     /// opened; none is loaded by it. Each is looked at by itself, with the others free. Only want of memory is a refusal (F1).
     pub fn seen<R: Wait>(&self, rt: &R, program: ProgramSeen) -> Result<BrokerSeen, Fault> {
@@ -32,6 +33,7 @@ impl<T: Opened + Drop, S: Alter, J: Naming, B: Bell + Drop> Directory<T, S, J, B
             rows: stores.rows,
             loads: self.counts.loads(),
             unloads: self.counts.unloads(),
+            backups: self.backups_seen(),
             topics,
         })
     }
@@ -94,7 +96,7 @@ impl<T: Opened + Drop, S: Alter, J: Naming, B: Bell + Drop> Directory<T, S, J, B
 }
 
 /// What is seen of the topic, under one hold of its lock.
-fn seen_in<T: Opened + Drop, J: Naming, B: Bell + Drop, R: Wait>(
+fn seen_in<T: Watched + Drop, J: Naming, B: Bell + Drop, R: Wait>(
     rt: &R,
     alloc: Global,
     topic: &Shared<T, J, B>,

@@ -14,8 +14,9 @@ use crate::visitors::Visitor;
 use delivery_machine::{Event, Fault, KeptSubscription, Opened, Reply, Snapshot, SubscriptionName};
 use marks::Naming;
 use session_bells::Bell;
-use status_pages::{SessionSeen, SubscriptionSeen, TopicSeen};
+use status_pages::{Holds, SessionSeen, SubscriptionSeen, TopicSeen};
 use std::alloc::{AllocError, Global};
+use topic_watched::{ConsumerCounts, Watched};
 
 /// What is known of a subscription before its topic is asked.
 #[derive(Drop)]
@@ -99,16 +100,23 @@ fn text_of(alloc: Global, name: Option<&SubscriptionName>) -> Result<Option<Stri
 
 fn session_of(
     alloc: Global,
+    seat: u64,
     visitor: &Visitor,
     subscription: Option<&SubscriptionName>,
+    counts: Option<ConsumerCounts>,
 ) -> Result<SessionSeen, AllocError> {
     let address = address_of(alloc, visitor)?;
     let subscription = text_of(alloc, subscription)?;
     Ok(SessionSeen {
+        number: seat,
         address,
         role: visitor.role,
         since: visitor.since.millis(),
         subscription,
+        holds: counts.map(|counts| Holds {
+            pending: counts.pending,
+            room: counts.room,
+        }),
     })
 }
 
@@ -127,7 +135,7 @@ impl<T: Opened + Drop, J: Naming, B: Bell + Drop> Inside<T, J, B> {
     }
 
     /// How many messages are stored, of all that the topic has had.
-    fn durable(&mut self) -> Result<u64, Fault>
+    pub(crate) fn durable(&mut self) -> Result<u64, Fault>
         ensures durable { IfOk result (λ count. count ≡ self.old.topic.cell.cell.state.gone + self.old.topic.cell.cell.state.durable) }
         ensures state { self.new.topic.cell.cell.state ≡ self.old.topic.cell.cell.state }
         ensures name { self.new.topic.name ≡ self.old.topic.name }
@@ -220,12 +228,24 @@ impl<T: Opened + Drop, J: Naming, B: Bell + Drop> Inside<T, J, B> {
         }
         Ok(())
     }
+}
+
+impl<T: Watched + Drop, J: Naming, B: Bell + Drop> Inside<T, J, B> {
+    /// What the consumer at the seat has, where one is there.
+    fn counts_at(&self, seat: u64) -> Option<ConsumerCounts> {
+        match self.visitors.consumer(seat) {
+            Some(consumer) => self.topic.cell().cell().topic().consumer_counts(consumer),
+            None => None,
+        }
+    }
 
     /// Adds to what is seen who sits at the topic.
     fn see_sessions(&self, alloc: Global, seen: &mut Vec<SessionSeen>) -> Result<(), Fault> {
         for seat in 1..self.visitors.last().saturating_add(1) {
             if let Some(visitor) = self.visitors.at(seat) {
-                let Ok(session) = session_of(alloc, &visitor, self.bells.subscription(seat)) else {
+                let name = self.bells.subscription(seat);
+                let Ok(session) = session_of(alloc, seat, &visitor, name, self.counts_at(seat))
+                else {
                     return Err(Fault::NoMemory);
                 };
                 if seen.push(session).is_err() {

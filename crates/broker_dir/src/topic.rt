@@ -15,6 +15,8 @@ pub(crate) struct Shared<T: Opened + Drop, J: Naming, B: Bell + Drop> {
     pub(crate) inside: Mutex<Inside<T, J, B>>,
     /// It may not be used any more: its stage, which the lock guards, says why.
     is_over: AtomicBool,
+    /// A session there is to end: which one, the lock guards.
+    has_to_go: AtomicBool,
 }
 
 impl<T: Opened + Drop, J: Naming, B: Bell + Drop> Drop for Shared<T, J, B> {
@@ -23,6 +25,7 @@ impl<T: Opened + Drop, J: Naming, B: Bell + Drop> Drop for Shared<T, J, B> {
             name: _,
             inside: _,
             is_over: _,
+            has_to_go: _,
         } = self;
     }
 }
@@ -35,6 +38,7 @@ impl<T: Opened + Drop, J: Naming, B: Bell + Drop> Shared<T, J, B> {
             name,
             inside: Mutex::new(inside),
             is_over: AtomicBool::new(false),
+            has_to_go: AtomicBool::new(false),
         }
     }
 
@@ -47,12 +51,21 @@ impl<T: Opened + Drop, J: Naming, B: Bell + Drop> Shared<T, J, B> {
         self.is_over.load(Ordering::SeqCst)
     }
 
-    /// Why it may not be used any more, where it may not.
-    pub(crate) fn refusal<R: Wait>(&self, rt: &R) -> Option<Fault> {
-        if !self.is_over() {
+    /// Who sits there is to see, without its lock, whether a session is to end. Set under the lock.
+    pub(crate) fn set_to_go(&self, has: bool) {
+        self.has_to_go.store(has, Ordering::SeqCst);
+    }
+
+    pub(crate) fn has_to_go(&self) -> bool {
+        self.has_to_go.load(Ordering::SeqCst)
+    }
+
+    /// Why the one at the seat may not stay, where it may not.
+    pub(crate) fn refusal<R: Wait>(&self, rt: &R, seat: u64) -> Option<Fault> {
+        if !self.is_over() && !self.has_to_go() {
             return None;
         }
         let inside = self.inside.lock(rt);
-        inside.stage.refusal()
+        inside.refusal(seat)
     }
 }

@@ -1,5 +1,5 @@
 // Who sits at a topic's seats, as its lookers are told.
-use delivery_machine::Moment;
+use delivery_machine::{ConsumerNumber, Moment};
 use status_pages::Role;
 use std::alloc::Global;
 use std::net::SocketAddr;
@@ -14,10 +14,28 @@ pub struct Visitor {
     pub since: Moment,
 }
 
+impl Visitor {
+    /// Whether its client is known to be at the broker's own machine.
+    pub(crate) fn is_near(&self) -> bool {
+        match self.address {
+            Some(address) => address.ip().is_loopback(),
+            None => false,
+        }
+    }
+}
+
+/// Who sits at a seat, its number as a consumer of the topic where it is one, and whether its session is to end.
+#[derive(Clone, Copy)]
+struct Sitting {
+    visitor: Visitor,
+    consumer: Option<ConsumerNumber>,
+    is_to_go: bool,
+}
+
 /// Who sits at the seats, from the first one on, as far as they said who they are.
 #[derive(Drop)]
 pub(crate) struct Visitors {
-    seats: Vec<Option<Visitor>>,
+    seats: Vec<Option<Sitting>>,
 }
 
 fn place_of(seat: u64) -> usize {
@@ -39,7 +57,29 @@ impl Visitors {
                 return;
             }
         }
-        self.set(place, Some(visitor));
+        self.set(
+            place,
+            Some(Sitting {
+                visitor,
+                consumer: None,
+                is_to_go: false,
+            }),
+        );
+    }
+
+    /// The one at the seat is the consumer of the number.
+    pub(crate) fn join(&mut self, seat: u64, consumer: ConsumerNumber) {
+        if let Some(sitting) = self.sitting_mut(seat) {
+            sitting.consumer = Some(consumer);
+        }
+    }
+
+    /// The number of the consumer at the seat, where one is there.
+    pub(crate) fn consumer(&self, seat: u64) -> Option<ConsumerNumber> {
+        match self.sitting(seat) {
+            Some(sitting) => sitting.consumer,
+            None => None,
+        }
     }
 
     /// Nobody sits at the seat any more.
@@ -47,10 +87,57 @@ impl Visitors {
         self.set(place_of(seat), None);
     }
 
-    fn set(&mut self, place: usize, visitor: Option<Visitor>) {
+    fn set(&mut self, place: usize, sitting: Option<Sitting>) {
         if let Some(seat) = self.seats.get_mut(place) {
-            *seat = visitor;
+            *seat = sitting;
         }
+    }
+
+    fn sitting(&self, seat: u64) -> Option<&Sitting> {
+        if seat == 0 {
+            return None;
+        }
+        match self.seats.get(place_of(seat)) {
+            Some(Some(sitting)) => Some(sitting),
+            _ => None,
+        }
+    }
+
+    fn sitting_mut(&mut self, seat: u64) -> Option<&mut Sitting> {
+        if seat == 0 {
+            return None;
+        }
+        match self.seats.get_mut(place_of(seat)) {
+            Some(Some(sitting)) => Some(sitting),
+            _ => None,
+        }
+    }
+
+    /// The session at the seat is to end. Whether one is there that said who it is: nobody sits at 0.
+    pub(crate) fn end(&mut self, seat: u64) -> bool {
+        match self.sitting_mut(seat) {
+            Some(sitting) => {
+                sitting.is_to_go = true;
+                true
+            }
+            None => false,
+        }
+    }
+
+    /// Whether the session at the seat is to end.
+    pub(crate) fn is_to_go(&self, seat: u64) -> bool {
+        match self.sitting(seat) {
+            Some(sitting) => sitting.is_to_go,
+            None => false,
+        }
+    }
+
+    /// Whether a session is to end that is there still.
+    pub(crate) fn any_to_go(&self) -> bool {
+        self.seats.iter().any(|seat| match seat {
+            Some(sitting) => sitting.is_to_go,
+            None => false,
+        })
     }
 
     /// Up to which seat somebody may sit who said so.
@@ -60,9 +147,9 @@ impl Visitors {
 
     /// Who sits at the seat.
     pub(crate) fn at(&self, seat: u64) -> Option<Visitor> {
-        match self.seats.get(place_of(seat)) {
-            Some(Some(visitor)) => Some(*visitor),
-            _ => None,
+        match self.sitting(seat) {
+            Some(sitting) => Some(sitting.visitor),
+            None => None,
         }
     }
 }

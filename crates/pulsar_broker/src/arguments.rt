@@ -13,6 +13,8 @@ pub struct Asked<'a> {
     pub connections: Option<u64>,
     /// What a topic keeps that has no rule of its own.
     pub keep: Retention,
+    /// The folder that copies of the database go into, where any may be made.
+    pub backup: Option<&'a str>,
 }
 
 const MOST_WORKERS: u64 = 256;
@@ -64,8 +66,12 @@ fn rule(word: &str) -> Option<Retention> {
     }
 }
 
-/// What the words ask for, but for what is kept.
-fn read_others(words: &[String], keep: Retention) -> Option<Asked<'_>> {
+/// What the words ask for, but for what is kept and where copies go.
+fn read_others<'a>(
+    words: &'a [String],
+    keep: Retention,
+    backup: Option<&'a str>,
+) -> Option<Asked<'a>> {
     let (database, address, count, connections) = match words {
         [database, address, count] => (database, address, count, None),
         [database, address, count, connections] => (
@@ -82,16 +88,39 @@ fn read_others(words: &[String], keep: Retention) -> Option<Asked<'_>> {
         workers: workers(count.as_str())?,
         connections,
         keep,
+        backup,
     })
 }
 
-/// What the words after the program's name ask for. None where they are wrong. Without a rule all is kept.
+/// What follows the name in the last word, where that begins with it, and the words before; else all of them.
+fn split_named<'a>(words: &'a [String], name: &str) -> (&'a [String], Option<&'a str>) {
+    if let Some((last, others)) = words.split_last()
+        && let Some(word) = last.as_str().strip_prefix(name)
+    {
+        return (others, Some(word));
+    }
+    (words, None)
+}
+
+/// A folder for copies; none where it is not named, or where the database is no file.
+fn folder<'a>(word: &'a str, words: &[String]) -> Option<&'a str> {
+    match words.first() {
+        Some(database) if database.as_str() != ":memory:" && !word.is_empty() => Some(word),
+        _ => None,
+    }
+}
+
+/// What the words after the program's name ask for. None where they are wrong. Without a rule all is kept, and without a
+/// folder no copies are made.
 pub fn read_arguments(words: &[String]) -> Option<Asked<'_>> {
-    let Some((last, others)) = words.split_last() else {
-        return None;
+    let (words, backup) = split_named(words, "backup=");
+    let backup = match backup {
+        Some(word) => Some(folder(word, words)?),
+        None => None,
     };
-    match last.as_str().strip_prefix("keep=") {
-        Some(word) => read_others(others, rule(word)?),
-        None => read_others(words, Retention::All),
+    let (words, keep) = split_named(words, "keep=");
+    match keep {
+        Some(word) => read_others(words, rule(word)?, backup),
+        None => read_others(words, Retention::All, backup),
     }
 }

@@ -6,7 +6,8 @@ ghost use Rattle.row_tables.specs.Ready.{AreKeyed};
 
 use crate::arguments::Asked;
 use crate::causes::{Why, say_why};
-use broker_dir::{Directory, Open, Terms, moment};
+use crate::sizes::Sizes;
+use broker_dir::{Backups, Directory, Open, Terms, moment};
 use delivery_machine::Moment;
 use marks::{Naming, Unnamed};
 use position_core::LedgerSize;
@@ -109,7 +110,13 @@ fn serve_named<
     let Some(first) = Moment::new(0) else {
         return Fate::CannotServe;
     };
-    let directory = Directory::open(alloc, keeper, terms, asked.keep);
+    let mut directory = Directory::open(alloc, keeper, terms, asked.keep);
+    if let Some(folder) = asked.backup {
+        let Some(backups) = Backups::new(alloc, asked.database, folder) else {
+            return Fate::CannotServe;
+        };
+        directory = directory.with_backups(backups);
+    }
     let about = About {
         started: moment(rt, first),
     };
@@ -124,8 +131,9 @@ fn serve_named<
         return Fate::CannotServe;
     };
     let _ = println!(rt; "listening {}", asked.address);
+    let Sizes { file, log } = Sizes::of(rt, alloc, asked.database);
     let _ = eprintln!(rt;
-        "level=info msg=\"started\" version={VERSION} database={} address={} workers={}",
+        "level=info msg=\"started\" version={VERSION} database={} bytes={file} log_bytes={log} address={} workers={}",
         asked.database, asked.address, asked.workers
     );
     let limits = Limits {

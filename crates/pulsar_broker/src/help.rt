@@ -1,7 +1,8 @@
 // What the program says of itself.
 
 /// How it is used.
-pub const HELP: &str = r#"usage: pulsar_broker database address workers [connections] [keep=rule]
+pub const HELP: &str =
+    r#"usage: pulsar_broker database address workers [connections] [keep=rule] [backup=folder]
 
 A topic broker with Apache Pulsar's subscription types, spoken to by JSON over WebSockets.
 
@@ -11,6 +12,7 @@ A topic broker with Apache Pulsar's subscription types, spoken to by JSON over W
   connections   for tests: end after so many
   keep=rule     what is kept of what every subscription has acknowledged:
                 keep=all (the default), keep=1000 messages, keep=86400000ms
+  backup=folder where copies of the database go that an administrator asks for (brokerctl backup)
 
   pulsar_broker broker.db 127.0.0.1:8080 4 keep=86400000ms
 

@@ -1,10 +1,11 @@
-//! Serves topics over WebSockets: `pulsar_broker <database> <address> <workers> [connections] [keep=<rule>]`.
+//! Serves topics over WebSockets: `pulsar_broker <database> <address> <workers> [connections] [keep=<rule>] [backup=<folder>]`.
 #![tactic(auto)]
 
 mod arguments;
 mod broker;
 mod causes;
 mod help;
+mod sizes;
 
 use arguments::read_arguments;
 use broker::{Fate, serve_over};

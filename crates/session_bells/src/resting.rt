@@ -130,6 +130,13 @@ impl<B: Bell + Drop> Bells<B> {
         }
     }
 
+    /// The session at the seat is rung, where one is there.
+    pub fn wake<R: Wait>(&self, rt: &R, seat: u64) {
+        if seat > 0 {
+            self.ring(rt, seat.saturating_sub(1) as usize);
+        }
+    }
+
     /// All are rung.
     pub fn ring_all<R: Wait>(&self, rt: &R) {
         for place in 0..self.residents.len() {

@@ -11,11 +11,11 @@ use Rattle.session_links.specs.Links.{Call, Exchange, Tells, came, gone, nothing
 use Rattle.session_texts.specs.declared.answer.Answer.{Answer}
 use Rattle.session_texts.specs.declared.close.Close.{Close}
 use Rattle.session_texts.specs.declared.asking.Asking.{Asking}
-use Rattle.session_texts.specs.declared.asking.Asking.TheVariants.{Asks, Answers, Closes}
+use Rattle.session_texts.specs.declared.asking.Asking.TheVariants.{Asks, Shows, Answers, Closes}
 use Rattle.session_texts.specs.declared.outcome.Outcome.{Outcome}
 use Rattle.session_texts.specs.declared.outcome.Outcome.TheVariants.{Answers as Answering, Passes, Closes as Closing}
 use Rattle.session_texts.specs.Asking.{asks, refusing}
-use Rattle.session_texts.specs.Outcomes.{outcome_of}
+use Rattle.session_texts.specs.Outcomes.{answer_of_seen, outcome_of}
 use Rattle.session_texts.specs.Unsent.{Unsent, answering, collected, is_answer}
 use Rattle.session_core.proofs.Telling.{tells_nothing, tells_then}
 use Rattle.session_core.specs.declared.session.Session.{Session}
@@ -29,7 +29,7 @@ use Rattle.session_core.specs.declared.texts.Received.{Received}
 use Rattle.session_core.specs.declared.texts.Received.TheVariants.{Nothing, Text}
 use Rattle.std.specs.Prelude.{IfErr, IfOk, Result}
 use Rattle.session_core.specs.Runs.{IsFull}
-use Rattle.session_core.specs.Steps.{EndsTexts, EndsTextsBy, KeepsCopies, Stays, TakesAll, TakesNext, TakesReply, TakesSome, TakesText, TakesTexts, received_with, wanting_memory}
+use Rattle.session_core.specs.Steps.{EndsTexts, EndsTextsBy, KeepsCopies, Stays, TakesAll, TakesNext, TakesReply, TakesSeen, TakesSome, TakesText, TakesTexts, received_with, wanting_memory}
 
 -- the answers that came are to be sent after what there was
 pub more_unsent : (s t : Session) (more : List Unsent) → KeepsCopies s t → map answering t.waiting.items ≡ map answering s.waiting.items ++ more → unsent_of t ≡ unsent_of s ++ more
@@ -43,7 +43,7 @@ more_unsent s t more k w =
 pub as_asked : (s : Session) (now : ℕ) (text : List ℕ) (c : Option (List Call)) (stop : Option Stop) (t : Session) (d : Option (List Call)) (taken : Taken) (asking : Asking)
     → asks s.party now s.next text ≡ asking → taken.text ≡ text → IsTakenAs s.party taken asking → stop ≡ option_map Closed taken.close
     → Tells (λ calls. and_one calls taken.call) c d → KeepsCopies s t → t.next ≡ number_after_call s.next taken.call
-    → map answering t.waiting.items ≡ map answering s.waiting.items ++ (if is_some taken.close then [] else answer_as s.party taken.call asking)
+    → map answering t.waiting.items ≡ map answering s.waiting.items ++ (if is_some taken.close then [] else answer_as s.party taken.call taken.shown asking)
     → TakesText s now text c stop t d
 as_asked s now text c stop t d taken asking is is_text as_it stops calls keeps next waiting = record {
   taken = taken;
@@ -54,7 +54,7 @@ as_asked s now text c stop t d taken asking is is_text as_it stops calls keeps n
   keeps = keeps;
   next = next;
   unsent = more_unsent s t (answer_to s.party now s.next taken) keeps
-      (waiting ∙ ap (λ (x : Asking). map answering s.waiting.items ++ (if is_some taken.close then [] else answer_as s.party taken.call x)) (sym is ∙ ap (asks s.party now s.next) (sym is_text)));
+      (waiting ∙ ap (λ (x : Asking). map answering s.waiting.items ++ (if is_some taken.close then [] else answer_as s.party taken.call taken.shown x)) (sym is ∙ ap (asks s.party now s.next) (sym is_text)));
 }
 
 -- a session keeps what it holds
@@ -69,9 +69,9 @@ no_call (Some z) = refl
 -- there was no memory to read the text
 pub text_unread : (s : Session) (now : ℕ) (text : List ℕ) (c : Option (List Call)) (stop : Option Stop) → stop ≡ Some wanting_memory → TakesText s now text c stop s c
 text_unread s now text c stop e = record {
-  taken = record { text = text; call = None; close = Some (refusing NoMemory) };
+  taken = record { text = text; call = None; shown = None; close = Some (refusing NoMemory) };
   is_text = refl;
-  as_asked = inl (refl, refl);
+  as_asked = inl (refl, refl, refl);
   stops = e;
   calls = tells_nothing _ c (λ x. refl);
   keeps = keeps_all s;
@@ -82,14 +82,21 @@ text_unread s now text c stop e = record {
 -- the text closes the session
 pub text_closes : (s : Session) (now : ℕ) (text : List ℕ) (c : Option (List Call)) (close : Close) → asks s.party now s.next text ≡ Closes close → TakesText s now text c (Some (Closed close)) s c
 text_closes s now text c close is =
-    as_asked s now text c _ s c (record { text = text; call = None; close = Some close }) (Closes close) is refl (refl, refl) refl (tells_nothing _ c (λ x. refl)) (keeps_all s) (no_call s.next) (sym (append-nil (map answering s.waiting.items)))
+    as_asked s now text c _ s c (record { text = text; call = None; shown = None; close = Some close }) (Closes close) is refl (refl, refl, refl) refl (tells_nothing _ c (λ x. refl)) (keeps_all s) (no_call s.next) (sym (append-nil (map answering s.waiting.items)))
 
 -- the text is answered at once
 pub text_answered : (s t : Session) (now : ℕ) (text : List ℕ) (c : Option (List Call)) (answer : Answer) → asks s.party now s.next text ≡ Answers answer → KeepsCopies s t → t.next ≡ s.next
     → t.waiting.items ≡ s.waiting.items ++ answer ∷ [] → TakesText s now text c None t c
 text_answered s t now text c answer is keeps next w =
-    as_asked s now text c None t c (record { text = text; call = None; close = None }) (Answers answer) is refl (refl, refl) refl (tells_nothing _ c (λ x. refl)) keeps (next ∙ no_call s.next)
+    as_asked s now text c None t c (record { text = text; call = None; shown = None; close = None }) (Answers answer) is refl (refl, refl, refl) refl (tells_nothing _ c (λ x. refl)) keeps (next ∙ no_call s.next)
     (ap (map answering) w ∙ map-append answering s.waiting.items (answer ∷ []))
+
+-- the text was answered with what is seen of the broker
+pub text_shown : (s t : Session) (now : ℕ) (text : List ℕ) (c d : Option (List Call)) → asks s.party now s.next text ≡ Shows → TakesSeen s c t d → TakesText s now text c None t d
+text_shown s t now text c d is k =
+    as_asked s now text c None t d (record { text = text; call = None; shown = Some k.seen; close = None }) Shows is refl (refl, refl, refl) refl
+    (subst (Tells (λ calls. and_one calls None) c) (sym k.calls) (tells_nothing _ c (λ x. refl))) k.keeps (k.next ∙ no_call s.next)
+    (ap (map answering) k.waiting ∙ map-append answering s.waiting.items (answer_of_seen k.seen ∷ []))
 
 -- the text's request was called
 pub text_asked : (s t : Session) (now : ℕ) (text : List ℕ) (c d : Option (List Call)) (stop : Option Stop) (request : Request) (context : Option (List ℕ)) → asks s.party now s.next text ≡ Asks request context
@@ -97,7 +104,7 @@ pub text_asked : (s t : Session) (now : ℕ) (text : List ℕ) (c d : Option (Li
 text_asked s t now text c d stop request context is r =
     let call : Call = record { request = request; reply = r.reply } in
     let close : Option Close = close_in (outcome_of s.party context r.reply) in
-    as_asked s now text c stop t d (record { text = text; call = Some call; close = close }) (Asks request context) is refl (r.reply, refl, refl) r.stops r.calls r.keeps r.next
+    as_asked s now text c stop t d (record { text = text; call = Some call; shown = None; close = close }) (Asks request context) is refl (r.reply, refl, refl, refl) r.stops r.calls r.keeps r.next
     (r.waiting ∙ ap (λ l. map answering s.waiting.items ++ l) (by_outcome (outcome_of s.party context r.reply)))
   where
     by_outcome : (o : Outcome) → answer_in o ≡ (if is_some (close_in o) then [] else answer_in o)

@@ -6,7 +6,7 @@ use Rattle.std.proofs.lemmas.List.Elements.{All-push}
 use Rattle.delivery_machine.specs.declared.delivery.Delivery.{Delivery}
 use Rattle.session_links.specs.Links.{Exchange, Tells, same, with_sent}
 use Rattle.session_texts.specs.declared.answer.Answer.{Answer}
-use Rattle.session_texts.specs.Unsent.{IsDeliveryText, Unsent, answer_text, answering, collected, least_durable}
+use Rattle.session_texts.specs.Unsent.{IsAnswerText, IsDeliveryText, Unsent, answering, collected, least_durable}
 use Rattle.session_core.specs.declared.session.Session.{Session}
 use Rattle.session_core.specs.declared.stop.Stop.{Stop}
 use Rattle.session_core.specs.declared.stop.Stop.TheVariants.{Gone as Left}
@@ -59,7 +59,7 @@ answer_gone s t answer none ready is copies sent waiting =
 
 -- an answer was sent
 pub sends_answer : (s t : Session) (answer : Answer) (text : List ℕ) (e f : Option Exchange) (had_room is_open has_room : Bool)
-    → has_copies s ≡ false → is_ready s ≡ true → answer ≡ get_or s.waiting.items 0 answer → text ≡ answer_text answer
+    → has_copies s ≡ false → is_ready s ≡ true → answer ≡ get_or s.waiting.items 0 answer → IsAnswerText answer text
     → t.copies ≡ s.copies → t.copies_sent ≡ s.copies_sent → t.waiting.items ≡ drop 1 s.waiting.items → KeepsState s t
     → Tells (with_sent text) e f → is_open ≡ true → SendsOne s e had_room None t f is_open has_room
 sends_answer s t answer text e f had_room is_open has_room none ready is written copies sent waiting keeps tells o =

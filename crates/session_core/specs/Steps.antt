@@ -1,6 +1,7 @@
 -- The steps of a turn, as its private functions tell them: what each adds to the turn, and to what the session holds.
 use Rattle.std.specs.Prelude.{◌≡◌, ◌⊎◌, ℕ, ◌≤◌, List, [], ◌∷◌, ◌++◌, length, map, All, Bool, true, false, ◌&&◌, Option, Some, None, IsSome, Result, Ok, Err, option_map, max}
 use Rattle.std.specs.Option.{option_or}
+use Rattle.position_core.specs.declared.fault.Fault.{Fault}
 use Rattle.position_core.specs.declared.fault.Fault.TheVariants.{NoMemory}
 use Rattle.delivery_machine.specs.declared.event.Event.{Event}
 use Rattle.delivery_machine.specs.declared.event.Event.TheVariants.{Collect, Dispatch, Progress, Tick}
@@ -13,7 +14,7 @@ use Rattle.session_texts.specs.declared.party.Party.TheVariants.{Producer, Consu
 use Rattle.session_texts.specs.declared.close.Close.{Close}
 use Rattle.session_texts.specs.Asking.{asks, refusing}
 use Rattle.session_texts.specs.Numbers.{reason_of}
-use Rattle.session_texts.specs.Outcomes.{farewell_of, outcome_of, own_close}
+use Rattle.session_texts.specs.Outcomes.{answer_of_seen, farewell_of, outcome_of, own_close}
 use Rattle.session_texts.specs.Unsent.{Unsent, answering}
 use Rattle.session_core.specs.declared.stop.Stop.{Stop}
 use Rattle.session_core.specs.declared.stop.Stop.TheVariants.{Gone as Left, Closed}
@@ -54,6 +55,14 @@ pub record TakesReply (s : Session) (request : Request) (context : Option (List 
   pub keeps : KeepsCopies s t
   pub next : t.next ≡ number_after_call s.next (Some (record { request = request; reply = reply }))
   pub waiting : map answering t.waiting.items ≡ map answering s.waiting.items ++ answer_in (outcome_of s.party context reply)
+
+-- the broker was looked at for a text, and what was seen is the answer
+pub record TakesSeen (s : Session) (c : Option (List Call)) (t : Session) (d : Option (List Call)) : Type 0 where
+  pub seen : Result (List ℕ) Fault
+  pub calls : d ≡ c
+  pub keeps : KeepsCopies s t
+  pub next : t.next ≡ s.next
+  pub waiting : t.waiting.items ≡ s.waiting.items ++ answer_of_seen seen ∷ []
 
 -- a text was taken
 pub record TakesText (s : Session) (now : ℕ) (text : List ℕ) (c : Option (List Call)) (stop : Option Stop) (t : Session) (d : Option (List Call)) : Type 0 where

@@ -1,5 +1,6 @@
 -- A turn of a session: what was taken, asked and sent in it, and what all that adds up to.
-use Rattle.std.specs.Prelude.{ℕ, List, [], ◌∷◌, ◌++◌, Bool, Option, Some, None, option_map}
+use Rattle.std.specs.Prelude.{ℕ, List, [], ◌∷◌, ◌++◌, Bool, Option, Some, None, Result, option_map}
+use Rattle.position_core.specs.declared.fault.Fault.{Fault}
 use Rattle.session_links.specs.Links.{Receipt, came, nothing, gone, Closing, Exchange, Call}
 use Rattle.session_texts.specs.declared.close.Close.{Close}
 use Rattle.session_texts.specs.Numbers.{reason_of}
@@ -16,10 +17,12 @@ abbrev pub receipt_of_silence : Silence → Receipt
 receipt_of_silence quiet = nothing
 receipt_of_silence ended = gone
 
--- a text that came, the call that it led to, where it led to one, and the close, where it closed the session
+-- a text that came, the call that it led to, where it led to one, what was seen of the broker, where it asked for that, and the close,
+-- where it closed the session
 pub record Taken : Type 0 where
   pub text : List ℕ
   pub call : Option Call
+  pub shown : Option (Result (List ℕ) Fault)
   pub close : Option Close
 
 -- One turn, of at most so many texts. The texts have the latest first.

@@ -14,6 +14,6 @@ mod texts;
 mod waiting;
 
 pub use opening::open;
-pub use serving::{TextCount, serve, turn};
+pub use serving::{TextCount, leave, serve, turn};
 pub use session::Session;
 pub use waiting::Waits;

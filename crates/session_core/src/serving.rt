@@ -82,6 +82,15 @@ fn say_last<K: Caller>(party: &Party, caller: &mut K)
     }
 }
 
+/// Ends a session that its keeper may not let stay, between two turns: the event with which it ends is called, where it has one.
+/// Its connection is not called.
+pub fn leave<K: Caller>(session: Session, caller: &mut K)
+    ensures { SaysLast session.party (K.calls caller.old) (K.calls caller.new) }
+{
+    say_last(&session.party, caller);
+    drop(session);
+}
+
 /// Serves a session for one turn that takes up to so many texts: what came is handled, until nothing comes, 1,000
 /// texts are not answered, or the session ends; then the session asks and sends all that a turn does, once.
 ///

@@ -2,13 +2,15 @@
 ghost use Rattle.std.specs.Prelude.{◌≡◌, ◌<◌, IfErr, IfOk, None, Some, true};
 ghost use Rattle.std.specs.Result.{result_err};
 ghost use Rattle.std.specs.VecDeque.{deque_capacity, deque_len};
-ghost use Rattle.session_core.specs.Steps.{TakesNext, TakesReply, TakesText, TakesTexts};
+ghost use Rattle.session_core.specs.Steps.{TakesNext, TakesReply, TakesSeen, TakesText, TakesTexts};
 
 use crate::session::Session;
 use crate::stop::Stop;
 use delivery_machine::{Event, Moment};
 use session_links::{Caller, Conn, Incoming, Request, ask_for};
-use session_texts::{Asking, Context, Outcome, number_after, outcome_of, read_text};
+use session_texts::{
+    Asking, Context, Outcome, answer_of_seen, number_after, outcome_of, read_text,
+};
 
 /// What came of receiving once.
 #[derive(Drop)]
@@ -56,6 +58,15 @@ impl Session {
         }
     }
 
+    /// Looks at the broker, and keeps what is seen as the answer.
+    fn take_overview<K: Caller>(&mut self, caller: &mut K)
+        requires { deque_len self.old.waiting < deque_capacity self.old.waiting }
+        ensures { TakesSeen self.old (K.calls caller.old) self.new (K.calls caller.new) }
+    {
+        let seen = caller.overview();
+        self.waiting.push_back_reserved(answer_of_seen(seen));
+    }
+
     fn take_text<K: Caller>(&mut self, caller: &mut K, now: Moment, text: &[u8]) -> Result<(), Stop>
         requires { deque_len self.old.waiting < deque_capacity self.old.waiting }
         ensures { TakesText self.old now text.now (K.calls caller.old) (result_err result) self.new (K.calls caller.new) }
@@ -65,6 +76,10 @@ impl Session {
         };
         match asking {
             Asking::Asks { request, context } => self.take_reply(caller, request, context),
+            Asking::Shows => {
+                self.take_overview(caller);
+                Ok(())
+            }
             Asking::Answers(answer) => {
                 self.waiting.push_back_reserved(answer);
                 Ok(())

@@ -1,2 +1,4 @@
 pub mod Links
+pub mod Creating
+pub mod Looking
 pub mod Lists

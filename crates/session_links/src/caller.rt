@@ -1,5 +1,5 @@
 // The caller of a session's topic.
-ghost use Rattle.std.specs.Prelude.{List, Option};
+ghost use Rattle.std.specs.Prelude.{◌≡◌, List, Option};
 ghost use Rattle.session_links.specs.Links.{Call, Tells, event_call, reply_of, with_call};
 
 use crate::request::Request;
@@ -13,6 +13,10 @@ pub trait Caller {
     /// Hands the request over. An `Err` is a refusal of what stands before the topic.
     fn call(&mut self, request: Request) -> Result<Reply, Fault>
         ensures { Tells (with_call (record { request = request; reply = reply_of result })) (calls self.old) (calls self.new) };
+
+    /// What is seen of all topics of the broker, as a text. An `Err` is why nothing is.
+    fn overview(&mut self) -> Result<String, Fault>
+        ensures { calls self.new ≡ calls self.old };
 }
 
 /// The reply to a request, where a call that fails refuses it.

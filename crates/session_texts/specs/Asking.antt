@@ -5,6 +5,7 @@ use Rattle.position_core.specs.declared.fault.Fault.TheVariants.{TooMany}
 use Rattle.position_core.specs.declared.body.Content.{Content}
 use Rattle.delivery_machine.specs.declared.event.Event.{Event}
 use Rattle.delivery_machine.specs.declared.event.Event.TheVariants.{Publish}
+use Rattle.session_links.specs.declared.request.Request.{Request}
 use Rattle.session_links.specs.declared.request.Request.TheVariants.{Event as OfEvent}
 use Rattle.wire_json.specs.declared.commands.Command.{Command}
 use Rattle.wire_json.specs.declared.admins.AdminCommand.{AdminCommand}
@@ -18,7 +19,7 @@ use Rattle.session_texts.specs.declared.party.Party.{Party}
 use Rattle.session_texts.specs.declared.party.Party.TheVariants.{Producer, Consumer, Admin}
 use Rattle.session_texts.specs.declared.close.Close.{Close}
 use Rattle.session_texts.specs.declared.asking.Asking.{Asking}
-use Rattle.session_texts.specs.declared.asking.Asking.TheVariants.{Asks, Answers, Closes}
+use Rattle.session_texts.specs.declared.asking.Asking.TheVariants.{Asks, Shows, Answers, Closes}
 use Rattle.session_texts.specs.declared.answer.Answer.TheVariants.{Refused, EndOfTopic}
 use Rattle.session_texts.specs.Requests.{event_of_command, request_of_admin}
 
@@ -54,10 +55,15 @@ abbrev pub asks_command : ℕ → ℕ → Result Command Fault → Asking
 asks_command consumer now (Err fault) = Closes (unreadable_close fault)
 asks_command consumer now (Ok command) = asks_event (event_of_command consumer now command)
 
+-- a command without a request asks what is seen of the broker
+abbrev pub asks_request : Option Request → Asking
+asks_request None = Shows
+asks_request (Some request) = Asks request None
+
 -- an administrator's text is a command, or closes the session
 abbrev pub asks_admin : Result AdminCommand Fault → Asking
 asks_admin (Err fault) = Closes (unreadable_close fault)
-asks_admin (Ok command) = Asks (request_of_admin command) None
+asks_admin (Ok command) = asks_request (request_of_admin command)
 
 -- what the text asks for, of the party, at the moment, with the next number
 abbrev pub asks : Party → ℕ → Option ℤ → List ℕ → Asking

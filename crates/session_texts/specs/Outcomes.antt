@@ -1,12 +1,12 @@
 -- What comes of a topic's reply.
-use Rattle.std.specs.Prelude.{ℕ, ℤ, List, Bool, true, false, Option, Some, None, if◌then◌else◌}
+use Rattle.std.specs.Prelude.{ℕ, ℤ, List, Bool, true, false, Option, Some, None, Result, Ok, Err, if◌then◌else◌}
 use Rattle.position_core.specs.declared.position.Position.{Position}
 use Rattle.position_core.specs.declared.fault.Fault.{Fault}
 use Rattle.position_core.specs.declared.fault.Fault.TheVariants.{NoMemory, NoSuchMessage, NotPending, PushMode, JournalFull}
 use Rattle.delivery_machine.specs.declared.event.Event.{Event}
 use Rattle.delivery_machine.specs.declared.event.Event.TheVariants.{DropProducer, Leave}
 use Rattle.delivery_machine.specs.declared.reply.Reply.{Reply}
-use Rattle.delivery_machine.specs.declared.reply.Reply.TheVariants.{Published, Duplicate, Done, Stats, Refused}
+use Rattle.delivery_machine.specs.declared.reply.Reply.TheVariants.{Published, Duplicate, Done, Copies, Stats, Refused}
 use Rattle.wire_json.specs.declared.answers.SendError.{SendError}
 use Rattle.wire_json.specs.Answers.{of_fault}
 use Rattle.session_texts.specs.declared.party.Party.{Party}
@@ -14,7 +14,8 @@ use Rattle.session_texts.specs.declared.party.Party.TheVariants.{Producer, Consu
 use Rattle.session_texts.specs.declared.close.Close.{Close}
 use Rattle.session_texts.specs.declared.outcome.Outcome.{Outcome}
 use Rattle.session_texts.specs.declared.outcome.Outcome.TheVariants.{Answers, Passes, Closes}
-use Rattle.session_texts.specs.declared.answer.Answer.TheVariants.{Accepted, Refused as Refusing, Administered}
+use Rattle.session_texts.specs.declared.answer.Answer.{Answer}
+use Rattle.session_texts.specs.declared.answer.Answer.TheVariants.{Accepted, Refused as Refusing, Administered, Shown, Overview}
 use Rattle.session_texts.specs.Asking.{refusing}
 
 -- a duplicate is answered with the position of no message
@@ -45,19 +46,29 @@ abbrev pub command_outcome : Reply → Outcome
 command_outcome (Refused fault) = if is_late fault then Passes else Closes (refusing fault)
 command_outcome reply = Passes
 
--- what comes of the reply to an administrator's command
+-- what comes of a reply that shows an administrator no messages
+abbrev pub told_outcome : Reply → Outcome
+told_outcome (Refused JournalFull) = Closes (refusing JournalFull)
+told_outcome (Refused fault) = Answers (Administered (Refused fault))
+told_outcome Done = Answers (Administered Done)
+told_outcome (Stats kind members mark_delete acknowledged live pending dead gone oldest) = Answers (Administered (Stats kind members mark_delete acknowledged live pending dead gone oldest))
+told_outcome reply = Passes
+
+-- what comes of the reply to an administrator's command: messages are shown
 abbrev pub admin_outcome : Reply → Outcome
-admin_outcome (Refused JournalFull) = Closes (refusing JournalFull)
-admin_outcome (Refused fault) = Answers (Administered (Refused fault))
-admin_outcome Done = Answers (Administered Done)
-admin_outcome (Stats kind members mark_delete acknowledged live pending dead gone oldest) = Answers (Administered (Stats kind members mark_delete acknowledged live pending dead gone oldest))
-admin_outcome reply = Passes
+admin_outcome (Copies messages) = Answers (Shown messages)
+admin_outcome reply = told_outcome reply
 
 -- what comes of the reply to what a text asked for
 abbrev pub outcome_of : Party → Option (List ℕ) → Reply → Outcome
 outcome_of (Producer producer first) context reply = publish_outcome context reply
 outcome_of (Consumer consumer subscription) context reply = command_outcome reply
 outcome_of Admin context reply = admin_outcome reply
+
+-- what answers a text that asked what is seen of the broker: that, or why nothing is seen
+abbrev pub answer_of_seen : Result (List ℕ) Fault → Answer
+answer_of_seen (Ok seen) = Overview seen
+answer_of_seen (Err fault) = Administered (Refused fault)
 
 -- a refusal of what the session asks of its own accord closes it, but for want of memory
 abbrev pub own_close : Reply → Option Close

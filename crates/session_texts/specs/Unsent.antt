@@ -3,21 +3,24 @@ use Rattle.std.specs.Prelude.{◌≡◌, ℕ, List, [], Bool, true, false, unwra
 use Rattle.delivery_machine.specs.declared.delivery.Delivery.{Delivery}
 use Rattle.wire_json.specs.Answers.{ok_text, error_text}
 use Rattle.wire_json.specs.Deliveries.{IsDelivery}
+use Rattle.wire_json.specs.Peeks.{IsPeek}
 use Rattle.wire_json.specs.Statistics.{admin_text}
 use Rattle.session_texts.specs.declared.answer.Answer.{Answer}
-use Rattle.session_texts.specs.declared.answer.Answer.TheVariants.{Accepted, Refused, EndOfTopic, Administered}
+use Rattle.session_texts.specs.declared.answer.Answer.TheVariants.{Accepted, Refused, EndOfTopic, Administered, Shown, Overview}
 
 -- a message that was collected, or what answers a text
 pub data Unsent : Type 0 where
   collected : Delivery → Unsent
   answering : Answer → Unsent
 
--- the text of an answer
-abbrev pub answer_text : Answer → List ℕ
-answer_text (Accepted context position length) = ok_text context position
-answer_text (Refused context error) = error_text context error
-answer_text EndOfTopic = codes "{\"endOfTopic\":\"false\"}"
-answer_text (Administered reply) = unwrap_or (admin_text reply) []
+-- the text of an answer; of messages that are shown it has a text for each moment
+abbrev pub IsAnswerText : Answer → List ℕ → Type 0
+IsAnswerText (Accepted context position length) text = text ≡ ok_text context position
+IsAnswerText (Refused context error) text = text ≡ error_text context error
+IsAnswerText EndOfTopic text = text ≡ codes "{\"endOfTopic\":\"false\"}"
+IsAnswerText (Administered reply) text = text ≡ unwrap_or (admin_text reply) []
+IsAnswerText (Shown messages) text = IsPeek messages text
+IsAnswerText (Overview seen) text = text ≡ seen
 
 -- the text of a message that was collected
 unfoldable pub IsDeliveryText : Delivery → List ℕ → Type 0
@@ -26,7 +29,7 @@ IsDeliveryText delivery text = IsDelivery delivery.message delivery.count text
 -- the text is what is sent of it
 abbrev pub IsTextOf : Unsent → List ℕ → Type 0
 IsTextOf (collected delivery) text = IsDeliveryText delivery text
-IsTextOf (answering answer) text = text ≡ answer_text answer
+IsTextOf (answering answer) text = IsAnswerText answer text
 
 -- how many messages have to be stored before an answer is sent
 abbrev pub least_durable : Answer → ℕ

@@ -1,11 +1,12 @@
 // What answers a text.
 ghost use Rattle.std.specs.Prelude.{◌≡◌, OnOk, string_bytes};
-ghost use Rattle.session_texts.specs.Unsent.{answer_text, least_durable};
+ghost use Rattle.session_texts.specs.Unsent.{IsAnswerText, least_durable};
 
 use crate::context::Context;
-use delivery_machine::{Position, Reply};
+use crate::overview::Overview;
+use delivery_machine::{Deliveries, Position, Reply};
 use std::alloc::AllocError;
-use wire_json::{SendError, admin_text, end_of_topic_text, error_text, ok_text};
+use wire_json::{SendError, admin_text, end_of_topic_text, error_text, ok_text, peek_text};
 
 /// What answers a text, once it may be sent.
 #[derive(Drop)]
@@ -24,6 +25,10 @@ pub enum Answer {
     EndOfTopic,
     /// What an administrator's command was answered.
     Administered(Reply),
+    /// The messages that an administrator asked to see.
+    Shown(Deliveries),
+    /// What is seen of all topics of the broker.
+    Overview(Overview),
 }
 
 impl Answer {
@@ -43,12 +48,14 @@ impl Answer {
             } => 0,
             Answer::EndOfTopic => 0,
             Answer::Administered(_) => 0,
+            Answer::Shown(_) => 0,
+            Answer::Overview(_) => 0,
         }
     }
 
     /// Puts its text in place of what `out` holds.
     pub fn write(&self, out: &mut String) -> Result<(), AllocError>
-        ensures { OnOk result (string_bytes out.new ≡ answer_text self.now) }
+        ensures { OnOk result (IsAnswerText self.now (string_bytes out.new)) }
     {
         match self {
             Answer::Accepted {
@@ -59,21 +66,36 @@ impl Answer {
             Answer::Refused { context, error } => error_text(out, context.as_text(), *error),
             Answer::EndOfTopic => write_end_of_topic(out),
             Answer::Administered(reply) => write_administered(out, reply),
+            Answer::Shown(messages) => write_shown(out, messages),
+            Answer::Overview(seen) => write_overview(out, seen.as_text()),
         }
     }
 }
 
 fn write_end_of_topic(out: &mut String) -> Result<(), AllocError>
-    ensures { OnOk result (string_bytes out.new ≡ answer_text Answer.EndOfTopic) }
+    ensures { OnOk result (IsAnswerText Answer.EndOfTopic (string_bytes out.new)) }
 {
     out.clear();
     out.push_str(end_of_topic_text())
 }
 
 fn write_administered(out: &mut String, reply: &Reply) -> Result<(), AllocError>
-    ensures { OnOk result (string_bytes out.new ≡ answer_text (Answer.Administered reply.now)) }
+    ensures { OnOk result (IsAnswerText (Answer.Administered reply.now) (string_bytes out.new)) }
 {
     out.clear();
     admin_text(out, reply)?;
     Ok(())
+}
+
+fn write_shown(out: &mut String, messages: &Deliveries) -> Result<(), AllocError>
+    ensures { OnOk result (IsAnswerText (Answer.Shown messages.now) (string_bytes out.new)) }
+{
+    peek_text(out, messages.as_slice())
+}
+
+fn write_overview(out: &mut String, seen: &str) -> Result<(), AllocError>
+    ensures { OnOk result (string_bytes out.new ≡ seen.now) }
+{
+    out.clear();
+    out.push_str(seen)
 }

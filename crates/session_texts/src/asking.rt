@@ -9,6 +9,8 @@ use session_links::Request;
 pub enum Asking {
     /// What the topic is asked, and the context of its answer.
     Asks { request: Request, context: Context },
+    /// What is seen of all topics of the broker is to be shown: nothing is asked of the topic.
+    Shows,
     /// Nothing of the topic: it is answered at once.
     Answers(Answer),
     Closes(Close),

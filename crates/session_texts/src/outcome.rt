@@ -1,11 +1,13 @@
 // What comes of a topic's reply.
-ghost use Rattle.std.specs.Prelude.{◌≡◌};
+ghost use Rattle.std.specs.Prelude.{◌≡◌, string_bytes};
+ghost use Rattle.std.specs.Result.{result_map_both};
 ghost use Rattle.wire_json.specs.Answers.{of_fault};
-ghost use Rattle.session_texts.specs.Outcomes.{admin_outcome, command_outcome, is_late, outcome_of, own_close, publish_outcome, refused_publish};
+ghost use Rattle.session_texts.specs.Outcomes.{admin_outcome, answer_of_seen, command_outcome, is_late, outcome_of, own_close, publish_outcome, refused_publish, told_outcome};
 
 use crate::answer::Answer;
 use crate::close::Close;
 use crate::context::Context;
+use crate::overview::Overview;
 use crate::party::Party;
 use delivery_machine::{Fault, Position, Reply};
 use wire_json::SendError;
@@ -76,8 +78,9 @@ fn command_outcome(reply: &Reply) -> Outcome
     }
 }
 
-fn admin_outcome(reply: &Reply) -> Outcome
-    ensures { result ≡ admin_outcome reply.now }
+/// What comes of a reply that shows no messages.
+fn told_outcome(reply: &Reply) -> Outcome
+    ensures { result ≡ told_outcome reply.now }
 {
     match reply {
         Reply::Refused(Fault::JournalFull) => {
@@ -110,19 +113,12 @@ fn admin_outcome(reply: &Reply) -> Outcome
     }
 }
 
-fn outcome_by(party: &Party, context: Context, reply: &Reply) -> Outcome
-    ensures { result ≡ outcome_of party.now context reply.now }
+fn admin_outcome(reply: Reply) -> Outcome
+    ensures { result ≡ admin_outcome reply }
 {
-    match party {
-        Party::Producer {
-            number: _,
-            first: _,
-        } => publish_outcome(context, reply),
-        Party::Consumer {
-            number: _,
-            subscription: _,
-        } => command_outcome(reply),
-        Party::Admin => admin_outcome(reply),
+    match reply {
+        Reply::Copies(messages) => Outcome::Answers(Answer::Shown(messages)),
+        told => told_outcome(&told),
     }
 }
 
@@ -130,7 +126,27 @@ fn outcome_by(party: &Party, context: Context, reply: &Reply) -> Outcome
 pub fn outcome_of(party: &Party, context: Context, reply: Reply) -> Outcome
     ensures { result ≡ outcome_of party.now context reply }
 {
-    outcome_by(party, context, &reply)
+    match party {
+        Party::Producer {
+            number: _,
+            first: _,
+        } => publish_outcome(context, &reply),
+        Party::Consumer {
+            number: _,
+            subscription: _,
+        } => command_outcome(&reply),
+        Party::Admin => admin_outcome(reply),
+    }
+}
+
+/// What answers a text that asked what is seen of the broker.
+pub fn answer_of_seen(seen: Result<String, Fault>) -> Answer
+    ensures { result ≡ answer_of_seen (result_map_both string_bytes (λ fault. fault) seen) }
+{
+    match seen {
+        Ok(text) => Answer::Overview(Overview::new(text)),
+        Err(fault) => Answer::Administered(Reply::Refused(fault)),
+    }
 }
 
 /// The close that a refusal of what a session asks of its own accord leads to.

@@ -123,45 +123,66 @@ fn read_consumers(
     }
 }
 
-fn request_of_admin(command: AdminCommand) -> Request
+fn request_of_admin(command: AdminCommand) -> Option<Request>
     ensures { result ≡ request_of_admin command }
 {
     match command {
         AdminCommand::Seek {
             subscription,
             target,
-        } => Request::Event(Event::Seek {
+        } => Some(Request::Event(Event::Seek {
             subscription,
             target,
-        }),
+        })),
         AdminCommand::SeekTime { subscription, time } => {
-            Request::Event(Event::SeekTime { subscription, time })
+            Some(Request::Event(Event::SeekTime { subscription, time }))
         }
         AdminCommand::Skip {
             subscription,
             count,
-        } => Request::Event(Event::Skip {
+        } => Some(Request::Event(Event::Skip {
+            subscription,
+            count,
+        })),
+        AdminCommand::DropSubscription { subscription } => {
+            Some(Request::Event(Event::DropSubscription { subscription }))
+        }
+        AdminCommand::Stats { subscription } => Some(Request::Event(Event::Stats { subscription })),
+        AdminCommand::CreateSubscription {
+            subscription,
+            target,
+        } => Some(Request::CreateSubscription {
+            subscription,
+            target,
+        }),
+        AdminCommand::Peek {
+            subscription,
+            count,
+        } => Some(Request::Peek {
             subscription,
             count,
         }),
-        AdminCommand::DropSubscription { subscription } => {
-            Request::Event(Event::DropSubscription { subscription })
-        }
-        AdminCommand::Stats { subscription } => Request::Event(Event::Stats { subscription }),
-        AdminCommand::Keep { retention } => Request::Event(Event::SetRetention { retention }),
-        AdminCommand::DeleteTopic => Request::DeleteTopic,
+        AdminCommand::Keep { retention } => Some(Request::Event(Event::SetRetention { retention })),
+        AdminCommand::Disconnect { session } => Some(Request::Disconnect { session }),
+        AdminCommand::BackUp => Some(Request::BackUp),
+        AdminCommand::Overview => None,
+        AdminCommand::DeleteTopic => Some(Request::DeleteTopic),
     }
 }
 
 fn read_administrators(alloc: Global, text: &[u8]) -> Result<Asking, AllocError>
     ensures { IfOk result (λ asking. asking ≡ asks_admin (admin_of text.now)) }
 {
-    match read_admin(alloc, text)? {
-        Ok(command) => Ok(Asking::Asks {
-            request: request_of_admin(command),
+    let command = match read_admin(alloc, text)? {
+        Ok(command) => command,
+        Err(fault) => return Ok(Asking::Closes(Close::unreadable(fault))),
+    };
+    match request_of_admin(command) {
+        Some(request) => Ok(Asking::Asks {
+            request,
             context: Context::new(None),
         }),
-        Err(fault) => Ok(Asking::Closes(Close::unreadable(fault))),
+        None => Ok(Asking::Shows),
     }
 }
 

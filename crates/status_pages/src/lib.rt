@@ -14,4 +14,7 @@ pub use histogram::Histogram;
 pub use metrics::metrics_text;
 pub use overview::overview_text;
 pub use page::PAGE;
-pub use seen::{BrokerSeen, ProgramSeen, Role, Rows, SessionSeen, SubscriptionSeen, TopicSeen};
+pub use seen::{
+    BackupsSeen, BrokerSeen, Holds, ProgramSeen, Role, Rows, SessionSeen, SubscriptionSeen,
+    TopicSeen,
+};

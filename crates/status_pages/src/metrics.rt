@@ -3,7 +3,7 @@ use crate::histogram::{Histogram, MICROS};
 use crate::of_subscription::push_subscriptions;
 use crate::of_topic::push_topics;
 use crate::sample::{Head, Kind, Value, push_label, push_seconds, push_single};
-use crate::seen::{BrokerSeen, ProgramSeen, Rows};
+use crate::seen::{BackupsSeen, BrokerSeen, ProgramSeen, Rows};
 use json_values::push_decimal;
 use std::alloc::{AllocError, Global};
 
@@ -154,6 +154,29 @@ fn push_broker(out: &mut String, seen: &BrokerSeen) -> Result<(), AllocError> {
     )
 }
 
+fn push_backups(out: &mut String, backups: BackupsSeen) -> Result<(), AllocError> {
+    push_counter(
+        out,
+        "backups_total",
+        "Copies of the database that were made.",
+        backups.made,
+    )?;
+    push_counter(
+        out,
+        "backup_failures_total",
+        "Copies of the database that could not be made.",
+        backups.failed,
+    )?;
+    match backups.last {
+        Some(millis) => {
+            let help = "When the last copy of the database was made, in seconds since 1970.";
+            let head = Head::gauge("last_backup_time_seconds", help);
+            push_single(out, &head, Value::Millis(millis))
+        }
+        None => Ok(()),
+    }
+}
+
 /// All numbers. Only want of memory is a failure.
 pub fn metrics_text(alloc: Global, seen: &BrokerSeen) -> Result<String, AllocError> {
     let mut out = String::new(alloc);
@@ -162,6 +185,7 @@ pub fn metrics_text(alloc: Global, seen: &BrokerSeen) -> Result<String, AllocErr
     push_broker(&mut out, seen)?;
     push_rows(&mut out, seen.rows)?;
     push_stores(&mut out, &seen.stores)?;
+    push_backups(&mut out, seen.backups)?;
     push_topics(&mut out, topics)?;
     push_subscriptions(&mut out, topics, seen.program.now)?;
     Ok(out)

@@ -1,6 +1,8 @@
 // The overview, as one object of JSON (RFC 8259) whose keys are sorted.
 use crate::histogram::Histogram;
-use crate::seen::{BrokerSeen, ProgramSeen, Role, Rows, SessionSeen, SubscriptionSeen, TopicSeen};
+use crate::seen::{
+    BackupsSeen, BrokerSeen, ProgramSeen, Role, Rows, SessionSeen, SubscriptionSeen, TopicSeen,
+};
 use json_values::{push_decimal, push_quoted};
 use position_core::Kind;
 use std::alloc::{AllocError, Global};
@@ -66,7 +68,10 @@ fn push_session(out: &mut String, session: &SessionSeen) -> Result<(), AllocErro
     if let Some(address) = &session.address {
         push_text(out, "address", address.as_str())?;
     }
+    push_number(out, "number", session.number)?;
+    push_known(out, "pending", session.holds.map(|holds| holds.pending))?;
     push_text(out, "role", role_name(session.role))?;
+    push_known(out, "room", session.holds.map(|holds| holds.room))?;
     if let Some(subscription) = &session.subscription {
         push_number(out, "since", session.since)?;
         push_key(out, "subscription")?;
@@ -150,6 +155,14 @@ fn push_stores(out: &mut String, stores: &Histogram) -> Result<(), AllocError> {
     out.push_str(",")
 }
 
+fn push_backups(out: &mut String, backups: BackupsSeen) -> Result<(), AllocError> {
+    out.push_str("\"backups\":{")?;
+    push_number(out, "failed", backups.failed)?;
+    push_known(out, "last", backups.last)?;
+    push_last(out, "made", backups.made)?;
+    out.push_str(",")
+}
+
 fn push_beginning(out: &mut String, seen: &BrokerSeen) -> Result<(), AllocError> {
     let ProgramSeen {
         version: _,
@@ -158,10 +171,12 @@ fn push_beginning(out: &mut String, seen: &BrokerSeen) -> Result<(), AllocError>
         connections,
         memory,
     } = seen.program;
+    out.push_str("{")?;
+    push_backups(out, seen.backups)?;
     out.push_str(if seen.is_closed {
-        "{\"closed\":true,"
+        "\"closed\":true,"
     } else {
-        "{\"closed\":false,"
+        "\"closed\":false,"
     })?;
     push_number(out, "connections", connections)?;
     push_number(out, "loads", seen.loads)?;

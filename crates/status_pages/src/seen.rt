@@ -13,9 +13,20 @@ pub enum Role {
     Admin,
 }
 
+/// What a consumer has.
+#[derive(Clone, Copy, Debug, PartialEq, Eq)]
+pub struct Holds {
+    /// Messages that were sent to it and are neither acknowledged nor given back.
+    pub pending: u64,
+    /// How many messages more may be sent to it now.
+    pub room: u64,
+}
+
 /// A session that is at a topic.
 #[derive(Drop)]
 pub struct SessionSeen {
+    /// Its number at the topic, by which an administrator may end it.
+    pub number: u64,
     /// Where its client is, as host and port, where that is known.
     pub address: Option<String>,
     pub role: Role,
@@ -23,6 +34,8 @@ pub struct SessionSeen {
     pub since: u64,
     /// The subscription that it is a consumer of.
     pub subscription: Option<String>,
+    /// What it has as a consumer.
+    pub holds: Option<Holds>,
 }
 
 /// What is seen of a subscription. What was delivered is counted since its topic came into memory.
@@ -97,6 +110,16 @@ pub struct Rows {
     pub deleted: u64,
 }
 
+/// What came of the copies of the database that were asked for since the start.
+#[derive(Clone, Copy, Debug, PartialEq, Eq)]
+pub struct BackupsSeen {
+    pub made: u64,
+    /// Copies that could not be made.
+    pub failed: u64,
+    /// The moment of the last one that was made, which its name has.
+    pub last: Option<u64>,
+}
+
 /// What is seen of the program around its topics.
 #[derive(Clone, Copy, Debug, PartialEq, Eq)]
 pub struct ProgramSeen {
@@ -122,6 +145,7 @@ pub struct BrokerSeen {
     /// Topics that came into memory, and that left it.
     pub loads: u64,
     pub unloads: u64,
+    pub backups: BackupsSeen,
     pub topics: Vec<TopicSeen>,
 }
 

@@ -1,3 +1,4 @@
+mod Consumers
 mod Goes
 mod Kept
 mod Restored

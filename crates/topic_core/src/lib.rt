@@ -5,5 +5,6 @@ mod answering;
 mod restoring;
 mod saving;
 mod topic;
+mod watching;
 
 pub use topic::TopicCore;

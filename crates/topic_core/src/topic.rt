@@ -5,6 +5,7 @@ ghost use Rattle.delivery_machine.specs.State.{fresh};
 use crate::answering::answer;
 use crate::restoring::restored;
 use crate::saving::snapshot;
+use crate::watching::consumer_counts;
 use delivery_machine::{Deliveries, Event, Opened, Reply, Retention, Saved, Snapshot, Topic};
 use log_events::stored;
 use member_events::out_copy;
@@ -12,6 +13,7 @@ use position_core::{ConsumerNumber, Fault, LedgerSize, TopicName};
 use std::alloc::Global;
 use std::marker::Model;
 use topic_served::Served;
+use topic_watched::{ConsumerCounts, Watched};
 
 /// A topic over a log in segments and subscriptions by places in it. An event takes the logarithm of what the
 /// topic holds, and as much again for each message or member that it changes.
@@ -106,5 +108,11 @@ impl Opened for TopicCore {
             Ok(served) => Ok(TopicCore { served }),
             Err(fault) => Err(fault),
         }
+    }
+}
+
+impl Watched for TopicCore {
+    fn consumer_counts(&self, consumer: ConsumerNumber) -> Option<ConsumerCounts> {
+        consumer_counts(&self.served, consumer)
     }
 }

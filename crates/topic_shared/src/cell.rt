@@ -355,6 +355,13 @@ impl<T: Topic> Cell<T> {
         self.topic.retention()
     }
 
+    /// The topic itself, to be looked at.
+    pub fn topic(&self) -> &T
+        ensures { T.state result.now ≡ self.now.state }
+    {
+        &self.topic
+    }
+
     /// Takes a free seat, by its number, from 1 on. Refused (F21) where all are taken.
     pub fn enter(&mut self) -> Result<u64, Fault>
         ensures ok { IfOk result (λ seat. IsFree self.old.taken seat × (self.new ≡ record self.old { taken = set self.old.taken (seat - 1) true })) }

@@ -1,3 +1,4 @@
 pub mod Ids
+pub mod Peeked
 pub mod PlainTexts
 pub mod Returns

@@ -12,7 +12,7 @@ use Rattle.delivery_machine.specs.declared.retention.Retention.TheVariants.{All,
 use Rattle.json_values.specs.Fields.{ok_as}
 use Rattle.json_values.specs.Objects.{between, object_of, text_at, whole_at}
 use Rattle.wire_json.specs.declared.admins.AdminCommand.{AdminCommand}
-use Rattle.wire_json.specs.declared.admins.AdminCommand.TheVariants.{Seek, SeekTime, Skip, DropSubscription, Stats, Keep, DeleteTopic}
+use Rattle.wire_json.specs.declared.admins.AdminCommand.TheVariants.{Seek, SeekTime, Skip, DropSubscription, Stats, CreateSubscription, Peek, Keep, Disconnect, BackUp, Overview, DeleteTopic}
 use Rattle.wire_json.specs.Ids.{id_of}
 
 -- a text that is a name
@@ -46,6 +46,14 @@ moment_in d = ok_or (option_and_then (between 0 253402300799999) (whole_at (code
 abbrev pub count_in : Data → Result ℕ Fault
 count_in d = ok_or (option_and_then (between 0 2147483647) (whole_at (codes "messages") d)) BadJson
 
+-- how many messages are to be shown
+abbrev pub few_in : Data → Result ℕ Fault
+few_in d = ok_or (option_and_then (between 1 100) (whole_at (codes "messages") d)) BadJson
+
+-- the number of a session
+abbrev pub number_in : Data → Result ℕ Fault
+number_in d = ok_or (whole_at (codes "session") d) BadJson
+
 -- a rule by its name: all is kept, or what the broker keeps
 abbrev pub rule_named : List ℕ → Result (Option Retention) Fault
 rule_named name =
@@ -77,6 +85,12 @@ rule_from None d = ok_or (option_map Some (rule_counted d)) BadJson
 abbrev pub rule_in : Data → Result (Option Retention) Fault
 rule_in d = rule_from (text_at (codes "keep") d) d
 
+-- the command of a type that makes or shows something, for the subscription
+abbrev pub own_named : List ℕ → List ℕ → Data → Result AdminCommand Fault
+own_named type subscription d =
+    if bytes_eq type (codes "createSubscription") then ok_as (CreateSubscription subscription) (target_in d)
+    else (if bytes_eq type (codes "peek") then ok_as (Peek subscription) (few_in d) else Err BadJson)
+
 -- the command of the type, for the subscription
 abbrev pub admin_named : List ℕ → List ℕ → Data → Result AdminCommand Fault
 admin_named type subscription d =
@@ -84,17 +98,23 @@ admin_named type subscription d =
     else (if bytes_eq type (codes "seekTime") then ok_as (SeekTime subscription) (moment_in d)
     else (if bytes_eq type (codes "skip") then ok_as (Skip subscription) (count_in d)
     else (if bytes_eq type (codes "dropSubscription") then Ok (DropSubscription subscription)
-    else (if bytes_eq type (codes "stats") then Ok (Stats subscription) else Err BadJson))))
+    else (if bytes_eq type (codes "stats") then Ok (Stats subscription) else own_named type subscription d))))
 
 -- the subscription has to be there
 abbrev pub admin_for : List ℕ → Option (List ℕ) → Data → Result AdminCommand Fault
 admin_for type None d = Err BadJson
 admin_for type (Some subscription) d = admin_named type subscription d
 
--- the type has to be there; the deletion of the topic and its rule are for no subscription, and one that is there is not looked at
+-- The type has to be there. The deletion of the topic, its rule, the end of a session, and what is asked of the whole broker are for no
+-- subscription, and one that is there is not looked at.
 abbrev pub admin_from : Option (List ℕ) → Data → Result AdminCommand Fault
 admin_from None d = Err BadJson
-admin_from (Some type) d = if bytes_eq type (codes "deleteTopic") then Ok DeleteTopic else (if bytes_eq type (codes "keep") then ok_as Keep (rule_in d) else admin_for type (subscription_in d) d)
+admin_from (Some type) d =
+    if bytes_eq type (codes "deleteTopic") then Ok DeleteTopic
+    else (if bytes_eq type (codes "backup") then Ok BackUp
+    else (if bytes_eq type (codes "overview") then Ok Overview
+    else (if bytes_eq type (codes "keep") then ok_as Keep (rule_in d)
+    else (if bytes_eq type (codes "disconnect") then ok_as Disconnect (number_in d) else admin_for type (subscription_in d) d))))
 
 -- what is no object is no command
 abbrev pub admin_in : Option Data → Result AdminCommand Fault

@@ -4,5 +4,6 @@ pub mod Commands
 pub mod Deliveries
 pub mod Ids
 pub mod Laws
+pub mod Peeks
 pub mod Publishes
 pub mod Statistics

@@ -2,12 +2,13 @@
 ghost use Rattle.std.specs.Prelude.{◌≡◌, IfOk, Some};
 ghost use Rattle.serde_json.specs.View.{view};
 ghost use Rattle.json_values.specs.Fields.{ok_as};
-ghost use Rattle.json_values.specs.Objects.{between};
-ghost use Rattle.wire_json.specs.Admins.{admin_for, admin_in, admin_named, admin_of, age_in, count_in, messages_in, moment_in, rule_counted, rule_in, rule_named, subscription_in, target_in, target_of};
+ghost use Rattle.wire_json.specs.Admins.{admin_for, admin_in, admin_named, admin_of, count_in, few_in, moment_in, number_in, own_named, rule_in, subscription_in, target_in};
 
-use crate::commands::id_of;
-use delivery_machine::{KeptAge, KeptMessages, Retention, Target};
-use json_values::{object_of, text_at, whole_at};
+use crate::admin_values::{
+    PeekLength, count_in, few_in, moment_in, number_in, rule_in, subscription_in, target_in,
+};
+use delivery_machine::{Retention, Target};
+use json_values::{object_of, text_at};
 use position_core::{Fault, Moment, SkipLength, SubscriptionName};
 use serde_json::Value;
 use std::alloc::{AllocError, Global};
@@ -38,141 +39,30 @@ pub enum AdminCommand {
     Stats {
         subscription: SubscriptionName,
     },
+    /// A subscription is made, with nobody at it, that goes on from the target.
+    CreateSubscription {
+        subscription: SubscriptionName,
+        target: Target,
+    },
+    /// The next messages of the subscription are shown, so many.
+    Peek {
+        subscription: SubscriptionName,
+        count: PeekLength,
+    },
     /// What the topic keeps of the messages that every subscription has done with; without one, what its broker keeps.
     Keep {
         retention: Option<Retention>,
     },
+    /// The session that has the number at the topic ends.
+    Disconnect {
+        session: u64,
+    },
+    /// The broker's database is copied.
+    BackUp,
+    /// What is seen of all topics of the broker.
+    Overview,
     /// The whole topic goes.
     DeleteTopic,
-}
-
-/// The subscription that a command is of.
-fn subscription_in(alloc: Global, object: &Value) -> Result<Option<SubscriptionName>, AllocError>
-    ensures { IfOk result (λ found. found ≡ subscription_in (view object.now)) }
-{
-    match text_at("subscription", object) {
-        Some(text) => SubscriptionName::from_text(alloc, text),
-        None => Ok(None),
-    }
-}
-
-/// Where a text says to go on from.
-fn target_of(text: &str) -> Option<Target>
-    ensures { result ≡ target_of text.now }
-{
-    if text == "earliest" {
-        return Some(Target::Earliest);
-    }
-    if text == "latest" {
-        return Some(Target::Latest);
-    }
-    match id_of(text) {
-        Some(position) => Some(Target::At(position)),
-        None => None,
-    }
-}
-
-fn target_in(object: &Value) -> Result<Target, Fault>
-    ensures { result ≡ target_in (view object.now) }
-{
-    match text_at("position", object) {
-        Some(text) => target_of(text).ok_or(Fault::BadId),
-        None => Err(Fault::BadJson),
-    }
-}
-
-fn moment_from(number: u64) -> Option<Moment>
-    ensures { result ≡ between 0 253402300799999 number }
-{
-    Moment::new(number)
-}
-
-fn moment_in(object: &Value) -> Result<Moment, Fault>
-    ensures { result ≡ moment_in (view object.now) }
-{
-    match whole_at("time", object) {
-        Some(number) => moment_from(number).ok_or(Fault::BadJson),
-        None => Err(Fault::BadJson),
-    }
-}
-
-fn count_from(number: u64) -> Option<SkipLength>
-    ensures { result ≡ between 0 2147483647 number }
-{
-    if number > 2_147_483_647 {
-        return None;
-    }
-    SkipLength::new(number as u32)
-}
-
-fn count_in(object: &Value) -> Result<SkipLength, Fault>
-    ensures { result ≡ count_in (view object.now) }
-{
-    match whole_at("messages", object) {
-        Some(number) => count_from(number).ok_or(Fault::BadJson),
-        None => Err(Fault::BadJson),
-    }
-}
-
-/// What a name says to keep: all, or what the broker keeps.
-fn rule_named(name: &str) -> Result<Option<Retention>, Fault>
-    ensures { result ≡ rule_named name.now }
-{
-    if name == "all" {
-        return Ok(Some(Retention::All));
-    }
-    if name == "default" {
-        Ok(None)
-    } else {
-        Err(Fault::BadJson)
-    }
-}
-
-fn messages_in(number: u64) -> Option<Retention>
-    ensures { result ≡ messages_in number }
-{
-    if number > 1_048_576 {
-        return None;
-    }
-    match KeptMessages::new(number as u32) {
-        Some(messages) => Some(Retention::Messages(messages)),
-        None => None,
-    }
-}
-
-fn age_in(number: u64) -> Option<Retention>
-    ensures { result ≡ age_in number }
-{
-    match KeptAge::new(number) {
-        Some(age) => Some(Retention::Age(age)),
-        None => None,
-    }
-}
-
-/// How much is to be kept, where no name says it: so many messages, or else those of so many milliseconds.
-fn rule_counted(object: &Value) -> Option<Retention>
-    ensures { result ≡ rule_counted (view object.now) }
-{
-    match whole_at("messages", object) {
-        Some(number) => messages_in(number),
-        None => match whole_at("millis", object) {
-            Some(number) => age_in(number),
-            None => None,
-        },
-    }
-}
-
-/// What a topic is to keep.
-fn rule_in(object: &Value) -> Result<Option<Retention>, Fault>
-    ensures { result ≡ rule_in (view object.now) }
-{
-    match text_at("keep", object) {
-        Some(name) => rule_named(name),
-        None => match rule_counted(object) {
-            Some(rule) => Ok(Some(rule)),
-            None => Err(Fault::BadJson),
-        },
-    }
 }
 
 fn keep(object: &Value) -> Result<AdminCommand, Fault>
@@ -217,6 +107,57 @@ fn skip(subscription: SubscriptionName, object: &Value) -> Result<AdminCommand, 
     }
 }
 
+fn create(subscription: SubscriptionName, object: &Value) -> Result<AdminCommand, Fault>
+    ensures { result ≡ ok_as (AdminCommand.CreateSubscription subscription) (target_in (view object.now)) }
+{
+    match target_in(object) {
+        Ok(target) => Ok(AdminCommand::CreateSubscription {
+            subscription,
+            target,
+        }),
+        Err(fault) => Err(fault),
+    }
+}
+
+fn peek(subscription: SubscriptionName, object: &Value) -> Result<AdminCommand, Fault>
+    ensures { result ≡ ok_as (AdminCommand.Peek subscription) (few_in (view object.now)) }
+{
+    match few_in(object) {
+        Ok(count) => Ok(AdminCommand::Peek {
+            subscription,
+            count,
+        }),
+        Err(fault) => Err(fault),
+    }
+}
+
+fn disconnect(object: &Value) -> Result<AdminCommand, Fault>
+    ensures { result ≡ ok_as AdminCommand.Disconnect (number_in (view object.now)) }
+{
+    match number_in(object) {
+        Ok(session) => Ok(AdminCommand::Disconnect { session }),
+        Err(fault) => Err(fault),
+    }
+}
+
+/// The command of a type that makes or shows something, for this subscription.
+fn own_named(
+    name: &str,
+    subscription: SubscriptionName,
+    object: &Value,
+) -> Result<AdminCommand, Fault>
+    ensures { result ≡ own_named name.now subscription (view object.now) }
+{
+    if name == "createSubscription" {
+        return create(subscription, object);
+    }
+    if name == "peek" {
+        peek(subscription, object)
+    } else {
+        Err(Fault::BadJson)
+    }
+}
+
 /// The command of the type, for this subscription.
 fn admin_named(
     name: &str,
@@ -240,7 +181,7 @@ fn admin_named(
     if name == "stats" {
         Ok(AdminCommand::Stats { subscription })
     } else {
-        Err(Fault::BadJson)
+        own_named(name, subscription, object)
     }
 }
 
@@ -267,8 +208,17 @@ fn admin_in(alloc: Global, object: &Value) -> Result<Result<AdminCommand, Fault>
     if name == "deleteTopic" {
         return Ok(Ok(AdminCommand::DeleteTopic));
     }
+    if name == "backup" {
+        return Ok(Ok(AdminCommand::BackUp));
+    }
+    if name == "overview" {
+        return Ok(Ok(AdminCommand::Overview));
+    }
     if name == "keep" {
         return Ok(keep(object));
+    }
+    if name == "disconnect" {
+        return Ok(disconnect(object));
     }
     admin_for(alloc, name, object)
 }

@@ -1,14 +1,17 @@
 //! The texts of the WebSocket API: what producers, consumers and administrators send, and what they are answered and sent.
 #![tactic(auto)]
 
+mod admin_values;
 mod admins;
 mod answers;
 mod commands;
 mod deliveries;
 mod laws;
+mod peeks;
 mod publishes;
 mod statistics;
 
+pub use admin_values::PeekLength;
 pub use admins::{AdminCommand, read_admin};
 pub use answers::{SendError, error_text, ok_text};
 pub use commands::{Command, read_command};
@@ -16,5 +19,6 @@ pub use deliveries::delivery_text;
 pub use laws::{
     admins_read_back, deliveries_read_back, errors_read_back, ids_are_read, oks_read_back,
 };
+pub use peeks::peek_text;
 pub use publishes::{PublishReading, read_publish};
 pub use statistics::{admin_text, end_of_topic_text};

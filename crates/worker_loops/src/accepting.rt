@@ -275,8 +275,11 @@ impl Entrance {
 /// How long to wait after a connection could not be accepted, in milliseconds.
 const PAUSE: u64 = 50;
 
+/// How long to wait for connections at a time, in milliseconds.
+const ROUND: u64 = 1_000;
+
 /// Takes in connections, until so many have come or the store has failed. False where that could not go on.
-fn welcome<R: Wait + Eprint + Files, X: Job>(
+fn welcome<R: Wait + Clock + Eprint + Files, X: Job>(
     rt: &R,
     place: &X,
     entrance: &mut Entrance,
@@ -287,12 +290,10 @@ fn welcome<R: Wait + Eprint + Files, X: Job>(
         if crew.putter.count() >= most || place.has_failed() {
             return true;
         }
+        place.attend(rt);
         let goes_on = match entrance.accept() {
-            Accepted::Stream(stream) => {
-                place.note_accepted(rt);
-                hand_over(rt, crew, stream)
-            }
-            Accepted::Nothing => entrance.wait(None),
+            Accepted::Stream(stream) => hand_over(rt, crew, stream),
+            Accepted::Nothing => entrance.wait(Some(ROUND)),
             Accepted::Fails => {
                 let _ = eprintln!(rt; "a connection could not be accepted");
                 entrance.wait(Some(PAUSE))

@@ -155,7 +155,7 @@ impl<G: Drop> Client<G> {
         match mem::replace(&mut self.stage, Stage::Gone) {
             Stage::Shaking(shaking) => self.shake(rt, alloc, house, shaking, now, connections),
             Stage::Answering(answering) => self.answer_on(answering),
-            Stage::Open(guest) => self.turn(rt, house, guest, now),
+            Stage::Open(guest) => self.turn(rt, house, guest, now, connections),
             Stage::Gone => Turned::gone(),
         }
     }
@@ -183,7 +183,7 @@ impl<G: Drop> Client<G> {
                 let guest = house.enter(rt, alloc, conn, target.as_str(), comer, &self.bell);
                 drop(target);
                 match guest {
-                    Some(guest) => self.turn(rt, house, guest, now),
+                    Some(guest) => self.turn(rt, house, guest, now, connections),
                     None => Turned::gone(),
                 }
             }
@@ -246,8 +246,9 @@ impl<G: Drop> Client<G> {
         house: &H,
         guest: G,
         now: Moment,
+        connections: u64,
     ) -> Turned {
-        let (turned, guest) = house.turn(rt, guest, now);
+        let (turned, guest) = house.turn(rt, guest, now, connections);
         if let Some(guest) = guest {
             self.come_to(Stage::Open(guest));
         }

@@ -121,12 +121,13 @@ pub trait House {
     /// The guest's client has gone, which its next turn tells it.
     fn hang_up(&self, guest: &mut Self::Guest);
 
-    /// One turn of a guest, who is given back where it has not ended.
+    /// One turn of a guest, of whom there are so many, who is given back where it has not ended.
     fn turn<R: Wait + Eprint>(
         &self,
         rt: &R,
         guest: Self::Guest,
         now: Moment,
+        connections: u64,
     ) -> (Turned, Option<Self::Guest>);
 
     /// A worker, which has made so many changes, stores what waits, where that is little and nobody else does.

@@ -27,8 +27,8 @@ pub trait Job {
     /// Serves connections, until no more come or the store has failed. False where it could not.
     fn work<R: Wait + Clock + Eprint>(&self, rt: &R, alloc: Global, start: Start) -> bool;
 
-    /// A connection was accepted. What needs files is looked at now, since only the thread that accepts has them.
-    fn note_accepted<R: Files>(&self, rt: &R);
+    /// What needs files is done now, since only the thread that accepts connections has them: after each, and once a second.
+    fn attend<R: Wait + Clock + Eprint + Files>(&self, rt: &R);
 
     /// Stores all that waits, and then nothing more.
     fn finish<R: Wait>(&self, rt: &R);

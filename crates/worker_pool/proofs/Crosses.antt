@@ -24,6 +24,7 @@ use Rattle.broker_dir.proofs.uses.Uses.TheSendSync.{the_send as uses_send, the_s
 use Rattle.broker_dir.proofs.tallies.Tallies.TheSendSync.{the_send as tallies_send}
 use Rattle.broker_dir.proofs.visitors.Visitors.TheSendSync.{the_send as visitors_send}
 use Rattle.broker_dir.proofs.counts.Counts.TheSendSync.{the_send as counts_send, the_sync as counts_sync}
+use Rattle.broker_dir.proofs.backup.Backups.TheSendSync.{the_send as backups_send, the_sync as backups_sync}
 use Rattle.worker_pool.proofs.place.About.TheSendSync.{the_send as about_send, the_sync as about_sync}
 use Rattle.worker_pool.proofs.refusals.Refusals.TheSendSync.{the_send as refusals_send, the_sync as refusals_sync}
 use Rattle.worker_pool.proofs.memory.Memory.TheSendSync.{the_send as memory_send, the_sync as memory_sync}
@@ -40,6 +41,7 @@ use Rattle.stored_cell.specs.contracts.viewed.Stored as Stored
 use Rattle.stored_cell.specs.contracts.viewed.Viewed as Viewed
 use Rattle.stored_cell.specs.contracts.cell.StoredCell as StoredCell
 use Rattle.stored_cell.specs.contracts.cell.StoredCell.TheInside as StoredFields
+use Rattle.broker_dir.specs.contracts.backup.Backups as Backups
 use Rattle.broker_dir.specs.contracts.named_cell.NamedCell as NamedCell
 use Rattle.broker_dir.specs.contracts.inside.Inside as Inside
 use Rattle.broker_dir.specs.contracts.table.Table as Table
@@ -84,11 +86,11 @@ Inside-send T I B g v n s b c = let topic = NamedCell-send T I g v n s in let be
 
 Shared-send : (T I B : RattleType) (g : topic.Ghosts T.Denot) (v : saved.Ghosts T.Denot) (n : naming.Ghosts I.Denot) → IsSend T → IsSend B → IsSync B → IsSend (Shared.the_row T I B g v n)
 Shared-send T I B g v n s b c = let i = Inside-send T I B g v n s b c in declared_send (Shared.the_type T I B g v n)
-    (name_send, (as_row_send (Mutex.the_field (Inside.the_row T I B g v n)) (search (sendable, crosses, i) depth 20), (search (sendable, crosses) depth 20, tt)))
+    (name_send, (as_row_send (Mutex.the_field (Inside.the_row T I B g v n)) (search (sendable, crosses, i) depth 20), (search (sendable, crosses) depth 20, (search (sendable, crosses) depth 20, tt))))
 
 Shared-sync : (T I B : RattleType) (g : topic.Ghosts T.Denot) (v : saved.Ghosts T.Denot) (n : naming.Ghosts I.Denot) → IsSend T → IsSend B → IsSync B → IsSync (Shared.the_row T I B g v n)
 Shared-sync T I B g v n s b c = let i = Inside-send T I B g v n s b c in declared_sync (Shared.the_type T I B g v n)
-    (name_sync, (as_row_sync (Mutex.the_field (Inside.the_row T I B g v n)) (search (sendable, crosses, i) depth 20), (search (sendable, crosses) depth 20, tt)))
+    (name_sync, (as_row_sync (Mutex.the_field (Inside.the_row T I B g v n)) (search (sendable, crosses, i) depth 20), (search (sendable, crosses) depth 20, (search (sendable, crosses) depth 20, tt))))
 
 Arc-send : (T I B : RattleType) (g : topic.Ghosts T.Denot) (v : saved.Ghosts T.Denot) (n : naming.Ghosts I.Denot) → IsSend T → IsSend B → IsSync B → IsSend (Arc.the_row (Shared.the_row T I B g v n) Global.the_row ghosts)
 Arc-send T I B g v n s b c = let ss = Shared-send T I B g v n s b c in let sy = Shared-sync T I B g v n s b c in search (sendable, crosses, ss, sy) depth 20
@@ -116,7 +118,7 @@ Directory-send T K I B g v o n s k b c = let X = Arc.the_row (Shared.the_row T I
           rule_send,
           (
             as_row_send (Mutex.the_field (Table.the_row T I B g v n)) (search (sendable, crosses, t) depth 20),
-            (as_row_send (Mutex.the_field (Keeper.the_row K I n o)) (search (sendable, crosses, e) depth 20), (d, (closed_send, (uses_send, (counts_send, tt))))),
+            (as_row_send (Mutex.the_field (Keeper.the_row K I n o)) (search (sendable, crosses, e) depth 20), (d, (closed_send, (uses_send, (counts_send, (as_row_send (Option.the_field Backups.the_row) (search (sendable, crosses, backups_send) depth 20), tt)))))),
           ),
         ),
       ),
@@ -132,7 +134,7 @@ Directory-sync T K I B g v o n s k b c = let X = Arc.the_row (Shared.the_row T I
           rule_sync,
           (
             as_row_sync (Mutex.the_field (Table.the_row T I B g v n)) (search (sendable, crosses, t) depth 20),
-            (as_row_sync (Mutex.the_field (Keeper.the_row K I n o)) (search (sendable, crosses, e) depth 20), (d, (closed_sync, (uses_sync, (counts_sync, tt))))),
+            (as_row_sync (Mutex.the_field (Keeper.the_row K I n o)) (search (sendable, crosses, e) depth 20), (d, (closed_sync, (uses_sync, (counts_sync, (as_row_sync (Option.the_field Backups.the_row) (search (sendable, crosses, backups_sync) depth 20), tt)))))),
           ),
         ),
       ),

@@ -8,6 +8,7 @@ use marks::Naming;
 use sqlite::Alter;
 use std::io::Eprint;
 use std::sync::Wait;
+use topic_watched::Watched;
 use worker_loops::Turned;
 
 /// A connection that was let in.
@@ -44,14 +45,15 @@ impl<T: Opened + Drop, J: Naming> Guest<T, J> {
 }
 
 /// One turn of a connection that was let in. Gives it back where it has not ended.
-pub(crate) fn turn<T: Opened + Drop, S: Alter, J: Naming, G: Gate + Drop, R: Wait + Eprint>(
+pub(crate) fn turn<T: Watched + Drop, S: Alter, J: Naming, G: Gate + Drop, R: Wait + Eprint>(
     rt: &R,
     place: &Place<T, S, J, G>,
     guest: Guest<T, J>,
     now: Moment,
+    connections: u64,
 ) -> (Turned, Option<Guest<T, J>>) {
     match guest {
-        Guest::Serves(served) => serve_turn(rt, place, served, now),
+        Guest::Serves(served) => serve_turn(rt, place, served, now, connections),
         Guest::Waits(waiting) => wait_turn(rt, place, waiting),
     }
 }

@@ -1,6 +1,7 @@
 //! The server: sessions at topics, over connections that its workers serve.
 #![tactic(auto)]
 
+mod desk;
 mod entering;
 mod guest;
 mod log;

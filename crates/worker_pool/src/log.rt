@@ -1,12 +1,12 @@
 // What an operator reads on standard error: a line for each thing, as `level=.. msg=".." ..`.
 use crate::place::Place;
 use crate::refusals::Refused;
-use broker_dir::{Gate, Notice, moment};
+use broker_dir::{Copied, Gate, Notice, moment};
 use delivery_machine::{Moment, Opened};
 use marks::Naming;
 use sqlite::Alter;
 use std::io::Eprint;
-use std::rt::Clock;
+use std::rt::{Clock, Files};
 use std::sync::Wait;
 
 /// How many lines of a kind are said at once.
@@ -39,7 +39,31 @@ fn say_refused<R: Eprint>(rt: &R, refused: Refused) {
     let _ = eprintln!(rt; "level=warn msg=\"sessions refused\" fault=F{number} count={count}");
 }
 
+fn say_copied<R: Eprint>(rt: &R, copied: &Copied, millis: u64) {
+    match copied {
+        Copied::Whole(name) => {
+            let _ = eprintln!(rt; "level=info msg=\"copied\" file={name} millis={millis}");
+        }
+        Copied::Failed => {
+            let _ = eprintln!(rt; "level=error msg=\"no copy could be made\" millis={millis}");
+        }
+    }
+}
+
 impl<T: Opened + Drop, S: Alter, J: Naming, G: Gate + Drop> Place<T, S, J, G> {
+    /// Makes the copy of the database that was asked for, and says what came of it.
+    pub(crate) fn make_backup<R: Wait + Clock + Eprint + Files>(&self, rt: &R) {
+        let Some(first) = Moment::new(0) else {
+            return;
+        };
+        let now = moment(rt, first);
+        if let Some(copied) = self.directory.back_up(rt, now) {
+            let took = moment(rt, now).millis().saturating_sub(now.millis());
+            say_copied(rt, &copied, took);
+            drop(copied);
+        }
+    }
+
     /// Says what there is to say. Each refusal is told of once a second at most.
     pub(crate) fn say_news<R: Wait + Clock + Eprint>(&self, rt: &R) {
         for _ in 0..MOST_LINES {

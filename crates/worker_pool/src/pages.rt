@@ -208,3 +208,15 @@ pub(crate) fn overview_of(
         Err(_) => unseen(alloc),
     }
 }
+
+/// The overview of what was seen, or why nothing was.
+pub(crate) fn overview_in(seen: Result<BrokerSeen, Fault>) -> Result<String, Fault> {
+    match seen {
+        Ok(seen) => {
+            let text = overview_text(*seen.topics.allocator(), &seen);
+            drop(seen);
+            text.map_err(|_| Fault::NoMemory)
+        }
+        Err(fault) => Err(fault),
+    }
+}

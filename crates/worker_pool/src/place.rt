@@ -10,16 +10,17 @@ use crate::pages::{
 };
 use crate::refusals::Refusals;
 use broker_dir::{Cause, Directory, Gate, moment};
-use delivery_machine::{Moment, Opened};
+use delivery_machine::{Fault, Moment, Opened};
 use marks::Naming;
 use mio::net::TcpStream;
 use socket_conn::{Held, SocketConn};
 use sqlite::Alter;
-use status_pages::ProgramSeen;
+use status_pages::{BrokerSeen, ProgramSeen};
 use std::alloc::{AllocError, Global};
 use std::io::Eprint;
 use std::rt::{Clock, Files};
 use std::sync::{Arc, Wait};
+use topic_watched::Watched;
 use worker_loops::{Asking, Comer, Doorbell, House, Job, Start, Turned, work_at};
 
 /// The program's version, as its package has it too.
@@ -63,7 +64,9 @@ impl<T: Opened + Drop, S: Alter, J: Naming, G: Drop> Place<T, S, J, G> {
             memory: Memory::new(),
         }
     }
+}
 
+impl<T: Watched + Drop, S: Alter, J: Naming, G: Drop> Place<T, S, J, G> {
     /// What is seen of the program at the moment, with so many connections.
     fn program_seen(&self, now: Moment, connections: u64) -> ProgramSeen {
         ProgramSeen {
@@ -73,6 +76,16 @@ impl<T: Opened + Drop, S: Alter, J: Naming, G: Drop> Place<T, S, J, G> {
             connections,
             memory: self.memory.bytes(),
         }
+    }
+
+    /// What is seen of the broker at the moment, with so many connections.
+    pub(crate) fn seen<R: Wait>(
+        &self,
+        rt: &R,
+        now: Moment,
+        connections: u64,
+    ) -> Result<BrokerSeen, Fault> {
+        self.directory.seen(rt, self.program_seen(now, connections))
     }
 
     /// The page that was asked for. No lock is held while it is written.
@@ -88,14 +101,8 @@ impl<T: Opened + Drop, S: Alter, J: Naming, G: Drop> Place<T, S, J, G> {
     {
         match page {
             Page::Health => health(alloc, self.directory.is_closed()),
-            Page::Metrics => {
-                let seen = self.directory.seen(rt, self.program_seen(now, connections));
-                metrics_of(alloc, seen)
-            }
-            Page::Overview => {
-                let seen = self.directory.seen(rt, self.program_seen(now, connections));
-                overview_of(alloc, seen)
-            }
+            Page::Metrics => metrics_of(alloc, self.seen(rt, now, connections)),
+            Page::Overview => overview_of(alloc, self.seen(rt, now, connections)),
             Page::Index => index(alloc),
             Page::Unknown => not_found(alloc),
             Page::Nothing => bad_request(alloc),
@@ -108,7 +115,7 @@ impl<T: Opened + Drop, S: Alter, J: Naming, G: Drop> Place<T, S, J, G> {
     }
 }
 
-impl<T: Opened + Drop, S: Alter, J: Naming, G: Gate + Drop> House for Place<T, S, J, G> {
+impl<T: Watched + Drop, S: Alter, J: Naming, G: Gate + Drop> House for Place<T, S, J, G> {
     type Guest = Guest<T, J>;
 
     fn moment<R: Clock>(&self, rt: &R, last: Moment) -> Moment {
@@ -157,8 +164,9 @@ impl<T: Opened + Drop, S: Alter, J: Naming, G: Gate + Drop> House for Place<T, S
         rt: &R,
         guest: Guest<T, J>,
         now: Moment,
+        connections: u64,
     ) -> (Turned, Option<Guest<T, J>>) {
-        turn(rt, self, guest, now)
+        turn(rt, self, guest, now, connections)
     }
 
     fn help<R: Wait + Clock + Eprint>(&self, rt: &R, made: u64) {
@@ -171,7 +179,7 @@ impl<T: Opened + Drop, S: Alter, J: Naming, G: Gate + Drop> House for Place<T, S
     }
 }
 
-impl<T: Opened + Drop, S: Alter, J: Naming, G: Gate + Drop> Job for Place<T, S, J, G> {
+impl<T: Watched + Drop, S: Alter, J: Naming, G: Gate + Drop> Job for Place<T, S, J, G> {
     fn keep<R: Wait + Clock>(&self, rt: &R) {
         self.directory.keep(rt);
     }
@@ -180,8 +188,9 @@ impl<T: Opened + Drop, S: Alter, J: Naming, G: Gate + Drop> Job for Place<T, S, 
         work_at(rt, self, alloc, start)
     }
 
-    fn note_accepted<R: Files>(&self, rt: &R) {
+    fn attend<R: Wait + Clock + Eprint + Files>(&self, rt: &R) {
         self.memory.look(rt);
+        self.make_backup(rt);
     }
 
     fn finish<R: Wait>(&self, rt: &R) {

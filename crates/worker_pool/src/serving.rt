@@ -1,4 +1,5 @@
 // A session with its connection, and its turns.
+use crate::desk::Desk;
 use crate::entering::turn_away;
 use crate::guest::Guest;
 use crate::place::Place;
@@ -7,10 +8,11 @@ use delivery_machine::{Fault, Moment, Opened};
 use marks::Naming;
 use mio::net::TcpStream;
 use session_bells::Rest;
-use session_core::{Session, TextCount, serve};
+use session_core::{Session, TextCount, leave, serve};
 use socket_conn::{Held, SocketConn};
 use sqlite::Alter;
 use std::sync::Wait;
+use topic_watched::Watched;
 use worker_loops::{After, Doorbell, Turned};
 
 /// A session with its connection and its seat.
@@ -79,11 +81,12 @@ impl<T: Opened + Drop, J: Naming> Served<T, J> {
 }
 
 /// One turn of a session. Gives it back where it has not ended.
-pub(crate) fn serve_turn<T: Opened + Drop, S: Alter, J: Naming, G: Gate + Drop, R: Wait>(
+pub(crate) fn serve_turn<T: Watched + Drop, S: Alter, J: Naming, G: Gate + Drop, R: Wait>(
     rt: &R,
     place: &Place<T, S, J, G>,
     served: Served<T, J>,
     now: Moment,
+    connections: u64,
 ) -> (Turned, Option<Guest<T, J>>) {
     let Served {
         mut conn,
@@ -92,7 +95,13 @@ pub(crate) fn serve_turn<T: Opened + Drop, S: Alter, J: Naming, G: Gate + Drop, 
     } = served;
     let _ = conn.flush();
     let left = {
-        let mut caller = place.directory.caller(rt, &attached, &place.gate);
+        let mut caller = Desk {
+            seated: place.directory.caller(rt, &attached, &place.gate),
+            rt,
+            place,
+            now,
+            connections,
+        };
         if conn.is_open() {
             serve(session, &mut conn, &mut caller, now, most_texts())
         } else {
@@ -126,7 +135,7 @@ fn see_off(mut conn: SocketConn<Held<TcpStream>>) {
     drop(conn);
 }
 
-/// Why nobody may stay there, where nobody may: the store failed, or the topic leaves or is gone.
+/// Why the session may not stay, where it may not: the store failed, the topic leaves or is gone, or an administrator ended it.
 fn refusal<T: Opened + Drop, S: Alter, J: Naming, G: Gate + Drop, R: Wait>(
     rt: &R,
     place: &Place<T, S, J, G>,
@@ -139,7 +148,28 @@ fn refusal<T: Opened + Drop, S: Alter, J: Naming, G: Gate + Drop, R: Wait>(
     }
 }
 
-/// The session stays, unless nobody may.
+/// The session ends, and its client is told why once its seat is free.
+fn dismiss<T: Opened + Drop, S: Alter, J: Naming, G: Gate + Drop, R: Wait>(
+    rt: &R,
+    place: &Place<T, S, J, G>,
+    served: Served<T, J>,
+    fault: Fault,
+) {
+    let Served {
+        mut conn,
+        session,
+        attached,
+    } = served;
+    {
+        let mut caller = place.directory.caller(rt, &attached, &place.gate);
+        leave(session, &mut caller);
+    }
+    place.directory.detach(rt, attached);
+    turn_away(&mut conn, 4008, fault);
+    drop(conn);
+}
+
+/// The session stays, unless it may not.
 fn stay<T: Opened + Drop, S: Alter, J: Naming, G: Gate + Drop, R: Wait>(
     rt: &R,
     place: &Place<T, S, J, G>,
@@ -149,8 +179,7 @@ fn stay<T: Opened + Drop, S: Alter, J: Naming, G: Gate + Drop, R: Wait>(
     match refusal(rt, place, &served) {
         Some(fault) => {
             place.refusals.note(rt, fault);
-            turn_away(&mut served.conn, 4008, fault);
-            place.directory.detach(rt, served.attached);
+            dismiss(rt, place, served, fault);
             (Turned::gone(), None)
         }
         None => {

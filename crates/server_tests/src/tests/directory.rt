@@ -1,4 +1,5 @@
 // The server over a database in memory.
+mod administering;
 mod attaching;
 mod deleting;
 mod full;

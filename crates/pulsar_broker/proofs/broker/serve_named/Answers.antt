@@ -1,4 +1,5 @@
 use mir.Syntax.{of_param}
+use denote.Exit.{yes}
 use denote.Param.{param}
 use denote.Param.Send.{Quiet-if}
 use Rattle.topic_core.specs.contracts.topic.TopicCore as Core
@@ -16,7 +17,7 @@ serve-ended-requires-send-X g c κs within =
     let place = Place-send Core.the_row (param 1 g.row.S) (param 2 g.row.J) Open.the_row TopicCore.ghosts Saved.ghosts g.S.Store g.J.Naming core_send c.type_bounds.send-S open_send in
     record {
       owned = place.owned;
-      leaving = λ k. Quiet-if (k (of_param 1)) _ _ (λ x w. ((tt, (tt, (tt, (tt, (tt, ((tt, (tt, ((tt, (tt, tt)), tt))), ((tt, tt), ((tt, tt), ((tt, (tt, (tt, (((tt, tt), (tt, tt)), tt)))), tt))))))))), (tt, (tt, (((tt, tt), (tt, tt)), ((tt, tt), tt)))))) (λ x w. tt);
+      leaving = λ k. Quiet-if (k (of_param 1)) _ _ (place.leaving yes) (λ x w. tt);
     }
 
 pub serve-ended-requires-sync-X : goal.serve-ended-requires-sync-X

@@ -6,7 +6,7 @@ use crate::tests::base::long_terms;
 use broker_dir::Visitor;
 use delivery_machine::Moment;
 use marks::Naming;
-use status_pages::{BrokerSeen, ProgramSeen, Role, SubscriptionSeen, TopicSeen};
+use status_pages::{BrokerSeen, Holds, ProgramSeen, Role, SubscriptionSeen, TopicSeen};
 use std::process::Abort;
 use std::rt::Clock;
 use std::sync::Wait;
@@ -79,6 +79,23 @@ fn check_sessions<J: Naming, R: Abort + AllocGlobal + Wait>(rt: &R, topics: &Top
     drop(seen);
 }
 
+fn expect_holds<R: Abort>(rt: &R, got: Option<Holds>, want: Option<Holds>) {
+    assert_eq!(rt; got, want);
+}
+
+/// What the one session at the one topic has as a consumer.
+fn check_holds<J: Naming, R: Abort + AllocGlobal + Wait>(
+    rt: &R,
+    topics: &Topics<J>,
+    want: Option<Holds>,
+) {
+    let seen = seen_of(rt, topics);
+    let topic = seen.topics.first().expect(rt, "no topic");
+    let session = topic.sessions.first().expect(rt, "no session");
+    expect_holds(rt, session.holds, want);
+    drop(seen);
+}
+
 /// What an event does is seen, and so is who sits there.
 #[derive(Clone, Copy)]
 struct Seen;
@@ -101,6 +118,23 @@ impl Scene for Seen {
         };
         topics.introduce(rt, &seat, visitor);
         check_sessions(rt, &topics, 1);
+        check_holds(rt, &topics, None);
+        play(
+            rt,
+            &topics,
+            &seat,
+            &[
+                "subscribe t Shared 0 push:3 0 0 0 - Earliest",
+                "dispatch t 2000",
+                "dispatch t 2000",
+                "ack 2 CAAQAA==",
+            ],
+        );
+        let holds = Holds {
+            pending: 1,
+            room: 2,
+        };
+        check_holds(rt, &topics, Some(holds));
         topics.detach(rt, seat);
         check_sessions(rt, &topics, 0);
     }

@@ -139,7 +139,7 @@ pub(super) fn event_in<R: AllocGlobal>(rt: &R, name: &TopicName, line: &str) -> 
 }
 
 /// What the topic, or whoever stands before it, answers to the request.
-fn answer_of<J: Naming, R: Abort + AllocGlobal + Wait>(
+pub(super) fn answer_of<J: Naming, R: Abort + AllocGlobal + Wait>(
     rt: &R,
     topics: &Topics<J>,
     seat: &Seat<J>,

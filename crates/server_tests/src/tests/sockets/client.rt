@@ -127,3 +127,18 @@ pub(super) fn publish<R: Abort + AllocGlobal>(rt: &R, socket: &mut Socket, text:
     say(rt, socket, text);
     expect(rt, socket, "\"result\":\"ok\"");
 }
+
+fn is_close(message: &Message, reason: &str) -> bool {
+    match message {
+        Message::Close(Some(frame)) => frame.reason.as_str() == reason,
+        _ => false,
+    }
+}
+
+/// The connection is closed next, for this reason.
+pub(super) fn expect_close<R: Abort>(rt: &R, socket: &mut Socket, reason: &str) {
+    let message = socket.read().ok().expect(rt, "nothing came");
+    let is_close = is_close(&message, reason);
+    drop(message);
+    assert!(rt; is_close, "{reason}");
+}

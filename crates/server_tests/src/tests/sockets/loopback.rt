@@ -1,5 +1,5 @@
 // Publishes and their deliveries through real sockets, and a message that is given back.
-use super::client::{connect, expect, publish, say, say_bytes};
+use super::client::{connect, expect, expect_close, publish, say, say_bytes};
 use super::world::{Visit, serve_all};
 use broker_dir::Open;
 use std::net::{Net, SocketAddr, TcpListener, TcpStream};
@@ -94,4 +94,44 @@ impl Visit for GivenBack {
 #[test]
 fn what_is_given_back_comes_at_its_moment(rt: HostRuntime) {
     serve_all(&rt, Open, GivenBack);
+}
+
+const ADMIN: &str = "ws://127.0.0.1/ws/v2/admin/persistent/public/default/t";
+
+const SOLE: &str =
+    "ws://127.0.0.1/ws/v2/consumer/persistent/public/default/t/s?subscriptionInitialPosition=Earliest";
+
+/// A consumer is ended by an administrator: it is closed, and its message goes to the next, which may come at once.
+#[derive(Clone, Copy)]
+struct EndedBySomebody;
+
+impl Visit for EndedBySomebody {
+    fn connections(&self) -> u64 {
+        4
+    }
+
+    fn go<R: Net<Listener = TcpListener, Stream = TcpStream> + Wait + Clock + Abort + AllocGlobal>(
+        &self,
+        rt: &R,
+        address: SocketAddr,
+    ) {
+        let mut producer = connect(rt, address, PRODUCER);
+        publish(rt, &mut producer, "{\"payload\":\"aGk=\"}");
+        let mut consumer = connect(rt, address, SOLE);
+        expect(rt, &mut consumer, "\"redeliveryCount\":0");
+        let mut admin = connect(rt, address, ADMIN);
+        say(rt, &mut admin, "{\"type\":\"disconnect\",\"session\":2}");
+        expect(rt, &mut admin, "\"result\":\"ok\"");
+        expect_close(rt, &mut consumer, "F3");
+        let mut next = connect(rt, address, SOLE);
+        expect(rt, &mut next, "\"redeliveryCount\":0");
+        say(rt, &mut admin, "{\"type\":\"disconnect\",\"session\":3}");
+        expect(rt, &mut admin, "\"result\":\"ok\"");
+        expect_close(rt, &mut admin, "F3");
+    }
+}
+
+#[test]
+fn a_consumer_that_is_ended_leaves_its_messages(rt: HostRuntime) {
+    serve_all(&rt, Open, EndedBySomebody);
 }

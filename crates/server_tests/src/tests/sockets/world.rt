@@ -39,7 +39,7 @@ fn place_over<J: Naming, G: Gate + Drop, R: Abort + AllocGlobal>(
     requires { history ≡ J.book }
 {
     let keeper = keeper_over(rt, history);
-    let directory = Directory::open(rt.alloc(), keeper, terms(rt, 2), Retention::All);
+    let directory = Directory::open(rt.alloc(), keeper, terms(rt, 3), Retention::All);
     let about = About {
         started: Moment::new(1000).expect(rt, "no moment"),
     };

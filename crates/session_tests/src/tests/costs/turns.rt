@@ -76,7 +76,7 @@ impl Counter {
     fn reply_to(&mut self, request: &Request) -> Reply {
         match request {
             Request::Event(event) => self.answer(event),
-            Request::DeleteTopic => Reply::Done,
+            _ => Reply::Done,
         }
     }
 }
@@ -91,6 +91,10 @@ impl Caller for Counter {
         let reply = self.reply_to(&request);
         drop(request);
         Ok(reply)
+    }
+
+    fn overview(&mut self) -> Result<String, Fault> {
+        String::from_str(self.alloc, "{}").map_err(|_| Fault::NoMemory)
     }
 }
 

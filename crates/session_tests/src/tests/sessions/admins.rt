@@ -53,3 +53,103 @@ closed 4003 F18
 ",
     );
 }
+
+#[test]
+fn a_subscription_is_made_and_looked_at(rt: HostRuntime) {
+    check(
+        &rt,
+        "open /ws/v2/producer/persistent/public/default/t
+text {\"payload\":\"MA==\"}
+text {\"payload\":\"MQ==\",\"key\":\"k\"}
+text {\"payload\":\"Mg==\"}
+serve 1000
+stored
+open /ws/v2/admin/persistent/public/default/t
+text {\"type\":\"peek\",\"subscription\":\"s\",\"messages\":1}
+text {\"type\":\"createSubscription\",\"subscription\":\"s\",\"position\":\"CAAQBQ==\"}
+text {\"type\":\"stats\",\"subscription\":\"s\"}
+text {\"type\":\"createSubscription\",\"subscription\":\"s\",\"position\":\"CAAQAQ==\"}
+text {\"type\":\"createSubscription\",\"subscription\":\"s\",\"position\":\"earliest\"}
+text {\"type\":\"peek\",\"subscription\":\"s\",\"messages\":1}
+text {\"type\":\"peek\",\"subscription\":\"s\",\"messages\":100}
+text {\"type\":\"stats\",\"subscription\":\"s\"}
+serve 1000",
+        "{\"fault\":11,\"result\":\"refused\"}
+{\"fault\":8,\"result\":\"refused\"}
+{\"fault\":11,\"result\":\"refused\"}
+{\"result\":\"ok\"}
+{\"fault\":12,\"result\":\"refused\"}
+{\"messages\":[{\"key\":\"k\",\"messageId\":\"CAAQAQ==\",\"payload\":\"MQ==\",\"properties\":{},\"publishTime\":\"1970-01-01T00:00:01.000Z\",\"redeliveryCount\":0}],\"result\":\"ok\"}
+{\"messages\":[{\"key\":\"k\",\"messageId\":\"CAAQAQ==\",\"payload\":\"MQ==\",\"properties\":{},\"publishTime\":\"1970-01-01T00:00:01.000Z\",\"redeliveryCount\":0},{\"messageId\":\"CAAQAg==\",\"payload\":\"Mg==\",\"properties\":{},\"publishTime\":\"1970-01-01T00:00:01.000Z\",\"redeliveryCount\":0}],\"result\":\"ok\"}
+{\"acknowledged\":1,\"dead\":0,\"kind\":\"Exclusive\",\"live\":2,\"markDelete\":\"CAAQAA==\",\"members\":0,\"pending\":0,\"result\":\"ok\"}
+open
+",
+    );
+}
+
+#[test]
+fn what_is_not_stored_yet_is_not_shown(rt: HostRuntime) {
+    check(
+        &rt,
+        "open /ws/v2/producer/persistent/public/default/t
+text {\"payload\":\"MA==\"}
+serve 1000
+open /ws/v2/admin/persistent/public/default/t
+text {\"type\":\"createSubscription\",\"subscription\":\"s\",\"position\":\"earliest\"}
+text {\"type\":\"peek\",\"subscription\":\"s\",\"messages\":5}
+serve 1000",
+        "{\"result\":\"ok\"}
+{\"messages\":[],\"result\":\"ok\"}
+open
+",
+    );
+}
+
+#[test]
+fn nobody_else_is_there_to_be_ended(rt: HostRuntime) {
+    check(
+        &rt,
+        "open /ws/v2/admin/persistent/public/default/t
+text {\"type\":\"disconnect\",\"session\":1}
+serve 1000",
+        "{\"fault\":3,\"result\":\"refused\"}
+open
+",
+    );
+}
+
+/// The topic stands alone, so its broker shows nothing.
+#[test]
+fn an_overview_is_answered_in_its_turn(rt: HostRuntime) {
+    check(
+        &rt,
+        "open /ws/v2/admin/persistent/public/default/t
+text {\"type\":\"stats\",\"subscription\":\"s\"}
+text {\"type\":\"overview\"}
+text {\"type\":\"deleteTopic\"}
+serve 1000
+text {\"type\":\"overview\",\"subscription\":\"s\"}
+text {\"type\":\"overviews\"}
+text {\"type\":\"overview\"}
+serve 1001",
+        "{\"fault\":11,\"result\":\"refused\"}
+{}
+{\"result\":\"ok\"}
+{}
+closed 4003 F18
+",
+    );
+}
+
+#[test]
+fn there_is_no_database_to_be_copied(rt: HostRuntime) {
+    check(
+        &rt,
+        "open /ws/v2/admin/persistent/public/default/t
+text {\"type\":\"backup\"}
+serve 1000",
+        "{\"fault\":20,\"result\":\"refused\"}
+open
+",
+    );
+}

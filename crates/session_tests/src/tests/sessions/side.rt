@@ -1,6 +1,6 @@
 // One session of a plain topic, with its connection.
 use crate::tests::this_topic;
-use delivery_machine::{Event, Moment, Reply, Topic};
+use delivery_machine::{Event, Moment, Reply};
 use endpoint_core::{Endpoint, route};
 use plain_topic::PlainTopic;
 use position_core::LedgerSize;

@@ -66,7 +66,26 @@ fn named<R: Abort + AllocGlobal>(rt: &R, command: &AdminCommand) -> String {
             joined(rt, &["drop ", subscription.as_str()])
         }
         AdminCommand::Stats { subscription } => joined(rt, &["stats ", subscription.as_str()]),
+        AdminCommand::CreateSubscription {
+            subscription,
+            target: to,
+        } => worded(rt, "create ", subscription, target(rt, *to)),
+        AdminCommand::Peek {
+            subscription,
+            count,
+        } => worded(
+            rt,
+            "peek ",
+            subscription,
+            number(rt, u64::from(count.get())),
+        ),
+        AdminCommand::Disconnect { session } => {
+            let session = number(rt, *session);
+            joined(rt, &["end ", session.as_str()])
+        }
         AdminCommand::Keep { retention } => rule(rt, retention),
+        AdminCommand::BackUp => joined(rt, &["copy"]),
+        AdminCommand::Overview => joined(rt, &["see all"]),
         AdminCommand::DeleteTopic => joined(rt, &["delete"]),
     }
 }
@@ -274,4 +293,97 @@ fn check_spaces<R: Abort + AllocGlobal>(rt: &R, count: usize, want: &str) {
 fn an_admin_text_ends_at_two_mebibytes(rt: HostRuntime) {
     check_spaces(&rt, 2_097_117, "stats s");
     check_spaces(&rt, 2_097_118, "F18");
+}
+
+#[test]
+fn makes_from_a_position(rt: HostRuntime) {
+    let table: &[(&str, &str)] = &[
+        ("\"earliest\"", "create s earliest"),
+        ("\"latest\"", "create s latest"),
+        ("\"CAAQrAI=\"", "create s 0:300"),
+        ("\"Latest\"", "F17"),
+        ("\"CAAQAw\"", "F17"),
+        ("5", "F18"),
+        ("null", "F18"),
+    ];
+    let front = "{\"type\":\"createSubscription\",\"subscription\":\"s\",\"position\":";
+    check_values(&rt, front, table);
+    let beside: &[(&str, &str)] = &[
+        (
+            "{\"type\":\"createSubscription\",\"subscription\":\"s\"}",
+            "F18",
+        ),
+        (
+            "{\"type\":\"createSubscription\",\"subscription\":\"a/b\",\"position\":\"latest\"}",
+            "F18",
+        ),
+        (
+            "{\"type\":\"createSubscription\",\"position\":\"x\"}",
+            "F18",
+        ),
+    ];
+    check(&rt, beside);
+}
+
+#[test]
+fn shows_so_many(rt: HostRuntime) {
+    let table: &[(&str, &str)] = &[
+        ("1", "peek s 1"),
+        ("100", "peek s 100"),
+        ("0", "F18"),
+        ("101", "F18"),
+        ("4294967297", "F18"),
+        ("-1", "F18"),
+        ("1.0", "F18"),
+        ("\"1\"", "F18"),
+        ("null", "F18"),
+    ];
+    let front = "{\"type\":\"peek\",\"subscription\":\"s\",\"messages\":";
+    check_values(&rt, front, table);
+    let beside: &[(&str, &str)] = &[
+        ("{\"type\":\"peek\",\"subscription\":\"s\"}", "F18"),
+        ("{\"type\":\"peek\",\"messages\":1}", "F18"),
+    ];
+    check(&rt, beside);
+}
+
+/// It is of no subscription, and looks at none.
+#[test]
+fn ends_by_number(rt: HostRuntime) {
+    let table: &[(&str, &str)] = &[
+        ("0", "end 0"),
+        ("7", "end 7"),
+        ("18446744073709551615", "end 18446744073709551615"),
+        ("18446744073709551616", "F18"),
+        ("-1", "F18"),
+        ("7.0", "F18"),
+        ("\"7\"", "F18"),
+        ("null", "F18"),
+    ];
+    let front = "{\"type\":\"disconnect\",\"subscription\":5,\"session\":";
+    check_values(&rt, front, table);
+    check(&rt, &[("{\"type\":\"disconnect\"}", "F18")]);
+}
+
+/// They are of no subscription, and look at none.
+#[test]
+fn the_whole_broker(rt: HostRuntime) {
+    let table: &[(&str, &str)] = &[
+        ("{\"type\":\"overview\"}", "see all"),
+        ("{\"type\":\"overview\",\"subscription\":5}", "see all"),
+        (
+            "{\"subscription\":\"a/b\",\"type\":\"overview\"}",
+            "see all",
+        ),
+        ("{\"type\":\"backup\"}", "copy"),
+        ("{\"type\":\"backup\",\"subscription\":null}", "copy"),
+        ("{\"type\":\"Overview\"}", "F18"),
+        ("{\"type\":\"overview \",\"subscription\":\"s\"}", "F18"),
+        ("{\"type\":\"backUp\",\"subscription\":\"s\"}", "F18"),
+        ("{\"type\":\"BACKUP\"}", "F18"),
+        ("{\"type\":[\"backup\"]}", "F18"),
+        ("\"overview\"", "F18"),
+        ("{\"type\":\"overview\"", "F18"),
+    ];
+    check(&rt, table);
 }

@@ -1,5 +1,5 @@
 use Rattle.std.proofs.Common.{refl, ap, sym, ◌∙◌, Some}
-use Rattle.session_core.proofs.Taking.{text_answered, text_asked, text_closes, text_unread}
+use Rattle.session_core.proofs.Taking.{text_answered, text_asked, text_closes, text_shown, text_unread}
 use Rattle.session_core.proofs.session.Session.take_text.Goals as goal
 
 pub returns-in_default : goal.returns-in_default
@@ -14,3 +14,6 @@ returns-in-Answers g c =
 
 pub returns-in-Closes : goal.returns-in-Closes
 returns-in-Closes g c = text_closes _ _ _ _ _ (sym c.in-Ok.ensures ∙ c.in-Closes.is)
+
+pub returns-in-Shows : goal.returns-in-Shows
+returns-in-Shows g c = text_shown _ _ _ _ _ _ (sym c.in-Ok.ensures ∙ c.in-Shows.is) c.take_overview.ensures

@@ -1,4 +1,5 @@
 use mir.Syntax.{of_param}
+use denote.Exit.{no}
 use denote.Param.{param}
 use denote.Param.Send.{Quiet-if}
 use Rattle.topic_core.specs.contracts.topic.TopicCore as Core
@@ -15,7 +16,7 @@ use Rattle.server_tests.proofs.tests.sockets.world.run.Goals as goal
 pub serve-ended-requires-send-X : goal.serve-ended-requires-send-X
 serve-ended-requires-send-X g c κs within =
     let place = Place-send Core.the_row Mem.the_row (param 1 g.row.J) (param 2 g.row.G) TopicCore.ghosts Saved.ghosts MemStore.ghosts g.J.Naming core_send mem_send c.type_bounds.send-G in
-    record { owned = place.owned; leaving = λ k. Quiet-if (k (of_param 1)) _ _ (λ x w. ((tt, (tt, (tt, (tt, (tt, ((tt, (tt, ((tt, (tt, tt)), tt))), ((tt, tt), ((tt, tt), ((tt, (tt, (tt, (((tt, tt), (tt, tt)), tt)))), tt))))))))), (tt, (tt, (((tt, tt), (tt, tt)), ((tt, tt), tt)))))) (λ x w. tt) }
+    record { owned = place.owned; leaving = λ k. Quiet-if (k (of_param 1)) _ _ (place.leaving no) (λ x w. tt) }
 
 pub serve-ended-requires-sync-X : goal.serve-ended-requires-sync-X
 serve-ended-requires-sync-X g c κs within =

@@ -1,0 +1,221 @@
+// What an administrator asks of a topic that is more than one event.
+ghost use Rattle.std.specs.Prelude.{◌≡◌, ◌+◌, Err, IfOk, IfSome, OnErr, Some};
+ghost use Rattle.delivery_machine.specs.Places.{snapshot_in};
+ghost use Rattle.delivery_machine.specs.Snapshot.{snapshot_of};
+ghost use Rattle.session_links.specs.Creating.{MayCreate};
+ghost use Rattle.broker_dir.specs.Ends.{refusal_at};
+ghost use Rattle.broker_dir.specs.Handing.{HandsOn};
+
+use crate::attached::Seated;
+use crate::gate::Gate;
+use crate::inside::{Inside, VISITOR, is_storing};
+use delivery_machine::{Event, Fault, Opened, Reply, SubscriptionName, Target};
+use marks::Naming;
+use session_bells::Bell;
+use session_links::{Hold, Look, PeekLength, create};
+use sqlite::Alter;
+use std::sync::Wait;
+
+impl<T: Opened + Drop, J: Naming, B: Bell + Drop> Hold for Inside<T, J, B> {
+    ghost use Rattle.broker_dir.specs.Handing.{HandsOn};
+
+    ghost state = { λ i. i.topic.cell.cell.state };
+
+    ghost answers = { HandsOn };
+
+    /// To nobody who sits there. Nobody calls something durable so.
+    fn hand(&mut self, event: Event) -> Result<Reply, Fault> {
+        if is_storing(&event) {
+            drop(event);
+            return Err(Fault::NoSession);
+        }
+        let Ok(change) = self.graves.prepare(&event) else {
+            drop(event);
+            return Err(Fault::NoMemory);
+        };
+        match self.topic.call(VISITOR, event) {
+            Ok(receipt) => {
+                self.graves.answered(change, &receipt.reply);
+                Ok(receipt.reply)
+            }
+            Err(fault) => {
+                drop(change);
+                Err(fault)
+            }
+        }
+    }
+
+    /// The journal begins anew: so there is room for a line, and none of it is taken.
+    fn spare(&mut self) {
+        self.topic.roll();
+    }
+}
+
+impl<T: Opened + Drop, J: Naming, B: Bell + Drop> Inside<T, J, B> {
+    /// Makes a subscription that goes on from the target. Where the journal is full the topic is to leave.
+    fn create<R: Wait>(
+        &mut self,
+        rt: &R,
+        subscription: &SubscriptionName,
+        target: Target,
+    ) -> Result<Reply, Fault>
+        ensures refused { IfSome (refusal_at self.old.stage) (λ fault. (result ≡ Err fault) × (self.new ≡ self.old)) }
+        ensures creates { refusal_at self.old.stage ≡ None → MayCreate HandsOn subscription.now target self.old.topic.cell.cell.state result self.new.topic.cell.cell.state }
+    {
+        if let Some(fault) = self.stage.refusal() {
+            return Err(fault);
+        }
+        let answer = create(self, subscription, target);
+        self.note_answer(rt, &answer);
+        answer
+    }
+
+    /// Where the journal is full the topic is to leave, and where it is long it begins anew.
+    fn note_answer<R: Wait>(&mut self, rt: &R, answer: &Result<Reply, Fault>)
+        ensures { self.new.topic.cell.cell.state ≡ self.old.topic.cell.cell.state }
+    {
+        if let Err(Fault::JournalFull) = answer {
+            self.begin_to_leave(rt);
+        }
+        self.roll_if_long();
+    }
+
+    /// What the topic keeps now, and how much of it is stored. It costs what a store does to view the topic: the messages are
+    /// shared, and no step is taken for each.
+    fn look(&mut self) -> Result<Look, Fault>
+        ensures refused { IfSome (refusal_at self.old.stage) (λ fault. result ≡ Err fault) }
+        ensures kept { IfOk result (λ look. snapshot_in look.snapshot ≡ snapshot_of self.old.topic.cell.cell.state) }
+        ensures stored { IfOk result (λ look. look.stored ≡ self.old.topic.cell.cell.state.gone + self.old.topic.cell.cell.state.durable) }
+        ensures state { self.new.topic.cell.cell.state ≡ self.old.topic.cell.cell.state }
+    {
+        if let Some(fault) = self.stage.refusal() {
+            return Err(fault);
+        }
+        let stored = match self.durable() {
+            Ok(stored) => stored,
+            Err(fault) => return Err(fault),
+        };
+        let look = match self.topic.view() {
+            Ok(snapshot) => Ok(Look { snapshot, stored }),
+            Err(fault) => Err(fault),
+        };
+        self.roll_if_long();
+        look
+    }
+
+    /// Why the one at the seat may not stay, where it may not.
+    pub(crate) fn refusal(&self, seat: u64) -> Option<Fault>
+        ensures { IfSome (refusal_at self.now.stage) (λ fault. result ≡ Some fault) }
+    {
+        match self.stage.refusal() {
+            Some(fault) => Some(fault),
+            None => if self.visitors.is_to_go(seat) {
+                Some(Fault::NoSession)
+            } else {
+                None
+            },
+        }
+    }
+}
+
+impl<'a, T: Opened + Drop, S: Alter, J: Naming, B: Bell + Drop, R: Wait, G: Gate> Seated<
+    'a,
+    T,
+    S,
+    J,
+    B,
+    R,
+    G,
+> {
+    /// Makes a subscription, in one hold of the topic's lock.
+    pub(crate) fn create(
+        &self,
+        subscription: SubscriptionName,
+        target: Target,
+    ) -> Result<Reply, Fault> {
+        if self.directory.is_closed() {
+            drop(subscription);
+            return Err(Fault::StoreFailed);
+        }
+        let topic = &self.attached.topic;
+        let mut inside = topic.inside.lock(self.rt);
+        self.gate.within(&topic.name);
+        let answer = inside.create(self.rt, &subscription, target);
+        let tells = inside.wants_storing();
+        drop(inside);
+        drop(subscription);
+        if let Err(Fault::JournalFull) = &answer {
+            topic.note_over();
+        }
+        if tells {
+            self.directory.tell(self.rt, topic);
+        }
+        answer
+    }
+
+    /// Shows the next messages of the subscription. The topic's lock is held for the view alone, and not while they are looked
+    /// for.
+    pub(crate) fn peek(
+        &self,
+        subscription: SubscriptionName,
+        count: PeekLength,
+    ) -> Result<Reply, Fault> {
+        let shown = match self.look() {
+            Ok(look) => {
+                let shown = look.next_of(self.directory.alloc, &subscription, count);
+                drop(look);
+                shown
+            }
+            Err(fault) => Err(fault),
+        };
+        drop(subscription);
+        shown
+    }
+
+    fn look(&self) -> Result<Look, Fault> {
+        if self.directory.is_closed() {
+            return Err(Fault::StoreFailed);
+        }
+        let mut inside = self.attached.topic.inside.lock(self.rt);
+        inside.look()
+    }
+
+    /// The session that has the number is to end, and is rung, so that it learns that at once. Refused (F3) where nobody has it.
+    pub(crate) fn disconnect(&self, session: u64) -> Result<Reply, Fault> {
+        if self.directory.is_closed() {
+            return Err(Fault::StoreFailed);
+        }
+        let topic = &self.attached.topic;
+        let mut inside = topic.inside.lock(self.rt);
+        if !inside.visitors.end(session) {
+            return Ok(Reply::Refused(Fault::NoSession));
+        }
+        topic.set_to_go(true);
+        inside.bells.wake(self.rt, session);
+        Ok(Reply::Done)
+    }
+
+    /// Whether the client is at the broker's own machine.
+    fn is_near(&self) -> bool {
+        let inside = self.attached.topic.inside.lock(self.rt);
+        match inside.visitors.at(self.attached.seat) {
+            Some(visitor) => visitor.is_near(),
+            None => false,
+        }
+    }
+
+    /// The database is to be copied. Refused (F20) unless the client is at the broker's own machine and a folder was given for
+    /// copies, and (F12) while a copy is waited for.
+    pub(crate) fn back_up(&self) -> Result<Reply, Fault> {
+        if self.directory.is_closed() {
+            return Err(Fault::StoreFailed);
+        }
+        if !self.is_near() {
+            return Ok(Reply::Refused(Fault::BadRoute));
+        }
+        match self.directory.want_backup() {
+            Ok(()) => Ok(Reply::Done),
+            Err(fault) => Ok(Reply::Refused(fault)),
+        }
+    }
+}

@@ -1,0 +1,4 @@
+pub mod Left
+pub mod Looked
+pub mod Times
+pub mod Searched

@@ -1,0 +1,2 @@
+-- What the contracts of a watched topic cite.
+pub mod Counts
