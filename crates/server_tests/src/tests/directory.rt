@@ -1,6 +1,8 @@
 // The server over a database in memory.
 mod administering;
 mod attaching;
+mod broker;
+mod chime;
 mod deleting;
 mod full;
 mod letters;

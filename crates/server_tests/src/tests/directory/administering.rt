@@ -1,13 +1,11 @@
 // What an administrator makes of a topic, sees of it, and ends there.
+use super::broker::Broker;
+use super::chime::bell;
 use super::letters::{T, play};
 use super::trimming::publish;
-use super::world::{
-    Rows, Scene, Seat, Topics, answer_of, asked, bell, come, open, settle, sit, topic_name,
-    with_rows,
-};
+use super::world::{Scene, asked, come, open, settle, sit, topic_name, with_rows};
 use broker_dir::Visitor;
 use delivery_machine::{Deliveries, Delivery, Fault, Moment, Reply, SubscriptionName, Target};
-use marks::Naming;
 use position_core::Position;
 use session_links::{PeekLength, Request};
 use status_pages::Role;
@@ -22,16 +20,15 @@ fn named<R: Abort + AllocGlobal>(rt: &R, name: &str) -> SubscriptionName {
 }
 
 /// Makes the subscription `s`.
-fn made<J: Naming, R: Abort + AllocGlobal + Wait>(
+fn made<D: Broker, R: Abort + AllocGlobal + Wait>(
     rt: &R,
-    topics: &Topics<J>,
-    seat: &Seat<J>,
+    topics: &D,
+    seat: &D::Seat,
     target: Target,
 ) -> Result<Reply, Fault> {
     let subscription = named(rt, "s");
-    answer_of(
+    topics.call(
         rt,
-        topics,
         seat,
         Request::CreateSubscription {
             subscription,
@@ -53,10 +50,10 @@ fn expect_fault<R: Abort>(rt: &R, got: Option<Fault>, want: Option<Fault>) {
     assert_eq!(rt; got, want);
 }
 
-fn check_made<J: Naming, R: Abort + AllocGlobal + Wait>(
+fn check_made<D: Broker, R: Abort + AllocGlobal + Wait>(
     rt: &R,
-    topics: &Topics<J>,
-    seat: &Seat<J>,
+    topics: &D,
+    seat: &D::Seat,
     target: Target,
     want: Option<Fault>,
 ) {
@@ -83,10 +80,10 @@ fn expect_numbers<R: Abort>(rt: &R, got: Option<(u64, u64, u64)>, want: Option<(
     assert_eq!(rt; got, want);
 }
 
-fn check_numbers<J: Naming, R: Abort + AllocGlobal + Wait>(
+fn check_numbers<D: Broker, R: Abort + AllocGlobal + Wait>(
     rt: &R,
-    topics: &Topics<J>,
-    seat: &Seat<J>,
+    topics: &D,
+    seat: &D::Seat,
     want: Option<(u64, u64, u64)>,
 ) {
     let reply = asked(rt, topics, seat, "stats s");
@@ -99,7 +96,7 @@ fn place(entry: u64) -> Target {
 }
 
 /// A topic of four messages, which are stored.
-fn filled<J: Naming, R: Abort + AllocGlobal + Wait + Clock>(rt: &R, topics: &Topics<J>) -> Seat<J> {
+fn filled<D: Broker, R: Abort + AllocGlobal + Wait + Clock>(rt: &R, topics: &D) -> D::Seat {
     let seat = sit(rt, topics, T);
     play(rt, topics, &seat, &["producer p -"]);
     publish(rt, topics, &seat, 0, 4, 1000);
@@ -112,8 +109,8 @@ fn filled<J: Naming, R: Abort + AllocGlobal + Wait + Clock>(rt: &R, topics: &Top
 struct MadeOnce;
 
 impl Scene for MadeOnce {
-    fn play<J: Naming, R: Abort + AllocGlobal + Wait + Clock>(&self, rt: &R, keeper: Rows<J>) {
-        let topics = open(rt, keeper, 3);
+    fn play<D: Broker, R: Abort + AllocGlobal + Wait + Clock>(&self, rt: &R, keeper: D::Rows) {
+        let topics: D = open(rt, keeper, 3);
         let seat = filled(rt, &topics);
         check_made(rt, &topics, &seat, place(9), Some(Fault::NoSuchMessage));
         check_numbers(rt, &topics, &seat, None);
@@ -147,8 +144,8 @@ fn a_subscription_is_made_once(rt: HostRuntime) {
 struct MadeAndStored;
 
 impl Scene for MadeAndStored {
-    fn play<J: Naming, R: Abort + AllocGlobal + Wait + Clock>(&self, rt: &R, keeper: Rows<J>) {
-        let topics = open(rt, keeper, 3);
+    fn play<D: Broker, R: Abort + AllocGlobal + Wait + Clock>(&self, rt: &R, keeper: D::Rows) {
+        let topics: D = open(rt, keeper, 3);
         let seat = filled(rt, &topics);
         check_made(rt, &topics, &seat, place(2), None);
         topics.detach(rt, seat);
@@ -167,17 +164,16 @@ fn what_is_made_is_stored(rt: HostRuntime) {
     with_rows(&rt, &MadeAndStored);
 }
 
-fn looked<J: Naming, R: Abort + AllocGlobal + Wait>(
+fn looked<D: Broker, R: Abort + AllocGlobal + Wait>(
     rt: &R,
-    topics: &Topics<J>,
-    seat: &Seat<J>,
+    topics: &D,
+    seat: &D::Seat,
     count: u32,
 ) -> Result<Reply, Fault> {
     let subscription = named(rt, "s");
     let count = PeekLength::new(count).expect(rt, "no count");
-    answer_of(
+    topics.call(
         rt,
-        topics,
         seat,
         Request::Peek {
             subscription,
@@ -187,10 +183,10 @@ fn looked<J: Naming, R: Abort + AllocGlobal + Wait>(
 }
 
 /// The next messages, so many at most.
-fn shown<J: Naming, R: Abort + AllocGlobal + Wait>(
+fn shown<D: Broker, R: Abort + AllocGlobal + Wait>(
     rt: &R,
-    topics: &Topics<J>,
-    seat: &Seat<J>,
+    topics: &D,
+    seat: &D::Seat,
     count: u32,
 ) -> Deliveries {
     match looked(rt, topics, seat, count) {
@@ -212,10 +208,10 @@ fn are_entries(got: &[Delivery], want: &[(u64, u32)]) -> bool {
 }
 
 /// The entries of the messages that are shown, and how often each was redelivered.
-fn check_shown<J: Naming, R: Abort + AllocGlobal + Wait>(
+fn check_shown<D: Broker, R: Abort + AllocGlobal + Wait>(
     rt: &R,
-    topics: &Topics<J>,
-    seat: &Seat<J>,
+    topics: &D,
+    seat: &D::Seat,
     count: u32,
     want: &[(u64, u32)],
 ) {
@@ -229,10 +225,10 @@ fn check_shown<J: Naming, R: Abort + AllocGlobal + Wait>(
 struct ShownAsSent;
 
 impl ShownAsSent {
-    fn before<J: Naming, R: Abort + AllocGlobal + Wait + Clock>(
+    fn before<D: Broker, R: Abort + AllocGlobal + Wait + Clock>(
         rt: &R,
-        topics: &Topics<J>,
-        seat: &Seat<J>,
+        topics: &D,
+        seat: &D::Seat,
     ) {
         let absent = looked(rt, topics, seat, 1);
         expect_fault(rt, fault_of(&absent), Some(Fault::NoSuchSubscription));
@@ -257,8 +253,8 @@ const READ: [&str; 8] = [
 ];
 
 impl Scene for ShownAsSent {
-    fn play<J: Naming, R: Abort + AllocGlobal + Wait + Clock>(&self, rt: &R, keeper: Rows<J>) {
-        let topics = open(rt, keeper, 3);
+    fn play<D: Broker, R: Abort + AllocGlobal + Wait + Clock>(&self, rt: &R, keeper: D::Rows) {
+        let topics: D = open(rt, keeper, 3);
         let seat = filled(rt, &topics);
         ShownAsSent::before(rt, &topics, &seat);
         play(rt, &topics, &seat, &READ);
@@ -282,7 +278,7 @@ fn what_is_shown_is_what_a_consumer_gets(rt: HostRuntime) {
     with_rows(&rt, &ShownAsSent);
 }
 
-fn introduce<J: Naming, R: Abort + AllocGlobal + Wait>(rt: &R, topics: &Topics<J>, seat: &Seat<J>) {
+fn introduce<D: Broker, R: Abort + AllocGlobal + Wait>(rt: &R, topics: &D, seat: &D::Seat) {
     let visitor = Visitor {
         address: None,
         role: Role::Consumer,
@@ -291,14 +287,14 @@ fn introduce<J: Naming, R: Abort + AllocGlobal + Wait>(rt: &R, topics: &Topics<J
     topics.introduce(rt, seat, visitor);
 }
 
-fn check_ended<J: Naming, R: Abort + AllocGlobal + Wait>(
+fn check_ended<D: Broker, R: Abort + AllocGlobal + Wait>(
     rt: &R,
-    topics: &Topics<J>,
-    seat: &Seat<J>,
+    topics: &D,
+    seat: &D::Seat,
     session: u64,
     want: Option<Fault>,
 ) {
-    let answer = answer_of(rt, topics, seat, Request::Disconnect { session });
+    let answer = topics.call(rt, seat, Request::Disconnect { session });
     expect_fault(rt, fault_of(&answer), want);
     drop(answer);
 }
@@ -308,8 +304,8 @@ fn check_ended<J: Naming, R: Abort + AllocGlobal + Wait>(
 struct Ended;
 
 impl Scene for Ended {
-    fn play<J: Naming, R: Abort + AllocGlobal + Wait + Clock>(&self, rt: &R, keeper: Rows<J>) {
-        let topics = open(rt, keeper, 3);
+    fn play<D: Broker, R: Abort + AllocGlobal + Wait + Clock>(&self, rt: &R, keeper: D::Rows) {
+        let topics: D = open(rt, keeper, 3);
         let seat = sit(rt, &topics, T);
         let chime = bell(rt);
         let rung = Arc::try_clone(&chime).ok().expect(rt, "no memory");
@@ -320,19 +316,19 @@ impl Scene for Ended {
         check_ended(rt, &topics, &seat, 1, Some(Fault::NoSession));
         check_ended(rt, &topics, &seat, 3, Some(Fault::NoSession));
         assert!(rt; !rung.is_rung());
-        check_ended(rt, &topics, &seat, other.seat(), None);
+        check_ended(rt, &topics, &seat, topics.number_of(&other), None);
         assert!(rt; rung.is_rung());
         drop(rung);
-        expect_fault(rt, other.refusal(rt), Some(Fault::NoSession));
-        expect_fault(rt, seat.refusal(rt), None);
+        expect_fault(rt, topics.refusal(rt, &other), Some(Fault::NoSession));
+        expect_fault(rt, topics.refusal(rt, &seat), None);
         topics.detach(rt, other);
         check_ended(rt, &topics, &seat, 2, Some(Fault::NoSession));
         let next = sit(rt, &topics, T);
         introduce(rt, &topics, &next);
-        expect_fault(rt, next.refusal(rt), None);
+        expect_fault(rt, topics.refusal(rt, &next), None);
         introduce(rt, &topics, &seat);
-        check_ended(rt, &topics, &seat, seat.seat(), None);
-        expect_fault(rt, seat.refusal(rt), Some(Fault::NoSession));
+        check_ended(rt, &topics, &seat, topics.number_of(&seat), None);
+        expect_fault(rt, topics.refusal(rt, &seat), Some(Fault::NoSession));
         topics.detach(rt, next);
         topics.detach(rt, seat);
     }

@@ -1,16 +1,17 @@
 // Who may not attach.
+use super::broker::Broker;
+use super::chime::bell;
 use super::letters::{BEFORE, play};
-use super::world::{Rows, Scene, Topics, bell, come, open, sit, topic_name, with_rows};
+use super::world::{Scene, come, open, sit, topic_name, with_rows};
 use delivery_machine::Fault;
-use marks::Naming;
 use std::process::Abort;
 use std::rt::Clock;
 use std::sync::Wait;
 use std::test::*;
 
-fn refusal<J: Naming, R: Abort + AllocGlobal + Wait>(
+fn refusal<D: Broker, R: Abort + AllocGlobal + Wait>(
     rt: &R,
-    topics: &Topics<J>,
+    topics: &D,
     name: &str,
     create: bool,
 ) -> Option<Fault> {
@@ -21,9 +22,9 @@ fn expect_fault<R: Abort>(rt: &R, got: Option<Fault>, want: Option<Fault>) {
     assert_eq!(rt; got, want);
 }
 
-fn check_refusal<J: Naming, R: Abort + AllocGlobal + Wait>(
+fn check_refusal<D: Broker, R: Abort + AllocGlobal + Wait>(
     rt: &R,
-    topics: &Topics<J>,
+    topics: &D,
     create: bool,
     want: Option<Fault>,
 ) {
@@ -35,8 +36,8 @@ fn check_refusal<J: Naming, R: Abort + AllocGlobal + Wait>(
 struct Refusals;
 
 impl Scene for Refusals {
-    fn play<J: Naming, R: Abort + AllocGlobal + Wait + Clock>(&self, rt: &R, keeper: Rows<J>) {
-        let topics = open(rt, keeper, 1);
+    fn play<D: Broker, R: Abort + AllocGlobal + Wait + Clock>(&self, rt: &R, keeper: D::Rows) {
+        let topics: D = open(rt, keeper, 1);
         check_refusal(rt, &topics, false, Some(Fault::NoSuchSubscription));
         let seat = sit(rt, &topics, "persistent://public/default/t");
         check_refusal(rt, &topics, false, Some(Fault::NoRoom));
@@ -59,7 +60,7 @@ fn numbered<R: Abort + AllocGlobal>(rt: &R, number: u32) -> String {
 }
 
 /// How many of so many topics are one too many, while somebody sits at each of the others.
-fn count_refused<J: Naming, R: Abort + AllocGlobal + Wait>(rt: &R, topics: &Topics<J>) -> u32 {
+fn count_refused<D: Broker, R: Abort + AllocGlobal + Wait>(rt: &R, topics: &D) -> u32 {
     let mut refused = 0u32;
     let mut seats = Vec::new(rt.alloc());
     for number in 0..258 {
@@ -83,8 +84,8 @@ fn expect_refused<R: Abort>(rt: &R, got: u32, want: u32) {
 struct Many;
 
 impl Scene for Many {
-    fn play<J: Naming, R: Abort + AllocGlobal + Wait + Clock>(&self, rt: &R, keeper: Rows<J>) {
-        let topics = open(rt, keeper, 1);
+    fn play<D: Broker, R: Abort + AllocGlobal + Wait + Clock>(&self, rt: &R, keeper: D::Rows) {
+        let topics: D = open(rt, keeper, 1);
         expect_refused(rt, count_refused(rt, &topics), 2);
     }
 }

@@ -1,12 +1,11 @@
 // A topic is deleted by whoever sits there.
+use super::broker::Broker;
+use super::chime::bell;
 use super::letters::{BEFORE, DEATH, T, play};
-use super::world::{
-    Rows, Scene, Seat, Topics, answer_to, asked, bell, come, delete, open, settle, sit, topic_name,
-    with_rows,
-};
+use super::world::{Scene, answer_to, asked, come, open, settle, sit, topic_name, with_rows};
 use delivery_machine::{Fault, Reply};
-use marks::Naming;
 use position_core::Position;
+use session_links::Request;
 use std::process::Abort;
 use std::rt::Clock;
 use std::sync::Wait;
@@ -22,13 +21,16 @@ fn expect_reply<R: Abort>(rt: &R, got: &Reply, want: &Reply) {
     }
 }
 
-fn check_delete<J: Naming, R: Abort + AllocGlobal + Wait>(
+fn check_delete<D: Broker, R: Abort + AllocGlobal + Wait>(
     rt: &R,
-    topics: &Topics<J>,
-    seat: &Seat<J>,
+    topics: &D,
+    seat: &D::Seat,
     want: Reply,
 ) {
-    let got = delete(rt, topics, seat).ok().expect(rt, "no answer");
+    let got = topics
+        .call(rt, seat, Request::DeleteTopic)
+        .ok()
+        .expect(rt, "no answer");
     expect_reply(rt, &got, &want);
     drop(got);
     drop(want);
@@ -43,9 +45,9 @@ fn expect_fault<R: Abort>(rt: &R, got: Option<Fault>, want: Option<Fault>) {
 }
 
 /// Whether the topic is known.
-fn check_known<J: Naming, R: Abort + AllocGlobal + Wait>(
+fn check_known<D: Broker, R: Abort + AllocGlobal + Wait>(
     rt: &R,
-    topics: &Topics<J>,
+    topics: &D,
     name: &str,
     want: Option<Fault>,
 ) {
@@ -58,11 +60,7 @@ fn check_known<J: Naming, R: Abort + AllocGlobal + Wait>(
     }
 }
 
-fn store_one<J: Naming, R: Abort + AllocGlobal + Wait + Clock>(
-    rt: &R,
-    topics: &Topics<J>,
-    name: &str,
-) {
+fn store_one<D: Broker, R: Abort + AllocGlobal + Wait + Clock>(rt: &R, topics: &D, name: &str) {
     let seat = sit(rt, topics, name);
     play(
         rt,
@@ -89,7 +87,7 @@ fn expect_position<R: Abort>(rt: &R, reply: &Reply) {
 }
 
 /// The first message of a topic that is as if it had never been.
-fn check_new<J: Naming, R: Abort + AllocGlobal + Wait>(rt: &R, topics: &Topics<J>) {
+fn check_new<D: Broker, R: Abort + AllocGlobal + Wait>(rt: &R, topics: &D) {
     let seat = sit(rt, topics, T);
     play(rt, topics, &seat, &["producer p -"]);
     let published = asked(rt, topics, &seat, "publish 1 0 - aGk= 1000");
@@ -102,8 +100,8 @@ fn check_new<J: Naming, R: Abort + AllocGlobal + Wait>(rt: &R, topics: &Topics<J
 struct Deleted;
 
 impl Scene for Deleted {
-    fn play<J: Naming, R: Abort + AllocGlobal + Wait + Clock>(&self, rt: &R, keeper: Rows<J>) {
-        let topics = open(rt, keeper, 3);
+    fn play<D: Broker, R: Abort + AllocGlobal + Wait + Clock>(&self, rt: &R, keeper: D::Rows) {
+        let topics: D = open(rt, keeper, 3);
         store_one(rt, &topics, OTHER);
         store_one(rt, &topics, T);
         let seat = sit(rt, &topics, T);
@@ -112,7 +110,11 @@ impl Scene for Deleted {
         check_delete(rt, &topics, &onlooker, busy());
         play(rt, &topics, &seat, &["publish 2 0 - aGk= 1000", "drop 2"]);
         check_delete(rt, &topics, &seat, Reply::Done);
-        expect_fault(rt, onlooker.refusal(rt), Some(Fault::NoSuchSubscription));
+        expect_fault(
+            rt,
+            topics.refusal(rt, &onlooker),
+            Some(Fault::NoSuchSubscription),
+        );
         let late = answer_to(rt, &topics, &onlooker, "progress");
         expect_fault(rt, late.err(), Some(Fault::NoSuchSubscription));
         check_known(rt, &topics, T, Some(Fault::NoSuchSubscription));
@@ -134,8 +136,8 @@ fn a_topic_that_was_deleted_is_as_if_it_had_never_been(rt: HostRuntime) {
 struct InUse;
 
 impl Scene for InUse {
-    fn play<J: Naming, R: Abort + AllocGlobal + Wait + Clock>(&self, rt: &R, keeper: Rows<J>) {
-        let topics = open(rt, keeper, 2);
+    fn play<D: Broker, R: Abort + AllocGlobal + Wait + Clock>(&self, rt: &R, keeper: D::Rows) {
+        let topics: D = open(rt, keeper, 2);
         let seat = sit(rt, &topics, T);
         play(rt, &topics, &seat, &BEFORE);
         settle(rt, &topics);

@@ -1,12 +1,10 @@
 // A topic whose journal is full leaves, and is loaded again.
+use super::broker::Broker;
+use super::chime::{Chime, bell};
 use super::letters::play;
-use super::world::{
-    Chime, Rows, Scene, Seat, Topics, answer_to, asked, bell, come, open_with, settle, sit,
-    topic_name, with_rows,
-};
+use super::world::{Scene, answer_to, asked, come, open_with, settle, sit, topic_name, with_rows};
 use crate::tests::base::short_terms;
 use delivery_machine::{Fault, Reply};
-use marks::Naming;
 use position_core::Position;
 use std::process::Abort;
 use std::rt::Clock;
@@ -28,10 +26,10 @@ fn expect_full<R: Abort>(rt: &R, answer: Result<Reply, Fault>) {
     assert_eq!(rt; answer.err(), Some(Fault::JournalFull));
 }
 
-fn check_full<J: Naming, R: Abort + AllocGlobal + Wait>(
+fn check_full<D: Broker, R: Abort + AllocGlobal + Wait>(
     rt: &R,
-    topics: &Topics<J>,
-    seat: &Seat<J>,
+    topics: &D,
+    seat: &D::Seat,
     line: &str,
 ) {
     expect_full(rt, answer_to(rt, topics, seat, line));
@@ -45,13 +43,13 @@ fn expect_fault<R: Abort>(rt: &R, got: Option<Fault>, want: Option<Fault>) {
     assert_eq!(rt; got, want);
 }
 
-fn check_entry<J: Naming, R: Abort + AllocGlobal + Wait>(rt: &R, topics: &Topics<J>, create: bool) {
+fn check_entry<D: Broker, R: Abort + AllocGlobal + Wait>(rt: &R, topics: &D, create: bool) {
     let refused = come(rt, topics, &topic_name(rt, T), create, bell(rt));
     expect_fault(rt, refused.err(), Some(Fault::JournalFull));
 }
 
 /// Nothing but the ends is answered any more.
-fn fill<J: Naming, R: Abort + AllocGlobal + Wait>(rt: &R, topics: &Topics<J>, seat: &Seat<J>) {
+fn fill<D: Broker, R: Abort + AllocGlobal + Wait>(rt: &R, topics: &D, seat: &D::Seat) {
     play(rt, topics, seat, &TAKEN);
     check_full(rt, topics, seat, "publish 1 3 - aGk= 1000");
     check_entry(rt, topics, true);
@@ -83,7 +81,7 @@ fn expect_progress<R: Abort>(rt: &R, reply: &Reply) {
 }
 
 /// Three messages are there, and the next one is the first of another ledger.
-fn check_loaded<J: Naming, R: Abort + AllocGlobal + Wait>(rt: &R, topics: &Topics<J>) {
+fn check_loaded<D: Broker, R: Abort + AllocGlobal + Wait>(rt: &R, topics: &D) {
     let seat = sit(rt, topics, T);
     let progress = asked(rt, topics, &seat, "progress");
     expect_progress(rt, &progress);
@@ -104,8 +102,8 @@ fn check_loaded<J: Naming, R: Abort + AllocGlobal + Wait>(rt: &R, topics: &Topic
 struct Full;
 
 impl Scene for Full {
-    fn play<J: Naming, R: Abort + AllocGlobal + Wait + Clock>(&self, rt: &R, keeper: Rows<J>) {
-        let topics = open_with(rt, keeper, short_terms(rt));
+    fn play<D: Broker, R: Abort + AllocGlobal + Wait + Clock>(&self, rt: &R, keeper: D::Rows) {
+        let topics: D = open_with(rt, keeper, short_terms(rt));
         let seat = sit(rt, &topics, T);
         let onlooker = bell(rt);
         let chime = Arc::try_clone(&onlooker).ok().expect(rt, "too many owners");
@@ -113,7 +111,7 @@ impl Scene for Full {
         let other = other.ok().expect(rt, "no seat");
         fill(rt, &topics, &seat);
         check_rung(rt, &chime);
-        expect_fault(rt, other.refusal(rt), Some(Fault::JournalFull));
+        expect_fault(rt, topics.refusal(rt, &other), Some(Fault::JournalFull));
         topics.detach(rt, seat);
         settle(rt, &topics);
         check_entry(rt, &topics, false);

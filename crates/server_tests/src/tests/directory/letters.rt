@@ -1,8 +1,7 @@
 // A death, and its move while others publish.
-use super::world::{Rows, Scene, Seat, Topics, asked, open, settle, sit, with_rows};
-use broker_dir::Errands;
+use super::broker::Broker;
+use super::world::{Scene, asked, open, settle, sit, with_rows};
 use delivery_machine::Reply;
-use marks::Naming;
 use std::process::Abort;
 use std::rt::Clock;
 use std::sync::Wait;
@@ -34,10 +33,10 @@ fn check_answered<R: Abort>(rt: &R, reply: &Reply, line: &str) {
     assert!(rt; !matches!(reply, Reply::Refused(_)), "{}", line);
 }
 
-pub(super) fn play<J: Naming, R: Abort + AllocGlobal + Wait>(
+pub(super) fn play<D: Broker, R: Abort + AllocGlobal + Wait>(
     rt: &R,
-    topics: &Topics<J>,
-    seat: &Seat<J>,
+    topics: &D,
+    seat: &D::Seat,
     lines: &[&str],
 ) {
     for line in lines {
@@ -63,7 +62,7 @@ fn copies_in(reply: &Reply) -> usize {
 }
 
 /// How many letters the dead-letter topic has, of which none is sent twice.
-fn letters<J: Naming, R: Abort + AllocGlobal + Wait>(rt: &R, topics: &Topics<J>) -> usize {
+fn letters<D: Broker, R: Abort + AllocGlobal + Wait>(rt: &R, topics: &D) -> usize {
     let seat = sit(rt, topics, GRAVE);
     for line in READING {
         drop(asked(rt, topics, &seat, line));
@@ -80,7 +79,7 @@ fn expect_one<R: Abort>(rt: &R, letters: usize) {
 }
 
 /// A message dies once it is stored, and its consumer goes.
-pub(super) fn die<J: Naming, R: Abort + AllocGlobal + Wait + Clock>(rt: &R, topics: &Topics<J>) {
+pub(super) fn die<D: Broker, R: Abort + AllocGlobal + Wait + Clock>(rt: &R, topics: &D) {
     let seat = sit(rt, topics, T);
     play(rt, topics, &seat, &BEFORE);
     settle(rt, topics);
@@ -89,7 +88,7 @@ pub(super) fn die<J: Naming, R: Abort + AllocGlobal + Wait + Clock>(rt: &R, topi
 }
 
 /// No letter is left, and the dead-letter topic has it.
-pub(super) fn check_letters<J: Naming, R: Abort + AllocGlobal + Wait>(rt: &R, topics: &Topics<J>) {
+pub(super) fn check_letters<D: Broker, R: Abort + AllocGlobal + Wait>(rt: &R, topics: &D) {
     let seat = sit(rt, topics, T);
     let left = asked(rt, topics, &seat, "deadnext s");
     assert!(rt; matches!(left, Reply::NoDead));
@@ -101,10 +100,10 @@ pub(super) fn check_letters<J: Naming, R: Abort + AllocGlobal + Wait>(rt: &R, to
 /// A broker at which others publish all the time, so that some topic always waits to be stored.
 struct UnderLoad;
 
-fn publish<J: Naming, R: Abort + AllocGlobal + Wait>(
+fn publish<D: Broker, R: Abort + AllocGlobal + Wait>(
     rt: &R,
-    topics: &Topics<J>,
-    seat: &Seat<J>,
+    topics: &D,
+    seat: &D::Seat,
     number: u32,
 ) {
     let line = format!(in rt.alloc(); "publish 1 {number} - aGk= 2000").expect(rt, "no memory");
@@ -112,14 +111,10 @@ fn publish<J: Naming, R: Abort + AllocGlobal + Wait>(
 }
 
 /// So many tasks of the thread and steps of its courier, before each of which another topic has one message more.
-fn do_under_load<J: Naming, R: Abort + AllocGlobal + Wait + Clock>(
-    rt: &R,
-    topics: &Topics<J>,
-    tasks: u32,
-) {
+fn do_under_load<D: Broker, R: Abort + AllocGlobal + Wait + Clock>(rt: &R, topics: &D, tasks: u32) {
     let seat = sit(rt, topics, OTHER);
     drop(asked(rt, topics, &seat, "producer q -"));
-    let mut errands = Errands::new(rt.alloc()).expect(rt, "no moment");
+    let mut errands = D::tasks(rt);
     for number in 0..tasks {
         publish(rt, topics, &seat, number);
         topics.keep_once(rt, &mut errands);
@@ -129,8 +124,8 @@ fn do_under_load<J: Naming, R: Abort + AllocGlobal + Wait + Clock>(
 }
 
 impl Scene for UnderLoad {
-    fn play<J: Naming, R: Abort + AllocGlobal + Wait + Clock>(&self, rt: &R, keeper: Rows<J>) {
-        let topics = open(rt, keeper, 8);
+    fn play<D: Broker, R: Abort + AllocGlobal + Wait + Clock>(&self, rt: &R, keeper: D::Rows) {
+        let topics: D = open(rt, keeper, 8);
         die(rt, &topics);
         do_under_load(rt, &topics, 20);
         check_letters(rt, &topics);

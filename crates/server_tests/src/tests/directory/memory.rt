@@ -1,15 +1,12 @@
 // Nobody sleeps for want of memory. Run with each allocation refused in turn (bench/memory), this shows that a message is
 // stored and a letter is moved although nobody asks for anything meanwhile; only what comes before and after ends the run.
+use super::broker::Broker;
+use super::chime::{Chime, bell};
 use super::letters::{BEFORE, DEATH, GRAVE, T};
-use super::world::{
-    Chime, Rows, Scene, Seat, Tasks, Topics, asked, bell, come, event_in, open, sit, topic_name,
-    with_rows,
-};
-use broker_dir::{Errands, Open};
+use super::world::{Scene, asked, come, event_in, open, sit, topic_name, with_rows};
 use delivery_machine::{Fault, Reply};
-use marks::Naming;
 use session_bells::Rest;
-use session_links::{Caller, Request};
+use session_links::Request;
 use std::process::Abort;
 use std::rt::Clock;
 use std::sync::{Arc, Wait};
@@ -18,10 +15,10 @@ use std::thread;
 use std::time::Duration;
 
 /// What the topic answers. A refusal for want of memory ends the run.
-fn must<J: Naming, R: Abort + AllocGlobal + Wait>(
+fn must<D: Broker, R: Abort + AllocGlobal + Wait>(
     rt: &R,
-    topics: &Topics<J>,
-    seat: &Seat<J>,
+    topics: &D,
+    seat: &D::Seat,
     line: &str,
 ) -> Reply {
     let reply = asked(rt, topics, seat, line);
@@ -33,10 +30,10 @@ fn must<J: Naming, R: Abort + AllocGlobal + Wait>(
     reply
 }
 
-fn must_all<J: Naming, R: Abort + AllocGlobal + Wait>(
+fn must_all<D: Broker, R: Abort + AllocGlobal + Wait>(
     rt: &R,
-    topics: &Topics<J>,
-    seat: &Seat<J>,
+    topics: &D,
+    seat: &D::Seat,
     lines: &[&str],
 ) {
     for line in lines {
@@ -45,18 +42,18 @@ fn must_all<J: Naming, R: Abort + AllocGlobal + Wait>(
 }
 
 /// A seat, and its bell.
-fn sit_with<J: Naming, R: Abort + AllocGlobal + Wait>(
+fn sit_with<D: Broker, R: Abort + AllocGlobal + Wait>(
     rt: &R,
-    topics: &Topics<J>,
+    topics: &D,
     chime: &Arc<Chime>,
-) -> Seat<J> {
+) -> D::Seat {
     let chime = Arc::try_clone(chime).expect(rt, "no memory");
     let attached = come(rt, topics, &topic_name(rt, T), true, chime);
     attached.ok().expect(rt, "no memory for a seat")
 }
 
 /// The thread's tasks until it has none now.
-fn do_all<J: Naming, R: Wait + Clock>(rt: &R, topics: &Topics<J>, errands: &mut Tasks<J>) {
+fn do_all<D: Broker, R: Wait + Clock>(rt: &R, topics: &D, errands: &mut D::Tasks) {
     for _ in 0..100 {
         if !topics.keep_once(rt, errands) {
             return;
@@ -65,10 +62,10 @@ fn do_all<J: Naming, R: Wait + Clock>(rt: &R, topics: &Topics<J>, errands: &mut 
 }
 
 /// Whether the bell rings within a second, in which nobody asks for anything.
-fn rings<J: Naming, R: Wait + Clock>(
+fn rings<D: Broker, R: Wait + Clock>(
     rt: &R,
-    topics: &Topics<J>,
-    errands: &mut Tasks<J>,
+    topics: &D,
+    errands: &mut D::Tasks,
     chime: &Chime,
 ) -> bool {
     for _ in 0..50 {
@@ -82,24 +79,23 @@ fn rings<J: Naming, R: Wait + Clock>(
 }
 
 /// Whether no letter is left. A look may be what memory is refused for; another comes.
-fn has_moved<J: Naming, R: AllocGlobal + Wait>(rt: &R, topics: &Topics<J>, seat: &Seat<J>) -> bool {
-    let Some(event) = event_in(rt, seat.topic(), "stats s") else {
+fn has_moved<D: Broker, R: AllocGlobal + Wait>(rt: &R, topics: &D, seat: &D::Seat) -> bool {
+    let Some(event) = event_in(rt, topics.topic_of(seat), "stats s") else {
         return false;
     };
-    let mut caller = topics.caller(rt, seat, &Open);
     matches!(
-        caller.call(Request::Event(event)),
+        topics.call(rt, seat, Request::Event(event)),
         Ok(Reply::Stats { dead: 0, .. })
     )
 }
 
 /// Whether the letter is moved, or the store has failed, within a second, in which nobody asks for anything that changes a
 /// topic.
-fn moves<J: Naming, R: AllocGlobal + Wait + Clock>(
+fn moves<D: Broker, R: AllocGlobal + Wait + Clock>(
     rt: &R,
-    topics: &Topics<J>,
-    errands: &mut Tasks<J>,
-    seat: &Seat<J>,
+    topics: &D,
+    errands: &mut D::Tasks,
+    seat: &D::Seat,
 ) -> bool {
     for _ in 0..50 {
         do_all(rt, topics, errands);
@@ -112,15 +108,15 @@ fn moves<J: Naming, R: AllocGlobal + Wait + Clock>(
 }
 
 /// A store that was refused memory in the midst of a statement has failed, of which all are told (F16): that ends the run.
-fn check_open<J: Naming, R: Abort>(rt: &R, topics: &Topics<J>) {
+fn check_open<D: Broker, R: Abort>(rt: &R, topics: &D) {
     assert!(rt; !topics.is_closed(), "no memory for the store");
 }
 
 /// The message is stored, and its publisher is rung.
-fn check_stored<J: Naming, R: Abort + Wait + Clock>(
+fn check_stored<D: Broker, R: Abort + Wait + Clock>(
     rt: &R,
-    topics: &Topics<J>,
-    errands: &mut Tasks<J>,
+    topics: &D,
+    errands: &mut D::Tasks,
     chime: &Chime,
 ) {
     let is_rung = rings(rt, topics, errands, chime);
@@ -129,11 +125,11 @@ fn check_stored<J: Naming, R: Abort + Wait + Clock>(
 }
 
 /// The letter is moved.
-fn check_moved<J: Naming, R: Abort + AllocGlobal + Wait + Clock>(
+fn check_moved<D: Broker, R: Abort + AllocGlobal + Wait + Clock>(
     rt: &R,
-    topics: &Topics<J>,
-    errands: &mut Tasks<J>,
-    seat: &Seat<J>,
+    topics: &D,
+    errands: &mut D::Tasks,
+    seat: &D::Seat,
 ) {
     let is_moved = moves(rt, topics, errands, seat);
     check_open(rt, topics);
@@ -141,7 +137,7 @@ fn check_moved<J: Naming, R: Abort + AllocGlobal + Wait + Clock>(
 }
 
 /// The dead-letter topic has the letter, once.
-fn check_letter<J: Naming, R: Abort + AllocGlobal + Wait>(rt: &R, topics: &Topics<J>) {
+fn check_letter<D: Broker, R: Abort + AllocGlobal + Wait>(rt: &R, topics: &D) {
     let seat = sit(rt, topics, GRAVE);
     let lines = [
         "subscribe g Shared 0 push:10 0 0 0 - Earliest",
@@ -159,8 +155,8 @@ fn check_letter<J: Naming, R: Abort + AllocGlobal + Wait>(rt: &R, topics: &Topic
 struct Wanting;
 
 impl Scene for Wanting {
-    fn play<J: Naming, R: Abort + AllocGlobal + Wait + Clock>(&self, rt: &R, keeper: Rows<J>) {
-        let topics = open(rt, keeper, 8);
+    fn play<D: Broker, R: Abort + AllocGlobal + Wait + Clock>(&self, rt: &R, keeper: D::Rows) {
+        let topics: D = open(rt, keeper, 8);
         let chime = bell(rt);
         let seat = sit_with(rt, &topics, &chime);
         must_all(rt, &topics, &seat, &BEFORE);
@@ -169,7 +165,7 @@ impl Scene for Wanting {
             messages: false,
         };
         assert!(rt; topics.rest(rt, &seat, rest));
-        let mut errands = Errands::new(rt.alloc()).expect(rt, "no moment");
+        let mut errands = D::tasks(rt);
         check_stored(rt, &topics, &mut errands, &chime);
         must_all(rt, &topics, &seat, &DEATH);
         check_moved(rt, &topics, &mut errands, &seat);

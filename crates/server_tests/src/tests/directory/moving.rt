@@ -1,9 +1,9 @@
 // Letters that move into a topic that trims: a copy that has gone again comes no second time.
+use super::broker::Broker;
 use super::letters::{GRAVE, T, die, play};
-use super::stops::{adopted, do_steps, number};
+use super::stops::{do_steps, number};
 use super::trimming::{check_gone, expect_number, last, publish};
-use super::world::{Rows, Scene, Topics, open_keeping, settle, sit, with_rows};
-use marks::Naming;
+use super::world::{Scene, open_keeping, settle, sit, with_rows};
 use std::process::Abort;
 use std::rt::Clock;
 use std::sync::Wait;
@@ -23,13 +23,13 @@ struct Gone<'a> {
 }
 
 /// A broker by the same rule that is started again.
-fn again<J: Naming, R: Abort + AllocGlobal>(rt: &R, topics: Topics<J>) -> Topics<J> {
-    let (conn, notes) = topics.into_keeper().into_parts();
-    open_keeping(rt, adopted(rt, conn, notes), last(rt, 0))
+fn again<D: Broker, R: Abort + AllocGlobal>(rt: &R, topics: D) -> D {
+    let (keeper, _) = topics.stop(rt);
+    open_keeping(rt, keeper, last(rt, 0))
 }
 
 /// The dead-letter topic gets others, and a subscription that has done with all that is there, so that the first go.
-fn trim_grave<J: Naming, R: Abort + AllocGlobal + Wait + Clock>(rt: &R, topics: &Topics<J>) {
+fn trim_grave<D: Broker, R: Abort + AllocGlobal + Wait + Clock>(rt: &R, topics: &D) {
     let seat = sit(rt, topics, GRAVE);
     play(rt, topics, &seat, &["producer w -"]);
     publish(rt, topics, &seat, 0, OTHERS, 2000);
@@ -45,17 +45,17 @@ fn trim_grave<J: Naming, R: Abort + AllocGlobal + Wait + Clock>(rt: &R, topics: 
     topics.detach(rt, seat);
 }
 
-fn copies<J: Naming, R: Abort + AllocGlobal + Wait>(rt: &R, topics: &Topics<J>) -> u64 {
+fn copies<D: Broker, R: Abort + AllocGlobal + Wait>(rt: &R, topics: &D) -> u64 {
     number(rt, topics, GRAVE, "progress")
 }
 
-fn letters<J: Naming, R: Abort + AllocGlobal + Wait>(rt: &R, topics: &Topics<J>) -> u64 {
+fn letters<D: Broker, R: Abort + AllocGlobal + Wait>(rt: &R, topics: &D) -> u64 {
     number(rt, topics, T, "stats s")
 }
 
 impl<'a> Scene for Gone<'a> {
-    fn play<J: Naming, R: Abort + AllocGlobal + Wait + Clock>(&self, rt: &R, keeper: Rows<J>) {
-        let topics = open_keeping(rt, keeper, last(rt, 0));
+    fn play<D: Broker, R: Abort + AllocGlobal + Wait + Clock>(&self, rt: &R, keeper: D::Rows) {
+        let topics: D = open_keeping(rt, keeper, last(rt, 0));
         die(rt, &topics);
         do_steps(rt, &topics, self.steps);
         let topics = again(rt, topics);

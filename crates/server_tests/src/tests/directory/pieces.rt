@@ -1,12 +1,11 @@
 // A topic of many messages is opened piece by piece: who wants it waits, and all others are served.
+use super::broker::{Broker, Came};
+use super::chime::{Chime, bell};
 use super::letters::play;
 use super::stops::again;
-use super::world::{
-    Chime, Rows, Scene, Seat, Tasks, Topics, asked, bell, open, settle, sit, topic_name, with_rows,
-};
-use broker_dir::{Coming, Errands, Outcome, Waiter};
+use super::world::{Scene, asked, open, settle, sit, topic_name, with_rows};
+use broker_dir::{Outcome, Waiter};
 use delivery_machine::{Fault, Reply};
-use marks::Naming;
 use std::process::Abort;
 use std::rt::Clock;
 use std::sync::{Arc, Wait};
@@ -19,10 +18,10 @@ const U: &str = "persistent://public/default/u";
 /// More messages than are read at a time.
 const LENGTH: u64 = 400;
 
-fn publish<J: Naming, R: Abort + AllocGlobal + Wait + Clock>(
+fn publish<D: Broker, R: Abort + AllocGlobal + Wait + Clock>(
     rt: &R,
-    topics: &Topics<J>,
-    seat: &Seat<J>,
+    topics: &D,
+    seat: &D::Seat,
     number: u64,
 ) {
     let line = format!(in rt.alloc(); "publish 1 {number} - aGk= 1000");
@@ -31,11 +30,8 @@ fn publish<J: Naming, R: Abort + AllocGlobal + Wait + Clock>(
 }
 
 /// A broker that was started again, with so many messages in the rows of a topic that is not open.
-fn with_many<J: Naming, R: Abort + AllocGlobal + Wait + Clock>(
-    rt: &R,
-    keeper: Rows<J>,
-) -> Topics<J> {
-    let topics = open(rt, keeper, 8);
+fn with_many<D: Broker, R: Abort + AllocGlobal + Wait + Clock>(rt: &R, keeper: D::Rows) -> D {
+    let topics: D = open(rt, keeper, 8);
     let seat = sit(rt, &topics, T);
     play(rt, &topics, &seat, &["producer p -"]);
     for number in 0..LENGTH {
@@ -47,15 +43,15 @@ fn with_many<J: Naming, R: Abort + AllocGlobal + Wait + Clock>(
 }
 
 /// Comes to the topic, which is not open.
-fn wait_for<J: Naming, R: Abort + AllocGlobal + Wait>(
+fn wait_for<D: Broker, R: Abort + AllocGlobal + Wait>(
     rt: &R,
-    topics: &Topics<J>,
+    topics: &D,
     chime: &Arc<Chime>,
 ) -> Waiter<Chime> {
     let chime = Arc::try_clone(chime).expect(rt, "no memory");
     match topics.attach(rt, &topic_name(rt, T), false, chime) {
-        Ok(Coming::Waits(waiter)) => waiter,
-        Ok(Coming::Seated(_)) => panic!(rt; "a seat, and nothing was read"),
+        Ok(Came::Waits(waiter)) => waiter,
+        Ok(Came::Seated(_)) => panic!(rt; "a seat, and nothing was read"),
         Err(_) => panic!(rt; "refused"),
     }
 }
@@ -88,10 +84,10 @@ fn expect_progress<R: Abort>(rt: &R, reply: &Reply, want: u64) {
 }
 
 /// So many messages are there, and all are stored.
-fn check_length<J: Naming, R: Abort + AllocGlobal + Wait>(
+fn check_length<D: Broker, R: Abort + AllocGlobal + Wait>(
     rt: &R,
-    topics: &Topics<J>,
-    seat: &Seat<J>,
+    topics: &D,
+    seat: &D::Seat,
     want: u64,
 ) {
     let reply = asked(rt, topics, seat, "progress");
@@ -100,16 +96,16 @@ fn check_length<J: Naming, R: Abort + AllocGlobal + Wait>(
 }
 
 /// One task of the storing thread.
-fn do_one<J: Naming, R: Abort + Wait + Clock>(rt: &R, topics: &Topics<J>, tasks: &mut Tasks<J>) {
+fn do_one<D: Broker, R: Abort + Wait + Clock>(rt: &R, topics: &D, tasks: &mut D::Tasks) {
     let did = topics.keep_once(rt, tasks);
     assert!(rt; did);
 }
 
 /// Between two pieces of the one topic another is made, and a message of it is stored.
-fn publish_between<J: Naming, R: Abort + AllocGlobal + Wait + Clock>(
+fn publish_between<D: Broker, R: Abort + AllocGlobal + Wait + Clock>(
     rt: &R,
-    topics: &Topics<J>,
-    tasks: &mut Tasks<J>,
+    topics: &D,
+    tasks: &mut D::Tasks,
 ) {
     do_one(rt, topics, tasks);
     let seat = sit(rt, topics, U);
@@ -128,13 +124,13 @@ fn publish_between<J: Naming, R: Abort + AllocGlobal + Wait + Clock>(
 struct Long;
 
 impl Scene for Long {
-    fn play<J: Naming, R: Abort + AllocGlobal + Wait + Clock>(&self, rt: &R, keeper: Rows<J>) {
-        let topics = with_many(rt, keeper);
+    fn play<D: Broker, R: Abort + AllocGlobal + Wait + Clock>(&self, rt: &R, keeper: D::Rows) {
+        let topics: D = with_many(rt, keeper);
         let (first, second, third) = (bell(rt), bell(rt), bell(rt));
         let one = wait_for(rt, &topics, &first);
         let other = wait_for(rt, &topics, &second);
         let gone = wait_for(rt, &topics, &third);
-        let mut tasks = Errands::new(rt.alloc()).expect(rt, "no moment");
+        let mut tasks = D::tasks(rt);
         publish_between(rt, &topics, &mut tasks);
         check_waiter(rt, &one, &first, None);
         gone.leave(rt);
@@ -160,12 +156,12 @@ fn who_wants_a_topic_of_many_messages_waits_and_others_are_served(rt: HostRuntim
 struct Closing;
 
 impl Scene for Closing {
-    fn play<J: Naming, R: Abort + AllocGlobal + Wait + Clock>(&self, rt: &R, keeper: Rows<J>) {
-        let topics = with_many(rt, keeper);
+    fn play<D: Broker, R: Abort + AllocGlobal + Wait + Clock>(&self, rt: &R, keeper: D::Rows) {
+        let topics: D = with_many(rt, keeper);
         let chime = bell(rt);
         let waiter = wait_for(rt, &topics, &chime);
         check_waiter(rt, &waiter, &chime, None);
-        let _ = topics.close(rt);
+        topics.close(rt);
         check_waiter(
             rt,
             &waiter,

@@ -1,9 +1,8 @@
 // Letters whose topic refuses them: they are tried again by time, and by nothing else.
+use super::broker::Broker;
 use super::letters::{GRAVE, T, check_letters, die, play};
-use super::world::{Rows, Scene, Seat, Tasks, Topics, asked, open, sit, with_rows};
-use broker_dir::Errands;
+use super::world::{Scene, asked, open, sit, with_rows};
 use delivery_machine::Reply;
-use marks::Naming;
 use std::process::Abort;
 use std::rt::Clock;
 use std::sync::Wait;
@@ -15,7 +14,7 @@ use std::time::Duration;
 const COURIER: &str = "producer dlq/public/default/t/s -";
 
 /// The thread's tasks and its courier's steps until there are none: how many there were.
-fn do_all<J: Naming, R: Wait + Clock>(rt: &R, topics: &Topics<J>, errands: &mut Tasks<J>) -> u32 {
+fn do_all<D: Broker, R: Wait + Clock>(rt: &R, topics: &D, errands: &mut D::Tasks) -> u32 {
     for count in 0..100 {
         if !topics.keep_once(rt, errands) {
             return count;
@@ -25,10 +24,10 @@ fn do_all<J: Naming, R: Wait + Clock>(rt: &R, topics: &Topics<J>, errands: &mut 
 }
 
 /// So many messages are published at the source, each of which is stored: how many tasks and steps there were.
-fn store_often<J: Naming, R: Abort + AllocGlobal + Wait + Clock>(
+fn store_often<D: Broker, R: Abort + AllocGlobal + Wait + Clock>(
     rt: &R,
-    topics: &Topics<J>,
-    errands: &mut Tasks<J>,
+    topics: &D,
+    errands: &mut D::Tasks,
     times: u32,
 ) -> u32 {
     let seat = sit(rt, topics, T);
@@ -44,7 +43,7 @@ fn store_often<J: Naming, R: Abort + AllocGlobal + Wait + Clock>(
 }
 
 /// Whether no letter is left at the source.
-fn has_moved<J: Naming, R: Abort + AllocGlobal + Wait>(rt: &R, topics: &Topics<J>) -> bool {
+fn has_moved<D: Broker, R: Abort + AllocGlobal + Wait>(rt: &R, topics: &D) -> bool {
     let seat = sit(rt, topics, T);
     let left = asked(rt, topics, &seat, "deadnext s");
     let is_none = matches!(left, Reply::NoDead);
@@ -54,10 +53,10 @@ fn has_moved<J: Naming, R: Abort + AllocGlobal + Wait>(rt: &R, topics: &Topics<J
 }
 
 /// A second at most, in which nobody asks for anything that changes a topic: whether the letter is moved in it.
-fn moves_in_time<J: Naming, R: Abort + AllocGlobal + Wait + Clock>(
+fn moves_in_time<D: Broker, R: Abort + AllocGlobal + Wait + Clock>(
     rt: &R,
-    topics: &Topics<J>,
-    errands: &mut Tasks<J>,
+    topics: &D,
+    errands: &mut D::Tasks,
 ) -> bool {
     for _ in 0..50 {
         do_all(rt, topics, errands);
@@ -70,10 +69,10 @@ fn moves_in_time<J: Naming, R: Abort + AllocGlobal + Wait + Clock>(
 }
 
 /// The letter stays while it is refused, and is not tried at each store.
-fn check_stays<J: Naming, R: Abort + AllocGlobal + Wait + Clock>(
+fn check_stays<D: Broker, R: Abort + AllocGlobal + Wait + Clock>(
     rt: &R,
-    topics: &Topics<J>,
-    errands: &mut Tasks<J>,
+    topics: &D,
+    errands: &mut D::Tasks,
 ) {
     do_all(rt, topics, errands);
     let tasks = store_often(rt, topics, errands, 20);
@@ -82,10 +81,10 @@ fn check_stays<J: Naming, R: Abort + AllocGlobal + Wait + Clock>(
 }
 
 /// It moves once it is not refused any more, and the courier leaves no producer behind.
-fn check_moves<J: Naming, R: Abort + AllocGlobal + Wait + Clock>(
+fn check_moves<D: Broker, R: Abort + AllocGlobal + Wait + Clock>(
     rt: &R,
-    topics: &Topics<J>,
-    errands: &mut Tasks<J>,
+    topics: &D,
+    errands: &mut D::Tasks,
 ) {
     assert!(rt; moves_in_time(rt, topics, errands), "the letter lies");
     check_letters(rt, topics);
@@ -98,11 +97,11 @@ fn check_moves<J: Naming, R: Abort + AllocGlobal + Wait + Clock>(
 struct Full;
 
 impl Scene for Full {
-    fn play<J: Naming, R: Abort + AllocGlobal + Wait + Clock>(&self, rt: &R, keeper: Rows<J>) {
-        let topics = open(rt, keeper, 2);
+    fn play<D: Broker, R: Abort + AllocGlobal + Wait + Clock>(&self, rt: &R, keeper: D::Rows) {
+        let topics: D = open(rt, keeper, 2);
         let (one, other) = (sit(rt, &topics, GRAVE), sit(rt, &topics, GRAVE));
         die(rt, &topics);
-        let mut errands = Errands::new(rt.alloc()).expect(rt, "no moment");
+        let mut errands = D::tasks(rt);
         check_stays(rt, &topics, &mut errands);
         topics.detach(rt, one);
         topics.detach(rt, other);
@@ -120,18 +119,18 @@ fn a_letter_for_a_full_topic_is_tried_again(rt: HostRuntime) {
 /// Somebody else is at the dead-letter topic by the courier's name.
 struct Taken;
 
-fn give_up<J: Naming, R: Abort + AllocGlobal + Wait>(rt: &R, topics: &Topics<J>, seat: Seat<J>) {
+fn give_up<D: Broker, R: Abort + AllocGlobal + Wait>(rt: &R, topics: &D, seat: D::Seat) {
     play(rt, topics, &seat, &["drop 1"]);
     topics.detach(rt, seat);
 }
 
 impl Scene for Taken {
-    fn play<J: Naming, R: Abort + AllocGlobal + Wait + Clock>(&self, rt: &R, keeper: Rows<J>) {
-        let topics = open(rt, keeper, 8);
+    fn play<D: Broker, R: Abort + AllocGlobal + Wait + Clock>(&self, rt: &R, keeper: D::Rows) {
+        let topics: D = open(rt, keeper, 8);
         let seat = sit(rt, &topics, GRAVE);
         play(rt, &topics, &seat, &[COURIER]);
         die(rt, &topics);
-        let mut errands = Errands::new(rt.alloc()).expect(rt, "no moment");
+        let mut errands = D::tasks(rt);
         check_stays(rt, &topics, &mut errands);
         give_up(rt, &topics, seat);
         check_moves(rt, &topics, &mut errands);

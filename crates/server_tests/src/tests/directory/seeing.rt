@@ -1,18 +1,18 @@
 // What is seen of topics: the numbers of each, who sits there, and that a look brings none into memory.
+use super::broker::Broker;
 use super::letters::{T, play};
 use super::trimming::publish;
-use super::world::{Rows, Scene, Topics, asked, open, open_with, settle, sit, with_rows};
+use super::world::{Scene, asked, open, open_with, settle, sit, with_rows};
 use crate::tests::base::long_terms;
 use broker_dir::Visitor;
 use delivery_machine::Moment;
-use marks::Naming;
 use status_pages::{BrokerSeen, Holds, ProgramSeen, Role, SubscriptionSeen, TopicSeen};
 use std::process::Abort;
 use std::rt::Clock;
 use std::sync::Wait;
 use std::test::*;
 
-fn seen_of<J: Naming, R: Abort + AllocGlobal + Wait>(rt: &R, topics: &Topics<J>) -> BrokerSeen {
+fn seen_of<D: Broker, R: Abort + AllocGlobal + Wait>(rt: &R, topics: &D) -> BrokerSeen {
     let program = ProgramSeen {
         version: "0",
         started: 0,
@@ -60,7 +60,7 @@ fn check_subscription<R: Abort>(rt: &R, sub: &SubscriptionSeen) {
 }
 
 /// The topic with its one subscription.
-fn check_seen<J: Naming, R: Abort + AllocGlobal + Wait>(rt: &R, topics: &Topics<J>) {
+fn check_seen<D: Broker, R: Abort + AllocGlobal + Wait>(rt: &R, topics: &D) {
     let seen = seen_of(rt, topics);
     let topic = seen.topics.first().expect(rt, "no topic");
     check_topic(rt, topic);
@@ -73,7 +73,7 @@ fn expect_number<R: Abort>(rt: &R, got: u64, want: u64) {
     assert_eq!(rt; got, want);
 }
 
-fn check_sessions<J: Naming, R: Abort + AllocGlobal + Wait>(rt: &R, topics: &Topics<J>, want: u64) {
+fn check_sessions<D: Broker, R: Abort + AllocGlobal + Wait>(rt: &R, topics: &D, want: u64) {
     let seen = seen_of(rt, topics);
     expect_number(rt, seen.sessions(), want);
     drop(seen);
@@ -84,11 +84,7 @@ fn expect_holds<R: Abort>(rt: &R, got: Option<Holds>, want: Option<Holds>) {
 }
 
 /// What the one session at the one topic has as a consumer.
-fn check_holds<J: Naming, R: Abort + AllocGlobal + Wait>(
-    rt: &R,
-    topics: &Topics<J>,
-    want: Option<Holds>,
-) {
+fn check_holds<D: Broker, R: Abort + AllocGlobal + Wait>(rt: &R, topics: &D, want: Option<Holds>) {
     let seen = seen_of(rt, topics);
     let topic = seen.topics.first().expect(rt, "no topic");
     let session = topic.sessions.first().expect(rt, "no session");
@@ -101,8 +97,8 @@ fn check_holds<J: Naming, R: Abort + AllocGlobal + Wait>(
 struct Seen;
 
 impl Scene for Seen {
-    fn play<J: Naming, R: Abort + AllocGlobal + Wait + Clock>(&self, rt: &R, keeper: Rows<J>) {
-        let topics = open(rt, keeper, 8);
+    fn play<D: Broker, R: Abort + AllocGlobal + Wait + Clock>(&self, rt: &R, keeper: D::Rows) {
+        let topics: D = open(rt, keeper, 8);
         let seat = sit(rt, &topics, T);
         play(rt, &topics, &seat, &BEGUN);
         publish(rt, &topics, &seat, 0, 6, 2000);
@@ -152,15 +148,15 @@ const LOOKS: u32 = 5_000;
 #[derive(Clone, Copy)]
 struct Often;
 
-fn look_often<J: Naming, R: Abort + AllocGlobal + Wait>(rt: &R, topics: &Topics<J>) {
+fn look_often<D: Broker, R: Abort + AllocGlobal + Wait>(rt: &R, topics: &D) {
     for _ in 0..LOOKS {
         drop(seen_of(rt, topics));
     }
 }
 
 impl Scene for Often {
-    fn play<J: Naming, R: Abort + AllocGlobal + Wait + Clock>(&self, rt: &R, keeper: Rows<J>) {
-        let topics = open_with(rt, keeper, long_terms(rt));
+    fn play<D: Broker, R: Abort + AllocGlobal + Wait + Clock>(&self, rt: &R, keeper: D::Rows) {
+        let topics: D = open_with(rt, keeper, long_terms(rt));
         let seat = sit(rt, &topics, T);
         play(rt, &topics, &seat, &BEGUN);
         look_often(rt, &topics);
@@ -178,7 +174,7 @@ fn a_topic_is_looked_at_often(rt: HostRuntime) {
 const MOST: u32 = 256;
 
 /// The topic of the number has a message, and nobody sits there.
-fn visit<J: Naming, R: Abort + AllocGlobal + Wait>(rt: &R, topics: &Topics<J>, number: u32) {
+fn visit<D: Broker, R: Abort + AllocGlobal + Wait>(rt: &R, topics: &D, number: u32) {
     let name = format!(in rt.alloc(); "persistent://public/default/t{number}");
     let seat = sit(rt, topics, name.expect(rt, "no memory").as_str());
     play(
@@ -190,7 +186,7 @@ fn visit<J: Naming, R: Abort + AllocGlobal + Wait>(rt: &R, topics: &Topics<J>, n
     topics.detach(rt, seat);
 }
 
-fn visit_all<J: Naming, R: Abort + AllocGlobal + Wait + Clock>(rt: &R, topics: &Topics<J>) {
+fn visit_all<D: Broker, R: Abort + AllocGlobal + Wait + Clock>(rt: &R, topics: &D) {
     for number in 0..MOST {
         visit(rt, topics, number);
     }
@@ -214,8 +210,8 @@ fn is_there(seen: &BrokerSeen, name: &str) -> bool {
 struct Left;
 
 impl Scene for Left {
-    fn play<J: Naming, R: Abort + AllocGlobal + Wait + Clock>(&self, rt: &R, keeper: Rows<J>) {
-        let topics = open(rt, keeper, 1);
+    fn play<D: Broker, R: Abort + AllocGlobal + Wait + Clock>(&self, rt: &R, keeper: D::Rows) {
+        let topics: D = open(rt, keeper, 1);
         visit_all(rt, &topics);
         for _ in 0..2 {
             let seen = seen_of(rt, &topics);

@@ -1,19 +1,14 @@
 // A broker that is stopped after each single step of its couriers, and started again from what is stored.
+use super::broker::Broker;
 use super::letters::{GRAVE, T, play};
-use super::world::{Rows, Scene, Topics, asked, open, settle, sit, with_rows};
-use crate::tests::base::read_again;
-use broker_dir::Errands;
+use super::world::{Scene, asked, open, settle, sit, with_rows};
 use delivery_machine::{Delivery, Reply};
-use marks::Naming;
 use position_core::Entry;
-use row_store::Keeper;
-use sqlite::{Connection, MemStore};
 use std::process::Abort;
 use std::rt::Clock;
 use std::sync::Wait;
 use std::sync::atomic::{AtomicU64, Ordering};
 use std::test::*;
-use stored_cell::Notes;
 
 /// A letter as it stands in its dead-letter topic: its courier, its ordinal, its payload.
 type Moved = (&'static str, i64, &'static [u8]);
@@ -94,7 +89,7 @@ const FOUR: Deaths = Deaths {
     ],
 };
 
-fn play_at<J: Naming, R: Abort + AllocGlobal + Wait>(rt: &R, topics: &Topics<J>, lines: &[&str]) {
+fn play_at<D: Broker, R: Abort + AllocGlobal + Wait>(rt: &R, topics: &D, lines: &[&str]) {
     let seat = sit(rt, topics, T);
     play(rt, topics, &seat, lines);
     topics.detach(rt, seat);
@@ -109,9 +104,9 @@ fn number_in(reply: &Reply) -> u64 {
 }
 
 /// The number that the topic answers to the line.
-pub(super) fn number<J: Naming, R: Abort + AllocGlobal + Wait>(
+pub(super) fn number<D: Broker, R: Abort + AllocGlobal + Wait>(
     rt: &R,
-    topics: &Topics<J>,
+    topics: &D,
     name: &str,
     line: &str,
 ) -> u64 {
@@ -132,7 +127,7 @@ fn is_moved(entry: &Entry, moved: &Moved) -> bool {
 
 impl Deaths {
     /// All die once they are stored.
-    fn die<J: Naming, R: Abort + AllocGlobal + Wait + Clock>(&self, rt: &R, topics: &Topics<J>) {
+    fn die<D: Broker, R: Abort + AllocGlobal + Wait + Clock>(&self, rt: &R, topics: &D) {
         play_at(rt, topics, self.publishes);
         settle(rt, topics);
         for lines in self.consumers {
@@ -141,7 +136,7 @@ impl Deaths {
     }
 
     /// How many letters lie in their topic.
-    fn left<J: Naming, R: Abort + AllocGlobal + Wait>(&self, rt: &R, topics: &Topics<J>) -> u64 {
+    fn left<D: Broker, R: Abort + AllocGlobal + Wait>(&self, rt: &R, topics: &D) -> u64 {
         let mut left: u64 = 0;
         for subscription in self.subscriptions {
             let line = format!(in rt.alloc(); "stats {subscription}").expect(rt, "no memory");
@@ -151,11 +146,7 @@ impl Deaths {
     }
 
     /// Whether a letter lies still of which there is a copy.
-    fn is_between<J: Naming, R: Abort + AllocGlobal + Wait>(
-        &self,
-        rt: &R,
-        topics: &Topics<J>,
-    ) -> bool {
+    fn is_between<D: Broker, R: Abort + AllocGlobal + Wait>(&self, rt: &R, topics: &D) -> bool {
         let copies = number(rt, topics, self.grave, "progress");
         copies.saturating_add(self.left(rt, topics)) > self.moved.len() as u64
     }
@@ -184,7 +175,7 @@ impl Deaths {
     }
 
     /// The dead-letter topic has each letter once, those of one subscription in the order of dying, and nothing else.
-    fn check_copies<J: Naming, R: Abort + AllocGlobal + Wait>(&self, rt: &R, topics: &Topics<J>) {
+    fn check_copies<D: Broker, R: Abort + AllocGlobal + Wait>(&self, rt: &R, topics: &D) {
         let seat = sit(rt, topics, self.grave);
         play(
             rt,
@@ -202,10 +193,10 @@ impl Deaths {
     }
 
     /// Once all couriers have gone as far as they can, no letter is left, and each is where it belongs; or nothing has died.
-    fn check<J: Naming, R: Abort + AllocGlobal + Wait + Clock>(
+    fn check<D: Broker, R: Abort + AllocGlobal + Wait + Clock>(
         &self,
         rt: &R,
-        topics: &Topics<J>,
+        topics: &D,
         has_died: bool,
     ) {
         settle(rt, topics);
@@ -230,41 +221,27 @@ struct Stops<'a> {
     between: &'a AtomicU64,
 }
 
-pub(super) fn do_steps<J: Naming, R: Abort + AllocGlobal + Wait + Clock>(
+pub(super) fn do_steps<D: Broker, R: Abort + AllocGlobal + Wait + Clock>(
     rt: &R,
-    topics: &Topics<J>,
+    topics: &D,
     steps: u32,
 ) {
-    let mut errands = Errands::new(rt.alloc()).expect(rt, "no moment");
+    let mut errands = D::tasks(rt);
     for _ in 0..steps {
         topics.keep_once(rt, &mut errands);
     }
     drop(errands);
 }
 
-/// A keeper of what is stored.
-pub(super) fn adopted<J: Naming, R: Abort + AllocGlobal>(
-    rt: &R,
-    conn: Connection<MemStore>,
-    notes: Notes<J>,
-) -> Rows<J> {
-    let keeper = Keeper::adopt(rt.alloc(), read_again(rt, conn), notes);
-    keeper.ok().expect(rt, "no rows")
-}
-
 /// The broker that is started again from what is stored.
-pub(super) fn again<J: Naming, R: Abort + AllocGlobal>(rt: &R, topics: Topics<J>) -> Topics<J> {
-    let (conn, notes) = topics.into_keeper().into_parts();
-    open(rt, adopted(rt, conn, notes), 8)
+pub(super) fn again<D: Broker, R: Abort + AllocGlobal>(rt: &R, topics: D) -> D {
+    let (keeper, _) = topics.stop(rt);
+    open(rt, keeper, 8)
 }
 
 impl<'a> Stops<'a> {
     /// The broker that is started again after a stop. The topic is open in it.
-    fn stopped<J: Naming, R: Abort + AllocGlobal + Wait + Clock>(
-        &self,
-        rt: &R,
-        topics: Topics<J>,
-    ) -> Topics<J> {
+    fn stopped<D: Broker, R: Abort + AllocGlobal + Wait + Clock>(&self, rt: &R, topics: D) -> D {
         do_steps(rt, &topics, self.steps);
         if self.helps {
             topics.help(rt, 1);
@@ -278,8 +255,8 @@ impl<'a> Stops<'a> {
 }
 
 impl<'a> Scene for Stops<'a> {
-    fn play<J: Naming, R: Abort + AllocGlobal + Wait + Clock>(&self, rt: &R, keeper: Rows<J>) {
-        let mut topics = open(rt, keeper, 8);
+    fn play<D: Broker, R: Abort + AllocGlobal + Wait + Clock>(&self, rt: &R, keeper: D::Rows) {
+        let mut topics: D = open(rt, keeper, 8);
         self.deaths.die(rt, &topics);
         for _ in 0..self.times {
             topics = self.stopped(rt, topics);

@@ -1,11 +1,8 @@
 // Messages that all have done with go: by the broker's rule, by a topic's own, and by their age.
+use super::broker::Broker;
 use super::letters::{T, play};
-use super::stops::adopted;
-use super::world::{
-    Rows, Scene, Seat, Topics, asked, open_keeping, set_rule, settle, sit, with_rows,
-};
+use super::world::{Scene, asked, open_keeping, set_rule, settle, sit, with_rows};
 use delivery_machine::{KeptAge, KeptMessages, Reply, Retention};
-use marks::Naming;
 use position_core::Position;
 use std::process::Abort;
 use std::rt::Clock;
@@ -35,10 +32,10 @@ fn expect_published<R: Abort>(rt: &R, reply: &Reply) {
 }
 
 /// So many messages of the moment, from the sequence number on.
-pub(super) fn publish<J: Naming, R: Abort + AllocGlobal + Wait>(
+pub(super) fn publish<D: Broker, R: Abort + AllocGlobal + Wait>(
     rt: &R,
-    topics: &Topics<J>,
-    seat: &Seat<J>,
+    topics: &D,
+    seat: &D::Seat,
     first: u64,
     count: u64,
     moment: u64,
@@ -69,10 +66,10 @@ fn acknowledging<R: Abort + AllocGlobal>(rt: &R, sent: &Reply) -> String {
 }
 
 /// The consumer is sent so many messages, and acknowledges them; they are stored, and what may go goes.
-fn take<J: Naming, R: Abort + AllocGlobal + Wait + Clock>(
+fn take<D: Broker, R: Abort + AllocGlobal + Wait + Clock>(
     rt: &R,
-    topics: &Topics<J>,
-    seat: &Seat<J>,
+    topics: &D,
+    seat: &D::Seat,
     count: u64,
 ) {
     for _ in 0..count {
@@ -85,11 +82,11 @@ fn take<J: Naming, R: Abort + AllocGlobal + Wait + Clock>(
 }
 
 /// A topic of so many messages, all of which are acknowledged.
-fn taken<J: Naming, R: Abort + AllocGlobal + Wait + Clock>(
+fn taken<D: Broker, R: Abort + AllocGlobal + Wait + Clock>(
     rt: &R,
-    topics: &Topics<J>,
+    topics: &D,
     count: u64,
-) -> Seat<J> {
+) -> D::Seat {
     let seat = sit(rt, topics, T);
     play(rt, topics, &seat, &BEGUN);
     publish(rt, topics, &seat, 0, count, 1000);
@@ -106,10 +103,10 @@ fn gone_in(reply: &Reply) -> u64 {
 }
 
 /// So many messages are gone.
-pub(super) fn check_gone<J: Naming, R: Abort + AllocGlobal + Wait>(
+pub(super) fn check_gone<D: Broker, R: Abort + AllocGlobal + Wait>(
     rt: &R,
-    topics: &Topics<J>,
-    seat: &Seat<J>,
+    topics: &D,
+    seat: &D::Seat,
     want: u64,
 ) {
     let reply = asked(rt, topics, seat, "stats s");
@@ -127,10 +124,10 @@ fn expect_position<R: Abort>(rt: &R, reply: &Reply, want: Position, count: u64) 
 }
 
 /// The next message has this position, and is the last of so many.
-fn check_next<J: Naming, R: Abort + AllocGlobal + Wait>(
+fn check_next<D: Broker, R: Abort + AllocGlobal + Wait>(
     rt: &R,
-    topics: &Topics<J>,
-    seat: &Seat<J>,
+    topics: &D,
+    seat: &D::Seat,
     line: &str,
     want: Position,
     count: u64,
@@ -148,10 +145,10 @@ fn expect_duplicate<R: Abort>(rt: &R, reply: &Reply, count: u64) {
 }
 
 /// A number that was used is used still, though its message may be gone.
-fn check_used<J: Naming, R: Abort + AllocGlobal + Wait>(
+fn check_used<D: Broker, R: Abort + AllocGlobal + Wait>(
     rt: &R,
-    topics: &Topics<J>,
-    seat: &Seat<J>,
+    topics: &D,
+    seat: &D::Seat,
     line: &str,
     count: u64,
 ) {
@@ -161,22 +158,19 @@ fn check_used<J: Naming, R: Abort + AllocGlobal + Wait>(
 }
 
 /// A broker by the same rule that is started again from what is stored, where so many messages have rows.
-fn again<J: Naming, R: Abort + AllocGlobal>(
+fn again<D: Broker, R: Abort + AllocGlobal>(
     rt: &R,
-    topics: Topics<J>,
+    topics: D,
     retention: Retention,
     want: u64,
-) -> Topics<J> {
-    let (mut conn, notes) = topics.into_keeper().into_parts();
-    let rows = conn.query_all("SELECT idx FROM entry", &[]).ok();
-    let rows = rows.expect(rt, "no rows");
-    expect_number(rt, rows.len() as u64, want);
-    drop(rows);
-    open_keeping(rt, adopted(rt, conn, notes), retention)
+) -> D {
+    let (keeper, rows) = topics.stop(rt);
+    expect_number(rt, rows, want);
+    open_keeping(rt, keeper, retention)
 }
 
 /// The topic goes on from its rows.
-fn check_again<J: Naming, R: Abort + AllocGlobal + Wait>(rt: &R, topics: &Topics<J>) {
+fn check_again<D: Broker, R: Abort + AllocGlobal + Wait>(rt: &R, topics: &D) {
     let seat = sit(rt, topics, T);
     check_gone(rt, topics, &seat, 256);
     play(rt, topics, &seat, &["producer p -"]);
@@ -195,8 +189,8 @@ fn check_again<J: Naming, R: Abort + AllocGlobal + Wait>(rt: &R, topics: &Topics
 struct KeepsNone;
 
 impl Scene for KeepsNone {
-    fn play<J: Naming, R: Abort + AllocGlobal + Wait + Clock>(&self, rt: &R, keeper: Rows<J>) {
-        let topics = open_keeping(rt, keeper, last(rt, 0));
+    fn play<D: Broker, R: Abort + AllocGlobal + Wait + Clock>(&self, rt: &R, keeper: D::Rows) {
+        let topics: D = open_keeping(rt, keeper, last(rt, 0));
         let seat = sit(rt, &topics, T);
         play(rt, &topics, &seat, &BEGUN);
         publish(rt, &topics, &seat, 0, 300, 1000);
@@ -226,10 +220,10 @@ fn what_all_have_done_with_goes_and_the_topic_goes_on(rt: HostRuntime) {
 #[derive(Clone, Copy)]
 struct OwnRule;
 
-fn check_rule<J: Naming, R: Abort + AllocGlobal + Wait + Clock>(
+fn check_rule<D: Broker, R: Abort + AllocGlobal + Wait + Clock>(
     rt: &R,
-    topics: &Topics<J>,
-    seat: &Seat<J>,
+    topics: &D,
+    seat: &D::Seat,
     retention: Option<Retention>,
     want: u64,
 ) {
@@ -239,8 +233,8 @@ fn check_rule<J: Naming, R: Abort + AllocGlobal + Wait + Clock>(
 }
 
 impl Scene for OwnRule {
-    fn play<J: Naming, R: Abort + AllocGlobal + Wait + Clock>(&self, rt: &R, keeper: Rows<J>) {
-        let topics = open_keeping(rt, keeper, last(rt, 200));
+    fn play<D: Broker, R: Abort + AllocGlobal + Wait + Clock>(&self, rt: &R, keeper: D::Rows) {
+        let topics: D = open_keeping(rt, keeper, last(rt, 200));
         let seat = sit(rt, &topics, T);
         set_rule(rt, &topics, &seat, Some(Retention::All));
         topics.detach(rt, seat);
@@ -273,8 +267,8 @@ fn a_topics_own_rule_goes_before_the_brokers(rt: HostRuntime) {
 struct KeepsAll;
 
 impl Scene for KeepsAll {
-    fn play<J: Naming, R: Abort + AllocGlobal + Wait + Clock>(&self, rt: &R, keeper: Rows<J>) {
-        let topics = open_keeping(rt, keeper, Retention::All);
+    fn play<D: Broker, R: Abort + AllocGlobal + Wait + Clock>(&self, rt: &R, keeper: D::Rows) {
+        let topics: D = open_keeping(rt, keeper, Retention::All);
         let seat = taken(rt, &topics, 130);
         check_gone(rt, &topics, &seat, 0);
         topics.detach(rt, seat);
@@ -298,8 +292,8 @@ const LAST: u64 = 253_402_300_799_999;
 struct ByAge;
 
 impl Scene for ByAge {
-    fn play<J: Naming, R: Abort + AllocGlobal + Wait + Clock>(&self, rt: &R, keeper: Rows<J>) {
-        let topics = open_keeping(rt, keeper, a_day(rt));
+    fn play<D: Broker, R: Abort + AllocGlobal + Wait + Clock>(&self, rt: &R, keeper: D::Rows) {
+        let topics: D = open_keeping(rt, keeper, a_day(rt));
         let seat = sit(rt, &topics, T);
         play(rt, &topics, &seat, &BEGUN);
         publish(rt, &topics, &seat, 0, 100, 1000);
@@ -324,10 +318,10 @@ fn what_is_not_old_stays(rt: HostRuntime) {
 #[derive(Clone, Copy)]
 struct Endless;
 
-fn come_and_go<J: Naming, R: Abort + AllocGlobal + Wait + Clock>(
+fn come_and_go<D: Broker, R: Abort + AllocGlobal + Wait + Clock>(
     rt: &R,
-    topics: &Topics<J>,
-    seat: &Seat<J>,
+    topics: &D,
+    seat: &D::Seat,
     first: u64,
 ) {
     publish(rt, topics, seat, first, 200, 1000);
@@ -337,8 +331,8 @@ fn come_and_go<J: Naming, R: Abort + AllocGlobal + Wait + Clock>(
 }
 
 impl Scene for Endless {
-    fn play<J: Naming, R: Abort + AllocGlobal + Wait + Clock>(&self, rt: &R, keeper: Rows<J>) {
-        let topics = open_keeping(rt, keeper, last(rt, 0));
+    fn play<D: Broker, R: Abort + AllocGlobal + Wait + Clock>(&self, rt: &R, keeper: D::Rows) {
+        let topics: D = open_keeping(rt, keeper, last(rt, 0));
         let seat = sit(rt, &topics, T);
         play(rt, &topics, &seat, &BEGUN);
         for turn in 0..11 {

@@ -1,10 +1,9 @@
 // Topics leave that nobody uses, and are found again.
+use super::broker::Broker;
+use super::chime::bell;
 use super::letters::play;
-use super::world::{
-    Rows, Scene, Seat, Topics, asked, bell, come, open, settle, sit, topic_name, with_rows,
-};
+use super::world::{Scene, asked, come, open, settle, sit, topic_name, with_rows};
 use delivery_machine::{Fault, Reply};
-use marks::Naming;
 use std::process::Abort;
 use std::rt::Clock;
 use std::sync::Wait;
@@ -22,9 +21,9 @@ fn numbered<R: Abort + AllocGlobal>(rt: &R, number: u32) -> String {
 const MESSAGE: [&str; 3] = ["producer p -", "publish 1 0 - aGk= 1000", "drop 1"];
 
 /// The topic has a message, and nobody sits there.
-fn visit<J: Naming, R: Abort + AllocGlobal + Wait>(
+fn visit<D: Broker, R: Abort + AllocGlobal + Wait>(
     rt: &R,
-    topics: &Topics<J>,
+    topics: &D,
     number: u32,
     lines: &[&str],
 ) {
@@ -33,16 +32,16 @@ fn visit<J: Naming, R: Abort + AllocGlobal + Wait>(
     topics.detach(rt, seat);
 }
 
-fn visit_all<J: Naming, R: Abort + AllocGlobal + Wait>(rt: &R, topics: &Topics<J>) {
+fn visit_all<D: Broker, R: Abort + AllocGlobal + Wait>(rt: &R, topics: &D) {
     for number in 0..MOST {
         visit(rt, topics, number, &MESSAGE);
     }
 }
 
 /// How many messages the topic has, and how many of them are stored.
-fn counts<J: Naming, R: Abort + AllocGlobal + Wait>(
+fn counts<D: Broker, R: Abort + AllocGlobal + Wait>(
     rt: &R,
-    topics: &Topics<J>,
+    topics: &D,
     number: u32,
 ) -> Option<(u64, u64)> {
     let seat = sit(rt, topics, numbered(rt, number).as_str());
@@ -62,8 +61,8 @@ fn expect_counts<R: Abort>(rt: &R, got: Option<(u64, u64)>, want: (u64, u64)) {
 struct Found;
 
 impl Scene for Found {
-    fn play<J: Naming, R: Abort + AllocGlobal + Wait + Clock>(&self, rt: &R, keeper: Rows<J>) {
-        let topics = open(rt, keeper, 1);
+    fn play<D: Broker, R: Abort + AllocGlobal + Wait + Clock>(&self, rt: &R, keeper: D::Rows) {
+        let topics: D = open(rt, keeper, 1);
         visit_all(rt, &topics);
         settle(rt, &topics);
         for number in 0..MOST + 8 {
@@ -80,9 +79,9 @@ fn a_topic_that_left_is_found_again(rt: HostRuntime) {
     with_rows(&rt, &Found);
 }
 
-fn refused<J: Naming, R: Abort + AllocGlobal + Wait>(
+fn refused<D: Broker, R: Abort + AllocGlobal + Wait>(
     rt: &R,
-    topics: &Topics<J>,
+    topics: &D,
     number: u32,
 ) -> Option<Fault> {
     let name = topic_name(rt, numbered(rt, number).as_str());
@@ -103,8 +102,8 @@ fn expect_refused<R: Abort>(rt: &R, got: Option<Fault>, want: Option<Fault>) {
 struct Unstored;
 
 impl Scene for Unstored {
-    fn play<J: Naming, R: Abort + AllocGlobal + Wait + Clock>(&self, rt: &R, keeper: Rows<J>) {
-        let topics = open(rt, keeper, 1);
+    fn play<D: Broker, R: Abort + AllocGlobal + Wait + Clock>(&self, rt: &R, keeper: D::Rows) {
+        let topics: D = open(rt, keeper, 1);
         visit_all(rt, &topics);
         expect_refused(rt, refused(rt, &topics, MOST), Some(Fault::TooMany));
         settle(rt, &topics);
@@ -124,8 +123,8 @@ const STAYS: [&str; 2] = ["producer p -", "publish 1 0 - aGk= 1000"];
 struct Connected;
 
 impl Scene for Connected {
-    fn play<J: Naming, R: Abort + AllocGlobal + Wait + Clock>(&self, rt: &R, keeper: Rows<J>) {
-        let topics = open(rt, keeper, 1);
+    fn play<D: Broker, R: Abort + AllocGlobal + Wait + Clock>(&self, rt: &R, keeper: D::Rows) {
+        let topics: D = open(rt, keeper, 1);
         let seat = sit(rt, &topics, numbered(rt, 0).as_str());
         play(rt, &topics, &seat, &STAYS);
         settle(rt, &topics);
@@ -148,7 +147,7 @@ fn a_topic_stays_where_somebody_sits(rt: HostRuntime) {
 const INTO_ITSELF: &str =
     "subscribe s Shared 0 push:10 0 0 1 persistent://public/default/t0 Earliest";
 
-fn is_known<J: Naming, R: Abort + AllocGlobal + Wait>(rt: &R, topics: &Topics<J>) -> bool {
+fn is_known<D: Broker, R: Abort + AllocGlobal + Wait>(rt: &R, topics: &D) -> bool {
     let name = topic_name(rt, numbered(rt, 0).as_str());
     match come(rt, topics, &name, false, bell(rt)) {
         Ok(seat) => {
@@ -163,8 +162,8 @@ fn expect_known<R: Abort>(rt: &R, got: bool, want: bool) {
     assert_eq!(rt; got, want);
 }
 
-fn try_in_vain<J: Naming, R: Abort + AllocGlobal + Wait>(rt: &R, topics: &Topics<J>) {
-    let seat: Seat<J> = sit(rt, topics, numbered(rt, 0).as_str());
+fn try_in_vain<D: Broker, R: Abort + AllocGlobal + Wait>(rt: &R, topics: &D) {
+    let seat: D::Seat = sit(rt, topics, numbered(rt, 0).as_str());
     drop(asked(rt, topics, &seat, INTO_ITSELF));
     topics.detach(rt, seat);
 }
@@ -173,8 +172,8 @@ fn try_in_vain<J: Naming, R: Abort + AllocGlobal + Wait>(rt: &R, topics: &Topics
 struct Vain;
 
 impl Scene for Vain {
-    fn play<J: Naming, R: Abort + AllocGlobal + Wait + Clock>(&self, rt: &R, keeper: Rows<J>) {
-        let topics = open(rt, keeper, 1);
+    fn play<D: Broker, R: Abort + AllocGlobal + Wait + Clock>(&self, rt: &R, keeper: D::Rows) {
+        let topics: D = open(rt, keeper, 1);
         try_in_vain(rt, &topics);
         settle(rt, &topics);
         expect_known(rt, is_known(rt, &topics), false);

@@ -1,53 +1,26 @@
-// A directory over a database in memory, and topics that are asked by lines.
+// A broker over a database in memory, and topics that are asked by lines.
 ghost use Rattle.std.specs.Prelude.{◌≡◌};
 
+use super::broker::{Broker, Came};
+use super::chime::{Chime, bell};
 use crate::tests::base::{keeper_over, terms};
-use broker_dir::{Attached, Coming, Directory, Errands, Open, Terms};
+use broker_dir::{Directory, Terms};
 use delivery_machine::{Event, Fault, Reply, Retention};
 use marks::{Naming, Unnamed};
 use position_core::TopicName;
 use replay_lines::{Line, read_line};
-use row_store::Keeper;
-use session_bells::Bell;
-use session_links::{Caller, Request};
+use session_links::Request;
 use sqlite::MemStore;
 use std::marker::Brand;
 use std::process::Abort;
 use std::rt::Clock;
-use std::sync::atomic::{AtomicBool, Ordering};
 use std::sync::{Arc, Wait};
 use stored_cell::Note;
 use topic_core::TopicCore;
 
-/// A bell that shows whether it was rung.
-#[derive(Drop)]
-pub(super) struct Chime {
-    rung: AtomicBool,
-}
-
-impl Chime {
-    pub(super) fn is_rung(&self) -> bool {
-        self.rung.load(Ordering::SeqCst)
-    }
-}
-
-impl Bell for Chime {
-    fn ring<R: Wait>(&self, _rt: &R) {
-        self.rung.store(true, Ordering::SeqCst);
-    }
-}
-
-pub(super) type Rows<J> = Keeper<MemStore, J>;
-
-pub(super) type Topics<J> = Directory<TopicCore, MemStore, J, Chime>;
-
-pub(super) type Tasks<J> = Errands<TopicCore, J, Chime>;
-
-pub(super) type Seat<J> = Attached<TopicCore, J, Chime>;
-
 /// What is done over a database that has no rows.
 pub(super) trait Scene {
-    fn play<J: Naming, R: Abort + AllocGlobal + Wait + Clock>(&self, rt: &R, keeper: Rows<J>);
+    fn play<D: Broker, R: Abort + AllocGlobal + Wait + Clock>(&self, rt: &R, keeper: D::Rows);
 }
 
 fn run<J: Naming, X: Scene, R: Abort + AllocGlobal + Wait + Clock>(
@@ -57,7 +30,7 @@ fn run<J: Naming, X: Scene, R: Abort + AllocGlobal + Wait + Clock>(
 )
     requires { history ≡ J.book }
 {
-    scene.play::<J, R>(rt, keeper_over(rt, history));
+    scene.play::<Directory<TopicCore, MemStore, J, Chime>, R>(rt, keeper_over(rt, history));
 }
 
 /// Plays the scene over a database that has no rows.
@@ -65,29 +38,21 @@ pub(super) fn with_rows<X: Scene, R: Abort + AllocGlobal + Wait + Clock>(rt: &R,
     run::<Brand, X, R>(rt, Unnamed::new(), scene);
 }
 
-pub(super) fn open_with<J: Naming, R: AllocGlobal>(
-    rt: &R,
-    keeper: Rows<J>,
-    terms: Terms,
-) -> Topics<J> {
-    Directory::open(rt.alloc(), keeper, terms, Retention::All)
+pub(super) fn open_with<D: Broker, R: AllocGlobal>(rt: &R, keeper: D::Rows, terms: Terms) -> D {
+    D::open_over(rt, keeper, terms, Retention::All)
 }
 
 /// A topic that has no rule of its own keeps what this one says.
-pub(super) fn open_keeping<J: Naming, R: Abort + AllocGlobal>(
+pub(super) fn open_keeping<D: Broker, R: Abort + AllocGlobal>(
     rt: &R,
-    keeper: Rows<J>,
+    keeper: D::Rows,
     retention: Retention,
-) -> Topics<J> {
-    Directory::open(rt.alloc(), keeper, terms(rt, 8), retention)
+) -> D {
+    D::open_over(rt, keeper, terms(rt, 8), retention)
 }
 
 /// So many may sit at a topic.
-pub(super) fn open<J: Naming, R: Abort + AllocGlobal>(
-    rt: &R,
-    keeper: Rows<J>,
-    seats: u32,
-) -> Topics<J> {
+pub(super) fn open<D: Broker, R: Abort + AllocGlobal>(rt: &R, keeper: D::Rows, seats: u32) -> D {
     open_with(rt, keeper, terms(rt, seats))
 }
 
@@ -96,24 +61,17 @@ pub(super) fn topic_name<R: Abort + AllocGlobal>(rt: &R, text: &str) -> TopicNam
     name.expect(rt, "no memory").expect(rt, "no name")
 }
 
-pub(super) fn bell<R: Abort + AllocGlobal>(rt: &R) -> Arc<Chime> {
-    let chime = Chime {
-        rung: AtomicBool::new(false),
-    };
-    Arc::new(rt.alloc(), chime).expect(rt, "no memory")
-}
-
 /// What an attach comes to, which leaves this bell. A topic that is to be opened first counts as one that is not there.
-pub(super) fn come<J: Naming, R: Abort + AllocGlobal + Wait>(
+pub(super) fn come<D: Broker, R: Abort + AllocGlobal + Wait>(
     rt: &R,
-    topics: &Topics<J>,
+    topics: &D,
     name: &TopicName,
     create: bool,
     chime: Arc<Chime>,
-) -> Result<Seat<J>, Fault> {
+) -> Result<D::Seat, Fault> {
     match topics.attach(rt, name, create, chime) {
-        Ok(Coming::Seated(seat)) => Ok(seat),
-        Ok(Coming::Waits(waiter)) => {
+        Ok(Came::Seated(seat)) => Ok(seat),
+        Ok(Came::Waits(waiter)) => {
             waiter.leave(rt);
             Err(Fault::NoSession)
         }
@@ -122,11 +80,11 @@ pub(super) fn come<J: Naming, R: Abort + AllocGlobal + Wait>(
 }
 
 /// A seat at the topic, which is made where it is not known.
-pub(super) fn sit<J: Naming, R: Abort + AllocGlobal + Wait>(
+pub(super) fn sit<D: Broker, R: Abort + AllocGlobal + Wait>(
     rt: &R,
-    topics: &Topics<J>,
+    topics: &D,
     name: &str,
-) -> Seat<J> {
+) -> D::Seat {
     let attached = come(rt, topics, &topic_name(rt, name), true, bell(rt));
     attached.ok().expect(rt, "no seat, or no memory")
 }
@@ -138,40 +96,22 @@ pub(super) fn event_in<R: AllocGlobal>(rt: &R, name: &TopicName, line: &str) -> 
     }
 }
 
-/// What the topic, or whoever stands before it, answers to the request.
-pub(super) fn answer_of<J: Naming, R: Abort + AllocGlobal + Wait>(
+pub(super) fn answer_to<D: Broker, R: Abort + AllocGlobal + Wait>(
     rt: &R,
-    topics: &Topics<J>,
-    seat: &Seat<J>,
-    request: Request,
-) -> Result<Reply, Fault> {
-    let mut caller = topics.caller(rt, seat, &Open);
-    caller.call(request)
-}
-
-pub(super) fn delete<J: Naming, R: Abort + AllocGlobal + Wait>(
-    rt: &R,
-    topics: &Topics<J>,
-    seat: &Seat<J>,
-) -> Result<Reply, Fault> {
-    answer_of(rt, topics, seat, Request::DeleteTopic)
-}
-
-pub(super) fn answer_to<J: Naming, R: Abort + AllocGlobal + Wait>(
-    rt: &R,
-    topics: &Topics<J>,
-    seat: &Seat<J>,
+    topics: &D,
+    seat: &D::Seat,
     line: &str,
 ) -> Result<Reply, Fault> {
-    let event = event_in(rt, seat.topic(), line).expect(rt, "no event, or no memory");
-    answer_of(rt, topics, seat, Request::Event(event))
+    let event = event_in(rt, topics.topic_of(seat), line);
+    let event = event.expect(rt, "no event, or no memory");
+    topics.call(rt, seat, Request::Event(event))
 }
 
 /// What the topic answers to the line.
-pub(super) fn asked<J: Naming, R: Abort + AllocGlobal + Wait>(
+pub(super) fn asked<D: Broker, R: Abort + AllocGlobal + Wait>(
     rt: &R,
-    topics: &Topics<J>,
-    seat: &Seat<J>,
+    topics: &D,
+    seat: &D::Seat,
     line: &str,
 ) -> Reply {
     let answer = answer_to(rt, topics, seat, line);
@@ -179,26 +119,22 @@ pub(super) fn asked<J: Naming, R: Abort + AllocGlobal + Wait>(
 }
 
 /// The topic has this rule of its own from now on, or none.
-pub(super) fn set_rule<J: Naming, R: Abort + AllocGlobal + Wait>(
+pub(super) fn set_rule<D: Broker, R: Abort + AllocGlobal + Wait>(
     rt: &R,
-    topics: &Topics<J>,
-    seat: &Seat<J>,
+    topics: &D,
+    seat: &D::Seat,
     retention: Option<Retention>,
 ) {
     let event = Event::SetRetention { retention };
-    let answer = answer_of(rt, topics, seat, Request::Event(event));
+    let answer = topics.call(rt, seat, Request::Event(event));
     assert!(rt; matches!(answer, Ok(Reply::Done)));
     drop(answer);
 }
 
 /// Whether nothing is left to do after a hundred tasks.
-fn is_settled<J: Naming, R: Wait + Clock>(
-    rt: &R,
-    topics: &Topics<J>,
-    errands: &mut Tasks<J>,
-) -> bool {
+fn is_settled<D: Broker, R: Wait + Clock>(rt: &R, topics: &D, tasks: &mut D::Tasks) -> bool {
     for _ in 0..100 {
-        if !topics.keep_once(rt, errands) {
+        if !topics.keep_once(rt, tasks) {
             return true;
         }
     }
@@ -206,9 +142,9 @@ fn is_settled<J: Naming, R: Wait + Clock>(
 }
 
 /// All that waits is stored, and all couriers go as far as they can.
-pub(super) fn settle<J: Naming, R: Abort + AllocGlobal + Wait + Clock>(rt: &R, topics: &Topics<J>) {
-    let mut errands = Errands::new(rt.alloc()).expect(rt, "no moment");
-    let is_settled = is_settled(rt, topics, &mut errands);
-    drop(errands);
+pub(super) fn settle<D: Broker, R: Abort + AllocGlobal + Wait + Clock>(rt: &R, topics: &D) {
+    let mut tasks = D::tasks(rt);
+    let is_settled = is_settled(rt, topics, &mut tasks);
+    drop(tasks);
     assert!(rt; is_settled);
 }
