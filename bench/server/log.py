@@ -15,7 +15,7 @@ from client import consumer, frame, producer, text_of
 
 program = sys.argv[1]
 port = int(sys.argv[2]) if len(sys.argv) > 2 else 18105
-COUNT = int(sys.argv[3]) if len(sys.argv) > 3 else 500_000
+COUNT = int(sys.argv[3]) if len(sys.argv) > 3 else 1_000_000
 HERE = os.path.dirname(os.path.abspath(__file__))
 
 
