@@ -3,6 +3,7 @@
 # each message that was answered before it was asked for, and starts a broker that delivers them. Nobody gets one from
 # another machine's address. The gate runs it.
 # backup.py PROGRAM [times] [port]
+import base64
 import json
 import os
 import shutil
@@ -68,13 +69,18 @@ def copy(client):
     return f'{folder}/broker.db.{now["last"]}'
 
 
+def placed(name):
+    """A folder with a copy of the copy, by the names of a database."""
+    place = tempfile.mkdtemp(dir=folder)
+    shutil.copy(name, f'{place}/broker.db')
+    shutil.copy(f'{name}-wal', f'{place}/broker.db-wal')
+    return place
+
+
 def check(name, least):
     """The copy is whole, and has so many messages of each topic at least."""
-    place = tempfile.mkdtemp(dir=folder)
-    file = f'{place}/broker.db'
-    shutil.copy(name, file)
-    shutil.copy(f'{name}-wal', f'{file}-wal')
-    with sqlite3.connect(file) as base:
+    place = placed(name)
+    with sqlite3.connect(f'{place}/broker.db') as base:
         assert base.execute('PRAGMA integrity_check').fetchall() == [('ok',)]
         for number, count in enumerate(least):
             has, = base.execute('SELECT count(*) FROM entry WHERE topic = ?', [f'persistent://public/default/t{number}']).fetchone()
@@ -84,14 +90,14 @@ def check(name, least):
 
 
 def starts(name):
-    """A broker starts over the copy, and delivers its messages in order."""
-    place = tempfile.mkdtemp(dir=folder)
-    shutil.copy(name, f'{place}/broker.db')
-    shutil.copy(f'{name}-wal', f'{place}/broker.db-wal')
-    other = Broker(program, port + 1, 2, place)
+    """A broker starts over the copy, and delivers its messages in the order of their rows."""
+    with sqlite3.connect(f'{placed(name)}/broker.db') as base:
+        rows = base.execute('SELECT payload FROM entry WHERE topic = ? ORDER BY idx LIMIT 100', ['persistent://public/default/t0']).fetchall()
+    base.close()
+    other = Broker(program, port + 1, 2, placed(name))
     reader = Client(port + 1, '/ws/v2/consumer/persistent/public/default/t0/check?subscriptionInitialPosition=Earliest')
-    ids = [reader.receive()['messageId'] for _ in range(100)]
-    assert len(set(ids)) == 100
+    got = [base64.b64decode(reader.receive()['payload']) for _ in range(100)]
+    assert got == [payload for payload, in rows] and len(set(got)) == 100
     other.kill()
 
 
