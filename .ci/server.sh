@@ -1,6 +1,8 @@
 #!/usr/bin/env bash
-# Tries the program that was proved over real sockets, from outside: each refusal with its code, requests that ask for no
-# WebSocket, what is seen of the broker, whoever comes and goes, and a disk that takes no more. It wants Python's own library alone.
+# Tries the program that was proved over real sockets, from outside: targets and texts with what they are answered, each refusal
+# with its code, requests that ask for no WebSocket, what comes again and when, what is seen of the broker and what is asked of it,
+# what goes and what stays, two topics at once, whoever comes and goes; then kills, and a disk that takes no more. It wants Python's
+# own library alone.
 set -euo pipefail
 cd "$(dirname "$0")/.."
 program=$PWD/crates/pulsar_broker/out/pulsar_broker
@@ -13,12 +15,23 @@ port() {
     python3 -c 'import socket; it = socket.socket(); it.bind(("127.0.0.1", 0)); print(it.getsockname()[1])'
 }
 
+python3 bench/server/targets.py "$program" "$(port)"
+python3 bench/server/texts.py "$program" "$(port)"
+python3 bench/server/mutants.py "$program" 2000 "$(port)"
 python3 bench/server/refusals.py "$program" "$(port)"
 python3 bench/server/plain.py "$program" "$(port)"
+python3 bench/server/returns.py "$program" 5 "$(port)"
 python3 bench/server/seen.py "$program" "$(port)"
 python3 bench/server/administer.py "$program" "$(port)"
+python3 bench/server/keeps.py "$program" "$(port)"
+python3 bench/server/at_once.py "$program" "$(port)"
+python3 bench/server/opens.py "$program" 60 "$(port)"
+python3 bench/server/topics.py "$program" 300 5 "$(port)"
 python3 bench/server/backup.py "$program" 5 "$(port)"
 python3 bench/server/version_1.py "$program" "$(port)"
 python3 bench/server/offline.py "$program" "$(port)"
-python3 bench/server/opens.py "$program" 60 "$(port)"
+python3 bench/server/restarts.py "$program" 15 "$(port)"
+python3 bench/server/kills.py "$program" 5 "$(port)"
+python3 bench/server/counts.py "$program" 3 "$(port)" 10
+python3 bench/server/deaths.py "$program" 5 "$(port)"
 python3 bench/server/full.py "$program" 6 "$(port)"

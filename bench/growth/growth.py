@@ -3,7 +3,7 @@
 
 usage: growth.py PROGRAM [-turns N] [-only WORD] [-most N] [-times N]
 
-PROGRAM is a built topic_replay. Each case makes a topic by lines, and then asks the same few events again and
+PROGRAM is tools/topic_replay, once pulsar_replay is built. Each case makes a topic by lines, and then asks the same few events again and
 again. What a turn costs is the program's processor time over these lines, less that over as many lines of the
 same words that are refused at once (nobody has the number, nothing has the name): so reading and writing lines
 does not count, and 0 is no more than a refusal. Where a message is collected, its copy is written out with its

@@ -3,9 +3,10 @@
 
 usage: compare.py PROGRAM [-lists N] [-events N] [-first N] [-spoil]
 
-PROGRAM is a built pulsar_replay or topic_replay. The lines are drawn from a row of numbers, list after list; -first says
-with which list to begin. With -spoil one line of each list is made another one, which mostly stands for nothing.
-Which of several allowed replies is given is compared too, since both topics choose alike.
+PROGRAM is a built pulsar_replay; each list is fed to its plain topic and to its fast one. The lines are drawn from a row of
+numbers, list after list; -first says with which list to begin. With -spoil one line of each list is made another one, which
+mostly stands for nothing. Which of several allowed replies is given is compared too, since both topics choose alike.
+A hundred lists or more are to bring replies of each kind.
 """
 import argparse
 import collections
@@ -15,6 +16,13 @@ import sys
 
 from lines import BadLine, MOST_MOMENT, MOST_U64, NAMES, answer, id_text, replay
 from topic import Topic
+from unasked import LEDGER_SIZE, unasked
+
+TOPICS = ("plain", "fast")
+REPLIES = [
+    "producer", "published", "duplicate", "durable", "progress", "consumer", "done", "released", "died", "rewound", "quiet", "sent",
+    "idle", "copies", "dead", "nodead", "stats", "trimmed", "untrimmed", "refused", "restarted",
+]
 
 KINDS = ["Exclusive", "Failover", "Shared", "Key_Shared"]
 KEYS = ["-", "a", "b", "k1", "k2", "test", "Hello,%20world!", "%2D"]
@@ -147,15 +155,22 @@ def spoiled(dice, line):
     ])
 
 
-def difference(program, ledger_size, data):
-    """Where the program's replies begin to differ from the model's, in words; none where they do not. And the replies."""
-    wanted, status = replay(ledger_size, data)
-    ran = subprocess.run([program, str(ledger_size)], input=data, stdout=subprocess.PIPE, check=False)
+def listed(dice, list_number, events):
+    """The list of the number, and the size of its ledgers: every second one is drawn without a topic beside."""
+    if list_number % 2 == 0:
+        ledger_size = dice.choice([1, 2, 3, 10])
+        return drawn(dice, ledger_size, events), ledger_size
+    return unasked(dice, events, 200 if list_number % 8 == 7 else 0), LEDGER_SIZE
+
+
+def difference(program, topic, ledger_size, data, wanted, status):
+    """Where the program's replies begin to differ from the model's, in words; none where they do not."""
+    ran = subprocess.run([program, topic, str(ledger_size)], input=data, stdout=subprocess.PIPE, check=False)
     given = ran.stdout.decode().split("\n")[:-1]
     if (given, ran.returncode) == (wanted, status):
-        return None, wanted
+        return None
     at = next((at for at, (one, other) in enumerate(zip(given, wanted)) if one != other), min(len(given), len(wanted)))
-    return f"line {at + 1}: {given[at:at + 1]}, status {ran.returncode}, and not {wanted[at:at + 1]}, {status}", wanted
+    return f"line {at + 1}: {given[at:at + 1]}, status {ran.returncode}, and not {wanted[at:at + 1]}, {status}"
 
 
 def main():
@@ -169,20 +184,26 @@ def main():
     differ, seen = 0, collections.Counter()
     for list_number in range(asked.first, asked.first + asked.lists):
         dice = random.Random(list_number)
-        ledger_size = dice.choice([1, 2, 3, 10])
-        lines = drawn(dice, ledger_size, asked.events)
+        lines, ledger_size = listed(dice, list_number, asked.events)
         if asked.spoil:
             at = dice.randrange(len(lines))
             lines[at] = spoiled(dice, lines[at])
         data = "\n".join(lines).encode() + dice.choice([b"\n", b""])
-        found, replies = difference(asked.program, ledger_size, data)
-        seen.update(" ".join(it.split()[:2 if it.startswith(("refused", "bad")) else 1]) for it in replies)
-        if found:
-            differ += 1
-            print(f"list {list_number}, ledgers of {ledger_size}: {found}")
+        wanted, status = replay(ledger_size, data)
+        seen.update(" ".join(it.split()[:2 if it.startswith(("refused", "bad")) else 1]) for it in wanted)
+        for topic in TOPICS:
+            found = difference(asked.program, topic, ledger_size, data, wanted, status)
+            if found:
+                differ += 1
+                print(f"list {list_number}, ledgers of {ledger_size}, {topic} topic: {found}")
     print(", ".join(f"{count} {word}" for word, count in seen.most_common() if not word.startswith("bad")))
-    print(f"{asked.lists} lists, {differ} differ")
-    return 1 if differ else 0
+    came = {it.split()[0] for it in seen}
+    # (lists with a bad line end at it, and are short)
+    lacking = [it for it in REPLIES if it not in came] if asked.lists >= 100 and not asked.spoil else []
+    if lacking:
+        print(f"no reply is {', '.join(lacking)}")
+    print(f"{asked.lists} lists, each over {' and '.join(TOPICS)}: {differ} differ")
+    return 1 if differ or lacking else 0
 
 
 sys.exit(main())

@@ -1,7 +1,7 @@
 #!/usr/bin/env python3
-# What an administrator asks for beside moves of subscriptions: one is made, looked at, and its consumer ended by its number;
-# the broker is seen at the administrator's own endpoint; and a copy of the database is refused where no folder is there for
-# it. The gate runs it.
+# What an administrator asks for beside moves of subscriptions: one is made, once, from a position of any kind, and is there after a
+# kill; it is looked at, and what is shown is what a consumer gets; its consumer is ended by its number; the broker is seen at the
+# administrator's own endpoint; and a copy of the database is refused where no folder is there for it. The gate runs it.
 # administer.py PROGRAM [port]
 import json
 import shutil
@@ -43,31 +43,68 @@ assert payloads(asked(boss, type='peek', subscription='later', messages=3)) == [
 assert asked(boss, type='createSubscription', subscription='work', position='earliest') == {'result': 'ok'}
 assert payloads(asked(boss, type='peek', subscription='work', messages=3)) == [(text, 0) for text in texts[:3]]
 assert payloads(asked(boss, type='peek', subscription='work', messages=100)) == [(text, 0) for text in texts]
-none = asked(boss, type='createSubscription', subscription='lost', position='CAAQZA==')
-assert none == {'fault': 8, 'result': 'refused'}, none
-assert asked(boss, type='stats', subscription='lost')['fault'] == 11
-print('ok a subscription is made before its first consumer, and looked at')
+REFUSED = {fault: {'fault': fault, 'result': 'refused'} for fault in (3, 8, 11, 12, 20)}
 
-worker = consumer(port, 'news', 'work', '?subscriptionType=Shared')
+
+def numbers(name):
+    told = asked(boss, type='stats', subscription=name)
+    return told['members'], told['acknowledged'], told['live']
+
+
+def makes(position, wanted):
+    answer = asked(boss, type='createSubscription', subscription='lost', position=position)
+    assert answer == wanted, (position, answer)
+
+
+makes('CAAQZA==', REFUSED[8])
+assert asked(boss, type='stats', subscription='lost') == REFUSED[11]
+makes('CAAQAQ==', {'result': 'ok'})
+assert numbers('lost') == (0, 1, 4)
+for position in ('latest', 'CAAQZA=='):
+    makes(position, REFUSED[12])
+    assert numbers('lost') == (0, 1, 4)
+assert asked(boss, type='dropSubscription', subscription='lost') == {'result': 'ok'}
+makes('latest', {'result': 'ok'})
+assert numbers('lost') == (0, 5, 0)
+holder = consumer(port, 'news', 'lost')
+while numbers('lost')[0] < 1:
+    time.sleep(0.01)
+makes('earliest', REFUSED[12])
+holder.leave()
+print('ok a subscription is made before its first consumer, once, and looked at')
+
+worker = consumer(port, 'news', 'work', '?subscriptionType=Shared&negativeAckRedeliveryDelay=1')
 got = [worker.receive() for _ in range(5)]
 worker.send(json.dumps({'messageId': got[1]['messageId']}))
 while asked(boss, type='stats', subscription='work')['acknowledged'] < 1:
     time.sleep(0.01)
 assert payloads(asked(boss, type='peek', subscription='work', messages=2)) == [(texts[0], 0), (texts[2], 0)]
+worker.send(json.dumps({'type': 'negativeAcknowledge', 'messageId': got[0]['messageId']}))
+back = worker.receive()
+assert (back['payload'], back['redeliveryCount']) == (texts[0], 1), back
+shown = asked(boss, type='peek', subscription='work', messages=9)
+assert payloads(shown) == [(texts[0], 1), *((text, 0) for text in texts[2:])], shown
+assert numbers('work') == (1, 1, 4)
 print('ok a look leaves what is pending, and passes over what is acknowledged')
 
 seen = asked(boss, type='overview')
 topic = next(each for each in seen['topics'] if each['name'].endswith('/news'))
 number = next(one['number'] for one in topic['sessions'] if one['role'] == 'consumer')
 assert seen['connections'] == 3 and len(topic['sessions']) == 3, seen
-assert asked(boss, type='disconnect', session=999) == {'fault': 3, 'result': 'refused'}
+for wrong in (0, 999):
+    assert asked(boss, type='disconnect', session=wrong) == REFUSED[3]
 assert asked(boss, type='disconnect', session=number) == {'result': 'ok'}
 assert worker.receive() == (4008, 'F3')
-while asked(boss, type='stats', subscription='work')['members'] > 0:
+assert payloads(asked(boss, type='peek', subscription='work', messages=9)) == [(texts[0], 1), *((text, 0) for text in texts[2:])]
+while any(each['number'] == number for each in asked(boss, type='overview')['topics'][0]['sessions']):
     time.sleep(0.01)
+# Its number is nobody's until the next one has it, who stays.
+assert asked(boss, type='disconnect', session=number) == REFUSED[3]
 other = consumer(port, 'news', 'work', '?subscriptionType=Shared')
 again = [other.receive() for _ in range(4)]
 assert [message['payload'] for message in again] == [texts[0], *texts[2:]], again
+other.send('{"type":"isEndOfTopic"}')
+assert other.receive() == {'endOfTopic': 'false'}
 print('ok a consumer is ended by its number, and its messages go to the next')
 
 sessions = next(each for each in asked(boss, type='overview')['topics'] if each['name'].endswith('/news'))['sessions']
@@ -79,6 +116,16 @@ assert asked(boss, type='backup') == {'fault': 20, 'result': 'refused'}
 maker.send(text_of(b'on'))
 assert maker.receive()['result'] == 'ok'
 print('ok an administrator ends his own session; without a folder no copy is made')
+
+# What is published is stored with all that came before it.
+assert asked(boss, type='createSubscription', subscription='kept', position='CAAQAg==') == {'result': 'ok'}
+maker.send(text_of(b'last'))
+assert maker.receive()['result'] == 'ok'
+broker.kill()
+broker.start()
+boss = admin('news')
+assert numbers('kept') == (0, 2, 5)
+print('ok a subscription that was made is there after a kill')
 
 broker.kill()
 shutil.rmtree(broker.folder)

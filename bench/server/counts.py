@@ -1,12 +1,12 @@
 #!/usr/bin/env python3
 # Kills the broker again and again while consumers give back all that they get. In the rows that each kill leaves no count
 # is below the one that the kill before left, unless its message was acknowledged or died; what comes first after a start
-# has the count of its row; and in the end each message has died, at its limit. Debian's package: sqlite3.
-# counts.py PROGRAM [times] [port]
+# has the count of its row; and in the end each message has died, at its limit. The gate runs it.
+# counts.py PROGRAM [times] [port] [limit]
 import base64
 import json
 import random
-import subprocess
+import sqlite3
 import sys
 import threading
 import time
@@ -16,7 +16,8 @@ from client import Broker, Client, consumer, producer, text_of
 program = sys.argv[1]
 times = int(sys.argv[2]) if len(sys.argv) > 2 else 200
 port = int(sys.argv[3]) if len(sys.argv) > 3 else 18094
-TOPIC, FULL, MOST, LIMIT = 'back', 'persistent://public/default/back', 40, 50
+TOPIC, FULL, MOST = 'back', 'persistent://public/default/back', 40
+LIMIT = int(sys.argv[4]) if len(sys.argv) > 4 else 50  # how often a message comes again before it dies
 DYING = {'Shared': f'maxRedeliverCount={LIMIT}', 'Key_Shared': f'maxRedeliverCount={LIMIT}'}
 KINDS = {**DYING, 'Exclusive': 'ackTimeoutMillis=2', 'Failover': 'ackTimeoutMillis=2'}
 
@@ -63,26 +64,26 @@ def publish(name):
 
 
 def ask(question):
-    found = subprocess.run(['sqlite3', broker.database, question], check=True, capture_output=True, text=True).stdout
-    return [line.split('|') for line in found.splitlines()]
+    base = sqlite3.connect(broker.database)
+    try:
+        return base.execute(question).fetchall()
+    finally:
+        base.close()
 
 
 def rows():
     """The counts, and what is acknowledged or dead, by subscription and place."""
-    assert ask('PRAGMA integrity_check') == [['ok']]
-    counts = {(sub, int(idx)): int(count) for sub, idx, count in
-              ask(f"SELECT sub, idx, times FROM redelivery WHERE topic = '{FULL}'")}
-    gone = {(sub, int(idx)) for sub, idx in ask(f"SELECT sub, idx FROM dead WHERE topic = '{FULL}'")}
+    assert ask('PRAGMA integrity_check') == [('ok',)]
+    counts = {(sub, idx): count for sub, idx, count in ask(f"SELECT sub, idx, times FROM redelivery WHERE topic = '{FULL}'")}
+    gone = set(ask(f"SELECT sub, idx FROM dead WHERE topic = '{FULL}'"))
     for sub, low, high in ask(f"SELECT sub, first, last FROM ack WHERE topic = '{FULL}'"):
-        gone |= {(sub, idx) for idx in range(int(low), int(high) + 1)}
+        gone |= {(sub, idx) for idx in range(low, high + 1)}
     return counts, gone
 
 
 def bodies():
     """The places of the messages, by body as it comes to a consumer."""
-    import base64
-    return {base64.b64encode(bytes.fromhex(payload)).decode(): int(idx) for idx, payload in
-            ask(f"SELECT idx, hex(payload) FROM entry WHERE topic = '{FULL}'")}
+    return {base64.b64encode(payload).decode(): idx for idx, payload in ask(f"SELECT idx, payload FROM entry WHERE topic = '{FULL}'")}
 
 
 def check_first(before, gone):
@@ -107,8 +108,8 @@ def is_done(kind):
     client = Client(port, f'/ws/v2/admin/persistent/public/default/{TOPIC}')
     client.send(json.dumps({'type': 'stats', 'subscription': kind}))
     told = client.receive()
-    client.leave()
-    return told['live'] == told['dead'] == told['pending'] == 0
+    client.close()
+    return isinstance(told, dict) and told.get('live') == told.get('dead') == told.get('pending') == 0
 
 
 def consumers(kinds, ends):

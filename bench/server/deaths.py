@@ -1,10 +1,10 @@
 #!/usr/bin/env python3
 # Kills the broker again and again while every message dies: whatever a kill leaves, each letter that counts as moved stands
-# in its dead-letter topic once, and in the end all do, in the order of dying. Debian's package: sqlite3.
+# in its dead-letter topic once, and in the end all do, in the order of dying. The gate runs it.
 # deaths.py PROGRAM [times] [port]
 import json
 import random
-import subprocess
+import sqlite3
 import sys
 import threading
 import time
@@ -59,8 +59,11 @@ def topics_of(number):
 
 
 def ask(database, question):
-    found = subprocess.run(['sqlite3', database, question], check=True, capture_output=True, text=True).stdout
-    return [line.split('|') for line in found.splitlines()]
+    base = sqlite3.connect(database)
+    try:
+        return base.execute(question).fetchall()
+    finally:
+        base.close()
 
 
 def letters_in(database):
@@ -86,7 +89,7 @@ def gone_from(database):
 
 def check(database):
     """What stands in the rows: no letter twice, all in the order of dying, and none is done with that has no copy."""
-    assert ask(database, 'PRAGMA integrity_check') == [['ok']]
+    assert ask(database, 'PRAGMA integrity_check') == [('ok',)]
     letters = letters_in(database)
     for courier, moved in letters.items():
         ordinals, bodies = [each for each, _ in moved], [each for _, each in moved]
@@ -103,8 +106,8 @@ def is_done(topic, kind):
     client = Client(port, f'/ws/v2/admin/persistent/public/default/{topic}')
     client.send(json.dumps({'type': 'stats', 'subscription': kind}))
     told = client.receive()
-    client.leave()
-    return told['live'] == told['dead'] == told['pending'] == 0
+    client.close()
+    return isinstance(told, dict) and told.get('live') == told.get('dead') == told.get('pending') == 0
 
 
 def drain(topics):

@@ -1,11 +1,11 @@
 #!/usr/bin/env python3
 # Kills the broker again and again under load: each publish that was answered ok is found again, each of them is
-# delivered, and sqlite3 finds the file whole. Debian's package: sqlite3.
+# delivered, and SQLite finds the file whole. The gate runs it.
 # kills.py PROGRAM [times] [port]
 import base64
 import json
 import random
-import subprocess
+import sqlite3
 import sys
 import threading
 import time
@@ -58,21 +58,24 @@ def topics_of(round_number):
 
 
 def ask(database, question):
-    return subprocess.run(['sqlite3', database, question], check=True, capture_output=True, text=True).stdout
+    base = sqlite3.connect(database)
+    try:
+        return base.execute(question).fetchall()
+    finally:
+        base.close()
 
 
 def stored(database):
     """The payloads that stand in the database, by topic."""
     found = {}
-    for line in ask(database, 'SELECT topic, hex(payload) FROM entry').splitlines():
-        topic, payload = line.split('|')
-        found.setdefault(topic.rsplit('/', 1)[1], set()).add(bytes.fromhex(payload).decode())
+    for topic, payload in ask(database, 'SELECT topic, payload FROM entry'):
+        found.setdefault(topic.rsplit('/', 1)[1], set()).add(payload.decode())
     return found
 
 
 def check(database):
-    whole = ask(database, 'PRAGMA integrity_check').strip()
-    assert whole == 'ok', whole
+    whole = ask(database, 'PRAGMA integrity_check')
+    assert whole == [('ok',)], whole
     rows = stored(database)
     for topic, bodies in answered.items():
         lost = set(bodies.values()) - rows.get(topic, set())
@@ -108,5 +111,6 @@ for topic, bodies in answered.items():
     for where, body in bodies.items():
         assert delivered.get(topic, {}).get(where) == body, f'{topic} never delivered {body}'
         count += 1
+assert count, 'nothing was answered'
 print(f'{times} kills: {count} publishes were answered ok; each was found again and delivered, '
       'and the file was whole each time')

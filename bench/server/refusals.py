@@ -76,6 +76,12 @@ try:
     closes('another type than the subscription has', lambda: consumer(port, 't', 'sole', '?subscriptionType=Shared'), 4002, 'F5')
     closes('a dead-letter topic that is the topic itself', lambda: consumer(
         port, 't', 'own', '?subscriptionType=Shared&maxRedeliverCount=1&deadLetterTopic=t'), 4002, 'F14')
+    closes('the same at a topic that is not there', lambda: consumer(
+        port, 'vain', 'own', '?subscriptionType=Shared&maxRedeliverCount=1&deadLetterTopic=vain'), 4002, 'F14')
+    closes('an administrator of a topic where all were refused', target('/admin/persistent/public/default/vain'), 4008, 'F11')
+    made = producer(port, 'vain')
+    made.send(text_of(b'a'))
+    assert made.receive()['result'] == 'ok'
 
     keys = lambda ranges='': consumer(port, 't', 'keys', '?subscriptionType=Key_Shared' + ranges)
     low = keys('&keySharedRanges=200-299,0-00099')

@@ -1,7 +1,8 @@
 #!/usr/bin/env python3
 # Topics come and go: so many one after another, with a message and a subscription each, of which more than may be in
-# use at once; all are found again. Then more names at once than may be in use, of which some wait their turn. Then the
-# broker is killed again and again while topics leave memory and come back: nothing that was answered ok is missing.
+# use at once; all are found again, a look at the broker brings none back, and one where somebody is stays all the while.
+# Then more names at once than may be in use, of which some wait their turn. Then the broker is killed again and again
+# while topics leave memory and come back: nothing that was answered ok is missing. The gate runs it.
 # topics.py PROGRAM [topics] [kills] [port]
 import base64
 import random
@@ -9,13 +10,13 @@ import sys
 import threading
 import time
 
-from client import Broker, consumer, producer, text_of
+from client import Broker, Client, consumer, producer, text_of
 
 program = sys.argv[1]
 count = int(sys.argv[2]) if len(sys.argv) > 2 else 10000
 kills = int(sys.argv[3]) if len(sys.argv) > 3 else 200
 port = int(sys.argv[4]) if len(sys.argv) > 4 else 18088
-AT_ONCE, NAMES = 300, 400
+MOST, AT_ONCE, NAMES = 256, 300, 400
 
 
 def payload_of(message):
@@ -33,11 +34,25 @@ def refusal(client):
         return None
 
 
-def published(topic, payload):
-    teller = producer(port, topic)
+def overview():
+    """What an administrator sees, who sits at a topic of his own."""
+    admin = Client(port, '/ws/v2/admin/persistent/public/default/held')
+    admin.send('{"type":"overview"}')
+    seen = admin.receive()
+    admin.leave()
+    admin.close()
+    return seen
+
+
+def said(teller, payload):
     teller.send(text_of(payload.encode()))
     answer = teller.receive()
-    assert isinstance(answer, dict) and answer['result'] == 'ok', f'{topic}: {answer}'
+    assert isinstance(answer, dict) and answer['result'] == 'ok', f'{payload}: {answer}'
+
+
+def published(topic, payload):
+    teller = producer(port, topic)
+    said(teller, payload)
     teller.leave()
     teller.close()
 
@@ -60,6 +75,47 @@ def found_again(broker):
         reader.leave()
         reader.close()
     print(f'all found again: {broker.memory() >> 20} MiB')
+
+
+def held(step):
+    """A topic where somebody is stays in memory while others come and go."""
+    teller = producer(port, 'held')
+    said(teller, 'before')
+    step()
+    said(teller, 'after')
+    teller.leave()
+    reader = consumer(port, 'held', 's', '?subscriptionInitialPosition=Earliest')
+    assert [payload_of(reader.receive()) for _ in range(2)] == ['before', 'after']
+    reader.leave()
+    print('a topic where somebody is stays')
+
+
+def looks():
+    """A look brings no topic into memory: as many as came and have not left are there."""
+    first, second = overview(), overview()
+    for seen in (first, second):
+        assert len(seen['topics']) == seen['loads'] - seen['unloads'] <= MOST, seen
+        assert any(each['name'].endswith('/held') and each['published'] == 1 for each in seen['topics']), seen
+    assert first['loads'] == second['loads'] and first['unloads'] == second['unloads'], (first, second)
+    assert count < MOST or first['unloads'] > 0, first
+    print(f'{first["loads"]} times a topic came, {first["unloads"]} times one left')
+
+
+def as_many_as_may_be():
+    """Somebody sits at each of as many topics as may be in use: two more are refused, until one of them is left."""
+    tellers = []
+    for number in range(MOST):
+        tellers.append(producer(port, f'full-{number}'))
+        said(tellers[-1], 'x')
+    for number in range(2):
+        teller = producer(port, f'more-{number}')
+        closed = refusal(teller)
+        assert closed == (4001, 'F7'), closed
+    tellers.pop().leave()
+    published('more-0', 'x')
+    for teller in tellers:
+        teller.leave()
+    print(f'{MOST} topics are in use, and no more')
 
 
 def in_turn(number, waited):
@@ -122,8 +178,8 @@ def killed(broker, dice):
 
 broker = Broker(program, port)
 try:
-    one_after_another(broker)
-    found_again(broker)
+    held(lambda: (one_after_another(broker), found_again(broker), looks()))
+    as_many_as_may_be()
     many_at_once()
     killed(broker, random.Random(7))
 finally:

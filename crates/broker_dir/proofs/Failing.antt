@@ -1,7 +1,8 @@
 -- What a refused store says of the keeper.
-use Rattle.std.proofs.Common.{◌≡◌, Bool, true, false, Result, Ok, Err, refl, ap}
+use Rattle.std.proofs.Common.{◌≡◌, ◌⊎◌, inl, inr, Bool, true, false, Result, Ok, Err, refl, ap}
 use Rattle.position_core.specs.declared.fault.Fault.{Fault}
-use Rattle.position_core.specs.declared.fault.Fault.TheVariants.{NoMemory, StoreFailed}
+use Rattle.position_core.specs.declared.fault.Fault.TheVariants.{NoMemory, NoSuchSubscription, StoreFailed, TooMany}
+use Rattle.broker_dir.specs.Refusing.{IsRefusal}
 
 -- a keeper that lacked memory had not failed
 pub had_worked : {V : Type 0} (r : Result V Fault) (failed : Bool) → r ≡ Err NoMemory → (failed ≡ true → r ≡ Err StoreFailed) → failed ≡ false
@@ -15,3 +16,12 @@ err_or d (Err e) = e
 pub same_err : {W E : Type 0} (a b : E) → ◌≡◌ {A = Result W E} (Err a) (Err b) → a ≡ b
 unfolding err_or
 same_err a b is = ap (err_or a) is
+
+-- whoever was to wait for a topic is refused for want of room or of memory
+pub not_unknown : {X : Type 0} (fault : Fault) → (fault ≡ TooMany) ⊎ (fault ≡ NoMemory) → fault ≡ NoSuchSubscription → X
+not_unknown fault (inl full) unknown = absurd (cc (full, unknown))
+not_unknown fault (inr lacked) unknown = absurd (cc (lacked, unknown))
+
+pub is_refusal : (fault : Fault) → (fault ≡ TooMany) ⊎ (fault ≡ NoMemory) → IsRefusal fault
+is_refusal fault (inl full) = inl full
+is_refusal fault (inr lacked) = inr (inr (inl lacked))

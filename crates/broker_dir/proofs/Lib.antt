@@ -1,4 +1,6 @@
--- Lemmas on the list of open topics, on what a lock guards, on looks and trims, and on a store that was refused.
+-- Lemmas on the list of open topics, on what a lock guards, on looks and trims, on a store that was refused, and on what may
+-- go to another thread.
+pub mod Crosses
 pub mod Listed
 pub mod Seats
 pub mod Failing

@@ -13,8 +13,8 @@ use Rattle.delivery_machine.specs.declared.reply.Reply.{Reply}
 use Rattle.delivery_machine.specs.declared.reply.Reply.TheVariants.{Durable}
 use Rattle.delivery_machine.specs.Run.{Step}
 use Rattle.delivery_machine.specs.Journals.{is_storing}
-use Rattle.delivery_machine.proofs.Growing.{step_grows}
-use Rattle.topic_seats.specs.Seats.{IsFree, without_seat}
+use Rattle.machine_laws.proofs.Growing.{step_grows}
+use Rattle.topic_shared.specs.Seats.{IsFree, without_seat}
 use Rattle.topic_shared.specs.Kept.{Kept, StoresLine, with_promise}
 use Rattle.stored_cell.specs.Held.{Held, SameButPromise}
 use Rattle.stored_cell.specs.Noted.{Noted}

@@ -1,6 +1,5 @@
 -- What the contracts of the directory cite.
 pub mod Coming
-pub mod Ends
 pub mod Handing
 pub mod Listing
 pub mod Refusing

@@ -3,18 +3,19 @@ ghost use Rattle.std.specs.Prelude.{◌≡◌, ◌+◌, Err, IfOk, IfSome, OnErr
 ghost use Rattle.delivery_machine.specs.Places.{snapshot_in};
 ghost use Rattle.delivery_machine.specs.Snapshot.{snapshot_of};
 ghost use Rattle.session_links.specs.Creating.{MayCreate};
-ghost use Rattle.broker_dir.specs.Ends.{refusal_at};
+ghost use Rattle.broker_parts.specs.Ends.{refusal_at};
 ghost use Rattle.broker_dir.specs.Handing.{HandsOn};
 
-use crate::attached::Seated;
-use crate::gate::Gate;
+use crate::attached::Attached;
 use crate::inside::{Inside, VISITOR, is_storing};
+use crate::topic::Shared;
+use broker_parts::{Board, Wants};
 use delivery_machine::{Event, Fault, Opened, Reply, SubscriptionName, Target};
 use marks::Naming;
 use session_bells::Bell;
 use session_links::{Hold, Look, PeekLength, create};
-use sqlite::Alter;
-use std::sync::Wait;
+use std::alloc::Global;
+use std::sync::{Arc, Wait};
 
 impl<T: Opened + Drop, J: Naming, B: Bell + Drop> Hold for Inside<T, J, B> {
     ghost use Rattle.broker_dir.specs.Handing.{HandsOn};
@@ -29,13 +30,13 @@ impl<T: Opened + Drop, J: Naming, B: Bell + Drop> Hold for Inside<T, J, B> {
             drop(event);
             return Err(Fault::NoSession);
         }
-        let Ok(change) = self.graves.prepare(&event) else {
+        let Ok(change) = self.hearers.graves.prepare(&event) else {
             drop(event);
             return Err(Fault::NoMemory);
         };
         match self.topic.call(VISITOR, event) {
             Ok(receipt) => {
-                self.graves.answered(change, &receipt.reply);
+                self.hearers.graves.answered(change, &receipt.reply);
                 Ok(receipt.reply)
             }
             Err(fault) => {
@@ -102,67 +103,46 @@ impl<T: Opened + Drop, J: Naming, B: Bell + Drop> Inside<T, J, B> {
         self.roll_if_long();
         look
     }
-
-    /// Why the one at the seat may not stay, where it may not.
-    pub(crate) fn refusal(&self, seat: u64) -> Option<Fault>
-        ensures { IfSome (refusal_at self.now.stage) (λ fault. result ≡ Some fault) }
-    {
-        match self.stage.refusal() {
-            Some(fault) => Some(fault),
-            None => if self.visitors.is_to_go(seat) {
-                Some(Fault::NoSession)
-            } else {
-                None
-            },
-        }
-    }
 }
 
-impl<'a, T: Opened + Drop, S: Alter, J: Naming, B: Bell + Drop, R: Wait, G: Gate> Seated<
-    'a,
-    T,
-    S,
-    J,
-    B,
-    R,
-    G,
-> {
+impl<T: Opened + Drop, J: Naming, B: Bell + Drop> Attached<T, J, B> {
     /// Makes a subscription, in one hold of the topic's lock.
-    pub(crate) fn create(
+    pub(crate) fn create<R: Wait>(
         &self,
+        rt: &R,
+        board: &Board<Arc<Shared<T, J, B>>>,
         subscription: SubscriptionName,
         target: Target,
     ) -> Result<Reply, Fault> {
-        if self.directory.is_closed() {
-            drop(subscription);
-            return Err(Fault::StoreFailed);
-        }
-        let topic = &self.attached.topic;
-        let mut inside = topic.inside.lock(self.rt);
-        self.gate.within(&topic.name);
-        let answer = inside.create(self.rt, &subscription, target);
-        let tells = inside.wants_storing();
+        let mut inside = self.topic.inside.lock(rt);
+        let answer = inside.create(rt, &subscription, target);
+        let store = inside.wants_storing();
         drop(inside);
         drop(subscription);
-        if let Err(Fault::JournalFull) = &answer {
-            topic.note_over();
-        }
-        if tells {
-            self.directory.tell(self.rt, topic);
-        }
+        self.topic.signs.note_answer(&answer);
+        let wants = Wants {
+            store,
+            thread: false,
+        };
+        board.grant(rt, &self.topic, wants);
         answer
     }
 
     /// Shows the next messages of the subscription. The topic's lock is held for the view alone, and not while they are looked
     /// for.
-    pub(crate) fn peek(
+    pub(crate) fn peek<R: Wait>(
         &self,
+        rt: &R,
+        alloc: Global,
         subscription: SubscriptionName,
         count: PeekLength,
     ) -> Result<Reply, Fault> {
-        let shown = match self.look() {
+        let mut inside = self.topic.inside.lock(rt);
+        let looked = inside.look();
+        drop(inside);
+        let shown = match looked {
             Ok(look) => {
-                let shown = look.next_of(self.directory.alloc, &subscription, count);
+                let shown = look.next_of(alloc, &subscription, count);
                 drop(look);
                 shown
             }
@@ -172,50 +152,23 @@ impl<'a, T: Opened + Drop, S: Alter, J: Naming, B: Bell + Drop, R: Wait, G: Gate
         shown
     }
 
-    fn look(&self) -> Result<Look, Fault> {
-        if self.directory.is_closed() {
-            return Err(Fault::StoreFailed);
-        }
-        let mut inside = self.attached.topic.inside.lock(self.rt);
-        inside.look()
-    }
-
     /// The session that has the number is to end, and is rung, so that it learns that at once. Refused (F3) where nobody has it.
-    pub(crate) fn disconnect(&self, session: u64) -> Result<Reply, Fault> {
-        if self.directory.is_closed() {
-            return Err(Fault::StoreFailed);
+    pub(crate) fn disconnect<R: Wait>(&self, rt: &R, session: u64) -> Reply {
+        let mut inside = self.topic.inside.lock(rt);
+        if !inside.hearers.visitors.end(session) {
+            return Reply::Refused(Fault::NoSession);
         }
-        let topic = &self.attached.topic;
-        let mut inside = topic.inside.lock(self.rt);
-        if !inside.visitors.end(session) {
-            return Ok(Reply::Refused(Fault::NoSession));
-        }
-        topic.set_to_go(true);
-        inside.bells.wake(self.rt, session);
-        Ok(Reply::Done)
+        self.topic.signs.set_to_go(true);
+        inside.hearers.bells.wake(rt, session);
+        Reply::Done
     }
 
     /// Whether the client is at the broker's own machine.
-    fn is_near(&self) -> bool {
-        let inside = self.attached.topic.inside.lock(self.rt);
-        match inside.visitors.at(self.attached.seat) {
+    pub(crate) fn is_near<R: Wait>(&self, rt: &R) -> bool {
+        let inside = self.topic.inside.lock(rt);
+        match inside.hearers.visitors.at(self.seat) {
             Some(visitor) => visitor.is_near(),
             None => false,
-        }
-    }
-
-    /// The database is to be copied. Refused (F20) unless the client is at the broker's own machine and a folder was given for
-    /// copies, and (F12) while a copy is waited for.
-    pub(crate) fn back_up(&self) -> Result<Reply, Fault> {
-        if self.directory.is_closed() {
-            return Err(Fault::StoreFailed);
-        }
-        if !self.is_near() {
-            return Ok(Reply::Refused(Fault::BadRoute));
-        }
-        match self.directory.want_backup() {
-            Ok(()) => Ok(Reply::Done),
-            Err(fault) => Ok(Reply::Refused(fault)),
         }
     }
 }

@@ -4,16 +4,15 @@ ghost use Rattle.position_core.specs.TopicName.{topic_text};
 ghost use Rattle.broker_dir.specs.Coming.{HasSeat, IsComing};
 ghost use Rattle.broker_dir.specs.Refusing.{IsRefusal};
 
-use crate::attached::{Attached, Coming, Seated};
+use crate::attached::Attached;
 use crate::directory::Directory;
-use crate::gate::Gate;
 use crate::opening::found_in;
 use crate::topic::Shared;
-use crate::visitors::Visitor;
+use broker_parts::Coming;
 use delivery_machine::{Fault, Opened, TopicName};
 use marks::Naming;
 use row_forms::topic_text;
-use session_bells::{Bell, Rest};
+use session_bells::Bell;
 use sqlite::Alter;
 use std::sync::{Arc, Wait};
 
@@ -31,13 +30,13 @@ impl<T: Opened + Drop, S: Alter, J: Naming, B: Bell + Drop> Directory<T, S, J, B
         name: &TopicName,
         create: bool,
         bell: Arc<B>,
-    ) -> Result<Coming<T, J, B>, Fault>
+    ) -> Result<Coming<Attached<T, J, B>, B>, Fault>
         ensures at { IfOk result (IsComing (topic_text name.now)) }
         ensures seat { IfOk result HasSeat }
         ensures unknown { result ≡ Err Fault.NoSuchSubscription → create ≡ false }
         ensures faults { IfErr result (λ fault. (fault ≡ Fault.JournalFull) ⊎ IsRefusal fault) }
     {
-        if self.is_closed() {
+        if self.closed.is_shut() {
             drop(bell);
             return Err(Fault::StoreFailed);
         }
@@ -63,59 +62,34 @@ impl<T: Opened + Drop, S: Alter, J: Naming, B: Bell + Drop> Directory<T, S, J, B
             None => self.open_in(rt, table, text, name, create, Some(bell)),
         }
     }
+}
 
-    /// The one at the seat says who it is, to those who look.
-    pub fn introduce<R: Wait>(&self, rt: &R, attached: &Attached<T, J, B>, visitor: Visitor) {
-        let mut inside = attached.topic.inside.lock(rt);
-        inside.visitors.enter(attached.seat, visitor);
-    }
+/// A topic that somebody has left.
+#[derive(Clone, Copy, Debug, PartialEq, Eq)]
+pub(crate) enum Left {
+    Stays,
+    /// It has nothing in it, and nothing is stored of it.
+    Blank,
+    /// Its journal is full: it is to be seen out.
+    Ends,
+}
 
-    /// Lends the one at the seat its calls.
-    pub fn caller<'a, R: Wait, G: Gate>(
-        &'a self,
-        rt: &'a R,
-        attached: &'a Attached<T, J, B>,
-        gate: &'a G,
-    ) -> Seated<'a, T, S, J, B, R, G> {
-        Seated {
-            rt,
-            directory: self,
-            attached,
-            gate,
-            refused: None,
-        }
-    }
-
-    /// The one at the seat has nothing to do until what it waits for has come, when its bell rings. False where it has
-    /// come already.
-    pub fn rest<R: Wait>(&self, rt: &R, attached: &Attached<T, J, B>, rest: Rest) -> bool {
-        if self.is_closed() {
-            return false;
-        }
-        let mut inside = attached.topic.inside.lock(rt);
-        inside.bells.rest(rt, attached.seat, rest)
-    }
-
-    /// Frees the seat. A topic with nothing in it, of which nothing is stored, leaves with the last one who sat there: so a
-    /// name is made by what is done there, and by no attach. One whose journal is full is seen out once nobody sits there.
-    pub fn detach<R: Wait>(&self, rt: &R, attached: Attached<T, J, B>) {
-        let seat = attached.seat;
-        let topic = attached.into_topic();
-        let mut inside = topic.inside.lock(rt);
+impl<T: Opened + Drop, J: Naming, B: Bell + Drop> Shared<T, J, B> {
+    /// Nobody sits at the seat any more. The number is that of the topic's last use.
+    pub(crate) fn leave<R: Wait>(&self, rt: &R, seat: u64, used: u64) -> Left {
+        let mut inside = self.inside.lock(rt);
         inside.exit(rt, seat);
-        if topic.has_to_go() {
-            topic.set_to_go(inside.visitors.any_to_go());
+        if self.signs.has_to_go() {
+            self.signs.set_to_go(inside.hearers.visitors.any_to_go());
         }
-        inside.used = self.uses.next();
-        let is_blank = inside.is_blank();
-        let leaves = inside.wants_seeing_out();
-        drop(inside);
-        if leaves {
-            self.board.send(rt, topic);
-        } else if is_blank {
-            self.leave_blank(rt, topic);
+        inside.used = used;
+        let stage = inside.stage;
+        if inside.wanted.end(stage) {
+            Left::Ends
+        } else if inside.is_blank() {
+            Left::Blank
         } else {
-            drop(topic);
+            Left::Stays
         }
     }
 }

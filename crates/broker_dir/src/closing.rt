@@ -20,6 +20,20 @@ impl Closed {
             cell: OnceLock::new(),
         }
     }
+
+    /// Whether the store failed, so that all is refused (F16).
+    pub(crate) fn is_shut(&self) -> bool {
+        self.cell.witness().is_some()
+    }
+
+    fn shut<R: Wait>(&self, rt: &R) -> OnceToken<'_, ()>
+        ensures { result.of ≡ self.now.cell.id }
+    {
+        match self.cell.try_insert(rt, ()) {
+            Ok(closed) => closed,
+            Err((closed, _)) => closed,
+        }
+    }
 }
 
 /// A store that failed. It is neither copied nor dropped: whoever has it can do no more with it than close the directory.
@@ -46,30 +60,16 @@ impl Unstored {
 }
 
 impl<T: Opened + Drop, S: Alter, J: Naming, B: Bell + Drop> Directory<T, S, J, B> {
-    /// Whether the store failed, so that all is refused (F16).
-    pub fn is_closed(&self) -> bool {
-        self.closed.cell.witness().is_some()
-    }
-
     /// Nothing is stored any more, and all is refused (F16). All sessions are rung, so that they learn of it. What is given
     /// shows that the directory is closed.
     pub fn close<R: Wait>(&self, rt: &R) -> OnceToken<'_, ()>
         ensures { result.of ≡ self.now.closed.cell.id }
     {
-        let closed = self.shut(rt);
+        let closed = self.closed.shut(rt);
         self.board.close(rt);
-        self.ring_all(rt);
+        let table = self.table.lock(rt);
+        table.ring_all(rt, Fault::StoreFailed);
         closed
-    }
-
-    /// The directory counts as closed from now on.
-    fn shut<R: Wait>(&self, rt: &R) -> OnceToken<'_, ()>
-        ensures { result.of ≡ self.now.closed.cell.id }
-    {
-        match self.closed.cell.try_insert(rt, ()) {
-            Ok(closed) => closed,
-            Err((closed, _)) => closed,
-        }
     }
 
     /// Closes the directory, since the store failed.

@@ -11,9 +11,9 @@ ghost use Rattle.row_store.specs.Keeping.{Deletes};
 use crate::closing::{Failed, Unstored};
 use crate::directory::Directory;
 use crate::inside::Inside;
-use crate::stage::Stage;
 use crate::table::Table;
 use crate::topic::Shared;
+use broker_parts::Stage;
 use delivery_machine::{Fault, Opened, Reply};
 use marks::Naming;
 use row_forms::topic_text;
@@ -52,9 +52,6 @@ impl<T: Opened + Drop, S: Alter, J: Naming, B: Bell + Drop> Directory<T, S, J, B
         rt: &R,
         topic: &Arc<Shared<T, J, B>>,
     ) -> Result<Reply, Fault> {
-        if self.is_closed() {
-            return Err(Fault::StoreFailed);
-        }
         let deleted = self.delete_locked(rt, topic);
         match deleted {
             Ok(()) => Ok(Reply::Done),
@@ -77,9 +74,9 @@ impl<T: Opened + Drop, S: Alter, J: Naming, B: Bell + Drop> Directory<T, S, J, B
         let mut inside = topic.inside.lock(rt);
         match delete_from(self.alloc, &mut *table, &mut *keeper, &mut *inside) {
             Ok(()) => {
-                topic.note_over();
+                topic.signs.note_over();
                 self.counts.unload();
-                inside.bells.ring_all(rt);
+                inside.hearers.bells.ring_all(rt);
                 Ok(())
             }
             Err(undeleted) => Err(undeleted),

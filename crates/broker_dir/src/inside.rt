@@ -3,21 +3,18 @@ ghost use Rattle.std.specs.Prelude.{◌≡◌, ◌≢◌, ◌-◌, ◌<◌, ◌�
 ghost use Rattle.delivery_machine.specs.Journals.{is_storing};
 ghost use Rattle.topic_shared.specs.Kept.{is_end};
 ghost use Rattle.stored_cell.specs.Held.{IsAtRest};
-ghost use Rattle.broker_dir.specs.Ends.{entry_refusal, is_ending, refused_at};
+ghost use Rattle.broker_parts.specs.Ends.{entry_refusal, is_ending, refused_at};
 ghost use Rattle.broker_dir.specs.Handing.{HandsOn};
 ghost use Rattle.broker_dir.specs.Trimming.{MayAnswer, most_after as most_going, rule_of as rule_by, trim_by as trims_by};
-ghost use Rattle.topic_seats.specs.Seats.{IsFree, without_seat};
+ghost use Rattle.topic_shared.specs.Seats.{IsFree, without_seat};
 
-use crate::graves::{Change, Graves};
 use crate::named_cell::NamedCell;
-use crate::stage::{Stage, is_ending};
-use crate::tallies::{Tallies, ends_producer};
 use crate::trimming::{most_after, rule_of, trim_by};
-use crate::visitors::Visitors;
+use broker_parts::{Hearers, Prepared, Stage, Wanted, is_ending};
 use delivery_machine::{Event, Fault, Moment, Opened, Reply, Retention, Snapshot};
 use marks::Naming;
 use row_store::OpenCell;
-use session_bells::{Asked, Bell, Bells};
+use session_bells::{Asked, Bell};
 use std::alloc::Global;
 use std::sync::{Arc, Wait};
 use stored_cell::Kept;
@@ -38,35 +35,38 @@ pub(crate) fn is_storing(event: &Event) -> bool
     matches!(event, Event::Stored | Event::StoredTo { .. })
 }
 
-/// Whether the reply to a consumer is noted at its subscription.
-fn is_of_subscription(reply: &Reply) -> bool {
-    matches!(
-        reply,
-        Reply::Sent { .. } | Reply::Released { .. } | Reply::Rewound { .. } | Reply::Died { .. }
-    )
+/// Whether the event may be put to the topic by one who says that it sits at the seat. Nobody sits at 0, and nobody at a seat
+/// calls something durable.
+fn may_ask(seat: u64, event: &Event) -> bool
+    ensures seat { IsTrue result → 0 < seat }
+    ensures not_storing { IsTrue result → is_storing event.now ≡ false }
+{
+    seat != 0 && !is_storing(event)
 }
 
 /// What a topic's lock guards.
-#[derive(Drop)]
 pub(crate) struct Inside<T: Opened + Drop, J: Naming, B: Bell + Drop> {
     pub(crate) topic: NamedCell<T, J>,
     pub(crate) stage: Stage,
-    pub(crate) bells: Bells<B>,
-    /// It waits on the board to be stored, or is being stored.
-    pub(crate) is_queued: bool,
-    /// A store of it found no memory: it is to be stored although it has not changed since it was viewed.
-    pub(crate) is_behind: bool,
-    pub(crate) graves: Graves,
-    /// The thread that stores was told to send the courier here, and has not come yet.
-    pub(crate) is_sent: bool,
-    /// A courier waits until more of the topic is stored.
-    pub(crate) is_awaited: bool,
+    pub(crate) hearers: Hearers<B>,
+    pub(crate) wanted: Wanted,
     /// The number of its last use.
     pub(crate) used: u64,
     /// How many messages had gone when its journal last began anew for that.
     rolled_at: u64,
-    pub(crate) tallies: Tallies,
-    pub(crate) visitors: Visitors,
+}
+
+impl<T: Opened + Drop, J: Naming, B: Bell + Drop> Drop for Inside<T, J, B> {
+    fn drop(self) {
+        let Inside {
+            topic: _,
+            stage: _,
+            hearers: _,
+            wanted: _,
+            used: _,
+            rolled_at: _,
+        } = self;
+    }
 }
 
 /// A topic that may leave, by the number of its last use: nobody is connected, and what is stored of it is the topic as it is.
@@ -89,7 +89,7 @@ impl<T: Opened + Drop, J: Naming, B: Bell + Drop> Inside<T, J, B> {
     /// Over a topic that was just opened: the courier is to look at each of its subscriptions in which letters lie.
     pub(crate) fn opened(alloc: Global, topic: OpenCell<T, J>) -> Result<Self, Fault>
         ensures ok { IfOk result (λ inside. (inside.topic.cell ≡ topic) × (inside.topic.name ≡ topic.cell.state.name)) }
-        ensures open { IfOk result (λ inside. (inside.stage ≡ Stage.Open) × (inside.is_queued ≡ false) × (inside.is_behind ≡ false)) }
+        ensures open { IfOk result (λ inside. (inside.stage ≡ Stage.Open) × (inside.wanted.is_queued ≡ false) × (inside.wanted.is_behind ≡ false)) }
         ensures fault { IfErr result (λ fault. fault ≡ Fault.NoMemory) }
     {
         match NamedCell::opened(topic) {
@@ -105,29 +105,22 @@ impl<T: Opened + Drop, J: Naming, B: Bell + Drop> Inside<T, J, B> {
     /// The snapshot is of the topic as it was opened.
     fn knowing(alloc: Global, topic: NamedCell<T, J>, snapshot: &Snapshot) -> Result<Self, Fault>
         ensures ok { IfOk result (λ inside. inside.topic ≡ topic) }
-        ensures open { IfOk result (λ inside. (inside.stage ≡ Stage.Open) × (inside.is_queued ≡ false) × (inside.is_behind ≡ false)) }
+        ensures open { IfOk result (λ inside. (inside.stage ≡ Stage.Open) × (inside.wanted.is_queued ≡ false) × (inside.wanted.is_behind ≡ false)) }
         ensures fault { IfErr result (λ fault. fault ≡ Fault.NoMemory) }
     {
         let gone = snapshot.gone();
         let durable = gone.saturating_add(snapshot.log().count() as u64);
-        let mut inside = Inside {
-            topic,
-            stage: Stage::Open,
-            bells: Bells::new(alloc, durable),
-            is_queued: false,
-            is_behind: false,
-            graves: Graves::new(alloc),
-            is_sent: false,
-            is_awaited: false,
-            used: 0,
-            rolled_at: gone,
-            tallies: Tallies::new(),
-            visitors: Visitors::new(alloc),
-        };
-        match inside.graves.know(snapshot.subscriptions()) {
-            Ok(()) => Ok(inside),
+        match Hearers::opened(alloc, durable, snapshot.subscriptions()) {
+            Ok(hearers) => Ok(Inside {
+                topic,
+                stage: Stage::Open,
+                hearers,
+                wanted: Wanted::new(),
+                used: 0,
+                rolled_at: gone,
+            }),
             Err(fault) => {
-                drop(inside);
+                drop(topic);
                 Err(fault)
             }
         }
@@ -142,7 +135,7 @@ impl<T: Opened + Drop, J: Naming, B: Bell + Drop> Inside<T, J, B> {
         ensures faults { IfErr result (λ fault. ((fault ≡ Fault.JournalFull) × (self.old.stage ≡ Stage.Leaving)) ⊎ (fault ≡ Fault.NoRoom) ⊎ (fault ≡ Fault.NoMemory)) }
         ensures refused { OnErr result (self.new.topic.cell ≡ self.old.topic.cell) }
         ensures name { self.new.topic.name ≡ self.old.topic.name }
-        ensures others { (self.new.stage ≡ self.old.stage) × (self.new.is_queued ≡ self.old.is_queued) × (self.new.is_behind ≡ self.old.is_behind) }
+        ensures others { (self.new.stage ≡ self.old.stage) × (self.new.wanted ≡ self.old.wanted) }
     {
         if let Some(fault) = self.stage.entry_refusal() {
             drop(bell);
@@ -155,7 +148,7 @@ impl<T: Opened + Drop, J: Naming, B: Bell + Drop> Inside<T, J, B> {
                 return Err(fault);
             }
         };
-        match self.bells.enter(seat, bell) {
+        match self.hearers.bells.enter(seat, bell) {
             Ok(()) => Ok(seat),
             Err(_) => {
                 self.topic.exit(seat);
@@ -169,11 +162,10 @@ impl<T: Opened + Drop, J: Naming, B: Bell + Drop> Inside<T, J, B> {
         ensures cell { self.new.topic.cell ≡ record self.old.topic.cell { cell = record self.old.topic.cell.cell { taken = without_seat self.old.topic.cell.cell.taken seat } } }
         ensures free { 0 < seat → seat ≤ length self.old.topic.cell.cell.taken → IsFree self.new.topic.cell.cell.taken seat }
         ensures name { self.new.topic.name ≡ self.old.topic.name }
-        ensures others { (self.new.stage ≡ self.old.stage) × (self.new.is_queued ≡ self.old.is_queued) × (self.new.is_behind ≡ self.old.is_behind) }
+        ensures others { (self.new.stage ≡ self.old.stage) × (self.new.wanted ≡ self.old.wanted) }
     {
         self.topic.exit(seat);
-        self.bells.exit(rt, seat);
-        self.visitors.exit(seat);
+        self.hearers.exit(rt, seat);
     }
 
     /// One event of the one at the seat. Those are rung to whom it leads. Refused before the topic hears of it where the topic
@@ -196,8 +188,12 @@ impl<T: Opened + Drop, J: Naming, B: Bell + Drop> Inside<T, J, B> {
             drop(event);
             return Err(fault);
         }
-        match self.make_room(seat, asked, &event) {
-            Ok(change) => self.answer_with_room(rt, seat, asked, event, change),
+        if !may_ask(seat, &event) {
+            drop(event);
+            return Err(Fault::NoSession);
+        }
+        match self.hearers.prepare(asked, &event) {
+            Ok(prepared) => self.answer_with_room(rt, seat, asked, event, prepared),
             Err(fault) => {
                 drop(event);
                 Err(fault)
@@ -211,7 +207,7 @@ impl<T: Opened + Drop, J: Naming, B: Bell + Drop> Inside<T, J, B> {
         seat: u64,
         asked: &Asked,
         event: Event,
-        change: Change,
+        prepared: Prepared,
     ) -> Result<Reply, Fault>
         requires seat { 0 < seat }
         requires not_storing { is_storing event ≡ false }
@@ -222,15 +218,15 @@ impl<T: Opened + Drop, J: Naming, B: Bell + Drop> Inside<T, J, B> {
         ensures stays { result ≢ Err Fault.JournalFull → self.new.stage ≡ self.old.stage }
         ensures name { self.new.topic.name ≡ self.old.topic.name }
     {
-        let ends = ends_producer(&event);
         match self.topic.call(seat, event) {
             Ok(receipt) => {
-                self.tallies.note(ends, &receipt.reply);
-                self.answered(rt, seat, asked, change, &receipt.reply);
+                self.hearers
+                    .answered(rt, seat, asked, prepared, &receipt.reply);
+                self.roll_if_long();
                 Ok(receipt.reply)
             }
             Err(fault) => {
-                drop(change);
+                drop(prepared);
                 self.refused(rt, seat, asked, fault);
                 Err(fault)
             }
@@ -243,11 +239,7 @@ impl<T: Opened + Drop, J: Naming, B: Bell + Drop> Inside<T, J, B> {
         ensures leaves { fault ≡ Fault.JournalFull → self.new.stage ≡ Stage.Leaving }
         ensures stays { fault ≢ Fault.JournalFull → self.new.stage ≡ self.old.stage }
     {
-        if let Asked::Joins(_) = asked {
-            let reply = Reply::Refused(fault);
-            self.bells.answered(rt, seat, asked, &reply);
-            drop(reply);
-        }
+        self.hearers.refused(rt, seat, asked, fault);
         if let Fault::JournalFull = fault {
             self.begin_to_leave(rt);
         }
@@ -259,7 +251,7 @@ impl<T: Opened + Drop, J: Naming, B: Bell + Drop> Inside<T, J, B> {
         ensures stage { self.new.stage ≡ Stage.Leaving }
     {
         self.stage = Stage::Leaving;
-        self.bells.ring_all(rt);
+        self.hearers.bells.ring_all(rt);
     }
 
     /// Before the topic is viewed by the thread that stores: where its journal is full it is to leave. Whether it may be
@@ -273,49 +265,9 @@ impl<T: Opened + Drop, J: Naming, B: Bell + Drop> Inside<T, J, B> {
         }
         let may = self.stage == Stage::Open;
         if !may {
-            self.is_queued = false;
+            self.wanted.is_queued = false;
         }
         may
-    }
-
-    fn answered<R: Wait>(&mut self, rt: &R, seat: u64, asked: &Asked, change: Change, reply: &Reply)
-        ensures state { self.new.topic.cell.cell.state ≡ self.old.topic.cell.cell.state }
-        ensures name { self.new.topic.name ≡ self.old.topic.name }
-        ensures stage { self.new.stage ≡ self.old.stage }
-    {
-        self.bells.answered(rt, seat, asked, reply);
-        self.graves.answered(change, reply);
-        if let Reply::Subscribed { consumer } = reply {
-            self.visitors.join(seat, *consumer);
-        }
-        if is_of_subscription(reply)
-            && let Some(name) = self.bells.subscription(seat)
-        {
-            self.graves.note(name, reply);
-        }
-        self.roll_if_long();
-    }
-
-    /// Room for what the one at the seat asked. Nobody sits at 0, and nobody at a seat calls something durable.
-    fn make_room(&mut self, seat: u64, asked: &Asked, event: &Event) -> Result<Change, Fault>
-        ensures seat { IfOk result (λ _. 0 < seat) }
-        ensures not_storing { IfOk result (λ _. is_storing event.now ≡ false) }
-        ensures stays { (self.new.topic ≡ self.old.topic) × (self.new.stage ≡ self.old.stage) }
-        ensures faults { IfErr result (λ fault. (fault ≡ Fault.NoSession) ⊎ (fault ≡ Fault.NoMemory)) }
-    {
-        if seat == 0 || is_storing(event) {
-            return Err(Fault::NoSession);
-        }
-        let Ok(change) = self.graves.prepare(event) else {
-            return Err(Fault::NoMemory);
-        };
-        match self.bells.prepare(asked) {
-            Ok(()) => Ok(change),
-            Err(_) => {
-                drop(change);
-                Err(Fault::NoMemory)
-            }
-        }
     }
 
     /// The topic's last use, where it may leave: nobody is connected, and what is stored of it is the topic as it is.
@@ -337,35 +289,6 @@ impl<T: Opened + Drop, J: Naming, B: Bell + Drop> Inside<T, J, B> {
         self.topic.is_blank()
     }
 
-    /// The topic was viewed, to be stored: what has died so far is in it.
-    pub(crate) fn viewed(&mut self) {
-        self.graves.viewed();
-    }
-
-    /// Whether the thread that stores is to be told now to send the courier. It counts as told then.
-    pub(crate) fn wants_courier(&mut self) -> bool
-        ensures topic { self.new.topic ≡ self.old.topic }
-        ensures stage { self.new.stage ≡ self.old.stage }
-    {
-        let has_open = self.graves.first_open().is_some();
-        let wants = !self.is_sent && (has_open || self.is_awaited);
-        if wants {
-            self.is_sent = true;
-        }
-        wants
-    }
-
-    /// Whether the thread that stores is to be told now to see the topic out. It counts as told then.
-    pub(crate) fn wants_seeing_out(&mut self) -> bool
-        ensures topic { self.new.topic ≡ self.old.topic }
-    {
-        let wants = !self.is_sent && self.stage == Stage::Leaving;
-        if wants {
-            self.is_sent = true;
-        }
-        wants
-    }
-
     /// One event of one who takes a free seat for it alone. An end needs none, so that nothing is left behind where all
     /// are taken: where it detaches one who is attached it is always answered.
     pub(crate) fn visit<R: Wait>(&mut self, rt: &R, event: Event) -> Result<Reply, Fault>
@@ -375,7 +298,8 @@ impl<T: Opened + Drop, J: Naming, B: Bell + Drop> Inside<T, J, B> {
         ensures name { self.new.topic.name ≡ self.old.topic.name }
     {
         if is_ending(&event) {
-            self.answer_with_room(rt, VISITOR, &Asked::Nothing, event, Change::Nothing)
+            let prepared = Prepared::end(&event);
+            self.answer_with_room(rt, VISITOR, &Asked::Nothing, event, prepared)
         } else {
             self.visit_seated(rt, event)
         }
@@ -403,14 +327,13 @@ impl<T: Opened + Drop, J: Naming, B: Bell + Drop> Inside<T, J, B> {
     pub(crate) fn confirmed<R: Wait>(&mut self, rt: &R, length: u64, kept: Kept<J>) -> u64
         ensures { self.new.topic.name ≡ self.old.topic.name }
     {
-        let came = length.saturating_sub(self.bells.durable());
+        let came = length.saturating_sub(self.hearers.bells.durable());
         let is_done = self.topic.confirm(kept);
-        self.is_queued = false;
-        self.is_behind = !is_done;
+        self.wanted.stored(is_done);
         if is_done {
-            self.graves.stored();
+            self.hearers.graves.stored();
             self.roll_if_long();
-            self.bells.stored(rt, length);
+            self.hearers.bells.stored(rt, length);
         }
         came
     }
@@ -451,12 +374,6 @@ impl<T: Opened + Drop, J: Naming, B: Bell + Drop> Inside<T, J, B> {
         }
     }
 
-    /// No place was left on the board: it is put there with the next call.
-    pub(crate) fn fall_behind(&mut self) {
-        self.is_queued = false;
-        self.is_behind = true;
-    }
-
     pub(crate) fn roll_if_long(&mut self)
         ensures state { self.new.topic.cell.cell.state ≡ self.old.topic.cell.cell.state }
         ensures name { self.new.topic.name ≡ self.old.topic.name }
@@ -467,14 +384,9 @@ impl<T: Opened + Drop, J: Naming, B: Bell + Drop> Inside<T, J, B> {
         }
     }
 
-    /// Whether it is to be put on the board now, to be stored. It counts as put there then. One that leaves is stored once
-    /// nobody is there any more.
+    /// Whether it is to be put on the board now, to be stored. It counts as put there then.
     pub(crate) fn wants_storing(&mut self) -> bool {
-        let is_other = self.is_behind || self.topic.cell().cell().needs_storing();
-        let wants = !self.is_queued && is_other && self.stage == Stage::Open;
-        if wants {
-            self.is_queued = true;
-        }
-        wants
+        let has_changed = self.topic.cell().cell().needs_storing();
+        self.wanted.queue(has_changed, self.stage)
     }
 }

@@ -7,27 +7,28 @@ ghost use Rattle.row_store.specs.Keeping.{StoresState};
 use crate::closing::Unstored;
 use crate::directory::Directory;
 use crate::inside::Inside;
-use crate::stage::Stage;
 use crate::table::Table;
 use crate::topic::Shared;
+use crate::unloading::{let_go, unused_at};
+use broker_parts::{Counts, Guarded, Stage};
 use delivery_machine::Opened;
 use marks::Naming;
 use row_store::Keeper;
 use session_bells::Bell;
 use sqlite::Alter;
-use std::sync::{Arc, Wait};
+use std::sync::{Arc, Mutex, Wait};
 
 impl<T: Opened + Drop, S: Alter, J: Naming, B: Bell + Drop> Directory<T, S, J, B> {
     /// The topic is seen out, unless somebody is there still. Where there is no memory for its last store it is tried again
     /// once a minute.
     pub(crate) fn see_out<R: Wait>(&self, rt: &R, topic: Arc<Shared<T, J, B>>) {
-        is_told(rt, &topic);
+        topic.call_off(rt);
         let mut guard = self.table.lock(rt);
         let table = &mut *guard;
         let place = table.place_of(&topic.name);
         drop(topic);
         let stored = match place {
-            Some(place) => self.see_out_at(rt, table, place),
+            Some(place) => see_out_at(rt, &self.keeper, &self.counts, table, place),
             None => Ok(()),
         };
         drop(guard);
@@ -37,20 +38,9 @@ impl<T: Opened + Drop, S: Alter, J: Naming, B: Bell + Drop> Directory<T, S, J, B
     /// All whose journals are full are seen out, as far as nobody is there.
     pub(crate) fn see_all_out<R: Wait>(&self, rt: &R) {
         let mut table = self.table.lock(rt);
-        let stored = self.see_each_out(rt, &mut *table);
+        let stored = see_each_out(rt, &self.keeper, &self.counts, &mut *table);
         drop(table);
         self.close_where_failed(rt, stored);
-    }
-
-    fn see_each_out<R: Wait>(&self, rt: &R, table: &mut Table<T, J, B>) -> Result<(), Unstored> {
-        let count = table.count();
-        for passed in 0..count {
-            match self.see_out_at(rt, table, count - 1 - passed) {
-                Ok(()) => {}
-                Err(unstored) => return Err(unstored),
-            }
-        }
-        Ok(())
     }
 
     /// Closes the directory where the store failed.
@@ -61,59 +51,70 @@ impl<T: Opened + Drop, S: Alter, J: Naming, B: Bell + Drop> Directory<T, S, J, B
             Err(Unstored::Failed(failed)) => drop(self.close_after(rt, failed)),
         }
     }
+}
 
-    /// The topic at the place is stored and leaves, where its journal is full and nobody but the table has it. The table's lock
-    /// is held, so that nobody comes to it meanwhile.
-    fn see_out_at<R: Wait>(
-        &self,
-        rt: &R,
-        table: &mut Table<T, J, B>,
-        place: usize,
-    ) -> Result<(), Unstored> {
-        if !table.is_sole(place) {
-            return Ok(());
-        }
-        match self.store_last(rt, table, place) {
-            Ok(true) => {
-                if let Some(unused) = self.unused_at(rt, table, place) {
-                    self.let_go(rt, table, unused);
-                }
-                Ok(())
-            }
-            Ok(false) => Ok(()),
-            Err(unstored) => Err(unstored),
+fn see_each_out<T: Opened + Drop, S: Alter, J: Naming, B: Bell + Drop, R: Wait>(
+    rt: &R,
+    keeper: &Mutex<Keeper<S, J>>,
+    counts: &Counts,
+    table: &mut Table<T, J, B>,
+) -> Result<(), Unstored> {
+    let count = table.count();
+    for passed in 0..count {
+        match see_out_at(rt, keeper, counts, table, count - 1 - passed) {
+            Ok(()) => {}
+            Err(unstored) => return Err(unstored),
         }
     }
+    Ok(())
+}
 
-    /// The last store of the topic at the place, where its journal is full. Whether it is.
-    fn store_last<R: Wait>(
-        &self,
-        rt: &R,
-        table: &Table<T, J, B>,
-        place: usize,
-    ) -> Result<bool, Unstored> {
-        let Some(topic) = table.at(place) else {
-            return Ok(false);
-        };
-        if !topic.is_over() {
-            return Ok(false);
+/// The topic at the place is stored and leaves, where its journal is full and nobody but the table has it. The table's lock
+/// is held, so that nobody comes to it meanwhile.
+fn see_out_at<T: Opened + Drop, S: Alter, J: Naming, B: Bell + Drop, R: Wait>(
+    rt: &R,
+    keeper: &Mutex<Keeper<S, J>>,
+    counts: &Counts,
+    table: &mut Table<T, J, B>,
+    place: usize,
+) -> Result<(), Unstored> {
+    if !table.is_sole(place) {
+        return Ok(());
+    }
+    let stored = match table.at(place) {
+        Some(topic) => store_last(rt, keeper, topic),
+        None => Ok(false),
+    };
+    match stored {
+        Ok(true) => {
+            if let Some(unused) = unused_at(rt, table, place) {
+                let_go(rt, keeper, counts, table, unused);
+            }
+            Ok(())
         }
-        let mut keeper = self.keeper.lock(rt);
-        let mut inside = topic.inside.lock(rt);
-        if inside.stage != Stage::Leaving {
-            return Ok(false);
-        }
-        match store_now(&mut *keeper, &mut *inside) {
-            Ok(()) => Ok(true),
-            Err(unstored) => Err(unstored),
-        }
+        Ok(false) => Ok(()),
+        Err(unstored) => Err(unstored),
     }
 }
 
-/// The thread has come to the topic that it was told to see out.
-fn is_told<T: Opened + Drop, J: Naming, B: Bell + Drop, R: Wait>(rt: &R, topic: &Shared<T, J, B>) {
+/// The last store of the topic, where its journal is full. Whether it is.
+fn store_last<T: Opened + Drop, S: Alter, J: Naming, B: Bell + Drop, R: Wait>(
+    rt: &R,
+    keeper: &Mutex<Keeper<S, J>>,
+    topic: &Shared<T, J, B>,
+) -> Result<bool, Unstored> {
+    if !topic.signs.is_over() {
+        return Ok(false);
+    }
+    let mut keeper = keeper.lock(rt);
     let mut inside = topic.inside.lock(rt);
-    inside.is_sent = false;
+    if inside.stage != Stage::Leaving {
+        return Ok(false);
+    }
+    match store_now(&mut *keeper, &mut *inside) {
+        Ok(()) => Ok(true),
+        Err(unstored) => Err(unstored),
+    }
 }
 
 /// The topic is stored as it is, in one hold. Its journal begins anew before, so that the store has its line.

@@ -7,7 +7,7 @@ ghost use Rattle.delivery_machine.specs.Snapshot.{snapshot_of};
 ghost use Rattle.delivery_machine.specs.Places.{snapshot_in};
 ghost use Rattle.sqlite.specs.State.{HasCleanDisk};
 ghost use Rattle.sqlite.specs.Held.{state};
-ghost use Rattle.topic_seats.specs.Seats.{IsFree, without_seat};
+ghost use Rattle.topic_shared.specs.Seats.{IsFree, without_seat};
 ghost use Rattle.topic_shared.specs.Kept.{is_end};
 ghost use Rattle.row_store.specs.Keeping.{StoresState};
 ghost use Rattle.row_store.specs.Opened.{has_origin};

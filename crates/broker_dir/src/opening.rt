@@ -1,6 +1,6 @@
 // How a topic comes to be open: what its rows have is loaded, and the topic is listed under its name.
 ghost use Rattle.std.specs.Prelude.{◌≡◌, ◌≤◌, ◌<◌, ◌-◌, ◌⊎◌, ◌∷◌, ◌++◌, [], Err, IfErr, IfOk, IfSome, IfNone, IsSome, MatchOption, None, Ok, OnOk, OnErr, length, set, false, true};
-ghost use Rattle.topic_seats.specs.Seats.{IsFree};
+ghost use Rattle.topic_shared.specs.Seats.{IsFree};
 ghost use Rattle.stored_cell.specs.Opening.{begins};
 ghost use Rattle.std.specs.String.{string_bytes};
 ghost use Rattle.indexmap.specs.IndexMap.{get_by_text};
@@ -9,22 +9,23 @@ ghost use Rattle.broker_dir.specs.Coming.{HasSeat, IsComing, Lists};
 ghost use Rattle.broker_dir.specs.Listing.{HasRoom, IsListed, most_open, names_of};
 ghost use Rattle.broker_dir.specs.Refusing.{IsLoadRefusal, IsRefusal, IsSeatRefusal};
 
-use crate::attached::{Attached, Coming};
+use crate::attached::Attached;
 use crate::directory::Directory;
 use crate::inside::Inside;
-use crate::stage::Stage;
+use crate::pieces::begin_opening;
 use crate::table::Table;
 use crate::topic::Shared;
-use crate::unloading::Room;
-use crate::waiting::{Opening, Waiter};
+use crate::unloading::{Room, make_place, room_in};
+use broker_parts::{Board, Coming, Opening, Opens, Stage, Waiter};
 use delivery_machine::{Fault, Opened, TopicName};
 use marks::Naming;
 use row_forms::topic_text;
-use row_store::open_cell;
+use row_store::{Keeper, open_cell};
 use session_bells::Bell;
 use sqlite::Alter;
 use std::alloc::Global;
-use std::sync::{Arc, Wait};
+use std::sync::{Arc, Mutex, Wait};
+use stored_cell::Terms;
 
 /// A topic that was just made, the seat of the one who sits there, and whether the courier is to be sent there.
 #[derive(Drop)]
@@ -46,7 +47,7 @@ impl<T: Opened + Drop, S: Alter, J: Naming, B: Bell + Drop> Directory<T, S, J, B
         name: &TopicName,
         create: bool,
         bell: Option<Arc<B>>,
-    ) -> Result<Coming<T, J, B>, Fault>
+    ) -> Result<Coming<Attached<T, J, B>, B>, Fault>
         requires text { string_bytes text ≡ topic_text name.now }
         requires new { get_by_text table.old.list.topics (string_bytes text) ≡ None }
         ensures opened { IfOk result (Lists (names_of table.old.list.topics.entries) (string_bytes text) (names_of table.new.list.topics.entries)) }
@@ -83,7 +84,7 @@ impl<T: Opened + Drop, S: Alter, J: Naming, B: Bell + Drop> Directory<T, S, J, B
         name: &TopicName,
         create: bool,
         bell: Option<Arc<B>>,
-    ) -> Result<Coming<T, J, B>, Fault>
+    ) -> Result<Coming<Attached<T, J, B>, B>, Fault>
         requires text { string_bytes text ≡ topic_text name.now }
         requires new { get_by_text table.old.list.topics (string_bytes text) ≡ None }
         ensures opened { IfOk result (Lists (names_of table.old.list.topics.entries) (string_bytes text) (names_of table.new.list.topics.entries)) }
@@ -94,12 +95,12 @@ impl<T: Opened + Drop, S: Alter, J: Naming, B: Bell + Drop> Directory<T, S, J, B
         ensures unknown { result ≡ Err Fault.NoSuchSubscription → create ≡ false }
         ensures faults { IfErr result IsRefusal }
     {
-        let Some(room) = self.room_in(rt, table) else {
+        let Some(room) = room_in(rt, table) else {
             drop(text);
             drop(bell);
             return Err(Fault::TooMany);
         };
-        match self.load(rt, name, create) {
+        match load(rt, self.alloc, &self.keeper, name, create, self.terms) {
             Ok(Some(inside)) => match self.open_with(rt, table, text, name, inside, bell, room) {
                 Ok(attached) => Ok(Coming::Seated(attached)),
                 Err(fault) => Err(fault),
@@ -107,7 +108,7 @@ impl<T: Opened + Drop, S: Alter, J: Naming, B: Bell + Drop> Directory<T, S, J, B
             Ok(None) => {
                 drop(text);
                 drop(room);
-                match self.begin_opening(rt, table, name, bell) {
+                match begin_opening(rt, self.alloc, &self.board, table, name, bell) {
                     Ok(waiter) => Ok(Coming::Waits(waiter)),
                     Err(fault) => Err(fault),
                 }
@@ -129,7 +130,7 @@ impl<T: Opened + Drop, S: Alter, J: Naming, B: Bell + Drop> Directory<T, S, J, B
         table: &mut Table<T, J, B>,
         text: String,
         name: &TopicName,
-        inside: Inside<T, J, B>,
+        mut inside: Inside<T, J, B>,
         bell: Option<Arc<B>>,
         room: Room,
     ) -> Result<Attached<T, J, B>, Fault>
@@ -144,49 +145,20 @@ impl<T: Opened + Drop, S: Alter, J: Naming, B: Bell + Drop> Directory<T, S, J, B
         ensures refused { OnErr result (table.new.list.topics.entries ≡ table.old.list.topics.entries) }
         ensures faults { IfErr result (λ fault. (fault ≡ Fault.NoRoom) ⊎ (fault ≡ Fault.NoMemory)) }
     {
-        let opened = match self.seated(rt, inside, name, bell, table.count()) {
-            Ok(made) => self.list(rt, table, text, made, room),
+        inside.used = self.uses.next();
+        let open = table.count();
+        match seated(rt, self.alloc, &self.board, inside, name, bell, open) {
+            Ok(made) => match self.list(rt, table, text, made, room) {
+                Ok(attached) => Ok(attached),
+                Err(fault) => {
+                    forget(rt, &self.keeper, name);
+                    Err(fault)
+                }
+            },
             Err(fault) => {
                 drop(text);
                 drop(room);
-                Err(fault)
-            }
-        };
-        if opened.is_err() {
-            self.forget(rt, name);
-        }
-        opened
-    }
-
-    /// The keeper lets go of what it knows of a topic that was loaded and is not open.
-    pub(crate) fn forget<R: Wait>(&self, rt: &R, name: &TopicName) {
-        let mut keeper = self.keeper.lock(rt);
-        keeper.forget(name);
-    }
-
-    fn seated<R: Wait>(
-        &self,
-        rt: &R,
-        mut inside: Inside<T, J, B>,
-        name: &TopicName,
-        bell: Option<Arc<B>>,
-        open: usize,
-    ) -> Result<Made<Shared<T, J, B>>, Fault>
-        requires name { inside.topic.name ≡ name.now }
-        requires open { inside.stage ≡ Stage.Open }
-        ensures at { IfOk result (λ made. made.topic.value.name ≡ name.now) }
-        ensures seat { IsSome bell → IfOk result (λ made. 0 < made.seat) }
-        ensures faults { IfErr result (λ fault. (fault ≡ Fault.NoRoom) ⊎ (fault ≡ Fault.NoMemory)) }
-    {
-        let sends = inside.wants_courier();
-        inside.used = self.uses.next();
-        match seat_for(&mut inside, bell) {
-            Ok(seat) => match self.share(rt, inside, name, open) {
-                Ok(topic) => Ok(Made { topic, seat, sends }),
-                Err(fault) => Err(fault),
-            },
-            Err(fault) => {
-                drop(inside);
+                forget(rt, &self.keeper, name);
                 Err(fault)
             }
         }
@@ -223,7 +195,7 @@ impl<T: Opened + Drop, S: Alter, J: Naming, B: Bell + Drop> Directory<T, S, J, B
             drop(topic);
             return Err(Fault::NoMemory);
         }
-        self.make_place(rt, table, room);
+        make_place(rt, &self.keeper, &self.counts, table, room);
         self.counts.load();
         if sends {
             self.board.send(rt, errand);
@@ -235,11 +207,7 @@ impl<T: Opened + Drop, S: Alter, J: Naming, B: Bell + Drop> Directory<T, S, J, B
 
     /// The open topic of the name, which is made where it is not known. Refused (F1) as long as it is being opened: whoever
     /// asked comes again.
-    pub(crate) fn open_topic<R: Wait>(
-        &self,
-        rt: &R,
-        name: &TopicName,
-    ) -> Result<Arc<Shared<T, J, B>>, Fault>
+    fn topic_for<R: Wait>(&self, rt: &R, name: &TopicName) -> Result<Arc<Shared<T, J, B>>, Fault>
         ensures at { IfOk result (λ topic. topic_text topic.value.name ≡ topic_text name.now) }
         ensures faults { IfErr result IsRefusal }
     {
@@ -252,7 +220,7 @@ impl<T: Opened + Drop, S: Alter, J: Naming, B: Bell + Drop> Directory<T, S, J, B
             Some(topic) => {
                 drop(text);
                 if let Ok(topic) = &topic {
-                    self.touch(rt, topic);
+                    topic.touch(rt, self.uses.next());
                 }
                 topic
             }
@@ -266,79 +234,127 @@ impl<T: Opened + Drop, S: Alter, J: Naming, B: Bell + Drop> Directory<T, S, J, B
             },
         }
     }
+}
 
-    /// The topic is used now.
-    fn touch<R: Wait>(&self, rt: &R, topic: &Shared<T, J, B>) {
-        let mut inside = topic.inside.lock(rt);
-        inside.used = self.uses.next();
+impl<T: Opened + Drop, S: Alter, J: Naming, B: Bell + Drop> Opens<Shared<T, J, B>>
+    for Directory<T, S, J, B> {
+    fn board(&self) -> &Board<Arc<Shared<T, J, B>>> {
+        &self.board
     }
 
-    /// What the rows have of the topic, with the keeper's lock held: `open_cell` says what that is. Of a topic that is not to
-    /// be made something is stored. None where it has more messages than are read at a time.
-    fn load<R: Wait>(
-        &self,
-        rt: &R,
-        name: &TopicName,
-        create: bool,
-    ) -> Result<Option<Inside<T, J, B>>, Fault>
-        ensures name { IfOk result (λ found. IfSome found (λ inside. inside.topic.name ≡ name.now)) }
-        ensures open { IfOk result (λ found. IfSome found (λ inside. inside.stage ≡ Stage.Open)) }
-        ensures begins { IfOk result (λ found. IfSome found (λ inside. inside.topic.cell.cell ≡ begins inside.topic.cell.cell.state self.now.terms)) }
-        ensures known { create ≡ false → IfOk result (λ found. IfSome found (λ inside. IsSome inside.topic.cell.stored)) }
-        ensures unknown { result ≡ Err Fault.NoSuchSubscription → create ≡ false }
-        ensures faults { IfErr result IsLoadRefusal }
-    {
-        let mut keeper = self.keeper.lock(rt);
-        let topic = match open_cell(self.alloc, &mut *keeper, name, create, self.terms) {
-            Ok(Some(topic)) => topic,
-            Ok(None) => return Ok(None),
-            Err(fault) => return Err(fault),
-        };
-        drop(keeper);
-        match Inside::opened(self.alloc, topic) {
-            Ok(inside) => Ok(Some(inside)),
+    fn open_topic<R: Wait>(&self, rt: &R, name: &TopicName) -> Result<Arc<Shared<T, J, B>>, Fault> {
+        self.topic_for(rt, name)
+    }
+}
+
+/// What the rows have of the topic, with the keeper's lock held: `open_cell` says what that is. Of a topic that is not to
+/// be made something is stored. None where it has more messages than are read at a time.
+fn load<T: Opened + Drop, S: Alter, J: Naming, B: Bell + Drop, R: Wait>(
+    rt: &R,
+    alloc: Global,
+    keeper: &Mutex<Keeper<S, J>>,
+    name: &TopicName,
+    create: bool,
+    terms: Terms,
+) -> Result<Option<Inside<T, J, B>>, Fault>
+    ensures name { IfOk result (λ found. IfSome found (λ inside. inside.topic.name ≡ name.now)) }
+    ensures open { IfOk result (λ found. IfSome found (λ inside. inside.stage ≡ Stage.Open)) }
+    ensures begins { IfOk result (λ found. IfSome found (λ inside. inside.topic.cell.cell ≡ begins inside.topic.cell.cell.state terms)) }
+    ensures known { create ≡ false → IfOk result (λ found. IfSome found (λ inside. IsSome inside.topic.cell.stored)) }
+    ensures unknown { result ≡ Err Fault.NoSuchSubscription → create ≡ false }
+    ensures faults { IfErr result IsLoadRefusal }
+{
+    let mut keeper = keeper.lock(rt);
+    let topic = match open_cell(alloc, &mut *keeper, name, create, terms) {
+        Ok(Some(topic)) => topic,
+        Ok(None) => return Ok(None),
+        Err(fault) => return Err(fault),
+    };
+    drop(keeper);
+    match Inside::opened(alloc, topic) {
+        Ok(inside) => Ok(Some(inside)),
+        Err(fault) => Err(fault),
+    }
+}
+
+/// The keeper lets go of what it knows of a topic that was loaded and is not open.
+pub(crate) fn forget<S: Alter, J: Naming, R: Wait>(
+    rt: &R,
+    keeper: &Mutex<Keeper<S, J>>,
+    name: &TopicName,
+) {
+    let mut keeper = keeper.lock(rt);
+    keeper.forget(name);
+}
+
+/// The topic under a lock of its own, with room for it on the board, and the one with the bell at a seat there.
+fn seated<X: Drop, T: Opened + Drop, J: Naming, B: Bell + Drop, R: Wait>(
+    rt: &R,
+    alloc: Global,
+    board: &Board<X>,
+    mut inside: Inside<T, J, B>,
+    name: &TopicName,
+    bell: Option<Arc<B>>,
+    open: usize,
+) -> Result<Made<Shared<T, J, B>>, Fault>
+    requires name { inside.topic.name ≡ name.now }
+    requires open { inside.stage ≡ Stage.Open }
+    ensures at { IfOk result (λ made. made.topic.value.name ≡ name.now) }
+    ensures seat { IsSome bell → IfOk result (λ made. 0 < made.seat) }
+    ensures faults { IfErr result (λ fault. (fault ≡ Fault.NoRoom) ⊎ (fault ≡ Fault.NoMemory)) }
+{
+    let has_letters = inside.hearers.has_letters();
+    let sends = inside.wanted.courier(has_letters);
+    match seat_for(&mut inside, bell) {
+        Ok(seat) => match share(rt, alloc, board, inside, name, open) {
+            Ok(topic) => Ok(Made { topic, seat, sends }),
             Err(fault) => Err(fault),
+        },
+        Err(fault) => {
+            drop(inside);
+            Err(fault)
         }
     }
+}
 
-    /// The topic under a lock of its own, with room for it on the board.
-    fn share<R: Wait>(
-        &self,
-        rt: &R,
-        inside: Inside<T, J, B>,
-        name: &TopicName,
-        open: usize,
-    ) -> Result<Arc<Shared<T, J, B>>, Fault>
-        requires { inside.topic.name ≡ name.now }
-        ensures at { IfOk result (λ topic. topic.value.name ≡ name.now) }
-        ensures fault { IfErr result (λ fault. fault ≡ Fault.NoMemory) }
-    {
-        match self.name_with_room(rt, name, open) {
-            Ok(name) => shared(self.alloc, name, inside),
-            Err(fault) => {
-                drop(inside);
-                Err(fault)
-            }
+/// The topic under a lock of its own, with room for it on the board.
+fn share<X: Drop, T: Opened + Drop, J: Naming, B: Bell + Drop, R: Wait>(
+    rt: &R,
+    alloc: Global,
+    board: &Board<X>,
+    inside: Inside<T, J, B>,
+    name: &TopicName,
+    open: usize,
+) -> Result<Arc<Shared<T, J, B>>, Fault>
+    requires { inside.topic.name ≡ name.now }
+    ensures at { IfOk result (λ topic. topic.value.name ≡ name.now) }
+    ensures fault { IfErr result (λ fault. fault ≡ Fault.NoMemory) }
+{
+    match name_with_room(rt, board, name, open) {
+        Ok(name) => shared(alloc, name, inside),
+        Err(fault) => {
+            drop(inside);
+            Err(fault)
         }
     }
+}
 
-    /// The name of a further topic, for which there is room on the board.
-    fn name_with_room<R: Wait>(
-        &self,
-        rt: &R,
-        name: &TopicName,
-        open: usize,
-    ) -> Result<TopicName, Fault>
-        ensures ok { IfOk result (λ copy. copy ≡ name.now) }
-        ensures fault { IfErr result (λ fault. fault ≡ Fault.NoMemory) }
-    {
-        if !self.board.make_room(rt, open.saturating_add(1)) {
-            return Err(Fault::NoMemory);
-        }
-        match name.clone() {
-            Ok(name) => Ok(name),
-            Err(_) => Err(Fault::NoMemory),
-        }
+/// The name of a further topic, for which there is room on the board.
+fn name_with_room<X: Drop, R: Wait>(
+    rt: &R,
+    board: &Board<X>,
+    name: &TopicName,
+    open: usize,
+) -> Result<TopicName, Fault>
+    ensures ok { IfOk result (λ copy. copy ≡ name.now) }
+    ensures fault { IfErr result (λ fault. fault ≡ Fault.NoMemory) }
+{
+    if !board.make_room(rt, open.saturating_add(1)) {
+        return Err(Fault::NoMemory);
+    }
+    match name.clone() {
+        Ok(name) => Ok(name),
+        Err(_) => Err(Fault::NoMemory),
     }
 }
 

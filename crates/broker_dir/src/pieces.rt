@@ -6,83 +6,52 @@ ghost use Rattle.indexmap.specs.IndexMap.{get_by_text};
 ghost use Rattle.position_core.specs.TopicName.{topic_text};
 ghost use Rattle.broker_dir.specs.Listing.{most_open};
 
-use crate::clock::{instant, since};
 use crate::directory::Directory;
-use crate::errand::Errands;
 use crate::inside::Inside;
-use crate::opening::{clone_of, found_in};
-use crate::stage::Stage;
+use crate::opening::{clone_of, forget, found_in};
 use crate::table::{MOST_OPEN, Table};
-use crate::waiting::{Opening, Outcome, Waiter};
+use crate::topic::Shared;
+use crate::unloading::room_in;
+use broker_parts::{Board, Opening, Outcome, Stage, Tasks, Waiter, instant, since};
 use delivery_machine::{Fault, Opened, TopicName};
 use marks::Naming;
 use row_forms::topic_text;
-use row_store::{LoadedTopic, Unread, load_topic};
+use row_store::{Keeper, LoadedTopic, Unread, load_topic};
 use session_bells::Bell;
 use sqlite::Alter;
 use std::alloc::Global;
 use std::rt::Clock;
-use std::sync::{Arc, Wait};
+use std::sync::{Arc, Mutex, Wait};
+use stored_cell::Terms;
 
 /// How many stores the thread makes before it makes a topic of what was read.
 const MOST_BEFORE: u32 = 8;
 
 impl<T: Opened + Drop, S: Alter, J: Naming, B: Bell + Drop> Directory<T, S, J, B> {
-    /// The topic is to be opened by the thread that stores, and whoever has the bell waits for it. Refused (F7) where 256 are
-    /// being opened, and (F1) for want of memory.
-    pub(crate) fn begin_opening<R: Wait>(
-        &self,
-        rt: &R,
-        table: &mut Table<T, J, B>,
-        name: &TopicName,
-        bell: Option<Arc<B>>,
-    ) -> Result<Waiter<B>, Fault>
-        ensures same { table.new.list ≡ table.old.list }
-        ensures at { IfOk result (λ waiter. waiter.opening.value.name ≡ name.now) }
-        ensures waits { IfOk result (λ _. map (λ opening. opening.value.name) table.new.openings.items ≡ map (λ opening. opening.value.name) table.old.openings.items ++ name.now ∷ []) }
-        ensures full { result ≡ Err Fault.TooMany → most_open ≤ length table.new.openings.items }
-        ensures faults { IfErr result (λ fault. (fault ≡ Fault.TooMany) ⊎ (fault ≡ Fault.NoMemory)) }
-    {
-        if table.openings() >= MOST_OPEN {
-            drop(bell);
-            return Err(Fault::TooMany);
-        }
-        match begun(self.alloc, table, name) {
-            Ok(opening) => {
-                self.board.open(rt);
-                Waiter::at(rt, opening, bell)
-            }
-            Err(fault) => {
-                drop(bell);
-                Err(fault)
-            }
-        }
-    }
-
     /// Reads a piece of the topic that was asked for first, with the right to store. Where that was the last one, the right is
     /// let go of, and the topic is made and opened, which takes a while where it has many messages.
-    pub(crate) fn open_on<R: Wait + Clock>(&self, rt: &R, errands: &mut Errands<T, J, B>) {
-        let Some(opening) = self.first_opening(rt) else {
+    pub(crate) fn open_on<R: Wait + Clock>(&self, rt: &R, tasks: &mut Tasks<Shared<T, J, B>>) {
+        let Some(opening) = first_opening(rt, &self.board, &self.table) else {
             return;
         };
-        let began = match errands.loading.take() {
+        let began = match tasks.loading.take() {
             Some(began) => Some(began),
             None => instant(rt),
         };
-        match self.read_on(rt, &opening.name) {
+        match read_on(rt, &self.keeper, &opening.name) {
             Ok(Some(loaded)) => {
                 self.step_aside(rt);
                 let outcome = self.open_read(rt, &opening.name, loaded);
                 let took = since(began, instant(rt));
                 self.counts.note_load(rt, &opening.name, took);
-                self.end_opening(rt, opening, outcome);
+                end_opening(rt, &self.table, opening, outcome);
             }
             // (who waits for one that has no rows any more comes again, and makes it or is refused)
-            Ok(None) => self.end_opening(rt, opening, Outcome::Open),
+            Ok(None) => end_opening(rt, &self.table, opening, Outcome::Open),
             Err(why) => match why.fault() {
-                Some(fault) => self.end_opening(rt, opening, Outcome::Refused(fault)),
+                Some(fault) => end_opening(rt, &self.table, opening, Outcome::Refused(fault)),
                 None => {
-                    errands.loading = began;
+                    tasks.loading = began;
                     drop(opening);
                 }
             },
@@ -100,51 +69,17 @@ impl<T: Opened + Drop, S: Alter, J: Naming, B: Bell + Drop> Directory<T, S, J, B
         }
     }
 
-    /// Reads a piece of the topic, with the keeper's lock held: `load_topic` says what that is.
-    fn read_on<R: Wait>(&self, rt: &R, name: &TopicName) -> Result<Option<LoadedTopic<J>>, Unread>
-        ensures { IfOk result (λ found. IfSome found (λ loaded. loaded.stored.kept.name ≡ name.now)) }
-    {
-        let mut keeper = self.keeper.lock(rt);
-        load_topic(&mut *keeper, name)
-    }
-
     /// The topic that was read is made, with all locks free, and is open then.
     fn open_read<R: Wait>(&self, rt: &R, name: &TopicName, loaded: LoadedTopic<J>) -> Outcome
         requires { loaded.stored.kept.name ≡ name.now }
     {
-        match self.made_of(loaded) {
+        match made_of(self.alloc, self.terms, loaded) {
             Ok(inside) => self.open_loaded(rt, name, inside),
             Err(fault) => {
-                self.forget(rt, name);
+                forget(rt, &self.keeper, name);
                 Outcome::Refused(fault)
             }
         }
-    }
-
-    /// The topic, which goes on from what was loaded.
-    fn made_of(&self, loaded: LoadedTopic<J>) -> Result<Inside<T, J, B>, Fault>
-        ensures name { IfOk result (λ inside. inside.topic.name ≡ loaded.stored.kept.name) }
-        ensures stored { IfOk result (λ inside. inside.topic.cell.stored ≡ Some loaded.stored) }
-        ensures open { IfOk result (λ inside. inside.stage ≡ Stage.Open) }
-        ensures fault { IfErr result (λ fault. fault ≡ Fault.NoMemory) }
-    {
-        match loaded.open(self.alloc, self.terms) {
-            Ok(topic) => Inside::opened(self.alloc, topic),
-            Err(fault) => Err(fault),
-        }
-    }
-
-    /// The topic that was asked for first. Where there is none, none waits to be opened.
-    fn first_opening<R: Wait>(&self, rt: &R) -> Option<Arc<Opening<B>>> {
-        let table = self.table.lock(rt);
-        let first = match table.first_opening() {
-            Some(opening) => clone_of(opening).ok(),
-            None => None,
-        };
-        if first.is_none() {
-            self.board.opened(rt);
-        }
-        first
     }
 
     /// The topic that was loaded is open, where there is room for it.
@@ -154,7 +89,7 @@ impl<T: Opened + Drop, S: Alter, J: Naming, B: Bell + Drop> Directory<T, S, J, B
     {
         let Ok(text) = topic_text(self.alloc, name) else {
             drop(inside);
-            self.forget(rt, name);
+            forget(rt, &self.keeper, name);
             return Outcome::Refused(Fault::NoMemory);
         };
         let mut guard = self.table.lock(rt);
@@ -183,10 +118,10 @@ impl<T: Opened + Drop, S: Alter, J: Naming, B: Bell + Drop> Directory<T, S, J, B
         requires name { inside.topic.name ≡ name.now }
         requires open { inside.stage ≡ Stage.Open }
     {
-        let Some(room) = self.room_in(rt, table) else {
+        let Some(room) = room_in(rt, table) else {
             drop(text);
             drop(inside);
-            self.forget(rt, name);
+            forget(rt, &self.keeper, name);
             return Outcome::Refused(Fault::TooMany);
         };
         match self.open_with(rt, table, text, name, inside, None, room) {
@@ -197,15 +132,98 @@ impl<T: Opened + Drop, S: Alter, J: Naming, B: Bell + Drop> Directory<T, S, J, B
             Err(fault) => Outcome::Refused(fault),
         }
     }
+}
 
-    /// The opening has ended, and all who wait for it learn what it came to.
-    fn end_opening<R: Wait>(&self, rt: &R, opening: Arc<Opening<B>>, outcome: Outcome) {
-        let mut guard = self.table.lock(rt);
-        let table = &mut *guard;
-        table.end_opening(&opening.name);
-        drop(guard);
-        opening.end(rt, outcome);
-        drop(opening);
+/// Reads a piece of the topic, with the keeper's lock held: `load_topic` says what that is.
+fn read_on<S: Alter, J: Naming, R: Wait>(
+    rt: &R,
+    keeper: &Mutex<Keeper<S, J>>,
+    name: &TopicName,
+) -> Result<Option<LoadedTopic<J>>, Unread>
+    ensures { IfOk result (λ found. IfSome found (λ loaded. loaded.stored.kept.name ≡ name.now)) }
+{
+    let mut keeper = keeper.lock(rt);
+    load_topic(&mut *keeper, name)
+}
+
+/// The topic, which goes on from what was loaded.
+fn made_of<T: Opened + Drop, J: Naming, B: Bell + Drop>(
+    alloc: Global,
+    terms: Terms,
+    loaded: LoadedTopic<J>,
+) -> Result<Inside<T, J, B>, Fault>
+    ensures name { IfOk result (λ inside. inside.topic.name ≡ loaded.stored.kept.name) }
+    ensures stored { IfOk result (λ inside. inside.topic.cell.stored ≡ Some loaded.stored) }
+    ensures open { IfOk result (λ inside. inside.stage ≡ Stage.Open) }
+    ensures fault { IfErr result (λ fault. fault ≡ Fault.NoMemory) }
+{
+    match loaded.open(alloc, terms) {
+        Ok(topic) => Inside::opened(alloc, topic),
+        Err(fault) => Err(fault),
+    }
+}
+
+/// The topic that was asked for first. Where there is none, none waits to be opened.
+fn first_opening<X: Drop, T: Opened + Drop, J: Naming, B: Bell + Drop, R: Wait>(
+    rt: &R,
+    board: &Board<X>,
+    table: &Mutex<Table<T, J, B>>,
+) -> Option<Arc<Opening<B>>> {
+    let table = table.lock(rt);
+    let first = match table.first_opening() {
+        Some(opening) => clone_of(opening).ok(),
+        None => None,
+    };
+    if first.is_none() {
+        board.opened(rt);
+    }
+    first
+}
+
+/// The opening has ended, and all who wait for it learn what it came to.
+fn end_opening<T: Opened + Drop, J: Naming, B: Bell + Drop, R: Wait>(
+    rt: &R,
+    table: &Mutex<Table<T, J, B>>,
+    opening: Arc<Opening<B>>,
+    outcome: Outcome,
+) {
+    let mut guard = table.lock(rt);
+    let table = &mut *guard;
+    table.end_opening(&opening.name);
+    drop(guard);
+    opening.end(rt, outcome);
+    drop(opening);
+}
+
+/// The topic is to be opened by the thread that stores, and whoever has the bell waits for it. Refused (F7) where 256 are
+/// being opened, and (F1) for want of memory.
+pub(crate) fn begin_opening<X: Drop, T: Opened + Drop, J: Naming, B: Bell + Drop, R: Wait>(
+    rt: &R,
+    alloc: Global,
+    board: &Board<X>,
+    table: &mut Table<T, J, B>,
+    name: &TopicName,
+    bell: Option<Arc<B>>,
+) -> Result<Waiter<B>, Fault>
+    ensures same { table.new.list ≡ table.old.list }
+    ensures at { IfOk result (λ waiter. waiter.opening.value.name ≡ name.now) }
+    ensures waits { IfOk result (λ _. map (λ opening. opening.value.name) table.new.openings.items ≡ map (λ opening. opening.value.name) table.old.openings.items ++ name.now ∷ []) }
+    ensures full { result ≡ Err Fault.TooMany → most_open ≤ length table.new.openings.items }
+    ensures faults { IfErr result (λ fault. (fault ≡ Fault.TooMany) ⊎ (fault ≡ Fault.NoMemory)) }
+{
+    if table.openings() >= MOST_OPEN {
+        drop(bell);
+        return Err(Fault::TooMany);
+    }
+    match begun(alloc, table, name) {
+        Ok(opening) => {
+            board.open(rt);
+            Waiter::at(rt, opening, bell)
+        }
+        Err(fault) => {
+            drop(bell);
+            Err(fault)
+        }
     }
 }
 

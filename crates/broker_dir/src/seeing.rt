@@ -9,14 +9,15 @@ ghost use Rattle.broker_dir.specs.Handing.{HandsOn};
 ghost use Rattle.broker_dir.specs.Seeing.{ShowsReply, ShowsSubscription, ShowsTopic};
 
 use crate::inside::{Inside, VISITOR};
-use crate::tallies::Traffic;
-use crate::visitors::Visitor;
-use delivery_machine::{Event, Fault, KeptSubscription, Opened, Reply, Snapshot, SubscriptionName};
+use broker_parts::{Traffic, Visitor};
+use delivery_machine::{
+    ConsumerCounts, Event, Fault, KeptSubscription, Opened, Reply, Snapshot, SubscriptionName,
+    Watched,
+};
 use marks::Naming;
 use session_bells::Bell;
 use status_pages::{Holds, SessionSeen, SubscriptionSeen, TopicSeen};
 use std::alloc::{AllocError, Global};
-use topic_watched::{ConsumerCounts, Watched};
 
 /// What is known of a subscription before its topic is asked.
 #[derive(Drop)]
@@ -196,7 +197,7 @@ impl<T: Opened + Drop, J: Naming, B: Bell + Drop> Inside<T, J, B> {
         let told = Told {
             name,
             oldest: oldest_of(snapshot, kept),
-            traffic: self.graves.traffic(&kept.name),
+            traffic: self.hearers.graves.traffic(&kept.name),
         };
         match self.subscription_seen(&kept.name, told) {
             Ok(Some(sub)) => match seen.push(sub) {
@@ -231,21 +232,16 @@ impl<T: Opened + Drop, J: Naming, B: Bell + Drop> Inside<T, J, B> {
 }
 
 impl<T: Watched + Drop, J: Naming, B: Bell + Drop> Inside<T, J, B> {
-    /// What the consumer at the seat has, where one is there.
-    fn counts_at(&self, seat: u64) -> Option<ConsumerCounts> {
-        match self.visitors.consumer(seat) {
-            Some(consumer) => self.topic.cell().cell().topic().consumer_counts(consumer),
-            None => None,
-        }
-    }
-
     /// Adds to what is seen who sits at the topic.
     fn see_sessions(&self, alloc: Global, seen: &mut Vec<SessionSeen>) -> Result<(), Fault> {
-        for seat in 1..self.visitors.last().saturating_add(1) {
-            if let Some(visitor) = self.visitors.at(seat) {
-                let name = self.bells.subscription(seat);
-                let Ok(session) = session_of(alloc, seat, &visitor, name, self.counts_at(seat))
-                else {
+        for seat in 1..self.hearers.visitors.last().saturating_add(1) {
+            if let Some(visitor) = self.hearers.visitors.at(seat) {
+                let name = self.hearers.bells.subscription(seat);
+                let counts = match self.hearers.visitors.consumer(seat) {
+                    Some(consumer) => self.topic.cell().cell().topic().consumer_counts(consumer),
+                    None => None,
+                };
+                let Ok(session) = session_of(alloc, seat, &visitor, name, counts) else {
                     return Err(Fault::NoMemory);
                 };
                 if seen.push(session).is_err() {
@@ -270,7 +266,7 @@ impl<T: Watched + Drop, J: Naming, B: Bell + Drop> Inside<T, J, B> {
         ensures oldest { result.oldest ≡ oldest_in snapshot.now.log }
         ensures none { result.subscriptions.items ≡ [] }
     {
-        let tallies = self.tallies;
+        let tallies = self.hearers.tallies;
         TopicSeen {
             name,
             gone: snapshot.gone(),

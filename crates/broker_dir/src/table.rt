@@ -7,7 +7,7 @@ ghost use Rattle.position_core.specs.TopicName.{same_topic, topic_text};
 ghost use Rattle.broker_dir.specs.Listing.{AreNamed};
 
 use crate::topic::Shared;
-use crate::waiting::{Opening, Outcome};
+use broker_parts::{Opening, Outcome};
 use delivery_machine::{Fault, Opened, TopicName};
 use indexmap::IndexMap;
 use marks::Naming;
@@ -165,10 +165,15 @@ impl<T: Opened + Drop, J: Naming, B: Bell + Drop> Table<T, J, B> {
         self.openings.retain(|opening| !opening.name.is(name));
     }
 
-    /// Whoever waits for a topic is refused.
-    pub(crate) fn refuse_waiters<R: Wait>(&self, rt: &R, fault: Fault) {
+    /// All sessions of all topics are rung, and whoever waits for a topic is refused.
+    pub(crate) fn ring_all<R: Wait>(&self, rt: &R, fault: Fault) {
         for opening in self.openings.iter() {
             opening.end(rt, Outcome::Refused(fault));
+        }
+        for place in 0..self.count() {
+            if let Some(topic) = self.at(place) {
+                topic.ring_all(rt);
+            }
         }
     }
 

@@ -2,10 +2,10 @@
 ghost use Rattle.std.specs.Prelude.{◌≡◌};
 
 use crate::inside::Inside;
-use delivery_machine::{Fault, Opened, TopicName};
+use broker_parts::{Guarded, Signs, Wants, is_short};
+use delivery_machine::{Event, Fault, Opened, Reply, TopicName};
 use marks::Naming;
 use session_bells::Bell;
-use std::sync::atomic::{AtomicBool, Ordering};
 use std::sync::{Mutex, Wait};
 
 /// An open topic. Its lock comes behind those of the directory and of the keeper. What it guards is of the name that
@@ -13,10 +13,7 @@ use std::sync::{Mutex, Wait};
 pub(crate) struct Shared<T: Opened + Drop, J: Naming, B: Bell + Drop> {
     pub(crate) name: TopicName,
     pub(crate) inside: Mutex<Inside<T, J, B>>,
-    /// It may not be used any more: its stage, which the lock guards, says why.
-    is_over: AtomicBool,
-    /// A session there is to end: which one, the lock guards.
-    has_to_go: AtomicBool,
+    pub(crate) signs: Signs,
 }
 
 impl<T: Opened + Drop, J: Naming, B: Bell + Drop> Drop for Shared<T, J, B> {
@@ -24,8 +21,7 @@ impl<T: Opened + Drop, J: Naming, B: Bell + Drop> Drop for Shared<T, J, B> {
         let Shared {
             name: _,
             inside: _,
-            is_over: _,
-            has_to_go: _,
+            signs: _,
         } = self;
     }
 }
@@ -37,35 +33,84 @@ impl<T: Opened + Drop, J: Naming, B: Bell + Drop> Shared<T, J, B> {
         Shared {
             name,
             inside: Mutex::new(inside),
-            is_over: AtomicBool::new(false),
-            has_to_go: AtomicBool::new(false),
+            signs: Signs::new(),
         }
-    }
-
-    /// Who sits there is to see, without its lock, that it may not be used any more.
-    pub(crate) fn note_over(&self) {
-        self.is_over.store(true, Ordering::SeqCst);
-    }
-
-    pub(crate) fn is_over(&self) -> bool {
-        self.is_over.load(Ordering::SeqCst)
-    }
-
-    /// Who sits there is to see, without its lock, whether a session is to end. Set under the lock.
-    pub(crate) fn set_to_go(&self, has: bool) {
-        self.has_to_go.store(has, Ordering::SeqCst);
-    }
-
-    pub(crate) fn has_to_go(&self) -> bool {
-        self.has_to_go.load(Ordering::SeqCst)
     }
 
     /// Why the one at the seat may not stay, where it may not.
     pub(crate) fn refusal<R: Wait>(&self, rt: &R, seat: u64) -> Option<Fault> {
-        if !self.is_over() && !self.has_to_go() {
+        if self.signs.are_clear() {
             return None;
         }
         let inside = self.inside.lock(rt);
-        inside.refusal(seat)
+        inside.hearers.visitors.refusal(inside.stage, seat)
+    }
+
+    /// The number of its last use.
+    pub(crate) fn touch<R: Wait>(&self, rt: &R, used: u64) {
+        let mut inside = self.inside.lock(rt);
+        inside.used = used;
+    }
+
+    /// All who sit there are rung.
+    pub(crate) fn ring_all<R: Wait>(&self, rt: &R) {
+        let inside = self.inside.lock(rt);
+        inside.hearers.bells.ring_all(rt);
+    }
+}
+
+impl<T: Opened + Drop, J: Naming, B: Bell + Drop> Guarded for Shared<T, J, B> {
+    fn name(&self) -> &TopicName {
+        &self.name
+    }
+
+    fn is_over(&self) -> bool {
+        self.signs.is_over()
+    }
+
+    fn fall_behind<R: Wait>(&self, rt: &R) {
+        let mut inside = self.inside.lock(rt);
+        inside.wanted.fall_behind();
+    }
+
+    fn call_off<R: Wait>(&self, rt: &R) {
+        let mut inside = self.inside.lock(rt);
+        inside.wanted.is_called = false;
+    }
+
+    fn visit<R: Wait>(
+        &self,
+        rt: &R,
+        event: Event,
+        awaited: Option<u64>,
+    ) -> (Result<Reply, Fault>, Wants) {
+        let mut inside = self.inside.lock(rt);
+        let answer = inside.visit(rt, event);
+        if is_short(&answer, awaited) {
+            inside.wanted.is_awaited = true;
+        }
+        let store = inside.wants_storing();
+        let stage = inside.stage;
+        let thread = inside.wanted.end(stage);
+        drop(inside);
+        if thread {
+            self.signs.note_over();
+        }
+        (answer, Wants { store, thread })
+    }
+
+    fn has_grave<R: Wait>(&self, rt: &R, grave: u64) -> bool {
+        let inside = self.inside.lock(rt);
+        inside.hearers.graves.has(grave)
+    }
+
+    fn release<R: Wait>(&self, rt: &R, grave: u64) -> Wants {
+        let mut inside = self.inside.lock(rt);
+        inside.hearers.graves.release(grave);
+        let has_letters = inside.hearers.has_letters();
+        Wants {
+            store: false,
+            thread: inside.wanted.courier(has_letters),
+        }
     }
 }

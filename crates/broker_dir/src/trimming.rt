@@ -2,12 +2,12 @@
 ghost use Rattle.std.specs.Prelude.{◌≡◌, ◌-◌, Some};
 ghost use Rattle.broker_dir.specs.Trimming.{most_after, rule_of, trim_by};
 
-use crate::directory::Directory;
+use crate::table::Table;
 use crate::topic::Shared;
+use broker_parts::{Board, Wants};
 use delivery_machine::{Event, KeptAge, KeptMessages, Moment, Opened, Retention};
 use marks::Naming;
 use session_bells::Bell;
-use sqlite::Alter;
 use std::sync::{Arc, Wait};
 
 /// How many messages go at a time where none came: their rows are deleted in about a millisecond.
@@ -84,24 +84,30 @@ pub(crate) fn trim_by(rule: Retention, now: Option<Moment>, most: u64) -> Option
     }
 }
 
-impl<T: Opened + Drop, S: Alter, J: Naming, B: Bell + Drop> Directory<T, S, J, B> {
-    /// Each open topic is asked, since messages grow old while nothing is stored.
-    pub(crate) fn trim_each<R: Wait>(&self, rt: &R, now: Moment) {
-        let table = self.table.lock(rt);
-        for place in 0..table.count() {
-            if let Some(topic) = table.at(place) {
-                self.trim_one(rt, topic, now);
-            }
+impl<T: Opened + Drop, J: Naming, B: Bell + Drop> Shared<T, J, B> {
+    fn trim<R: Wait>(&self, rt: &R, broker: Retention, now: Moment) -> Wants {
+        let mut inside = self.inside.lock(rt);
+        inside.trim(broker, Some(now), 0);
+        Wants {
+            store: inside.wants_storing(),
+            thread: false,
         }
     }
+}
 
-    fn trim_one<R: Wait>(&self, rt: &R, topic: &Arc<Shared<T, J, B>>, now: Moment) {
-        let mut inside = topic.inside.lock(rt);
-        inside.trim(self.retention, Some(now), 0);
-        let tells = inside.wants_storing();
-        drop(inside);
-        if tells {
-            self.tell(rt, topic);
+impl<T: Opened + Drop, J: Naming, B: Bell + Drop> Table<T, J, B> {
+    /// Each open topic is asked, since messages grow old while nothing is stored.
+    pub(crate) fn trim_each<R: Wait>(
+        &self,
+        rt: &R,
+        board: &Board<Arc<Shared<T, J, B>>>,
+        broker: &Retention,
+        now: Moment,
+    ) {
+        for place in 0..self.count() {
+            if let Some(topic) = self.at(place) {
+                board.grant(rt, topic, topic.trim(rt, *broker, now));
+            }
         }
     }
 }

@@ -3,18 +3,18 @@ ghost use Rattle.std.specs.Prelude.{◌≡◌, ◌≤◌, ◌<◌, ◌⊎◌, If
 ghost use Rattle.std.specs.List.{remove};
 ghost use Rattle.broker_dir.specs.Listing.{HasRoom, after_making, most_open, names_of};
 
-use crate::clock::{instant, since};
 use crate::directory::Directory;
-use crate::errand::Errands;
 use crate::inside::Rested;
 use crate::table::{MOST_OPEN, Table};
 use crate::topic::Shared;
+use broker_parts::{Counts, Tasks, instant, since};
 use delivery_machine::Opened;
 use marks::Naming;
+use row_store::Keeper;
 use session_bells::Bell;
 use sqlite::Alter;
 use std::rt::Clock;
-use std::sync::{Arc, Wait};
+use std::sync::{Arc, Mutex, Wait};
 
 /// Where a further topic has room.
 #[derive(Drop)]
@@ -56,131 +56,156 @@ fn longer(one: Option<Unused>, other: Unused) -> Unused
     }
 }
 
-impl<T: Opened + Drop, S: Alter, J: Naming, B: Bell + Drop> Directory<T, S, J, B> {
-    /// The topic at the place, where nobody but the table has it, and what is stored of it is the topic as it is.
-    pub(crate) fn unused_at<R: Wait>(
-        &self,
-        rt: &R,
-        table: &mut Table<T, J, B>,
-        place: usize,
-    ) -> Option<Unused>
-        ensures same { table.new.list.topics.entries ≡ table.old.list.topics.entries }
-        ensures there { IfSome result (λ unused. (unused.place ≡ place) × (place < length table.old.list.topics.entries)) }
-    {
-        if !table.is_sole(place) {
-            return None;
-        }
-        match table.at(place) {
-            Some(topic) => match rests_since(rt, topic) {
-                Some(rested) => Some(Unused { place, rested }),
-                None => None,
-            },
+/// The topic at the place, where nobody but the table has it, and what is stored of it is the topic as it is.
+pub(crate) fn unused_at<T: Opened + Drop, J: Naming, B: Bell + Drop, R: Wait>(
+    rt: &R,
+    table: &mut Table<T, J, B>,
+    place: usize,
+) -> Option<Unused>
+    ensures same { table.new.list.topics.entries ≡ table.old.list.topics.entries }
+    ensures there { IfSome result (λ unused. (unused.place ≡ place) × (place < length table.old.list.topics.entries)) }
+{
+    if !table.is_sole(place) {
+        return None;
+    }
+    match table.at(place) {
+        Some(topic) => match rests_since(rt, topic) {
+            Some(rested) => Some(Unused { place, rested }),
             None => None,
+        },
+        None => None,
+    }
+}
+
+/// The one that nobody has used for the longest; none where each is in use.
+fn least_used<T: Opened + Drop, J: Naming, B: Bell + Drop, R: Wait>(
+    rt: &R,
+    table: &mut Table<T, J, B>,
+) -> Option<Unused>
+    ensures same { table.new.list.topics.entries ≡ table.old.list.topics.entries }
+    ensures there { IfSome result (λ unused. unused.place < length table.old.list.topics.entries) }
+{
+    let mut least = None;
+    for place in 0..table.count() {
+        if let Some(unused) = unused_at(rt, table, place) {
+            least = Some(longer(least, unused));
         }
     }
+    least
+}
 
-    /// The one that nobody has used for the longest; none where each is in use.
-    fn least_used<R: Wait>(&self, rt: &R, table: &mut Table<T, J, B>) -> Option<Unused>
-        ensures same { table.new.list.topics.entries ≡ table.old.list.topics.entries }
-        ensures there { IfSome result (λ unused. unused.place < length table.old.list.topics.entries) }
+/// Where a further topic has room; nowhere where as many are open as may be, and each is in use.
+pub(crate) fn room_in<T: Opened + Drop, J: Naming, B: Bell + Drop, R: Wait>(
+    rt: &R,
+    table: &mut Table<T, J, B>,
+) -> Option<Room>
+    ensures same { table.new.list.topics.entries ≡ table.old.list.topics.entries }
+    ensures room { IfSome result (λ room. HasRoom room (length table.old.list.topics.entries)) }
+    ensures none { IfNone result (most_open ≤ length table.old.list.topics.entries) }
+{
+    if table.count() < MOST_OPEN {
+        return Some(Room::Free);
+    }
+    match least_used(rt, table) {
+        Some(unused) => Some(Room::InPlaceOf(unused)),
+        None => None,
+    }
+}
+
+/// The topic leaves in whose place there was room.
+pub(crate) fn make_place<T: Opened + Drop, S: Alter, J: Naming, B: Bell + Drop, R: Wait>(
+    rt: &R,
+    keeper: &Mutex<Keeper<S, J>>,
+    counts: &Counts,
+    table: &mut Table<T, J, B>,
+    room: Room,
+)
+    ensures { names_of table.new.list.topics.entries ≡ after_making room (names_of table.old.list.topics.entries) }
+{
+    if let Room::InPlaceOf(unused) = room {
+        let_go(rt, keeper, counts, table, unused);
+    }
+}
+
+/// The topic leaves the directory, and the keeper lets go of what it knew of it.
+pub(crate) fn let_go<T: Opened + Drop, S: Alter, J: Naming, B: Bell + Drop, R: Wait>(
+    rt: &R,
+    keeper: &Mutex<Keeper<S, J>>,
+    counts: &Counts,
+    table: &mut Table<T, J, B>,
+    unused: Unused,
+)
+    ensures { names_of table.new.list.topics.entries ≡ remove (names_of table.old.list.topics.entries) unused.place }
+{
+    let place = unused.place;
+    drop(unused);
+    let Some(topic) = table.remove(place) else {
+        return;
+    };
+    counts.unload();
+    let mut keeper = keeper.lock(rt);
+    keeper.forget(&topic.name);
+    drop(keeper);
+    drop(topic);
+}
+
+/// Nothing is stored of the topic, and nothing was in it: it leaves, unless somebody has come to it since. The keeper
+/// knows nothing of it.
+pub(crate) fn leave_blank<T: Opened + Drop, J: Naming, B: Bell + Drop, R: Wait>(
+    rt: &R,
+    table: &Mutex<Table<T, J, B>>,
+    counts: &Counts,
+    topic: Arc<Shared<T, J, B>>,
+) {
+    let mut guard = table.lock(rt);
+    let table = &mut *guard;
+    let place = table.place_of(&topic.name);
+    drop(topic);
+    if let Some(place) = place
+        && table.is_sole(place)
+        && is_blank_at(rt, table, place)
     {
-        let mut least = None;
-        for place in 0..table.count() {
-            if let Some(unused) = self.unused_at(rt, table, place) {
-                least = Some(longer(least, unused));
-            }
-        }
-        least
+        drop(table.remove(place));
+        counts.unload();
     }
+}
 
-    /// Where a further topic has room; nowhere where as many are open as may be, and each is in use.
-    pub(crate) fn room_in<R: Wait>(&self, rt: &R, table: &mut Table<T, J, B>) -> Option<Room>
-        ensures same { table.new.list.topics.entries ≡ table.old.list.topics.entries }
-        ensures room { IfSome result (λ room. HasRoom room (length table.old.list.topics.entries)) }
-        ensures none { IfNone result (most_open ≤ length table.old.list.topics.entries) }
-    {
-        if table.count() < MOST_OPEN {
-            return Some(Room::Free);
-        }
-        match self.least_used(rt, table) {
-            Some(unused) => Some(Room::InPlaceOf(unused)),
-            None => None,
-        }
-    }
-
-    /// The topic leaves in whose place there was room.
-    pub(crate) fn make_place<R: Wait>(&self, rt: &R, table: &mut Table<T, J, B>, room: Room)
-        ensures { names_of table.new.list.topics.entries ≡ after_making room (names_of table.old.list.topics.entries) }
-    {
-        if let Room::InPlaceOf(unused) = room {
-            self.let_go(rt, table, unused);
-        }
-    }
-
-    /// The topic leaves the directory, and the keeper lets go of what it knew of it.
-    pub(crate) fn let_go<R: Wait>(&self, rt: &R, table: &mut Table<T, J, B>, unused: Unused)
-        ensures { names_of table.new.list.topics.entries ≡ remove (names_of table.old.list.topics.entries) unused.place }
-    {
-        let place = unused.place;
-        drop(unused);
-        let Some(topic) = table.remove(place) else {
-            return;
-        };
-        self.counts.unload();
-        let mut keeper = self.keeper.lock(rt);
-        keeper.forget(&topic.name);
-        drop(keeper);
-        drop(topic);
-    }
-
-    /// Nothing is stored of the topic, and nothing was in it: it leaves, unless somebody has come to it since. The keeper
-    /// knows nothing of it.
-    pub(crate) fn leave_blank<R: Wait>(&self, rt: &R, topic: Arc<Shared<T, J, B>>) {
-        let mut guard = self.table.lock(rt);
-        let table = &mut *guard;
-        let place = table.place_of(&topic.name);
-        drop(topic);
-        if let Some(place) = place
-            && table.is_sole(place)
-            && is_blank_at(rt, table, place)
-        {
-            drop(table.remove(place));
-            self.counts.unload();
-        }
-    }
-
-    /// Topics leave that nobody uses, and nobody has used for five minutes, and those whose journals are full; the others are
-    /// asked to trim. It looks at them once a minute.
-    pub(crate) fn look<R: Wait + Clock>(&self, rt: &R, errands: &mut Errands<T, J, B>) {
-        let time = errands.time;
-        if errands.looks.is_due(time) {
-            let last = errands.looks.mark(self.uses.made(), time);
-            let before = self.counts.unloads();
-            self.unload(rt, last);
-            let took = since(time, instant(rt));
-            self.counts.note_unloads(rt, before, took);
-            self.see_all_out(rt);
-            self.trim_each(rt, errands.now);
-        }
-    }
-
-    /// Topics leave that nobody uses, and whose last use came before that of the number.
-    fn unload<R: Wait>(&self, rt: &R, last: u64) {
-        let mut guard = self.table.lock(rt);
-        let table = &mut *guard;
-        let count = table.count();
-        for passed in 0..count {
-            self.unload_at(rt, table, count - 1 - passed, last);
-        }
-    }
-
-    fn unload_at<R: Wait>(&self, rt: &R, table: &mut Table<T, J, B>, place: usize, last: u64) {
-        if let Some(unused) = self.unused_at(rt, table, place) {
+/// Topics leave that nobody uses, and whose last use came before that of the number.
+fn unload<T: Opened + Drop, S: Alter, J: Naming, B: Bell + Drop, R: Wait>(
+    rt: &R,
+    keeper: &Mutex<Keeper<S, J>>,
+    counts: &Counts,
+    table: &mut Table<T, J, B>,
+    last: u64,
+) {
+    let count = table.count();
+    for passed in 0..count {
+        if let Some(unused) = unused_at(rt, table, count - 1 - passed) {
             if unused.used() < last {
-                self.let_go(rt, table, unused);
+                let_go(rt, keeper, counts, table, unused);
             } else {
                 drop(unused);
             }
+        }
+    }
+}
+
+impl<T: Opened + Drop, S: Alter, J: Naming, B: Bell + Drop> Directory<T, S, J, B> {
+    /// Topics leave that nobody uses, and nobody has used for five minutes, and those whose journals are full; the others are
+    /// asked to trim. It looks at them once a minute.
+    pub(crate) fn look<R: Wait + Clock>(&self, rt: &R, tasks: &mut Tasks<Shared<T, J, B>>) {
+        let time = tasks.time;
+        if tasks.looks.is_due(time) {
+            let last = tasks.looks.mark(self.uses.made(), time);
+            let before = self.counts.unloads();
+            let mut table = self.table.lock(rt);
+            unload(rt, &self.keeper, &self.counts, &mut *table, last);
+            drop(table);
+            let took = since(time, instant(rt));
+            self.counts.note_unloads(rt, before, took);
+            self.see_all_out(rt);
+            let table = self.table.lock(rt);
+            table.trim_each(rt, &self.board, &self.retention, tasks.now);
         }
     }
 }

@@ -1,3 +1,4 @@
 mod Found
 pub mod Agreed
 pub mod Known
+mod Examples

@@ -13,13 +13,13 @@ use Rattle.delivery_machine.specs.Words.{changed, is_at, is_member, is_named, is
 use Rattle.delivery_machine.specs.Delivering.{holding}
 use Rattle.delivery_machine.specs.declared.delivery.Delivery.{Delivery}
 use Rattle.delivery_machine.proofs.Messages.{position_itself}
-use Rattle.delivery_machine.proofs.Ranks.{ranks_changed}
+use Rattle.machine_laws.proofs.Ranks.{ranks_changed}
 use Rattle.delivery_machine.proofs.Tended.{position_is}
 use Rattle.dispatch_core.specs.Changes.{Sent}
-use Rattle.dispatchers.specs.Happening.{HappensAt}
-use Rattle.dispatchers.proofs.Chaining.{changed_alike, changed_twice}
-use Rattle.dispatchers.proofs.Seeing.{happens}
-use Rattle.dispatchers.proofs.Touching.{IsAbout, TouchesOne, sent_there}
+use Rattle.topic_served.specs.Happening.{HappensAt}
+use Rattle.topic_served.proofs.Chaining.{changed_alike, changed_twice}
+use Rattle.topic_served.proofs.Seeing.{happens}
+use Rattle.topic_served.proofs.Touching.{IsAbout, TouchesOne, sent_there}
 use Rattle.topic_members.specs.Members.{pushed, shortened}
 use Rattle.topic_members.proofs.Given.{given_back}
 use Rattle.topic_parts.specs.Holding.{freeing}

@@ -18,7 +18,7 @@ use Rattle.delivery_machine.specs.Run.{Answers}
 use Rattle.delivery_machine.specs.declared.event.Event.TheVariants.{DeadDone, DeadNext}
 use Rattle.delivery_machine.specs.declared.reply.Reply.TheVariants.{Dead, Done, NoDead}
 use Rattle.dead_core.specs.Letters.{Letters, is_next, next_safe}
-use Rattle.dispatchers.proofs.Gone.{first_letter}
+use Rattle.topic_served.proofs.Gone.{first_letter}
 use Rattle.log_pieces.specs.Pieces.{index_of}
 use Rattle.delivery_machine.specs.WellFormed.{has_message}
 use Rattle.topic_parts.proofs.Sought.{nowhere}

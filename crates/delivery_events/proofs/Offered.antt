@@ -15,12 +15,12 @@ use Rattle.delivery_machine.specs.declared.delivery.Delivery.{Delivery}
 use Rattle.delivery_machine.specs.declared.event.Event.TheVariants.{Dispatch}
 use Rattle.delivery_machine.specs.declared.reply.Reply.TheVariants.{Sent}
 use Rattle.delivery_machine.specs.WellFormed.{IsWellFormed}
-use Rattle.delivery_machine.proofs.Chosen.{chosen_member}
-use Rattle.delivery_machine.proofs.WellSeated.{found_by_number}
+use Rattle.machine_laws.proofs.Chosen.{chosen_member}
+use Rattle.machine_laws.proofs.WellSeated.{found_by_number}
 use Rattle.delivery_machine.proofs.Deciding.{and_first, and_second}
 use Rattle.dispatch_core.specs.Offers.{IsGoodOffer}
 use Rattle.dispatch_core.specs.declared.dispatcher.Offer.{Offer}
-use Rattle.dispatchers.proofs.Offered.{offered_there, offered_waits}
+use Rattle.topic_served.proofs.Offered.{offered_there, offered_waits}
 use Rattle.topic_subscriptions.specs.Placed.{IsPlacedIn, Placed, is_live_at, is_placed, sub_in}
 use Rattle.topic_parts.specs.Parts.{AreTied, log_of, state_of}
 use Rattle.topic_parts.specs.declared.parts.Parts.{Parts}

@@ -15,6 +15,7 @@ pub mod Dying
 pub mod Ticking
 pub mod Run
 pub mod Counts
+pub mod ConsumerCounts
 pub mod Snapshot
 pub mod WellFormed
 pub mod Places

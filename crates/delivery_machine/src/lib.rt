@@ -2,20 +2,22 @@
 #![tactic(auto)]
 
 mod author;
+mod consumer_counts;
 mod counts;
 mod dead_letter;
 mod delivery;
 mod event;
 mod kept_subscription;
-pub mod laws;
 mod reply;
 mod retention;
 mod runs;
 mod saved;
 mod snapshot;
 mod topic;
+mod watched;
 
 pub use author::Author;
+pub use consumer_counts::ConsumerCounts;
 pub use counts::{Counted, Counts, Times};
 pub use dead_letter::DeadLetter;
 pub use delivery::{Deliveries, Delivery, is_one_of};
@@ -32,3 +34,4 @@ pub use runs::run;
 pub use saved::{Opened, Saved};
 pub use snapshot::Snapshot;
 pub use topic::Topic;
+pub use watched::Watched;

@@ -1,3 +1,4 @@
 pub mod Line
 pub mod Ready
 pub mod Reduced
+pub mod Telling

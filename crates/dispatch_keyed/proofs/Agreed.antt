@@ -13,7 +13,7 @@ use Rattle.position_core.specs.declared.kind.Kind.{Kind}
 use Rattle.position_core.specs.declared.kind.Kind.TheVariants.{Exclusive, Failover, Shared, KeyShared}
 use Rattle.position_core.specs.Kind.{same_kind}
 use Rattle.murmur_core.proofs.Keys.{sticky_hash-lt}
-use Rattle.place_bits.specs.Places.{IsNext}
+use Rattle.number_sets.specs.Places.{IsNext}
 use Rattle.delivery_machine.specs.State.{State, Subscription}
 use Rattle.delivery_machine.specs.Words.{visible}
 use Rattle.delivery_machine.specs.Shares.{owner_of}

@@ -6,9 +6,9 @@ use Rattle.std.specs.FinMap as map_of
 use Rattle.std.specs.Option.{is_some, option_map_or}
 use Rattle.std.proofs.lemmas.Bool.{cases_eq, cases_lt, ne_eqb, eq-eqb}
 use Rattle.std.proofs.lemmas.Option.{same_Some, none-some}
-use Rattle.place_bits.specs.Places.{IsNext, NoneFrom}
+use Rattle.number_sets.specs.Places.{IsNext, NoneFrom}
 use Rattle.delivery_machine.specs.State.{State, Subscription}
-use Rattle.hash_firsts.specs.Firsts.{Firsts}
+use Rattle.number_sets.specs.Firsts.{Firsts}
 use Rattle.hash_rows.specs.declared.row.Row.{Row}
 use Rattle.hash_rows.specs.Rows.{waits_in, AreAllAt, KeepsAll}
 use Rattle.hash_rows.specs.Standing.{Found, waits_there, holds_there, keeper_of}

@@ -4,7 +4,7 @@ use crate::resharing::hashes_of;
 use crate::seats::Owners;
 use crate::table::Rows;
 use dispatch_core::{Dispatcher, Offer, View};
-use hash_firsts::HashFirsts;
+use number_sets::HashFirsts;
 use position_core::{ConsumerNumber, Fault, LogIndex};
 use std::alloc::Global;
 

@@ -5,7 +5,7 @@ ghost use Rattle.dispatch_keyed.specs.Tables.{HasRow};
 
 use crate::seats::Owners;
 use crate::table::Rows;
-use hash_firsts::HashFirsts;
+use number_sets::HashFirsts;
 use position_core::LogIndex;
 use std::alloc::Global;
 

@@ -8,9 +8,9 @@ ghost use Rattle.dispatch_keyed.specs.Tables.{found_in, row_at, HasRow};
 
 use crate::table::Rows;
 use dispatch_core::View;
-use hash_firsts::HashFirsts;
 use hash_ranges::SplitTable;
 use hash_rows::Row;
+use number_sets::HashFirsts;
 use position_core::{ConsumerNumber, LogIndex};
 
 /// Messages are read up to this index. No log is as long.

@@ -11,7 +11,7 @@ ghost use Rattle.dispatch_keyed.specs.Resharing.{SameButFirsts, IsRenewed};
 
 use crate::keyed::Keyed;
 use dispatch_core::View;
-use hash_firsts::HashFirsts;
+use number_sets::HashFirsts;
 use position_core::{ConsumerNumber, Fault, HashRange, Ranges};
 
 impl Keyed {

@@ -7,7 +7,7 @@ ghost use Rattle.dispatch_keyed.specs.Tables.{row_at};
 
 use crate::keyed::{HASHES, Keyed};
 use dispatch_core::View;
-use hash_firsts::HashFirsts;
+use number_sets::HashFirsts;
 use position_core::LogIndex;
 
 /// At most so many messages go before the table of rows is begun anew.

@@ -10,8 +10,8 @@ use Rattle.dispatch_core.specs.Log.{line_of}
 use Rattle.dispatch_core.specs.Offers.{seen_at}
 use Rattle.dispatch_core.specs.Changes.{Joined, Left}
 use Rattle.dispatch_core.specs.declared.view.Seen.{Seen}
-use Rattle.waiting_places.specs.Waiting.{Waiting}
-use Rattle.waiting_places.proofs.Telling.{tells-line}
+use Rattle.dispatch_core.specs.Waiting.{Waiting}
+use Rattle.dispatch_core.proofs.Telling.{tells-line}
 use Rattle.dispatch_shared.specs.Turn.{Agrees, pair_of}
 use Rattle.dispatch_shared.specs.Seats.{seat_pair}
 use Rattle.dispatch_shared.specs.declared.seat.Seat.{Seat}

@@ -9,7 +9,7 @@ use Rattle.dispatch_core.specs.Log.{line_of}
 use Rattle.dispatch_core.specs.Offers.{seen_members}
 use Rattle.dispatch_core.specs.declared.view.Seen.{Seen}
 use Rattle.dispatch_core.specs.declared.dispatcher.Offer.{Offer}
-use Rattle.waiting_places.specs.Waiting.{Waiting, waiting_code, Tells}
+use Rattle.dispatch_core.specs.Waiting.{Waiting, waiting_code, Tells}
 
 -- the number and the level of a member
 abbrev pub pair_of : Seen → ℕ × ℕ

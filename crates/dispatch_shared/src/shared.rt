@@ -4,11 +4,10 @@ ghost use Rattle.position_core.specs.declared.fault.Fault.TheVariants.{NoMemory}
 
 use crate::seat::Seat;
 use crate::turn::next_in_turn;
-use dispatch_core::{Dispatcher, Offer, View};
+use dispatch_core::{Dispatcher, Offer, View, WaitingPlaces};
 use position_core::{ConsumerNumber, Fault, LogIndex};
 use std::alloc::Global;
 use std::marker::Model;
-use waiting_places::WaitingPlaces;
 
 /// Offers the first waiting message to a member of the best level among those with room. Members
 /// of one level take turns, by their numbers, which the law leaves free. It keeps which messages
@@ -132,7 +131,7 @@ impl Dispatcher for Shared {
     }
 
     ghost use Rattle.std.proofs.Common.{◌∙◌, sym};
-    ghost use Rattle.waiting_places.proofs.Telling.{tells-kept};
+    ghost use Rattle.dispatch_core.proofs.Telling.{tells-kept};
 
     ghost kept = { λ d s sub agreed t new change. record {
       kind = change.kind ∙ agreed.kind;

@@ -6,8 +6,8 @@ use Rattle.delivery_machine.specs.State.{State, Subscription}
 use Rattle.delivery_machine.specs.Words.{members_of}
 use Rattle.dispatch_core.specs.Log.{line_of}
 use Rattle.dispatch_core.specs.Changes.{Joined}
-use Rattle.waiting_places.specs.Waiting.{Waiting, Tells}
-use Rattle.waiting_places.proofs.Telling.{tells-line}
+use Rattle.dispatch_core.specs.Waiting.{Waiting, Tells}
+use Rattle.dispatch_core.proofs.Telling.{tells-line}
 use Rattle.dispatch_single.specs.InOrder.{Serving, Agrees, IsActive, IsActiveIn, NumbersDiffer, TellsLine, without}
 use Rattle.dispatch_single.specs.declared.active.Active.{Active}
 use Rattle.dispatch_single.specs.declared.line.Line.{Line}

@@ -5,7 +5,7 @@ use Rattle.std.specs.Coded.{Coded, code_by, coded×, coded_ℕ, coded_option}
 use Rattle.position_core.specs.Kind.{is_in_order}
 use Rattle.delivery_machine.specs.State.{State, Subscription}
 use Rattle.dispatch_core.specs.Log.{line_of}
-use Rattle.waiting_places.specs.Waiting.{Waiting, waiting_code, Tells}
+use Rattle.dispatch_core.specs.Waiting.{Waiting, waiting_code, Tells}
 use Rattle.dispatch_single.specs.declared.active.Active.{Active}
 use Rattle.dispatch_single.specs.declared.line.Line.{Line}
 

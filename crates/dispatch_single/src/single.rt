@@ -1,10 +1,9 @@
 // The dispatcher of the kinds that have one active member.
 use crate::line::Line;
-use dispatch_core::{Dispatcher, Offer, View};
+use dispatch_core::{Dispatcher, Offer, View, WaitingPlaces};
 use position_core::{ConsumerNumber, Fault, LogIndex};
 use std::alloc::Global;
 use std::marker::Model;
-use waiting_places::WaitingPlaces;
 
 /// Offers the first waiting message to the active member. It keeps which messages wait, and who in
 /// line is active, so an offer goes over neither the pending messages nor the members; only where
@@ -129,7 +128,7 @@ impl Dispatcher for Single {
 
     ghost use Rattle.std.proofs.Common.{ap, subst, sym, ◌∙◌};
     ghost use Rattle.dispatch_single.specs.InOrder.{TellsLine};
-    ghost use Rattle.waiting_places.proofs.Telling.{tells-kept};
+    ghost use Rattle.dispatch_core.proofs.Telling.{tells-kept};
 
     ghost kept = { λ d s sub agreed t new change. record {
       kind = ap is_in_order change.kind ∙ agreed.kind;

@@ -4,8 +4,8 @@ use Rattle.position_core.specs.declared.kind.Kind.{Kind}
 use Rattle.position_core.specs.declared.kind.Kind.TheVariants.{KeyShared}
 use Rattle.position_core.specs.declared.ranges.HashRange.{HashRange}
 use Rattle.position_core.specs.Kind.{same_kind}
-use Rattle.position_core.specs.declared.ranges_text.LeadingZeros.TheVariants.{Allowed}
-use Rattle.position_core.specs.RangesText.{ranges_of}
+use Rattle.value_texts.specs.declared.ranges_text.LeadingZeros.TheVariants.{Allowed}
+use Rattle.value_texts.specs.RangesText.{ranges_of}
 use Rattle.endpoint_core.specs.declared.faults.Cause.{Cause}
 use Rattle.endpoint_core.specs.Queries.{Parameter, said}
 

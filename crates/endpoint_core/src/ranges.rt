@@ -4,8 +4,9 @@ ghost use Rattle.endpoint_core.specs.Ranges.{ranges_in, ranges_said};
 
 use crate::faults::Cause;
 use crate::queries::Query;
-use position_core::{Kind, LeadingZeros, Ranges};
+use position_core::{Kind, Ranges};
 use std::alloc::Global;
+use value_texts::{LeadingZeros, read_ranges};
 
 fn ranges_said(alloc: Global, query: &Query) -> Result<Option<Ranges>, Cause>
     ensures { Gives result (ranges_said query.now) }
@@ -13,7 +14,7 @@ fn ranges_said(alloc: Global, query: &Query) -> Result<Option<Ranges>, Cause>
     let Some(text) = query.value_at("keySharedRanges") else {
         return Ok(None);
     };
-    match Ranges::from_text(alloc, LeadingZeros::Allowed, text.as_bytes()) {
+    match read_ranges(alloc, LeadingZeros::Allowed, text.as_bytes()) {
         Ok(Some(ranges)) => Ok(Some(ranges)),
         Ok(None) => Err(Cause::BadParameter),
         Err(_) => Err(Cause::NoMemory),

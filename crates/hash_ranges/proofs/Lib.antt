@@ -4,3 +4,4 @@ pub mod Free
 pub mod Shares
 pub mod Joins
 pub mod Leaves
+mod Examples

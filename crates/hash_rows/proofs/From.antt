@@ -6,7 +6,7 @@ use Rattle.std.specs.Ordering.{nat_cmp}
 use Rattle.std.specs.FinSet as set
 use Rattle.std.proofs.lemmas.List.Sorted.{searched}
 use Rattle.std.proofs.lemmas.Bool.{cases_lt, ltb-true, false_from_ne_true}
-use Rattle.place_bits.specs.Places.{IsNext, NoneFrom}
+use Rattle.number_sets.specs.Places.{IsNext, NoneFrom}
 use Rattle.delivery_machine.specs.State.{State, Subscription}
 use Rattle.dispatch_core.specs.Log.{holder_at}
 use Rattle.hash_rows.specs.Ranks.{rank_of, Rises, AreRanksOf, IsStart}

@@ -11,7 +11,7 @@ use Rattle.std.proofs.lemmas.Bool.{cases_eq, cases_lt, ne_eqb, eq-eqb, lt-ltb, l
 use Rattle.std.proofs.lemmas.List.{length-append, get_or_append_left}
 use Rattle.std.proofs.Math.Seq.{get_or-append_seam}
 use Rattle.std.proofs.lemmas.Option.{none-some, same_Some, slice_get_within, get_or_from_slice_get}
-use Rattle.place_bits.specs.Places.{IsNext}
+use Rattle.number_sets.specs.Places.{IsNext}
 use Rattle.hash_rows.specs.Ranks.{rank_of, Rises, AreRanksOf}
 use Rattle.hash_rows.proofs.Ranks.{at_rank, rank_at, rank_before, rank_behind}
 

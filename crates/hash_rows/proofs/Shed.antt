@@ -6,7 +6,7 @@ use Rattle.std.specs.FinSet as set
 use Rattle.std.proofs.Math.Seq.{take-append_seam}
 use Rattle.std.proofs.lemmas.List.{get_or-drop}
 use Rattle.std.proofs.lemmas.Bool.{cases_eq, cases_lt, ne_eqb, eq-eqb, lt-ltb, le-ltb, false_from_ne_true}
-use Rattle.place_bits.specs.Places.{IsNext, NoneFrom}
+use Rattle.number_sets.specs.Places.{IsNext, NoneFrom}
 use Rattle.hash_rows.specs.Ranks.{rank_of, Rises, AreRanksOf, IsStart}
 use Rattle.hash_rows.specs.Rows.{waits_in, holds_in, KnowsFrom}
 use Rattle.hash_rows.specs.declared.row.Row.{Row}

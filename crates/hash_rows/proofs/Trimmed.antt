@@ -5,7 +5,7 @@ use Rattle.std.specs.Option.{option_map, option_map_or, option_and_then}
 use Rattle.std.proofs.lemmas.Bool.{cases_lt, lt-ltb, le-ltb}
 use Rattle.std.proofs.lemmas.Option.{same_Some, none-some, slice_get_past}
 use Rattle.murmur_core.specs.Sticky.{sticky_hash}
-use Rattle.place_bits.specs.Places.{IsNext}
+use Rattle.number_sets.specs.Places.{IsNext}
 use Rattle.position_core.specs.declared.message.Entry.{Entry}
 use Rattle.delivery_machine.specs.State.{State, Subscription}
 use Rattle.delivery_machine.specs.Shares.{owner_of}

@@ -1,6 +1,6 @@
 -- What is known of a hash, and when it is right.
 use Rattle.std.specs.Prelude.{◌≡◌, ◌==◌, ℕ, ◌<◌, nat_lt, Bool, true, ◌&&◌, Option, Some, None, is_some}
-use Rattle.place_bits.specs.Places.{IsNext, NoneFrom}
+use Rattle.number_sets.specs.Places.{IsNext, NoneFrom}
 use Rattle.delivery_machine.specs.State.{State, Subscription}
 use Rattle.delivery_machine.specs.Shares.{owner_of}
 use Rattle.dispatch_core.specs.Log.{waits_at, holder_at}

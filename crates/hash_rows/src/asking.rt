@@ -1,6 +1,6 @@
 // What a row is asked.
 ghost use Rattle.std.specs.Prelude.{◌≡◌, ℕ, ◌+◌, ◌<◌, true, false, length, slice_index, IfSome, IfNone};
-ghost use Rattle.place_bits.specs.Places.{IsNext, NoneFrom};
+ghost use Rattle.number_sets.specs.Places.{IsNext, NoneFrom};
 ghost use Rattle.hash_rows.specs.Ranks.{rank_of, IsStart};
 ghost use Rattle.hash_rows.specs.Rows.{is_in, waits_in, holds_in, AllBefore, AreAllAt, KeepsAll};
 

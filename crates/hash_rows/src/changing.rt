@@ -4,7 +4,7 @@ ghost use Rattle.std.specs.FinSet as set;
 ghost use Rattle.hash_rows.specs.Rows.{is_in, waits_in, holds_in, AllBefore, KnowsAsMuch, HasOneMore};
 
 use crate::row::Row;
-use place_bits::PlaceBits;
+use number_sets::PlaceBits;
 use position_core::{ConsumerNumber, LogIndex};
 use std::alloc::{AllocError, Global};
 

@@ -2,7 +2,7 @@
 ghost use Rattle.std.specs.Prelude.{◌≤◌, vec_len};
 ghost use Rattle.hash_rows.specs.Ranks.{Rises, AreRanksOf};
 
-use place_bits::PlaceBits;
+use number_sets::PlaceBits;
 use position_core::{ConsumerNumber, LogIndex};
 
 /// The messages of one hash, in the order of the log, by numbers that stay as they are when the front of

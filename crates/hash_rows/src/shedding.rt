@@ -4,7 +4,7 @@ ghost use Rattle.std.specs.FinSet as set;
 ghost use Rattle.hash_rows.specs.Rows.{KnowsFrom};
 
 use crate::row::Row;
-use place_bits::PlaceBits;
+use number_sets::PlaceBits;
 use position_core::LogIndex;
 
 impl Row {

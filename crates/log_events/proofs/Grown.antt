@@ -4,7 +4,7 @@ use Rattle.std.specs.declared.cmp.Ordering.TheVariants.{Less}
 use Rattle.std.proofs.lemmas.List.{get_or_default, length-append}
 use Rattle.std.proofs.lemmas.List.Elements.{All-contains, All-head, All-tail}
 use Rattle.std.proofs.lemmas.Option.{get_or_from_slice_get, slice_get-get_or, slice_get_within}
-use Rattle.due_tree.proofs.Elements.{slice_get_push_end, slice_get_push_other}
+use Rattle.pending_core.proofs.Elements.{slice_get_push_end, slice_get_push_other}
 use Rattle.position_core.specs.declared.position.Position.{Position}
 use Rattle.position_core.specs.declared.message.Entry.{Entry}
 use Rattle.position_core.specs.Position.{position_cmp}
@@ -20,8 +20,8 @@ use Rattle.topic_log.specs.Written.{all_of, Written, written_in}
 use Rattle.topic_subscriptions.specs.Placed.{IsPlacedIn, IsRising, Placed, sub_in}
 use Rattle.topic_subscriptions.proofs.Grown.{grown_in, grown_placed, new_is_alive}
 use Rattle.topic_subscriptions.proofs.Links.{earlier}
-use Rattle.dispatchers.specs.Told.{AreTold}
-use Rattle.dispatchers.proofs.Appending.{IsOfLog, told_message, well_of_log}
+use Rattle.topic_served.specs.Told.{AreTold}
+use Rattle.topic_served.proofs.Appending.{IsOfLog, told_message, well_of_log}
 use Rattle.topic_parts.specs.Parts.{log_of}
 use Rattle.topic_parts.proofs.Sought.{formed_at}
 use Rattle.topic_served.specs.Served.{IsBound, IsSettled, state_in}

@@ -8,10 +8,10 @@ use Rattle.position_core.specs.declared.message.Entry.{Entry}
 use Rattle.delivery_machine.specs.State.{State, Subscription}
 use Rattle.delivery_machine.specs.Producing.{stored, stored_to, storing, storing_below}
 use Rattle.dedup_core.specs.Sequences.{AgreesWith}
-use Rattle.dispatchers.specs.Told.{AreTold}
-use Rattle.dispatchers.specs.declared.dispatch.Dispatch.{Dispatch}
-use Rattle.dispatchers.proofs.Agreed.{told_kept}
-use Rattle.dispatchers.proofs.Quiet.{kept_stored, kept_stored_to}
+use Rattle.topic_served.specs.Told.{AreTold}
+use Rattle.topic_served.specs.declared.dispatch.Dispatch.{Dispatch}
+use Rattle.topic_served.proofs.Agreed.{told_kept}
+use Rattle.topic_served.proofs.Quiet.{kept_stored, kept_stored_to}
 use Rattle.topic_log.specs.Written.{all_of, Written}
 use Rattle.topic_subscriptions.specs.Placed.{IsPlacedIn, Placed, all_safe_in, safe_below_in, sub_in}
 use Rattle.topic_subscriptions.proofs.Changes.{stored_below_in, stored_below_placed, stored_in, stored_placed}

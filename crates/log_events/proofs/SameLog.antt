@@ -7,11 +7,11 @@ use Rattle.entry_log.specs.Log.{Log}
 use Rattle.dedup_core.specs.Sequences.{AgreesWith, Numbers}
 use Rattle.topic_log.specs.Written.{all_of, Written, written_in}
 use Rattle.topic_subscriptions.specs.Placed.{IsPlacedIn, sub_in}
-use Rattle.dispatchers.specs.Happening.{AllKept}
-use Rattle.dispatchers.specs.Told.{AreTold}
-use Rattle.dispatchers.proofs.Agreed.{told_kept}
-use Rattle.dispatchers.proofs.Quiet.{kept_counters}
-use Rattle.dispatchers.proofs.Seeing.{same_subscriptions}
+use Rattle.topic_served.specs.Happening.{AllKept}
+use Rattle.topic_served.specs.Told.{AreTold}
+use Rattle.topic_served.proofs.Agreed.{told_kept}
+use Rattle.topic_served.proofs.Quiet.{kept_counters}
+use Rattle.topic_served.proofs.Seeing.{same_subscriptions}
 use Rattle.topic_parts.specs.Parts.{log_of}
 use Rattle.topic_served.specs.Served.{IsBound, state_in}
 use Rattle.topic_served.specs.declared.served.Served.{Served}

@@ -16,9 +16,9 @@ use Rattle.delivery_machine.specs.declared.event.Initial.{Initial}
 use Rattle.delivery_machine.proofs.Finding.{found_itself_changed}
 use Rattle.delivery_machine.proofs.Kept.{kinds_agree}
 use Rattle.delivery_machine.proofs.Places.{found_nothing}
-use Rattle.dispatchers.specs.Agreeing.{agrees}
-use Rattle.dispatchers.specs.Told.{AreTold}
-use Rattle.dispatchers.specs.declared.dispatch.Dispatch.{Dispatch}
+use Rattle.topic_served.specs.Agreeing.{agrees}
+use Rattle.topic_served.specs.Told.{AreTold}
+use Rattle.topic_served.specs.declared.dispatch.Dispatch.{Dispatch}
 use Rattle.topic_members.specs.declared.member.Terms.{Terms}
 use Rattle.topic_subscriptions.specs.Placed.{Placed, is_placed, sub_in}
 use Rattle.topic_parts.specs.Parts.{log_of}

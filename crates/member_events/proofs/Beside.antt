@@ -8,11 +8,11 @@ use Rattle.delivery_machine.specs.Joining.{permitted}
 use Rattle.delivery_machine.specs.Run.{Answers}
 use Rattle.delivery_machine.specs.declared.event.Event.TheVariants.{Collect, Permit}
 use Rattle.delivery_machine.specs.declared.reply.Reply.{Reply}
-use Rattle.delivery_machine.proofs.Ranks.{KeepsRanks, Rank, rank_of, ranks_changed}
+use Rattle.machine_laws.proofs.Ranks.{KeepsRanks, Rank, rank_of, ranks_changed}
 use Rattle.delivery_machine.proofs.RunSteps.{split}
-use Rattle.dispatchers.specs.Told.{AreTold}
-use Rattle.dispatchers.proofs.Agreed.{told_kept}
-use Rattle.dispatchers.proofs.Quiet.{kept_members}
+use Rattle.topic_served.specs.Told.{AreTold}
+use Rattle.topic_served.proofs.Agreed.{told_kept}
+use Rattle.topic_served.proofs.Quiet.{kept_members}
 use Rattle.topic_members.specs.Joined.{Joined}
 use Rattle.topic_subscriptions.specs.Placed.{line_at}
 use Rattle.topic_parts.specs.Parts.{log_of}

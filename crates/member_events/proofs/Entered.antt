@@ -12,13 +12,13 @@ use Rattle.delivery_machine.specs.Words.{changed, is_at, is_member, is_named}
 use Rattle.delivery_machine.specs.Joining.{joining}
 use Rattle.delivery_machine.proofs.Behind.{is_same_name}
 use Rattle.dispatch_core.specs.Changes.{AgreesAfter, Joined}
-use Rattle.dispatchers.specs.Agreeing.{agrees}
-use Rattle.dispatchers.specs.declared.dispatch.Dispatch.{Dispatch}
-use Rattle.dispatchers.specs.Happening.{HappensAt}
-use Rattle.dispatchers.proofs.Chaining.{changed_alike}
-use Rattle.dispatchers.proofs.Joining.{joined_at}
-use Rattle.dispatchers.proofs.Naming.{names_apart}
-use Rattle.dispatchers.proofs.Spots.{set_at}
+use Rattle.topic_served.specs.Agreeing.{agrees}
+use Rattle.topic_served.specs.declared.dispatch.Dispatch.{Dispatch}
+use Rattle.topic_served.specs.Happening.{HappensAt}
+use Rattle.topic_served.proofs.Chaining.{changed_alike}
+use Rattle.topic_served.proofs.Joining.{joined_at}
+use Rattle.topic_served.proofs.Naming.{names_apart}
+use Rattle.topic_served.proofs.Spots.{set_at}
 use Rattle.topic_members.specs.Joined.{Joined as MemberList}
 use Rattle.topic_subscriptions.specs.Placed.{IsPlacedIn, Placed, is_placed, joined_by, sub_in}
 use Rattle.topic_subscriptions.proofs.Lines.{joined_placed, line_joined}

@@ -16,10 +16,10 @@ use Rattle.delivery_machine.specs.Words.{changed, is_held_by, is_named}
 use Rattle.delivery_machine.specs.Joining.{all_released, releasing_all, without_member}
 use Rattle.delivery_machine.proofs.Places.{changed-position}
 use Rattle.dispatch_core.specs.Changes.{Released}
-use Rattle.dispatchers.specs.Happening.{HappensAt}
-use Rattle.dispatchers.specs.Stepping.{freed, freeing}
-use Rattle.dispatchers.proofs.Chaining.{changed_twice, freed_first}
-use Rattle.dispatchers.proofs.Released.{IsHeldLive, released_freed}
+use Rattle.topic_served.specs.Happening.{HappensAt}
+use Rattle.topic_served.specs.Stepping.{freed, freeing}
+use Rattle.topic_served.proofs.Chaining.{changed_twice, freed_first}
+use Rattle.topic_served.proofs.Released.{IsHeldLive, released_freed}
 use Rattle.topic_subscriptions.specs.Placed.{IsPlacedIn, IsRising, Placed, is_live_at, is_placed, released_at, sub_in}
 use Rattle.topic_subscriptions.proofs.Changes.{released_placed, stands}
 use Rattle.topic_parts.specs.declared.parts.Parts.{Parts}

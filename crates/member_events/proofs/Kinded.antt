@@ -9,17 +9,17 @@ use Rattle.dedup_core.specs.Sequences.{AgreesWith}
 use Rattle.delivery_machine.specs.State.{State, Member, Subscription}
 use Rattle.delivery_machine.specs.Words.{is_at, members_of}
 use Rattle.delivery_machine.specs.WellFormed.{NamesRise}
-use Rattle.dispatchers.specs.Agreeing.{agrees}
-use Rattle.dispatchers.specs.Stepping.{of_kind, with_kind}
-use Rattle.dispatchers.specs.Told.{AreTold}
-use Rattle.dispatchers.specs.declared.dispatch.Dispatch.{Dispatch}
-use Rattle.dispatchers.proofs.Agreed.{told_at}
-use Rattle.dispatchers.proofs.Coming.{others_of_kind}
-use Rattle.dispatchers.proofs.Spots.{set_at}
+use Rattle.topic_served.specs.Agreeing.{agrees}
+use Rattle.topic_served.specs.Stepping.{of_kind, with_kind}
+use Rattle.topic_served.specs.Told.{AreTold}
+use Rattle.topic_served.specs.declared.dispatch.Dispatch.{Dispatch}
+use Rattle.topic_served.proofs.Agreed.{told_at}
+use Rattle.topic_served.proofs.Coming.{others_of_kind}
+use Rattle.topic_served.proofs.Spots.{set_at}
 use Rattle.std.proofs.lemmas.Option.{get_or_from_slice_get, same_Some}
 use Rattle.position_core.specs.declared.ranges.HashRange.{HashRange}
 use Rattle.delivery_machine.specs.Shares.{Shares, is_share_of, no_shares}
-use Rattle.dispatchers.specs.Happening.{OthersKept}
+use Rattle.topic_served.specs.Happening.{OthersKept}
 use Rattle.topic_log.specs.Written.{all_of, Written}
 use Rattle.topic_subscriptions.specs.Placed.{IsPlacedIn, Placed, is_placed, sub_in}
 use Rattle.topic_subscriptions.proofs.Changes.{still_live}

@@ -12,9 +12,9 @@ use Rattle.delivery_machine.specs.Joining.{leaving, without_member}
 use Rattle.delivery_machine.proofs.Deciding.{number_is}
 use Rattle.delivery_machine.proofs.Firsts.{found_passes}
 use Rattle.dispatch_core.specs.Changes.{Left}
-use Rattle.dispatchers.specs.Happening.{HappensAt}
-use Rattle.dispatchers.proofs.Leaving.{left_without}
-use Rattle.dispatchers.proofs.Naming.{names_apart}
+use Rattle.topic_served.specs.Happening.{HappensAt}
+use Rattle.topic_served.proofs.Leaving.{left_without}
+use Rattle.topic_served.proofs.Naming.{names_apart}
 use Rattle.topic_members.specs.Members.{NumbersRise}
 use Rattle.topic_subscriptions.specs.Placed.{IsPlacedIn, Placed, is_placed, left_by, sub_in}
 use Rattle.topic_subscriptions.proofs.Lines.{left_in, left_placed, line_left}

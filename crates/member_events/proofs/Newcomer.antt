@@ -14,10 +14,10 @@ use Rattle.delivery_machine.specs.Joining.{joined, joining, new_subscription, pl
 use Rattle.delivery_machine.specs.declared.event.Initial.{Initial}
 use Rattle.delivery_machine.proofs.Behind.{is_same_name}
 use Rattle.delivery_machine.proofs.Places.{changed_there}
-use Rattle.dispatchers.specs.Stepping.{of_kind, opened, unshared, with_kind}
-use Rattle.dispatchers.proofs.Chaining.{changed_alike, changed_twice}
-use Rattle.dispatchers.proofs.Opening.{placed_there}
-use Rattle.dispatchers.proofs.Spots.{inserted_at}
+use Rattle.topic_served.specs.Stepping.{of_kind, opened, unshared, with_kind}
+use Rattle.topic_served.proofs.Chaining.{changed_alike, changed_twice}
+use Rattle.topic_served.proofs.Opening.{placed_there}
+use Rattle.topic_served.proofs.Spots.{inserted_at}
 use Rattle.topic_subscriptions.specs.Placed.{Placed, is_placed, sub_in}
 use Rattle.topic_parts.specs.declared.parts.Parts.{Parts}
 use Rattle.topic_parts.specs.Parts.{log_of, state_of}

@@ -24,14 +24,14 @@ use Rattle.delivery_machine.specs.Places.{positions_at}
 use Rattle.delivery_machine.specs.declared.event.Initial.{Initial}
 use Rattle.delivery_machine.specs.declared.event.Initial.TheVariants.{Earliest, Latest}
 use Rattle.delivery_machine.proofs.Places.{found_nothing}
-use Rattle.dispatchers.specs.Agreeing.{agrees}
-use Rattle.dispatchers.specs.Stepping.{opened, unshared}
-use Rattle.dispatchers.specs.Told.{AreTold}
-use Rattle.dispatchers.specs.declared.dispatch.Dispatch.{Dispatch}
-use Rattle.dispatchers.proofs.Agreed.{told_inserted}
-use Rattle.dispatchers.proofs.Coming.{comes}
-use Rattle.dispatchers.proofs.Opening.{placed_there}
-use Rattle.dispatchers.proofs.Spots.{inserted_at, inserted_before, inserted_after, removed_before, removed_after, there}
+use Rattle.topic_served.specs.Agreeing.{agrees}
+use Rattle.topic_served.specs.Stepping.{opened, unshared}
+use Rattle.topic_served.specs.Told.{AreTold}
+use Rattle.topic_served.specs.declared.dispatch.Dispatch.{Dispatch}
+use Rattle.topic_served.proofs.Agreed.{told_inserted}
+use Rattle.topic_served.proofs.Coming.{comes}
+use Rattle.topic_served.proofs.Opening.{placed_there}
+use Rattle.topic_served.proofs.Spots.{inserted_at, inserted_before, inserted_after, removed_before, removed_after, there}
 use Rattle.topic_subscriptions.specs.Placed.{IsPlacedIn, IsRising, Placed, is_placed, line_at, sub_in}
 use Rattle.topic_subscriptions.proofs.Links.{contains_at, first_acknowledged}
 use Rattle.topic_parts.specs.declared.parts.Parts.{Parts}

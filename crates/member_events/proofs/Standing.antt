@@ -13,8 +13,8 @@ use Rattle.delivery_machine.specs.State.{Member, Subscription}
 use Rattle.delivery_machine.specs.Words.{is_member}
 use Rattle.delivery_machine.specs.WellFormed.{NamesRise}
 use Rattle.delivery_machine.proofs.Behind.{same_name}
-use Rattle.delivery_machine.proofs.Named.{AreNamed}
-use Rattle.dispatchers.proofs.Spots.{set_at, set_other, there}
+use Rattle.machine_laws.proofs.Named.{AreNamed}
+use Rattle.topic_served.proofs.Spots.{set_at, set_other, there}
 use Rattle.topic_subscriptions.specs.Placed.{Placed, is_placed, line_at, sub_in}
 use Rattle.topic_parts.specs.declared.parts.Parts.{Parts}
 use Rattle.topic_parts.specs.Parts.{AreTied, log_of, state_of}

@@ -16,12 +16,12 @@ use Rattle.delivery_machine.specs.Words.{has_kind, is_at, is_member, is_named, m
 use Rattle.delivery_machine.specs.Shares.{Shares, asks_taken, is_share_of, mixes, no_shares}
 use Rattle.delivery_machine.specs.WellFormed.{IsWellFormed, IsWellFormedIn}
 use Rattle.delivery_machine.specs.declared.event.Initial.{Initial}
-use Rattle.delivery_machine.proofs.TurnedAway.{IsLetIn, is_let_in}
+use Rattle.machine_laws.proofs.TurnedAway.{IsLetIn, is_let_in}
 use Rattle.delivery_machine.proofs.Deciding.{apart_below, both_false, or_false}
 use Rattle.delivery_machine.proofs.Kept.{kinds_agree}
-use Rattle.delivery_machine.proofs.SharesByMode.{nobody_shares}
-use Rattle.delivery_machine.proofs.Named.{AreNamed, named_placed}
-use Rattle.dispatchers.specs.Stepping.{opened, unshared}
+use Rattle.machine_laws.proofs.SharesByMode.{nobody_shares}
+use Rattle.machine_laws.proofs.Named.{AreNamed, named_placed}
+use Rattle.topic_served.specs.Stepping.{opened, unshared}
 use Rattle.topic_members.specs.declared.member.Terms.{Terms}
 use Rattle.topic_members.specs.Joined.{Joined}
 use Rattle.topic_subscriptions.specs.Placed.{KeepsPolicy, Placed, is_placed, sub_in}

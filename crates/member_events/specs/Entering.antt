@@ -13,8 +13,8 @@ use Rattle.delivery_machine.specs.Shares.{asks_taken, is_share_of, no_shares}
 use Rattle.delivery_machine.specs.declared.event.Initial.{Initial}
 use Rattle.delivery_machine.specs.declared.event.Initial.TheVariants.{Earliest, Latest}
 use Rattle.dispatch_core.specs.Changes.{AgreesAfter, Joined}
-use Rattle.dispatchers.specs.Agreeing.{agrees}
-use Rattle.dispatchers.specs.declared.dispatch.Dispatch.{Dispatch}
+use Rattle.topic_served.specs.Agreeing.{agrees}
+use Rattle.topic_served.specs.declared.dispatch.Dispatch.{Dispatch}
 use Rattle.topic_members.specs.declared.member.Terms.{Terms}
 use Rattle.topic_subscriptions.specs.Placed.{KeepsPolicy, Placed, is_placed, made, sub_in}
 use Rattle.topic_parts.specs.declared.parts.Parts.{Parts}

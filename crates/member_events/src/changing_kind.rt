@@ -2,7 +2,7 @@
 ghost use Rattle.std.specs.Prelude.{◌≡◌, [], Some, IfErr, OnOk, OnErr, slice_get};
 ghost use Rattle.position_core.specs.declared.fault.Fault.TheVariants.{NoMemory};
 ghost use Rattle.delivery_machine.specs.Words.{members_of};
-ghost use Rattle.dispatchers.specs.Stepping.{with_kind};
+ghost use Rattle.topic_served.specs.Stepping.{with_kind};
 ghost use Rattle.topic_members.specs.Members.{joining};
 ghost use Rattle.topic_served.specs.Served.{IsBound, state_in};
 ghost use Rattle.member_events.specs.Places.{names_of};

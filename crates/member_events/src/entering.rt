@@ -1,17 +1,16 @@
 // A newcomer enters a subscription that is there.
 ghost use Rattle.std.specs.Prelude.{◌≡◌, OnOk, OnErr, IfErr};
 ghost use Rattle.position_core.specs.declared.fault.Fault.TheVariants.{NoMemory};
-ghost use Rattle.dispatchers.specs.Agreeing.{AsksForFree};
+ghost use Rattle.topic_served.specs.Agreeing.{AsksForFree};
 ghost use Rattle.topic_members.specs.Members.{joining};
 ghost use Rattle.topic_served.specs.Served.{IsBound, state_in};
 ghost use Rattle.member_events.specs.Places.{names_of};
 ghost use Rattle.member_events.specs.Entering.{AsksWell, LetsIn, MayEnter, StaysAs, entered};
 
-use dispatchers::Dispatch;
 use position_core::{Fault, Ranges, SubscriptionName, TopicName};
 use topic_members::Terms;
 use topic_parts::Parts;
-use topic_served::Served;
+use topic_served::{Dispatch, Served};
 
 /// Lets the next consumer in, and tells the dispatcher. Nothing changes where there is no memory.
 pub(crate) fn let_in(

@@ -3,8 +3,8 @@ ghost use Rattle.std.specs.Prelude.{◌≡◌, ◌<◌, ◌≤◌, ℕ, List, []
 ghost use Rattle.std.specs.List.{insert, position as place_in, remove};
 ghost use Rattle.position_core.specs.declared.fault.Fault.TheVariants.{NoMemory};
 ghost use Rattle.delivery_machine.specs.Words.{is_named, members_of, removed};
-ghost use Rattle.dispatchers.specs.Stepping.{opened};
-ghost use Rattle.dispatchers.specs.Told.{IsBegunAt};
+ghost use Rattle.topic_served.specs.Stepping.{opened};
+ghost use Rattle.topic_served.specs.Told.{IsBegunAt};
 ghost use Rattle.topic_subscriptions.specs.Placed.{Placed, is_placed, sub_in};
 ghost use Rattle.topic_parts.specs.Parts.{AreTied, log_of};
 ghost use Rattle.topic_served.specs.Served.{IsBound, state_in};
@@ -12,11 +12,10 @@ ghost use Rattle.member_events.specs.Places.{StandsAt};
 ghost use Rattle.member_events.specs.Entering.{AgreesAt, HasNoShares, IsBareAt, first_end, made_bare};
 
 use delivery_machine::Initial;
-use dispatchers::Dispatch;
 use position_core::{ConsumerNumber, Fault, Kind, LogIndex, SubscriptionName};
 use std::alloc::{AllocError, Global};
 use topic_parts::Parts;
-use topic_served::Served;
+use topic_served::{Dispatch, Served};
 use topic_subscriptions::{Subscription, place_for};
 
 fn make(

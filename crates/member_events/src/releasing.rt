@@ -3,7 +3,7 @@ ghost use Rattle.std.specs.Prelude.{◌≡◌, ◌<◌, ℕ, List, Some};
 ghost use Rattle.std.specs.List.{position as place_in};
 ghost use Rattle.delivery_machine.specs.State.{State};
 ghost use Rattle.delivery_machine.specs.Joining.{all_released, without_member};
-ghost use Rattle.dispatchers.specs.Stepping.{freed};
+ghost use Rattle.topic_served.specs.Stepping.{freed};
 ghost use Rattle.topic_subscriptions.specs.Placed.{is_placed};
 ghost use Rattle.topic_served.specs.Served.{IsBound, state_in};
 ghost use Rattle.member_events.specs.Places.{ComesToTheSame, IsIdleAt, IsPendingIn, KeepNames, StandsAt, number_pending};

@@ -21,7 +21,7 @@ use Rattle.delivery_machine.specs.Laws.{IsReached}
 use Rattle.delivery_machine.specs.Run.{Answers}
 use Rattle.delivery_machine.specs.declared.event.Event.TheVariants.{Ack}
 use Rattle.delivery_machine.specs.declared.reply.Reply.TheVariants.{Done}
-use Rattle.delivery_machine.proofs.ReachedOn.{reached_step}
+use Rattle.machine_laws.proofs.ReachedOn.{reached_step}
 use Rattle.delivery_machine.proofs.Messages.{one_of_itself, position_itself}
 use Rattle.delivery_machine.proofs.Places.{changed-position}
 use Rattle.topic_subscriptions.specs.Placed.{IsRising, Placed, is_placed, sub_in}

@@ -5,9 +5,9 @@ use Rattle.std.specs.Option.{option_map, option_and_then}
 use Rattle.std.proofs.lemmas.Option.{same_Some}
 use Rattle.position_core.specs.declared.position.Position.{Position}
 use Rattle.position_core.specs.declared.held.Held.{Held}
-use Rattle.due_tree.specs.declared.due.Due.{Due}
-use Rattle.due_tree.specs.declared.due.Slot.{Slot}
-use Rattle.due_tree.specs.Due.{due_of, due_at, IsFirst}
+use Rattle.pending_core.specs.declared.due.Due.{Due}
+use Rattle.pending_core.specs.declared.due.Slot.{Slot}
+use Rattle.pending_core.specs.Due.{due_of, due_at, IsFirst}
 use Rattle.pending_core.specs.declared.kept.Kept.{Kept}
 use Rattle.pending_core.specs.Pending.{IsDue, IsFirstDue}
 use Rattle.pending_core.specs.Kept.{kept_at, pending_in, slot_of, AreTied}

@@ -9,3 +9,6 @@ pub mod Matching
 pub mod FirstSeats
 pub mod Empty
 pub mod Collected
+pub mod Elements
+pub mod Firsts
+pub mod Rows

@@ -10,8 +10,8 @@ use Rattle.std.proofs.lemmas.Option.{slice_get_within, slice_get-get_or, same_So
 use Rattle.position_core.specs.Position.{position_cmp, positions_total, exact_positions}
 use Rattle.position_core.specs.declared.position.Position.{Position}
 use Rattle.position_core.specs.declared.held.Held.{Held}
-use Rattle.due_tree.specs.declared.due.Slot.{Slot}
-use Rattle.due_tree.proofs.Elements.{set-slice_get, slice_get-set_same, slice_get-set_other, slice_get_push_end, slice_get_push_other, slice_get-swap_remove_same, slice_get-swap_remove_other, slice_get-swap_remove_past}
+use Rattle.pending_core.specs.declared.due.Slot.{Slot}
+use Rattle.pending_core.proofs.Elements.{set-slice_get, slice_get-set_same, slice_get-set_other, slice_get_push_end, slice_get_push_other, slice_get-swap_remove_same, slice_get-swap_remove_other, slice_get-swap_remove_past}
 use Rattle.pending_core.specs.declared.kept.Kept.{Kept}
 use Rattle.pending_core.specs.Pending.{most_count}
 use Rattle.pending_core.specs.Kept.{kept_at, slot_of, counted_once_more, ChangesAt, AreTied}

@@ -8,7 +8,7 @@ use Rattle.std.specs.FinMap as map_of
 use Rattle.position_core.specs.Position.{position_cmp}
 use Rattle.position_core.specs.declared.position.Position.{Position}
 use Rattle.position_core.specs.declared.held.Held.{Held}
-use Rattle.due_tree.specs.declared.due.Slot.{Slot}
+use Rattle.pending_core.specs.declared.due.Slot.{Slot}
 use Rattle.pending_core.specs.declared.kept.Kept.{Kept}
 use Rattle.pending_core.specs.Pending.{Pending, most_count}
 

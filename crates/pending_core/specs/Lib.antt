@@ -3,3 +3,5 @@ pub mod Codes
 pub mod Kept
 pub mod Counts
 pub mod Seats
+pub mod Due
+pub mod Nodes

@@ -12,8 +12,8 @@ use Rattle.delivery_machine.specs.State.{Subscription}
 use Rattle.delivery_machine.specs.Words.{is_held_by}
 use Rattle.delivery_machine.specs.Ticking.{redelivering}
 pub use Rattle.delivery_machine.specs.Ticking.{most_count}
-use Rattle.due_tree.specs.declared.due.Due.{Due}
-use Rattle.due_tree.specs.Due.{due_cmp}
+use Rattle.pending_core.specs.declared.due.Due.{Due}
+use Rattle.pending_core.specs.Due.{due_cmp}
 
 -- the pending messages, and the counts of those that were redelivered
 pub record Pending : Type 0 where

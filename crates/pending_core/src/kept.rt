@@ -1,5 +1,5 @@
 // The entries of the map of pending messages.
-use due_tree::Slot;
+use crate::due::Slot;
 use position_core::{DueMoment, Held, Position};
 
 /// What is kept of a position: the number of its slot, who holds it, and how often it was redelivered.

@@ -11,11 +11,12 @@ ghost use Rattle.delivery_machine.specs.Dying.{burying};
 ghost use Rattle.delivery_machine.specs.Seeking.{seeking};
 ghost use Rattle.pending_core.specs.Pending.{nothing_pending, counted_before, holding, without, released, due_again, redelivered, count_at, most_count, pending_count_at, CountedAndReleased, IsFirstAt, IsFirstDue, IsFirstPending, IsPendingOf};
 
+use crate::due::Due;
 use crate::kept::Kept;
 use crate::seats::Seats;
+use crate::tree::DueTree;
 use crate::{seated, table};
 use delivery_machine::Counts;
-use due_tree::{Due, DueTree};
 use position_core::{ConsumerNumber, DueMoment, Held, Position};
 use std::alloc::{AllocError, Global};
 use std::collections::BTreeMap;

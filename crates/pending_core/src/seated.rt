@@ -10,7 +10,7 @@ ghost use Rattle.pending_core.specs.Seats.{seat_cmp, seat_of, AreSeatsOf, SeatCh
 
 use crate::seats::{Seat, Seats};
 use crate::table::{self, Table};
-use due_tree::DueTree;
+use crate::tree::DueTree;
 use position_core::{Held, Position};
 use std::alloc::AllocError;
 

@@ -4,13 +4,13 @@ ghost use Rattle.delivery_machine.specs.Ticking.{most_count};
 ghost use Rattle.std.specs.List.Sorted.{IsStrictlySortedBy};
 ghost use Rattle.std.specs.FinMap as map_of;
 ghost use Rattle.position_core.specs.Position.{position_cmp};
-ghost use Rattle.due_tree.specs.declared.due.Slot.{Slot};
+ghost use Rattle.pending_core.specs.declared.due.Slot.{Slot};
 ghost use Rattle.pending_core.specs.Pending.{counted, counted_before, nothing_pending, holding, without, released, due_again, redelivered};
 ghost use Rattle.pending_core.specs.Kept.{kept_at, pending_in, slot_of, with_value, ChangesAt, AreTied};
 
 use crate::kept::Kept;
+use crate::tree::DueTree;
 use delivery_machine::{Counted, Counts, Times};
-use due_tree::DueTree;
 use position_core::{DueMoment, Held, Position};
 use std::alloc::{AllocError, Global};
 use std::collections::BTreeMap;

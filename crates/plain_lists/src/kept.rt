@@ -6,10 +6,12 @@ ghost use Rattle.delivery_machine.specs.Places.{AreBelow, kept_in};
 ghost use Rattle.delivery_machine.specs.Snapshot.{kept_of, subscription_from};
 ghost use Rattle.delivery_machine.specs.WellFormed.{AreCountsOf, AreMessagesOf};
 
+use crate::counts::CountTable;
+use crate::pending::PendingTable;
+use crate::positions::PositionSet;
 use crate::subscription::Subscription;
 use delivery_machine::KeptSubscription;
 use hash_ranges::SplitTable;
-use plain_tables::{CountTable, PendingTable, PositionSet};
 use position_core::Message;
 use std::alloc::{AllocError, Global};
 

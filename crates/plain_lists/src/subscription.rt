@@ -12,9 +12,11 @@ ghost use Rattle.delivery_machine.specs.Delivering.{holding};
 ghost use Rattle.delivery_machine.specs.Seeking.{seeking};
 ghost use Rattle.delivery_machine.specs.Ticking.{redelivering};
 
+use crate::counts::CountTable;
+use crate::pending::PendingTable;
+use crate::positions::PositionSet;
 use delivery_machine::DeadLetter;
 use hash_ranges::SplitTable;
-use plain_tables::{CountTable, PendingTable, PositionSet};
 use position_core::{
     ConsumerNumber, DueMoment, Held, Kind, Message, Position, Ranges, SubscriptionName,
 };

@@ -8,7 +8,7 @@ use Rattle.position_core.specs.declared.kind.Kind.{Kind}
 use Rattle.position_core.specs.declared.kind.Kind.TheVariants.{Shared}
 use Rattle.delivery_machine.specs.State.{State, Member, Subscription}
 use Rattle.delivery_machine.specs.Words.{IsEligible, ChoosesBy, first_waiting, has_room, is_at, is_member, with_room}
-use Rattle.delivery_machine.proofs.Chosen.{chosen_member}
+use Rattle.machine_laws.proofs.Chosen.{chosen_member}
 use Rattle.delivery_machine.proofs.Places.{fails_everywhere}
 use Rattle.delivery_machine.proofs.Passes.{passes}
 use Rattle.plain_queries.specs.Turn.{IsBestLevel}

@@ -5,9 +5,8 @@ ghost use Rattle.delivery_machine.specs.Words.{has_position};
 
 use crate::lists::Lists;
 use delivery_machine::Reply;
-use plain_lists::{leave_out_at, member_at, place_of_subscription};
+use plain_lists::{leave_out_at, member_at, place_of_subscription, positions_up_to};
 use plain_queries::is_in_order_at;
-use plain_tables::positions_up_to;
 use position_core::{ConsumerNumber, Fault, Message, Position, SubscriptionName};
 use std::alloc::AllocError;
 

@@ -1,9 +1,10 @@
 // Joining a subscription.
 use crate::lists::Lists;
 use delivery_machine::{Initial, Reply};
-use plain_lists::{Member, Subscription, Terms, place_for, place_of_subscription, subscription_at};
+use plain_lists::{
+    Member, PositionSet, Subscription, Terms, place_for, place_of_subscription, subscription_at,
+};
 use plain_queries::{count_at, has_kind};
-use plain_tables::PositionSet;
 use position_core::{
     ConsumerNumber, Fault, Kind, Ranges, RedeliverLimit, SubscriptionName, TopicName,
 };

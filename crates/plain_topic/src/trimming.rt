@@ -6,9 +6,8 @@ ghost use Rattle.delivery_machine.specs.Words.{is_by, signed};
 use crate::lists::Lists;
 use crate::saving::authors_of;
 use delivery_machine::{Author, Reply, Retention};
-use plain_lists::{forget_messages, is_connected, remember_all};
+use plain_lists::{forget_messages, is_connected, positions_of, remember_all};
 use plain_queries::free_at_front;
-use plain_tables::positions_of;
 use position_core::{Fault, Message, Moment, ProducerName};
 use std::alloc::AllocError;
 

@@ -2,11 +2,8 @@ pub mod Fault
 pub mod Kind
 pub mod Flow
 pub mod Position
-pub mod Id
 pub mod Name
 pub mod TopicName
 pub mod Properties
 pub mod Ranges
 pub mod Numbers
-pub mod Decimals
-pub mod RangesText

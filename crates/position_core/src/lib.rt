@@ -1,14 +1,12 @@
-//! The values of a topic: positions and their texts, names, moments, bodies, messages and refusals.
+//! The values of a topic: positions, names, moments, bodies, messages and refusals.
 #![tactic(auto)]
 
 mod block;
 mod body;
 mod bounded;
-mod decimals;
 mod fault;
 mod flow;
 mod held;
-mod id;
 mod kind;
 mod message;
 mod moment;
@@ -18,7 +16,6 @@ mod payload;
 mod position;
 mod properties;
 mod ranges;
-mod ranges_text;
 mod text;
 mod topic_name;
 
@@ -27,7 +24,6 @@ pub use body::{Body, Content};
 pub use bounded::{
     Bounded, Credit, LedgerSize, Level, Millis, Permits, RedeliverLimit, SkipLength, WindowSize,
 };
-pub use decimals::decimal_in;
 pub use fault::Fault;
 pub use flow::Flow;
 pub use held::Held;
@@ -40,6 +36,5 @@ pub use payload::Payload;
 pub use position::Position;
 pub use properties::Properties;
 pub use ranges::{HashRange, Ranges};
-pub use ranges_text::LeadingZeros;
 pub use text::{Key, ProducerName, Text};
 pub use topic_name::TopicName;

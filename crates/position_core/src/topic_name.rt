@@ -1,7 +1,6 @@
-// Topics' names and their texts.
-ghost use Rattle.std.specs.Prelude.{◌≡◌, ℕ, List, ◌∷◌, ◌++◌, IsTrue, IfOk, IfSome, IsSomeAnd, string_bytes};
-ghost use Rattle.position_core.specs.Name.{is_name};
-ghost use Rattle.position_core.specs.TopicName.{dead_letter_name, scheme, text_of_parts};
+// Topics' names.
+ghost use Rattle.std.specs.Prelude.{◌≡◌, IfOk, string_bytes};
+ghost use Rattle.position_core.specs.TopicName.{dead_letter_name};
 
 use crate::name::{Name, SubscriptionName};
 use std::alloc::{AllocError, Global};
@@ -24,31 +23,6 @@ impl Drop for TopicName {
     }
 }
 
-/// What follows the scheme.
-fn after_scheme(text: &str) -> Option<&str>
-    ensures some { IfSome result (λ rest. text.now ≡ scheme ++ rest.now) }
-    ensures all_parted { (rest : List ℕ) → text.now ≡ scheme ++ rest → IsSomeAnd result (λ r. r.now ≡ rest) }
-{
-    text.strip_prefix("persistent://")
-}
-
-/// What stands before the first `/`, and what stands after it.
-fn split_at_slash(text: &str) -> Option<(&str, &str)>
-    ensures some { IfSome result (λ r. text.now ≡ r.0.now ++ 47 ∷ r.1.now) }
-    ensures all_parted { (name rest : List ℕ) → IsTrue (is_name name) → text.now ≡ name ++ 47 ∷ rest → IsSomeAnd result (λ r. (r.0.now ≡ name) × (r.1.now ≡ rest)) }
-{
-    text.split_once('/')
-}
-
-fn parts_of(text: &str) -> Option<(&str, &str, &str)>
-    ensures some { IfSome result (λ r. text.now ≡ text_of_parts r.0.now r.1.now r.2.now) }
-    ensures all_parted { (tenant namespace topic : List ℕ) → IsTrue (is_name tenant) → IsTrue (is_name namespace) → text.now ≡ text_of_parts tenant namespace topic → IsSomeAnd result (λ r. (r.0.now ≡ tenant) × (r.1.now ≡ namespace) × (r.2.now ≡ topic)) }
-{
-    let (tenant, rest) = split_at_slash(after_scheme(text)?)?;
-    let (namespace, topic) = split_at_slash(rest)?;
-    Some((tenant, namespace, topic))
-}
-
 fn dead_letter_name(
     alloc: Global,
     topic: &Name,
@@ -65,21 +39,8 @@ fn dead_letter_name(
 }
 
 impl TopicName {
-    ghost use Rattle.std.specs.Prelude.{◌≡◌, IsTrue, IfOk, IfSome, IfNone};
-    ghost use Rattle.position_core.specs.Name.{is_name};
-    ghost use Rattle.position_core.specs.TopicName.{topic_of, topic_text, same_topic, dead_letter_default};
-    ghost use Rattle.position_core.specs.declared.topic_name.TopicName.{TopicName};
-
-    /// The topic's name that the text is, where it is one.
-    pub fn from_text(alloc: Global, text: &str) -> Result<Option<TopicName>, AllocError>
-        ensures read { IfOk result (λ found. IfSome found (λ name. text.now ≡ topic_text name)) }
-        ensures all_read { IfOk result (λ found. IfNone found ((name : TopicName) → IsTrue (is_name name.tenant) → IsTrue (is_name name.namespace) → IsTrue (is_name name.topic) → text.now ≡ topic_text name → ⊥)) }
-    {
-        match parts_of(text) {
-            Some((tenant, namespace, topic)) => Self::from_names(alloc, tenant, namespace, topic),
-            None => Ok(None),
-        }
-    }
+    ghost use Rattle.std.specs.Prelude.{◌≡◌, IfOk};
+    ghost use Rattle.position_core.specs.TopicName.{topic_of, same_topic, dead_letter_default};
 
     /// The topic of three texts, where they are names.
     pub fn from_names(

@@ -6,8 +6,10 @@ ghost use Rattle.row_tables.specs.Ready.{AreKeyed};
 
 use crate::arguments::Asked;
 use crate::causes::{Why, say_why};
+use crate::server::Server;
 use crate::sizes::Sizes;
-use broker_dir::{Backups, Directory, Open, Terms, moment};
+use broker_dir::{Directory, Terms};
+use broker_parts::{Backups, moment};
 use delivery_machine::Moment;
 use marks::{Naming, Unnamed};
 use position_core::LedgerSize;
@@ -21,9 +23,8 @@ use std::rt::{Clock, Files};
 use std::sync::{Arc, Wait};
 use std::thread::Threads;
 use stored_cell::{Note, Notes};
-use topic_core::TopicCore;
 use topic_shared::{LineLimit, SeatCount};
-use worker_pool::{About, Ended, Limits, Place, VERSION, serve};
+use worker_pool::{About, Ended, Limits, VERSION, serve};
 
 /// How the program ends.
 #[derive(Clone, Copy, Debug, PartialEq, Eq)]
@@ -61,14 +62,14 @@ fn fate_of(ended: Ended) -> Fate {
 }
 
 /// Says why serving ended, where the store failed.
-fn say_end<S: Alter, J: Naming, R: Wait + Eprint>(
+fn say_end<S: Alter + Drop, J: Naming, R: Wait + Eprint>(
     rt: &R,
     asked: &Asked<'_>,
-    place: &Place<TopicCore, S, J, Open>,
+    server: &Server<S, J>,
     ended: Ended,
 ) {
     if ended == Ended::StoreFailed
-        && let Some(cause) = place.cause(rt)
+        && let Some(cause) = server.cause(rt)
     {
         say_why(rt, asked.database, Why::Store(cause));
     }
@@ -120,11 +121,11 @@ fn serve_named<
     let about = About {
         started: moment(rt, first),
     };
-    let place: Place<TopicCore, S, J, Open> = Place::new(directory, Open, about);
-    let Ok(place) = Arc::new(alloc, place) else {
+    let server = Server::new(directory, about);
+    let Ok(server) = Arc::new(alloc, server) else {
         return Fate::CannotServe;
     };
-    let Ok(served) = Arc::try_clone(&place) else {
+    let Ok(served) = Arc::try_clone(&server) else {
         return Fate::CannotServe;
     };
     let Ok(listener) = TcpListener::bind(rt, asked.address) else {
@@ -140,7 +141,7 @@ fn serve_named<
         workers: asked.workers,
         connections: asked.connections,
     };
-    let ended = serve(rt, alloc, listener, place, limits);
+    let ended = serve(rt, alloc, listener, server, limits);
     say_end(rt, asked, &served, ended);
     fate_of(ended)
 }

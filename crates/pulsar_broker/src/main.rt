@@ -5,13 +5,14 @@ mod arguments;
 mod broker;
 mod causes;
 mod help;
+mod server;
 mod sizes;
 
 use arguments::read_arguments;
 use broker::{Fate, serve_over};
 use causes::{say_why, why_unopened};
 use help::HELP;
-use row_found::{open, open_in_memory};
+use row_schema::{open, open_in_memory};
 use sqlite::Unknown;
 use std::env;
 use std::io::ErrorKind;

@@ -1,6 +1,13 @@
 -- The arguments of the program.
-use Rattle.std.specs.Prelude.{◌≡◌, ℕ, List, [], ◌∷◌}
+use Rattle.std.specs.Prelude.{◌≡◌, ℕ, List, [], ◌∷◌, codes}
 use Rattle.replay_lines.specs.Numbers.{IsBetween}
+use Rattle.replay_core.specs.declared.arguments.Form.{Form}
+use Rattle.replay_core.specs.declared.arguments.Form.TheVariants.{Plain, Fast}
+
+-- the argument names the form
+abbrev pub Names : List ℕ → Form → Type 0
+Names argument Plain = argument ≡ codes "plain"
+Names argument Fast = argument ≡ codes "fast"
 
 -- the arguments ask for ledgers of so many entries: 50,000 where there is none
 abbrev pub AskFor : List (List ℕ) → ℕ → Type 0

@@ -3,7 +3,7 @@ use Rattle.std.specs.Prelude.{ℕ, ◌==◌, nat_le, Bool, ◌&&◌, ◌||◌, L
 use Rattle.std.specs.Fmt.{decimal, signed_decimal}
 use Rattle.std.specs.Str.{bytes_eq}
 use Rattle.percent_encoding.specs.Percent.{percent_encode_byte}
-use Rattle.position_core.specs.Id.{text_of}
+use Rattle.value_texts.specs.Id.{text_of}
 use Rattle.position_core.specs.declared.fault.Fault.{Fault}
 use Rattle.position_core.specs.Fault.{number_of}
 use Rattle.position_core.specs.declared.position.Position.{Position}

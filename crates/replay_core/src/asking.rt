@@ -6,7 +6,7 @@ ghost use Rattle.replay_core.specs.Replay.{sides, this_topic};
 ghost use Rattle.replay_core.specs.Stops.{EndsWith};
 ghost use Rattle.replay_core.specs.declared.asking.Unasked.TheVariants.{Arguments, Memory};
 
-use crate::arguments::read_ledger_size;
+use crate::arguments::{Form, read_form, read_ledger_size};
 use crate::plain::replay_to_status;
 use delivery_machine::Opened;
 use position_core::LedgerSize;
@@ -23,18 +23,33 @@ pub enum Unasked {
     Memory,
 }
 
-/// The ledger size of the arguments after the program's name.
-pub fn asked_ledger_size<R: Env + AllocGlobal>(rt: &R) -> Result<LedgerSize, Unasked> {
-    let mut arguments = match env::args(rt) {
+/// More bytes than a word has that names a form.
+const FORM_BYTES: usize = 8;
+
+/// The form that the first argument after the program's name names.
+pub fn asked_form<R: Env>(rt: &R) -> Option<Form> {
+    let mut first = [0; FORM_BYTES];
+    match rt.arg(1, &mut first) {
+        Ok(length) if length <= FORM_BYTES => read_form(&first[..length]),
+        Ok(_) | Err(_) => None,
+    }
+}
+
+/// The ledger size of the arguments after the program's name and so many more.
+pub fn asked_ledger_size<R: Env + AllocGlobal>(
+    rt: &R,
+    skipped: usize,
+) -> Result<LedgerSize, Unasked> {
+    let arguments = match env::args(rt) {
         Ok(arguments) => arguments,
         Err(error) if error.kind() == ErrorKind::OutOfMemory => return Err(Unasked::Memory),
         Err(_) => return Err(Unasked::Arguments),
     };
-    arguments.next();
     let Ok(arguments) = arguments.collect::<Vec<String>>(rt.alloc()) else {
         return Err(Unasked::Memory);
     };
-    read_ledger_size(arguments.as_slice()).ok_or(Unasked::Arguments)
+    let sizes = arguments.get(skipped.saturating_add(1)..).unwrap_or(&[]);
+    read_ledger_size(sizes).ok_or(Unasked::Arguments)
 }
 
 /// Replays a fresh topic, where a ledger size was asked for, and answers the status for the program to end

@@ -10,8 +10,8 @@ mod plain;
 mod printing;
 mod stop;
 
-pub use arguments::read_ledger_size;
-pub use asking::{Unasked, asked_ledger_size, replay_asked};
+pub use arguments::{Form, read_form, read_ledger_size};
+pub use asking::{Unasked, asked_form, asked_ledger_size, replay_asked};
 pub use engine::replay_over;
 pub use plain::{replay, replay_fresh, replay_to_status};
 pub use stop::{Stop, status};

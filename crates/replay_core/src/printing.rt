@@ -1,7 +1,7 @@
 // The line of each reply.
 ghost use Rattle.std.specs.Prelude.{◌≡◌, ℕ, ◌++◌, ◌∷◌, [], ◌<◌, OnOk, codes, flat_map, string_bytes, length};
 ghost use Rattle.std.specs.Fmt.{decimal, signed_decimal};
-ghost use Rattle.position_core.specs.Id.{text_of};
+ghost use Rattle.value_texts.specs.Id.{text_of};
 ghost use Rattle.replay_core.specs.Printing.{producer_name, copy_text, target_text, kind_text, position_text, subscription_text, counts_text, refused_text, reply_text, restarted_text};
 
 use crate::names::{append_name, append_target};
@@ -11,6 +11,7 @@ use position_core::{
 };
 use replay_lines::append_payload;
 use std::alloc::AllocError;
+use value_texts::append_id;
 
 fn append_number(out: &mut String, number: u64) -> Result<(), AllocError>
     ensures { OnOk result (string_bytes out.new ≡ string_bytes out.old ++ decimal number) }
@@ -50,12 +51,6 @@ fn append_producer_name(
         ) => append_name(out, name.as_str()),
         (None, _) => Ok(()),
     }
-}
-
-fn append_id(out: &mut String, position: Position) -> Result<(), AllocError>
-    ensures { OnOk result (string_bytes out.new ≡ string_bytes out.old ++ text_of position) }
-{
-    position.append_text(out)
 }
 
 fn append_copy(out: &mut String, delivery: &Delivery) -> Result<(), AllocError>

@@ -2,10 +2,10 @@
 use Rattle.std.proofs.Common.{◌≡◌, ℕ, ◌<◌, List, ℤ, codes, inl, inr, arith}
 use Rattle.std.specs.declared.result.Result.TheVariants.{Err}
 use Rattle.replay_lines.specs.Reads.{ReadsAtOnce}
-use Rattle.position_core.specs.Decimals.{IsNumber}
+use Rattle.value_texts.specs.Decimals.{IsNumber}
 use Rattle.replay_lines.specs.Numbers.{IsBase}
 use Rattle.replay_lines.specs.declared.words.Unread.{Unread}
-use Rattle.position_core.proofs.LastDigits.{one_number}
+use Rattle.value_texts.proofs.LastDigits.{one_number}
 use Rattle.replay_lines.proofs.Findings.{still_bad}
 
 -- a base other than `-` is a number

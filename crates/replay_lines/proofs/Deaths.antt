@@ -9,7 +9,7 @@ use Rattle.replay_lines.specs.Grammar.{Complete, IsDeath}
 use Rattle.replay_lines.specs.declared.command.Command.TheVariants as commands
 use Rattle.replay_lines.specs.declared.words.Unread.{Unread}
 use Rattle.replay_lines.specs.declared.words.Unread.TheVariants.{BadLine, Memory}
-use Rattle.position_core.proofs.LastDigits.{one_number}
+use Rattle.value_texts.proofs.LastDigits.{one_number}
 
 -- a word that is no dead topic at its limit leaves no death
 pub no_death : (this : TopicName) (subscription limit target : List ℕ) (n : ℕ) (e : Unread) → IsBetween 0 1000000 limit n → Reads (IsDeadTopic this subscription n target) (Err e) → Reads (IsDeath this subscription limit target) (Err e)

@@ -4,7 +4,7 @@ use Rattle.std.specs.List.{find}
 use Rattle.std.specs.Str.{bytes_eq}
 use Rattle.position_core.specs.declared.topic_name.TopicName.{TopicName}
 use Rattle.position_core.specs.declared.position.Position.{Position}
-use Rattle.position_core.proofs.Ids.{one_id}
+use Rattle.value_texts.proofs.Ids.{one_id}
 use Rattle.delivery_machine.specs.declared.event.Event.{Event}
 use Rattle.delivery_machine.specs.declared.event.Event.TheVariants.{DropProducer, Leave, Ack, AckUpTo, Nack, DropSubscription, Stats, Collect, DeadNext}
 use Rattle.delivery_machine.specs.declared.event.Target.{Target}
@@ -14,11 +14,11 @@ use Rattle.replay_lines.specs.declared.command.TheConstants.{ALL}
 use Rattle.replay_lines.specs.declared.reading.Line.{Line}
 use Rattle.replay_lines.specs.declared.reading.Line.TheVariants as lines
 use Rattle.replay_lines.specs.Grammar.{command_text, IsById, IsLineOf, EachLineIsOne, seek_line}
-use Rattle.position_core.specs.Decimals.{IsNumber}
+use Rattle.value_texts.specs.Decimals.{IsNumber}
 use Rattle.replay_lines.specs.Numbers.{IsSequence, IsBase, IsMoment, IsBetween}
 use Rattle.replay_lines.specs.Names.{IsNameWord, IsProducerWord}
 use Rattle.replay_lines.specs.Grammar.{IsBody, IsKind, IsFlow, IsInitial, IsTarget, IsDeath}
-use Rattle.position_core.proofs.LastDigits.{one_number}
+use Rattle.value_texts.proofs.LastDigits.{one_number}
 use Rattle.replay_lines.proofs.LastWords.{one_last, one_said}
 use Rattle.replay_lines.proofs.OneWord.{one_moment, one_between, one_sequence, one_base, one_name, one_producer, one_body, one_kind, one_flow, one_initial, one_target, one_death}
 

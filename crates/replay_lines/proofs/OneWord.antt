@@ -17,9 +17,9 @@ use Rattle.position_core.specs.declared.kind.Kind.TheVariants.{Exclusive, Failov
 use Rattle.position_core.specs.declared.flow.Flow.{Flow}
 use Rattle.position_core.specs.declared.flow.Flow.TheVariants.{Window, Credit}
 use Rattle.position_core.specs.TopicName.{topic_text}
-use Rattle.position_core.specs.Id.{IsIdOf, id_bytes}
-use Rattle.position_core.proofs.Ids.{one_id, text_decodes}
-use Rattle.position_core.proofs.TopicNames.{one_topic}
+use Rattle.value_texts.specs.Id.{IsIdOf, id_bytes}
+use Rattle.value_texts.proofs.Ids.{one_id, text_decodes}
+use Rattle.value_texts.proofs.TopicNames.{one_topic}
 use Rattle.delivery_machine.specs.declared.event.Initial.{Initial}
 use Rattle.delivery_machine.specs.declared.event.Initial.TheVariants.{Earliest, Latest}
 use Rattle.delivery_machine.specs.declared.event.Target.{Target}
@@ -28,7 +28,7 @@ use Rattle.replay_lines.specs.Numbers.{IsSequence, IsBase, IsMoment, IsBetween}
 use Rattle.replay_lines.specs.Names.{IsText, IsNameWord, IsProducerWord, IsKeyWord, IsTopicWord, IsUnsaidTopic, IsDeadTopic}
 use Rattle.replay_lines.specs.Payloads.{IsPayload}
 use Rattle.replay_lines.specs.Grammar.{IsKind, IsFlow, IsInitial, IsTarget, IsBody, IsDeath}
-use Rattle.position_core.proofs.LastDigits.{one_number, digit_ends}
+use Rattle.value_texts.proofs.LastDigits.{one_number, digit_ends}
 
 -- ---- numbers
 

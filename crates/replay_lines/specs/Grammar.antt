@@ -3,14 +3,14 @@ use Rattle.std.specs.Prelude.{◌≡◌, ℕ, ℤ, List, [], ◌∷◌, ◌++◌
 use Rattle.position_core.specs.declared.topic_name.TopicName.{TopicName}
 use Rattle.position_core.specs.declared.position.Position.{Position}
 use Rattle.position_core.specs.declared.body.Content.{Content}
-use Rattle.position_core.specs.Id.{IsIdOf}
+use Rattle.value_texts.specs.Id.{IsIdOf}
 use Rattle.delivery_machine.specs.declared.event.Event.{Event}
 use Rattle.delivery_machine.specs.declared.event.Event.TheVariants.{AddProducer, DropProducer, Publish, Stored, Progress, Subscribe, Leave, Permit, Ack, AckUpTo, Nack, Tick, Seek, SeekTime, Skip, DropSubscription, Stats, Dispatch, Collect, DeadNext, DeadDone, Trim}
 use Rattle.position_core.specs.declared.kind.Kind.{Kind}
 use Rattle.position_core.specs.declared.ranges.HashRange.{HashRange}
 use Rattle.position_core.specs.Kind.{same_kind}
-use Rattle.position_core.specs.declared.ranges_text.LeadingZeros.TheVariants.{Refused}
-use Rattle.position_core.specs.RangesText.{ranges_of}
+use Rattle.value_texts.specs.declared.ranges_text.LeadingZeros.TheVariants.{Refused}
+use Rattle.value_texts.specs.RangesText.{ranges_of}
 use Rattle.position_core.specs.declared.kind.Kind.TheVariants.{Exclusive, Failover, Shared, KeyShared}
 use Rattle.position_core.specs.declared.flow.Flow.{Flow}
 use Rattle.position_core.specs.declared.flow.Flow.TheVariants.{Window, Credit}
@@ -23,7 +23,7 @@ use Rattle.replay_lines.specs.declared.command.Command.TheVariants as commands
 use Rattle.replay_lines.specs.declared.reading.Line.{Line}
 use Rattle.replay_lines.specs.declared.reading.Line.TheVariants as lines
 use Rattle.replay_lines.specs.Splitting.{NoneEmpty, words_of}
-use Rattle.position_core.specs.Decimals.{IsNumber}
+use Rattle.value_texts.specs.Decimals.{IsNumber}
 use Rattle.replay_lines.specs.Numbers.{IsSequence, IsBase, IsMoment, IsBetween}
 use Rattle.replay_lines.specs.Names.{IsNameWord, IsProducerWord, IsKeyWord, IsDeadTopic}
 use Rattle.replay_lines.specs.Payloads.{IsPayload}

@@ -11,8 +11,8 @@ use crate::numbers::{read_moment, read_number};
 use crate::reading::Line;
 use crate::words::{Unread, Words};
 use delivery_machine::Event;
-use position_core::Position;
 use std::alloc::Global;
+use value_texts::read_id;
 
 /// The line of an id that is none.
 pub fn bad_id() -> Result<Line, Unread>
@@ -26,7 +26,7 @@ pub fn read_ack(words: Words<'_>) -> Result<Line, Unread>
 {
     let (consumer, id) = words.two()?;
     let consumer = read_number(consumer)?;
-    match Position::from_text(id) {
+    match read_id(id) {
         Ok(position) => Ok(Line::Event(Event::Ack { consumer, position })),
         Err(_) => bad_id(),
     }
@@ -37,7 +37,7 @@ pub fn read_ack_up_to(words: Words<'_>) -> Result<Line, Unread>
 {
     let (consumer, id) = words.two()?;
     let consumer = read_number(consumer)?;
-    match Position::from_text(id) {
+    match read_id(id) {
         Ok(position) => Ok(Line::Event(Event::AckUpTo { consumer, position })),
         Err(_) => bad_id(),
     }
@@ -49,7 +49,7 @@ pub fn read_nack(words: Words<'_>) -> Result<Line, Unread>
     let (consumer, id, now) = words.three()?;
     let consumer = read_number(consumer)?;
     let now = read_moment(now)?;
-    match Position::from_text(id) {
+    match read_id(id) {
         Ok(position) => Ok(Line::Event(Event::Nack {
             consumer,
             position,

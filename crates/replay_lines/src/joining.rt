@@ -10,8 +10,9 @@ use crate::numbers::{read_bounded, read_number};
 use crate::reading::Line;
 use crate::words::{Unread, Words};
 use delivery_machine::{Event, Flow, Initial, Kind};
-use position_core::{Credit, LeadingZeros, Ranges, TopicName};
+use position_core::{Credit, Ranges, TopicName};
 use std::alloc::Global;
+use value_texts::{LeadingZeros, read_ranges};
 
 fn read_kind(word: &[u8]) -> Result<Kind, Unread>
     ensures { ReadsAtOnce (IsKind word.now) result }
@@ -57,7 +58,11 @@ fn read_initial(word: &[u8]) -> Result<Initial, Unread>
 }
 
 /// Reads the ranges of hashes that stand at the end of a line. Only in Key_Shared they are looked at.
-fn read_ranges(alloc: Global, kind: Kind, last: Option<&[u8]>) -> Result<Option<Ranges>, Unread>
+fn read_last_ranges(
+    alloc: Global,
+    kind: Kind,
+    last: Option<&[u8]>,
+) -> Result<Option<Ranges>, Unread>
     ensures { Reads (AreSaid kind (option_copied last.entry)) result }
 {
     let Some(word) = last else {
@@ -66,7 +71,7 @@ fn read_ranges(alloc: Global, kind: Kind, last: Option<&[u8]>) -> Result<Option<
     if !kind.is(Kind::KeyShared) {
         return Ok(None);
     }
-    match Ranges::from_text(alloc, LeadingZeros::Refused, word)? {
+    match read_ranges(alloc, LeadingZeros::Refused, word)? {
         Some(ranges) => Ok(Some(ranges)),
         None => Err(Unread::BadLine),
     }
@@ -102,7 +107,7 @@ pub fn read_subscribe(alloc: Global, this: &TopicName, mut words: Words<'_>) -> 
     let ack_timeout = read_bounded(ack_timeout)?;
     let nack_delay = read_bounded(nack_delay)?;
     let initial = read_initial(initial)?;
-    let ranges = read_ranges(alloc, kind, last)?;
+    let ranges = read_last_ranges(alloc, kind, last)?;
     let subscription = read_name(alloc, subscription)?;
     let (max_redeliver, dead_topic) = read_death(
         alloc,

@@ -10,6 +10,7 @@ use position_core::{Key, Name, ProducerName, TopicName};
 use std::alloc::Global;
 use std::borrow::CowStr;
 use std::sync::ArcStr;
+use value_texts::read_topic_name;
 
 fn decoded(alloc: Global, word: &[u8]) -> Result<CowStr<'_>, Unread>
     ensures { ReadsAs cow_str_bytes (IsText word.now) result }
@@ -70,7 +71,7 @@ pub fn read_topic(alloc: Global, word: &[u8]) -> Result<TopicName, Unread>
     ensures { Reads (IsTopicWord word.now) result }
 {
     let text = decoded(alloc, word)?;
-    match TopicName::from_text(alloc, text.as_str())? {
+    match read_topic_name(alloc, text.as_str())? {
         Some(name) => Ok(name),
         None => Err(Unread::BadLine),
     }

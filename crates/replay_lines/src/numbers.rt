@@ -1,10 +1,11 @@
 // Words that are numbers: decimal, without sign and leading zeros.
 ghost use Rattle.replay_lines.specs.Reads.{ReadsAtOnce};
-ghost use Rattle.position_core.specs.Decimals.{IsNumber};
+ghost use Rattle.value_texts.specs.Decimals.{IsNumber};
 ghost use Rattle.replay_lines.specs.Numbers.{IsSequence, IsBase, IsMoment, IsBetween};
 
 use crate::words::{Unread, is_none};
-use position_core::{Base, Bounded, Moment, decimal_in};
+use position_core::{Base, Bounded, Moment};
+use value_texts::decimal_in;
 
 pub fn read_number(word: &[u8]) -> Result<u64, Unread>
     ensures { ReadsAtOnce (IsNumber word.now) result }

@@ -10,8 +10,8 @@ use crate::numbers::{read_bounded, read_moment};
 use crate::reading::Line;
 use crate::words::{Unread, Words};
 use delivery_machine::{Event, Target};
-use position_core::Position;
 use std::alloc::Global;
+use value_texts::read_id;
 
 /// None where the word is an id that is none.
 fn read_target(word: &[u8]) -> Option<Target>
@@ -23,7 +23,7 @@ fn read_target(word: &[u8]) -> Option<Target>
     if word == b"latest".as_slice() {
         return Some(Target::Latest);
     }
-    match Position::from_text(word) {
+    match read_id(word) {
         Ok(position) => Some(Target::At(position)),
         Err(_) => None,
     }

@@ -21,7 +21,7 @@ use Rattle.position_core.specs.Name.{name_order}
 use Rattle.delivery_machine.specs.State.{DeadLetter}
 use Rattle.delivery_machine.specs.Places.{KeptPlaces, positions_at}
 use Rattle.delivery_machine.specs.WellFormed.{AreCountsOf, NamesRise}
-use Rattle.delivery_machine.proofs.Ordinals.{once_distinct}
+use Rattle.machine_laws.proofs.Ordinals.{once_distinct}
 use Rattle.row_forms.specs.Forms.{AreAckRows, Span, count_rows, dead_rows, kind_number, sub_row, sub_rows}
 use Rattle.row_reading.specs.Reading.{ArePast, BeginWithCounts, BeginsWithAcks, BeginsWithCounts, BeginsWithDeads, BeginsWithLetters, BeginsWithRuns, IsReadable, IsReadableSub, IsSubOf, OrdinalsCame, ShowSubs, put}
 use Rattle.row_reading.proofs.Letters.{counted}

@@ -18,8 +18,8 @@ use Rattle.position_core.specs.Position.{same_position}
 use Rattle.ack_ranges.proofs.Covers.{either, or_first, or_second}
 use Rattle.delivery_machine.specs.State.{DeadLetter}
 use Rattle.delivery_machine.specs.WellFormed.{AreDeadLettersOf, has_message}
-use Rattle.delivery_machine.proofs.Letters.{dead_pushed}
-use Rattle.delivery_machine.proofs.Ordinals.{distinct_once, times}
+use Rattle.machine_laws.proofs.Letters.{dead_pushed}
+use Rattle.machine_laws.proofs.Ordinals.{distinct_once, times}
 use Rattle.delivery_machine.proofs.Tended.{position_is}
 use Rattle.row_forms.specs.Forms.{Span, dead_row, index_in, place_in}
 use Rattle.row_reading.specs.Reading.{AreDeadAt, BeginsWithLetters, IsLetterAt, OrdinalsCame, times_in}

@@ -31,8 +31,8 @@ use Rattle.delivery_machine.proofs.Deciding.{and_first, and_second, number_is}
 use Rattle.delivery_machine.proofs.Firsts.{found_contained, found_passes}
 use Rattle.delivery_machine.proofs.Tended.{is_seat, is_seated}
 use Rattle.delivery_machine.proofs.Tending.{IsTendedIn}
-use Rattle.delivery_machine.proofs.WellKept.{numbers_of}
-use Rattle.delivery_machine.proofs.WellSeated.{found_by_number}
+use Rattle.machine_laws.proofs.WellKept.{numbers_of}
+use Rattle.machine_laws.proofs.WellSeated.{found_by_number}
 use Rattle.delivery_machine.proofs.EachFirst.{each_changed, each_kept, each_placed}
 use Rattle.delivery_machine.proofs.Kept.{kinds_agree, not_refused, not_refused_next}
 use Rattle.delivery_machine.proofs.Keyed.{each_key_removed}

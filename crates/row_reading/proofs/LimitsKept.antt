@@ -15,8 +15,8 @@ use Rattle.delivery_machine.specs.Joining.{all_released, is_taken_over, releasin
 use Rattle.delivery_machine.specs.Seeking.{seeking, sought}
 use Rattle.delivery_machine.specs.Ticking.{redelivered, redelivering}
 use Rattle.delivery_machine.proofs.Keyed.{kept_if, keys_changed, keys_mapped}
-use Rattle.delivery_machine.proofs.Named.{AreNamed, found_left}
-use Rattle.delivery_machine.proofs.WellKept.{storing_so}
+use Rattle.machine_laws.proofs.Named.{AreNamed, found_left}
+use Rattle.machine_laws.proofs.WellKept.{storing_so}
 use Rattle.row_reading.proofs.Limits.{AreSeated, IsLetterWithin, KeepsLimits, length_removed, seated_changed, seated_mapped, will_of, wills}
 
 -- ---- one subscription is changed, and its members keep their wills

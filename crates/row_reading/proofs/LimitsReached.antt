@@ -24,9 +24,9 @@ use Rattle.delivery_machine.specs.declared.reply.Reply.{Reply}
 use Rattle.delivery_machine.specs.declared.reply.Reply.TheVariants.{Sent, Idle, Quiet, Rewound, Released, Died, Trimmed, Untrimmed}
 use Rattle.delivery_machine.proofs.Deciding.{turned}
 use Rattle.delivery_machine.proofs.Firsts.{found_contained, some_elim}
-use Rattle.delivery_machine.proofs.ReachedOn.{reached_step}
+use Rattle.machine_laws.proofs.ReachedOn.{reached_step}
 use Rattle.delivery_machine.proofs.RunSteps.{split}
-use Rattle.delivery_machine.proofs.WellReached.{IsAllKept, reached_all}
+use Rattle.machine_laws.proofs.WellReached.{IsAllKept, reached_all}
 use Rattle.row_reading.specs.Limits.{IsWithinLimits}
 use Rattle.row_reading.proofs.Limits.{IsProducerWithin, KeepsLimits}
 use Rattle.row_reading.proofs.LimitsJoined.{dies_elsewhere, limits_joined, limits_left, may_join}

@@ -9,8 +9,8 @@ use Rattle.delivery_machine.specs.State.{State, fresh}
 use Rattle.delivery_machine.specs.Places.{KeptTopic, kept_in, snapshot_in}
 use Rattle.delivery_machine.specs.Snapshot.{KeptSubscription, Snapshot, kept_of, restarted, snapshot_of, subscription_from}
 use Rattle.delivery_machine.specs.WellFormed.{IsSound}
-use Rattle.delivery_machine.proofs.Named.{all_from_each, each_from_all}
-use Rattle.delivery_machine.proofs.ReachedOn.{reached_fresh, reached_restarted, reached_sound}
+use Rattle.machine_laws.proofs.Named.{all_from_each, each_from_all}
+use Rattle.machine_laws.proofs.ReachedOn.{reached_fresh, reached_restarted, reached_sound}
 use Rattle.row_reading.specs.Limits.{BeginsWithinLimits, IsSubscriptionName, IsWithinLimits, IsWithinLog, WhatRunsKeepIsRead}
 use Rattle.row_reading.specs.Reading.{IsLedgerSize, IsReadableAuthor, IsReadableMessage, IsReadBack, MayBeRule}
 use Rattle.row_reading.proofs.Limits.{IsLetterWithin, IsProducerWithin, IsSubWithin, KeepsLimits, all_seen, wills}

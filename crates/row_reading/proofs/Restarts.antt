@@ -14,7 +14,7 @@ use Rattle.delivery_machine.specs.State.{Author, DeadLetter}
 use Rattle.delivery_machine.specs.Snapshot.{KeptSubscription}
 use Rattle.delivery_machine.specs.Places.{AreBelow, KeptPlaces, KeptTopic, MayRestart, kept_in, positions_at, positions_from}
 use Rattle.delivery_machine.specs.WellFormed.{AreAuthors, AreMessagesOf, HaveOrdinals, IsGoneWell, IsSoundSubscription, IsWellFormedLog, NamesRise}
-use Rattle.delivery_machine.proofs.Ordinals.{letters_mapped}
+use Rattle.machine_laws.proofs.Ordinals.{letters_mapped}
 use Rattle.row_tables.specs.declared.side_rows.SideRows.{SideRows}
 use Rattle.row_forms.specs.Forms.{AreAckRows, AreRowsOf, Span, author_rows, count_rows, dead_rows, sub_rows}
 use Rattle.row_reading.specs.declared.retention_rows.Front.{Front}

@@ -21,7 +21,7 @@ use Rattle.position_core.specs.declared.kind.Kind.{Kind}
 use Rattle.position_core.specs.declared.kind.Kind.TheVariants.{Exclusive, Failover, Shared, KeyShared}
 use Rattle.position_core.specs.TopicName.{topic_text}
 use Rattle.position_core.specs.Name.{name_order}
-use Rattle.position_core.proofs.TopicNames.{one_topic}
+use Rattle.value_texts.proofs.TopicNames.{one_topic}
 use Rattle.ack_ranges.specs.Ranges.{Rise, RiseAbove}
 use Rattle.delivery_machine.specs.State.{DeadLetter}
 use Rattle.delivery_machine.specs.Places.{KeptPlaces}

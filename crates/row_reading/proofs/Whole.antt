@@ -16,7 +16,7 @@ use Rattle.delivery_machine.specs.declared.retention.Retention.{Retention}
 use Rattle.delivery_machine.specs.Snapshot.{KeptSubscription}
 use Rattle.delivery_machine.specs.Places.{AreBelow, KeptPlaces, KeptTopic, kept_in}
 use Rattle.delivery_machine.specs.WellFormed.{AreDeadLettersOf, HaveOrdinals, IsSoundSubscription, NamesRise, has_message}
-use Rattle.delivery_machine.proofs.Ordinals.{letters_mapped}
+use Rattle.machine_laws.proofs.Ordinals.{letters_mapped}
 use Rattle.row_tables.specs.declared.side_rows.SideRows.{SideRows}
 use Rattle.row_forms.specs.Forms.{AreAckRows, AreRowsOf, Span, author_rows, count_rows, dead_rows, entry_rows, retention_row, retention_rows, span_of, sub_rows, topic_row}
 use Rattle.row_reading.specs.declared.retention_rows.Front.{Front}

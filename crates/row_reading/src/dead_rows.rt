@@ -20,6 +20,7 @@ use delivery_machine::DeadLetter;
 use position_core::{Ordinal, SubscriptionName, TopicName};
 use sqlite::Row;
 use std::alloc::{AllocError, Global};
+use value_texts::read_topic_name;
 
 /// What dead letters are read for: the topic, its log and its next ordinal.
 #[derive(Clone, Copy)]
@@ -62,7 +63,7 @@ fn target_at(
     let Some(text) = text_at(row, at) else {
         return Ok(None);
     };
-    match TopicName::from_text(alloc, text)? {
+    match read_topic_name(alloc, text)? {
         Some(name) => if is_other(&name, own) {
             Ok(Some(name))
         } else {

@@ -4,3 +4,4 @@ pub mod ReadingLemmas
 pub mod VersionLemmas
 pub mod UpgradeLemmas
 pub mod CrashLemmas
+pub mod FoundLemmas

@@ -7,7 +7,7 @@ use Rattle.std.proofs.lemmas.List.Elements.{filter_passes}
 use Rattle.position_core.specs.Name.{is_name}
 use Rattle.position_core.specs.TopicName.{same_topic, topic_text}
 use Rattle.position_core.specs.declared.topic_name.TopicName.{TopicName}
-use Rattle.position_core.proofs.TopicNames.{one_topic}
+use Rattle.value_texts.proofs.TopicNames.{one_topic}
 use Rattle.sqlite_trees.specs.declared.store.Store.{Ghosts}
 use Rattle.sqlite_trees.specs.View.{doubt}
 use Rattle.sqlite.specs.Tree.{Trees}

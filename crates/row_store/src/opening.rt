@@ -113,7 +113,7 @@ impl<S: Alter + Drop, J: Naming> Keeper<S, J> {
 
     /// Takes a database of the last version as it is, and makes one of an earlier version one of the last, a version in a
     /// transaction; what was not committed is undone. Refused (F16) where it has other tables or another version, or where the store answers an error. That in each table no rowid comes twice
-    /// is known of a connection that `row_found` opened, or that `row_schema::reopen` read again.
+    /// is known of a connection that `row_schema` opened, or read again (`row_schema::reopen`).
     pub fn adopt(alloc: Global, conn: Connection<S>, notes: Notes<J>) -> Result<Self, Refused<S, J>>
         requires keyed { HasCleanDisk (state S.Store conn) → IsTrue (state S.Store conn).is_open → AreKeyed (state S.Store conn).now }
         ensures adopted { IfOk result (λ k. (k.failed ≡ false) × (HasCleanDisk (state S.Store k.conn) → IsTrue (state S.Store k.conn).is_open → IsReady (state S.Store k.conn).now)) }

@@ -13,10 +13,10 @@ use Rattle.delivery_machine.proofs.Behind.{same_name}
 use Rattle.delivery_machine.proofs.Places.{removed_there}
 use Rattle.topic_log.specs.Written.{all_of}
 use Rattle.dedup_core.specs.Sequences.{AgreesWith}
-use Rattle.dispatchers.specs.declared.dispatch.Dispatch.{Dispatch}
-use Rattle.dispatchers.specs.Told.{AreTold}
-use Rattle.dispatchers.proofs.Agreed.{told_removed}
-use Rattle.dispatchers.proofs.Opening.{goes_dropped}
+use Rattle.topic_served.specs.declared.dispatch.Dispatch.{Dispatch}
+use Rattle.topic_served.specs.Told.{AreTold}
+use Rattle.topic_served.proofs.Agreed.{told_removed}
+use Rattle.topic_served.proofs.Opening.{goes_dropped}
 use Rattle.topic_subscriptions.specs.Placed.{IsPlacedIn, Placed, is_placed, sub_in}
 use Rattle.topic_parts.specs.Parts.{AreTied, log_of, state_of}
 use Rattle.topic_parts.specs.declared.parts.Parts.{Parts}

@@ -16,8 +16,8 @@ use Rattle.delivery_machine.specs.declared.event.Event.TheVariants.{Skip}
 use Rattle.delivery_machine.specs.declared.reply.Reply.TheVariants.{Done}
 use Rattle.delivery_machine.specs.Laws.{IsReached}
 use Rattle.delivery_machine.specs.Seeking.{first_live}
-use Rattle.dispatchers.proofs.Chaining.{acknowledged_both}
-use Rattle.dispatchers.proofs.Standing.{apart, index_there}
+use Rattle.topic_served.proofs.Chaining.{acknowledged_both}
+use Rattle.topic_served.proofs.Standing.{apart, index_there}
 use Rattle.topic_subscriptions.specs.Placed.{IsPlacedIn, IsRising, Placed, is_placed, sub_in}
 use Rattle.topic_parts.specs.Parts.{HasLiveBefore, log_of}
 use Rattle.topic_parts.proofs.Changing.{named_sub, placed_there}

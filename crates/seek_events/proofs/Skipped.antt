@@ -16,7 +16,7 @@ use Rattle.delivery_machine.specs.Laws.{IsReached}
 use Rattle.delivery_machine.specs.Run.{Answers}
 use Rattle.delivery_machine.specs.declared.event.Event.TheVariants.{Skip}
 use Rattle.delivery_machine.specs.declared.reply.Reply.TheVariants.{Done}
-use Rattle.delivery_machine.proofs.ReachedOn.{reached_step}
+use Rattle.machine_laws.proofs.ReachedOn.{reached_step}
 use Rattle.delivery_machine.proofs.Messages.{position_itself}
 
 -- ---- lists

@@ -6,9 +6,8 @@ ghost use Rattle.delivery_machine.specs.declared.event.Event.TheVariants.{DropSu
 ghost use Rattle.topic_served.specs.Served.{IsBound, IsSettled, state_in};
 
 use delivery_machine::Reply;
-use dispatchers::Dispatch;
 use position_core::{Fault, SubscriptionName};
-use topic_served::Served;
+use topic_served::{Dispatch, Served};
 use topic_subscriptions::Subscription;
 
 /// Whether it has members, or dead letters that are not moved yet.

@@ -1,4 +1,4 @@
-//! Tests of the server: the directory of topics over a database in memory, and the whole over real sockets.
+//! Tests of the server: the directory of topics over a database in memory.
 #![tactic(auto)]
 
 #[cfg(test)]

@@ -1,4 +1,3 @@
-// The directory over a database in memory, and the server over sockets.
+// The directory over a database in memory.
 mod base;
 mod directory;
-mod sockets;

@@ -1,5 +1,4 @@
-//! Tests of what a session says and hears: texts and targets, whole sessions, and the bells by which they are woken; and
-//! what its calls and those of a topic cost.
+//! Tests of sessions: what they say and hear, and the bells by which they are woken.
 #![tactic(auto)]
 
 #[cfg(test)]

@@ -1,11 +1,11 @@
-// Texts and targets, sessions, and bells; and what calls cost.
+// Sessions, and the bells that wake them.
 mod bells;
-mod costs;
+mod errors;
 mod sessions;
-mod texts;
 
 use position_core::{SubscriptionName, TopicName};
 use std::process::Abort;
+use value_texts::read_topic_name;
 
 fn push<R: Abort>(rt: &R, out: &mut String, part: &str) {
     out.push_str(part).expect(rt, "no memory");
@@ -22,7 +22,7 @@ fn joined<R: Abort + AllocGlobal>(rt: &R, parts: &[&str]) -> String {
 
 /// `persistent://public/default/t`.
 fn this_topic<R: Abort + AllocGlobal>(rt: &R) -> TopicName {
-    let name = TopicName::from_text(rt.alloc(), "persistent://public/default/t");
+    let name = read_topic_name(rt.alloc(), "persistent://public/default/t");
     name.expect(rt, "no memory").expect(rt, "no name")
 }
 

@@ -1,5 +1,4 @@
-//! Tests of the store: what its keeper stores, loads and refuses, over databases in memory and on disks, with trials of it,
-//! how a snapshot is read from its rows, and what differs of two.
+//! Tests of the store: what its keeper stores, loads and refuses, over databases in memory and on disks that stop.
 #![tactic(auto)]
 
 #[cfg(test)]

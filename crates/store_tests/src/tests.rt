@@ -1,26 +1,16 @@
 // Worked rounds of topics over databases in memory and on disks, and trials of them.
 mod answers;
-mod bodies;
 mod breaks;
 mod broken;
 mod confirming;
 mod deleting;
-mod dice;
-mod differences;
 mod disks;
 mod failing;
 mod front_breaks;
-mod front_reading;
 mod keepers;
 mod keeps;
-mod little;
 mod memory;
-mod players;
 mod plays;
-mod random;
-mod reading;
-mod restarts;
-mod rounds;
 mod same;
 mod stops;
 mod topics;

@@ -12,10 +12,10 @@ use Rattle.delivery_machine.specs.declared.event.Event.{Event}
 use Rattle.delivery_machine.specs.declared.event.Event.TheVariants.{Stored, StoredTo}
 use Rattle.delivery_machine.specs.declared.reply.Reply.{Reply}
 use Rattle.delivery_machine.specs.declared.reply.Reply.TheVariants.{Refused}
-use Rattle.delivery_machine.proofs.ReachedOn.{reached_step}
-use Rattle.dead_moves.specs.Letters.{dead_of, safe_of, dead_in, SaysStored}
-use Rattle.dead_moves.proofs.DeadLetters.{dead_kept, safe_restarted, safe_among, ordinals_rise}
-use Rattle.dead_moves.proofs.SafeByStores.{only_stores_make_safe}
+use Rattle.machine_laws.proofs.ReachedOn.{reached_step}
+use Rattle.dead_letters.specs.Letters.{dead_of, safe_of, dead_in, SaysStored}
+use Rattle.dead_letters.proofs.DeadLetters.{dead_kept, safe_restarted, safe_among, ordinals_rise}
+use Rattle.dead_letters.proofs.SafeByStores.{only_stores_make_safe}
 use Rattle.stored_cell.specs.Held.{KeepsSafe, KeepsLetters, HasNoneStored}
 
 -- a refusal leaves the state as it was, and any other step is an answer

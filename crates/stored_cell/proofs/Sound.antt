@@ -14,10 +14,10 @@ use Rattle.delivery_machine.specs.declared.event.Event.{Event}
 use Rattle.delivery_machine.specs.declared.event.Event.TheVariants.{Stored, StoredTo}
 use Rattle.delivery_machine.specs.declared.reply.Reply.{Reply}
 use Rattle.delivery_machine.specs.declared.reply.Reply.TheVariants.{Durable}
-use Rattle.delivery_machine.proofs.Growing.{step_grows}
-use Rattle.delivery_machine.proofs.ReachedOn.{reached_fresh, reached_restarted}
-use Rattle.journal_lines.specs.Lines.{line}
-use Rattle.journal_lines.proofs.Legality.{legal_snoc}
+use Rattle.machine_laws.proofs.Growing.{step_grows}
+use Rattle.machine_laws.proofs.ReachedOn.{reached_fresh, reached_restarted}
+use Rattle.topic_shared.specs.Lines.{line}
+use Rattle.topic_shared.proofs.Legality.{legal_snoc}
 use Rattle.topic_shared.specs.Kept.{Kept, IsVacant, StoresLine, spoken_for, with_promise}
 use Rattle.stored_cell.specs.Noted.{Noted, GoesOn, IsOfNow, IsOfView, IsStored, marked}
 use Rattle.stored_cell.specs.Held.{Held, IsBeginning, KeepsSafe, KeepsLetters, IsProof, HasNothing, HasNoneStored, IsAtRest, IsSound, bases_of, outstanding_in}

@@ -5,8 +5,8 @@ use Rattle.delivery_machine.specs.State.{State, Subscription, fresh}
 use Rattle.delivery_machine.specs.Places.{KeptTopic, snapshot_in}
 use Rattle.delivery_machine.specs.Snapshot.{snapshot_of}
 use Rattle.delivery_machine.specs.Laws.{IsReached}
-use Rattle.dead_moves.specs.Letters.{dead_of, safe_of, dead_in}
-use Rattle.journal_lines.specs.Lines.{Line, Legal}
+use Rattle.dead_letters.specs.Letters.{dead_of, safe_of, dead_in}
+use Rattle.topic_shared.specs.Lines.{Line, Legal}
 use Rattle.topic_shared.specs.Kept.{Kept, IsVacant}
 use Rattle.stored_cell.specs.Noted.{Noted, IsOfNow, IsOfView, IsStored, marked}
 

@@ -7,7 +7,7 @@ use Rattle.sqlite.specs.State.{State}
 use Rattle.delivery_machine.specs.State.{State as Machine}
 use Rattle.delivery_machine.specs.Snapshot.{snapshot_of, restarted}
 use Rattle.delivery_machine.specs.Places.{KeptTopic, snapshot_in}
-use Rattle.journal_lines.specs.Lines.{Line, Legal}
+use Rattle.topic_shared.specs.Lines.{Line, Legal}
 use Rattle.row_forms.specs.Cells.{TOPIC, ENTRY, SUB, ACK, DEAD, REDELIVERY, AUTHOR, RETENTION, bodies, of_topic}
 use Rattle.row_forms.specs.Forms.{TopicRows, AreRowsOf}
 

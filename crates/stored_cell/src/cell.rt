@@ -8,9 +8,9 @@ ghost use Rattle.delivery_machine.specs.Run.{Step};
 ghost use Rattle.delivery_machine.specs.Snapshot.{restarted};
 ghost use Rattle.delivery_machine.specs.Places.{snapshot_in};
 ghost use Rattle.delivery_machine.specs.Journals.{changes_snapshot, is_storing};
-ghost use Rattle.journal_lines.specs.Lines.{line, Legal};
+ghost use Rattle.topic_shared.specs.Lines.{line, Legal};
 ghost use Rattle.topic_shared.specs.Kept.{IsVacant, KeepsSeats, needed_by, spoken_for, is_end};
-ghost use Rattle.topic_seats.specs.Seats.{IsFree, without_seat};
+ghost use Rattle.topic_shared.specs.Seats.{IsFree, without_seat};
 ghost use Rattle.stored_cell.specs.Held.{IsAtRest, IsDurable};
 ghost use Rattle.stored_cell.specs.Noted.{IsOfNow, IsOfView};
 

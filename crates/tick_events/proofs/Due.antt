@@ -18,8 +18,8 @@ use Rattle.delivery_machine.specs.State.{Subscription}
 use Rattle.delivery_machine.specs.Ticking.{any_due, any_due_in, is_due}
 use Rattle.delivery_machine.specs.WellFormed.{has_message}
 use Rattle.delivery_machine.proofs.Tended.{position_is}
-use Rattle.due_tree.specs.declared.due.Due.{Due}
-use Rattle.due_tree.specs.Due.{due_cmp}
+use Rattle.pending_core.specs.declared.due.Due.{Due}
+use Rattle.pending_core.specs.Due.{due_cmp}
 use Rattle.pending_core.specs.Pending.{IsDue, Pending}
 use Rattle.topic_subscriptions.specs.Placed.{Placed, is_placed, sub_in}
 use Rattle.topic_parts.specs.Parts.{AreTied, log_of, state_of}

@@ -12,10 +12,10 @@ use Rattle.delivery_machine.specs.Ticking.{redelivered, redelivering}
 use Rattle.delivery_machine.specs.WellFormed.{IsWellFormed}
 use Rattle.delivery_machine.proofs.Tended.{some_is}
 use Rattle.dispatch_core.specs.Changes.{Gone, Released}
-use Rattle.dispatchers.specs.Happening.{HappensAt}
-use Rattle.dispatchers.specs.Stepping.{buried}
-use Rattle.dispatchers.proofs.Gone.{gone_buried}
-use Rattle.dispatchers.proofs.Released.{held_live, released_redelivered}
+use Rattle.topic_served.specs.Happening.{HappensAt}
+use Rattle.topic_served.specs.Stepping.{buried}
+use Rattle.topic_served.proofs.Gone.{gone_buried}
+use Rattle.topic_served.proofs.Released.{held_live, released_redelivered}
 use Rattle.topic_subscriptions.specs.Placed.{IsPlacedIn, IsRising, Placed, is_live_at, is_placed, sub_in}
 use Rattle.topic_parts.specs.Parts.{AreTied, log_of, state_of}
 use Rattle.topic_parts.specs.declared.parts.Parts.{Parts}

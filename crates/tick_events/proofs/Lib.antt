@@ -6,3 +6,4 @@ pub mod Answered
 pub mod Rewound
 pub mod Held
 pub mod Deaths
+mod Examples

@@ -11,7 +11,7 @@ use Rattle.delivery_machine.specs.Acknowledging.{forgetting, is_one_of}
 use Rattle.delivery_machine.specs.Ticking.{redelivered, redelivering}
 use Rattle.delivery_machine.specs.WellFormed.{IsWellFormed}
 use Rattle.delivery_machine.proofs.Behind.{same_name}
-use Rattle.due_tree.proofs.Elements.{slice_get-set_same}
+use Rattle.pending_core.proofs.Elements.{slice_get-set_same}
 use Rattle.topic_members.specs.Joined.{Joined, emptied_in}
 use Rattle.topic_subscriptions.specs.Placed.{IsPlacedIn, Placed, is_placed, line_at, sub_in}
 use Rattle.topic_parts.specs.Parts.{AreTied, log_of, state_of}

@@ -10,8 +10,8 @@ use Rattle.topic_subscriptions.specs.Placed.{Placed, is_placed, sub_in}
 use Rattle.topic_parts.specs.declared.parts.Parts.{Parts}
 use Rattle.topic_parts.specs.Parts.{log_of, state_of}
 use Rattle.topic_parts.proofs.Changing.{named_sub}
-use Rattle.topic_watched.specs.declared.counts.ConsumerCounts.{ConsumerCounts}
-use Rattle.topic_watched.specs.Counts.{counts_in, counts_of, room_of}
+use Rattle.delivery_machine.specs.declared.consumer_counts.ConsumerCounts.{ConsumerCounts}
+use Rattle.delivery_machine.specs.ConsumerCounts.{counts_in, counts_of, room_of}
 
 -- from its two numbers
 pub counts_are : (s : State) (sub : Subscription) (m : Member) (pending room : ℕ) → pending ≡ pending_in s.log sub m.number → room ≡ room_of m.flow pending

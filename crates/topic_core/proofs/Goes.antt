@@ -14,9 +14,9 @@ use Rattle.delivery_machine.specs.WellFormed.{IsSoundSubscription}
 use Rattle.topic_subscriptions.specs.Placed.{Placed, sub_in}
 use Rattle.topic_parts.specs.declared.parts.Parts.{Parts}
 use Rattle.topic_parts.specs.Parts.{log_of, state_of}
-use Rattle.dispatchers.proofs.Spots.{appended_at, appended_before}
-use Rattle.dispatchers.specs.Agreeing.{agrees}
-use Rattle.dispatchers.specs.declared.dispatch.Dispatch.{Dispatch}
+use Rattle.topic_served.proofs.Spots.{appended_at, appended_before}
+use Rattle.topic_served.specs.Agreeing.{agrees}
+use Rattle.topic_served.specs.declared.dispatch.Dispatch.{Dispatch}
 use Rattle.topic_core.specs.Restored.{IsSoundOver}
 
 -- the machine's subscription that goes on

@@ -9,7 +9,7 @@ use Rattle.delivery_machine.specs.Snapshot as machine
 use Rattle.delivery_machine.specs.Places.{AreBelow, KeptPlaces, KeptTopic, MayRestart, kept_in, snapshot_in}
 use Rattle.delivery_machine.specs.WellFormed.{IsSound}
 use Rattle.delivery_machine.specs.Laws.{IsReached}
-use Rattle.delivery_machine.proofs.ReachedOn.{reached_sound}
+use Rattle.machine_laws.proofs.ReachedOn.{reached_sound}
 use Rattle.topic_subscriptions.specs.Placed.{IsPlacedIn, Placed, kept_of, sub_in}
 use Rattle.topic_parts.specs.declared.parts.Parts.{Parts}
 use Rattle.topic_parts.specs.Parts.{AreTied, log_of, state_of}

@@ -6,8 +6,8 @@ ghost use Rattle.delivery_machine.specs.Places.{kept_in, snapshot_in};
 ghost use Rattle.delivery_machine.specs.Snapshot.{restarted, subscription_from};
 ghost use Rattle.delivery_machine.specs.Laws.{IsReached};
 ghost use Rattle.dedup_core.specs.Sequences.{AgreesWith};
-ghost use Rattle.dispatchers.specs.Agreeing.{agrees};
-ghost use Rattle.dispatchers.specs.Told.{AreTold};
+ghost use Rattle.topic_served.specs.Agreeing.{agrees};
+ghost use Rattle.topic_served.specs.Told.{AreTold};
 ghost use Rattle.topic_subscriptions.specs.Placed.{IsPlacedIn, sub_in};
 ghost use Rattle.topic_log.specs.Written.{all_of};
 ghost use Rattle.topic_parts.specs.Parts.{AreTied, state_of};
@@ -15,14 +15,13 @@ ghost use Rattle.topic_served.specs.Served.{IsSettled, state_in};
 ghost use Rattle.topic_core.specs.Restored.{IsAlone, IsRestoredFrom, IsSoundOver};
 
 use delivery_machine::{KeptSubscription, Snapshot};
-use dispatchers::Dispatch;
 use position_core::Fault;
 use std::alloc::{AllocError, Global};
 use topic_log::TopicLog;
 use topic_members::Members;
 use topic_parts::{Parts, places_of};
 use topic_restart::ledger_after;
-use topic_served::Served;
+use topic_served::{Dispatch, Served};
 use topic_subscriptions::Subscription;
 
 /// The subscription as it was kept over the log.

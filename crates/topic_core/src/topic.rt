@@ -6,14 +6,15 @@ use crate::answering::answer;
 use crate::restoring::restored;
 use crate::saving::snapshot;
 use crate::watching::consumer_counts;
-use delivery_machine::{Deliveries, Event, Opened, Reply, Retention, Saved, Snapshot, Topic};
+use delivery_machine::{
+    ConsumerCounts, Deliveries, Event, Opened, Reply, Retention, Saved, Snapshot, Topic, Watched,
+};
 use log_events::stored;
 use member_events::out_copy;
 use position_core::{ConsumerNumber, Fault, LedgerSize, TopicName};
 use std::alloc::Global;
 use std::marker::Model;
 use topic_served::Served;
-use topic_watched::{ConsumerCounts, Watched};
 
 /// A topic over a log in segments and subscriptions by places in it. An event takes the logarithm of what the
 /// topic holds, and as much again for each message or member that it changes.

@@ -3,13 +3,13 @@ ghost use Rattle.std.specs.Prelude.{◌≡◌};
 ghost use Rattle.topic_subscriptions.specs.Placed.{sub_in};
 ghost use Rattle.topic_parts.specs.Parts.{log_of, state_of};
 ghost use Rattle.topic_served.specs.Served.{IsSettled, state_in};
-ghost use Rattle.topic_watched.specs.Counts.{counts_in, counts_of, room_of};
+ghost use Rattle.delivery_machine.specs.ConsumerCounts.{counts_in, counts_of, room_of};
 
+use delivery_machine::ConsumerCounts;
 use position_core::{ConsumerNumber, Flow};
 use topic_members::Member;
 use topic_parts::At;
 use topic_served::Served;
-use topic_watched::ConsumerCounts;
 
 /// How many messages more a consumer of the flow takes, where so many are pending at it.
 fn room_of(flow: Flow, pending: u64) -> u64

@@ -6,3 +6,4 @@ pub mod Forgetting
 pub mod Gaps
 pub mod Free
 pub mod Earlier
+mod Examples

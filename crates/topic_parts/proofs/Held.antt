@@ -6,7 +6,7 @@ use Rattle.std.proofs.lemmas.List.Elements.{All-contains}
 use Rattle.std.proofs.lemmas.Option.{slice_get-get_or}
 use Rattle.std.proofs.Math.ListN.{length-set}
 use Rattle.position_core.specs.declared.held.Held.{Held}
-use Rattle.due_tree.proofs.Elements.{slice_get-set_same}
+use Rattle.pending_core.proofs.Elements.{slice_get-set_same}
 use Rattle.delivery_machine.specs.State.{Subscription}
 use Rattle.delivery_machine.specs.Words.{is_held_by}
 use Rattle.delivery_machine.proofs.Deciding.{number_is}

@@ -9,3 +9,4 @@ pub mod Held
 pub mod Leaves
 pub mod Sought
 pub mod Gone
+mod Examples

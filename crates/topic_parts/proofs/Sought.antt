@@ -17,7 +17,7 @@ use Rattle.delivery_machine.specs.WellFormed.{IsWellFormed, IsWellFormedIn, has_
 use Rattle.delivery_machine.proofs.Places.{none_passes}
 use Rattle.delivery_machine.specs.Seeking.{seeking, sought}
 use Rattle.delivery_machine.proofs.Behind.{same_name}
-use Rattle.due_tree.proofs.Elements.{slice_get-set_same}
+use Rattle.pending_core.proofs.Elements.{slice_get-set_same}
 use Rattle.topic_members.specs.Joined.{emptied_in, is_in}
 use Rattle.topic_subscriptions.specs.Placed.{IsPlacedIn, IsRising, Placed, StandAt, is_placed, line_at, sought_to, sub_in}
 use Rattle.topic_subscriptions.proofs.Dying.{sought_in, sought_placed}

@@ -17,9 +17,9 @@ use Rattle.delivery_machine.specs.Trimming.{trimmed, without_messages}
 use Rattle.delivery_machine.proofs.Trimmed.{live_stays, positions_gone}
 use Rattle.dispatch_core.specs.Log.{holder_at, holder_of, line_of, waits_at}
 use Rattle.dispatch_core.specs.Changes.{AgreesAfter, Trimmed}
-use Rattle.dispatchers.specs.declared.dispatch.Dispatch.{Dispatch}
-use Rattle.dispatchers.specs.Agreeing.{agrees}
-use Rattle.dispatchers.proofs.TellingAll.{AreToldTo, told_to_next}
+use Rattle.topic_served.specs.declared.dispatch.Dispatch.{Dispatch}
+use Rattle.topic_served.specs.Agreeing.{agrees}
+use Rattle.topic_served.proofs.TellingAll.{AreToldTo, told_to_next}
 use Rattle.topic_subscriptions.specs.Placed.{AreAcknowledged, IsPlacedIn, IsRising, Placed, sub_in}
 use Rattle.topic_subscriptions.proofs.Changes.{stands}
 use Rattle.topic_subscriptions.proofs.Links.{contains_at}

@@ -9,8 +9,8 @@ use Rattle.delivery_machine.specs.WellFormed.{IsWellFormed}
 use Rattle.delivery_machine.specs.Laws.{IsReached}
 use Rattle.delivery_machine.proofs.Firsts.{found_contained}
 use Rattle.delivery_machine.proofs.Places.{found_nothing}
-use Rattle.delivery_machine.proofs.WellReached.{reached_all}
-use Rattle.delivery_machine.proofs.WellFormedStates.{well_formed}
+use Rattle.machine_laws.proofs.WellReached.{reached_all}
+use Rattle.machine_laws.proofs.WellFormedStates.{well_formed}
 
 pub well_of : (s : State) → IsReached s → IsWellFormed s
 well_of s reached = well_formed s (reached_all reached.0 reached.1 reached.2 s reached.3 reached.4)

@@ -9,13 +9,13 @@ use Rattle.position_core.specs.declared.position.Position.{Position}
 use Rattle.delivery_machine.specs.State.{State, Subscription}
 use Rattle.delivery_machine.specs.Words.{is_named}
 use Rattle.log_pieces.specs.Pieces.{index_of}
-use Rattle.dispatchers.specs.declared.dispatch.Dispatch.{Dispatch}
+use Rattle.topic_served.specs.declared.dispatch.Dispatch.{Dispatch}
 use Rattle.dispatch_core.specs.Changes.{AgreesAfter}
-use Rattle.dispatchers.specs.Agreeing.{agrees}
-use Rattle.dispatchers.specs.Told.{AreTold, IsToldAt}
-use Rattle.dispatchers.specs.Happening.{HappensAt}
-use Rattle.dispatchers.proofs.Agreed.{told_of}
-use Rattle.dispatchers.proofs.Touching.{IsAbout}
+use Rattle.topic_served.specs.Agreeing.{agrees}
+use Rattle.topic_served.specs.Told.{AreTold, IsToldAt}
+use Rattle.topic_served.specs.Happening.{HappensAt}
+use Rattle.topic_served.proofs.Agreed.{told_of}
+use Rattle.topic_served.proofs.Touching.{IsAbout}
 use Rattle.topic_subscriptions.specs.Placed.{IsRising, Placed, is_placed, sub_in}
 use Rattle.topic_parts.specs.Parts.{log_of, state_of}
 use Rattle.topic_parts.specs.declared.parts.Parts.{Parts}

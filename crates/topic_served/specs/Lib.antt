@@ -2,3 +2,8 @@
 pub mod Served
 pub mod Firsts
 pub mod Trimming
+pub mod Agreeing
+pub mod Happening
+pub mod Told
+pub mod Stepping
+pub mod Bare

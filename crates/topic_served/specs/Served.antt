@@ -2,7 +2,7 @@
 use Rattle.delivery_machine.specs.State.{State}
 use Rattle.delivery_machine.specs.Laws.{IsReached}
 use Rattle.dedup_core.specs.Sequences.{AgreesWith}
-use Rattle.dispatchers.specs.Told.{AreTold}
+use Rattle.topic_served.specs.Told.{AreTold}
 use Rattle.topic_log.specs.Written.{all_of}
 use Rattle.topic_parts.specs.Parts.{AreTied, state_of}
 use Rattle.topic_served.specs.declared.served.Served.{Served}

@@ -1,5 +1,5 @@
 // The parts of a topic, and its dispatchers.
-use dispatchers::Dispatch;
+use crate::dispatch::Dispatch;
 use position_core::{LedgerSize, TopicName};
 use std::alloc::Global;
 use topic_parts::Parts;

@@ -1,12 +1,12 @@
 // The first messages go, and each dispatcher is told.
 ghost use Rattle.std.specs.Prelude.{◌≡◌, ◌%◌, length};
 ghost use Rattle.delivery_machine.specs.State.{State};
-ghost use Rattle.dispatchers.specs.Told.{AreTold};
+ghost use Rattle.topic_served.specs.Told.{AreTold};
 ghost use Rattle.topic_parts.specs.Parts.{AreTied, state_of};
 ghost use Rattle.topic_served.specs.Trimming.{AreTrimmed};
 
+use crate::dispatch::Dispatch;
 use crate::served::Served;
-use dispatchers::Dispatch;
 use topic_log::Remembered;
 use topic_parts::Parts;
 

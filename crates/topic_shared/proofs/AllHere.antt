@@ -1,6 +1,6 @@
 -- What is known where the checks before the end have passed.
 use Rattle.std.proofs.Common.{◌≡◌, ◌+◌, length, List, ℕ, sym, ◌∙◌, subst, ap}
-use Rattle.journal_lines.specs.Lines.{Line}
+use Rattle.topic_shared.specs.Lines.{Line}
 use Rattle.topic_shared.specs.Accounts.{Seated, Accounts, AllCounted, NoOthers, seat_lines, calls_of}
 
 pub accounts : (all : ℕ) (j lines shown : List Line) (ss ss' ss'' rs rs' rs'' : List Seated)

@@ -13,10 +13,10 @@ use Rattle.delivery_machine.specs.declared.event.Event.TheVariants.{DropProducer
 use Rattle.delivery_machine.specs.declared.reply.Reply.{Reply}
 use Rattle.delivery_machine.specs.declared.reply.Reply.TheVariants.{ProducerAdded, Subscribed, Durable, Done, Refused}
 use Rattle.delivery_machine.proofs.Journaling.{producers_are, consumers_are, snapshot_stays}
-use Rattle.journal_lines.specs.Lines.{Line, line, Legal}
+use Rattle.topic_shared.specs.Lines.{Line, line, Legal}
 use Rattle.topic_shared.specs.Attached.{is_among, detaches, asks_to_attach, attaches, needs}
 use Rattle.topic_shared.specs.Kept.{Kept, IsKept, Leads, StoresLine, spoken_for, needed_by}
-use Rattle.journal_lines.proofs.Legality.{legal_joined, legal_snoc}
+use Rattle.topic_shared.proofs.Legality.{legal_joined, legal_snoc}
 use Rattle.topic_shared.proofs.Replies.{attached_asked}
 
 -- ---- numbers that go

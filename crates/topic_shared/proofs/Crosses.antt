@@ -5,7 +5,7 @@ use denote.Param.SendFields.{as_row_send, as_row_sync, declared_send, declared_s
 use Rattle.std.proofs.Crossing.{crosses}
 use Rattle.delivery_machine.specs.declared.topic.Topic as topic
 use Rattle.std.specs.declared.sync.ledger.Ledger as ledger
-use Rattle.journal_lines.proofs.line.Line.TheSendSync.{the_send as line_send}
+use Rattle.topic_shared.proofs.line.Line.TheSendSync.{the_send as line_send}
 use Rattle.topic_shared.proofs.seat.Spare.TheSendSync.{the_send as spare_send}
 use Rattle.std.proofs.sync.ledger.Share.TheSendSync.{the_send as share_send}
 use Rattle.std.proofs.sync.ledger.Book.TheSendSync.{the_send as book_send}

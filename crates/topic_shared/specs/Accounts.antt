@@ -5,7 +5,7 @@ use Rattle.delivery_machine.specs.State.{State, fresh}
 use Rattle.delivery_machine.specs.Run.{Step}
 use Rattle.delivery_machine.specs.declared.event.Event.{Event}
 use Rattle.delivery_machine.specs.declared.reply.Reply.{Reply}
-use Rattle.journal_lines.specs.Lines.{Line, line, Legal}
+use Rattle.topic_shared.specs.Lines.{Line, line, Legal}
 
 -- a seat by its number, and how many of its calls were answered
 pub record Seated : Type 0 where

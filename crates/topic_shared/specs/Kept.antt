@@ -6,7 +6,7 @@ use Rattle.delivery_machine.specs.Snapshot.{snapshot_of}
 use Rattle.delivery_machine.specs.Run.{Step}
 use Rattle.delivery_machine.specs.declared.event.Event.{Event}
 use Rattle.delivery_machine.specs.declared.reply.Reply.TheVariants.{Durable}
-use Rattle.journal_lines.specs.Lines.{Line, line, Legal}
+use Rattle.topic_shared.specs.Lines.{Line, line, Legal}
 use Rattle.topic_shared.specs.Attached.{detaches, needs}
 use Rattle.delivery_machine.specs.Journals.{producers_in, consumers_in}
 

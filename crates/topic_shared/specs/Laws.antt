@@ -1,7 +1,7 @@
 -- Laws of journals.
 use Rattle.std.specs.Prelude.{List, ◌++◌}
 use Rattle.delivery_machine.specs.State.{State}
-use Rattle.journal_lines.specs.Lines.{Line, Legal}
+use Rattle.topic_shared.specs.Lines.{Line, Legal}
 
 -- two legal journals that meet are one legal journal
 abbrev pub MeetingJournalsAreOne : Type 0

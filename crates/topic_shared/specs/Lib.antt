@@ -3,3 +3,8 @@ pub mod Kept
 pub mod Accounts
 pub mod Inside
 pub mod Laws
+pub mod Lines
+pub mod Short
+pub mod Calls
+pub mod Seats
+pub mod Farewells

@@ -4,22 +4,23 @@ ghost use Rattle.position_core.specs.declared.fault.Fault.TheVariants.{NoMemory,
 ghost use Rattle.delivery_machine.specs.Run.{Step};
 ghost use Rattle.delivery_machine.specs.Snapshot.{snapshot_of};
 ghost use Rattle.delivery_machine.specs.Journals.{changes_snapshot, producers_noted, consumers_noted};
-ghost use Rattle.journal_lines.specs.Lines.{line, Legal};
-ghost use Rattle.journal_lines.specs.Short.{is_long, is_long_reply};
+ghost use Rattle.topic_shared.specs.Lines.{line, Legal};
+ghost use Rattle.topic_shared.specs.Short.{is_long, is_long_reply};
 ghost use Rattle.topic_shared.specs.Kept.{Kept, KeepsSeats, Leads, is_settled, needed_by, kept_lines, spoken_for, is_end, IsVacant};
 ghost use Rattle.topic_shared.specs.Attached.{attaches};
-ghost use Rattle.topic_seats.specs.Seats.{IsFree, without_seat};
+ghost use Rattle.topic_shared.specs.Seats.{IsFree, without_seat};
 
+use crate::answering::{Answered, answer_drafted, marked};
 use crate::journal::Journal;
+use crate::limits::{LineLimit, SeatCount};
+use crate::line::{Draft, Line};
 use crate::receipt::Receipt;
 use crate::room::{make_room, needs, note_consumer, note_producer};
+use crate::seats::{enter, exit, free_seats};
 use delivery_machine::{ConsumerNumber, Event, Fault, ProducerNumber, Reply, Retention, Topic};
-use journal_lines::{Draft, Line};
 use std::alloc::Global;
 use std::marker::Model;
 use std::snapshot::Snapshot;
-use topic_answers::{Answered, answer_drafted, marked};
-use topic_seats::{LineLimit, SeatCount, enter, exit, free_seats};
 
 /// Writes the draft's line into room that is there.
 pub(crate) fn write(lines: &mut Vec<Line>, seat: u64, draft: Draft, reply: Reply)

@@ -3,12 +3,12 @@ ghost use Rattle.std.specs.Prelude.{◌≡◌, ◌↔◌, ◌+◌, ◌<◌, ◌�
 ghost use Rattle.position_core.specs.declared.fault.Fault.TheVariants.{NoMemory};
 ghost use Rattle.topic_shared.specs.Accounts.{lines_of, AllCounted, NoOthers, is_listed, calls_of};
 
+use crate::limits::SeatCount;
+use crate::line::Line;
 use crate::seat::{Opening, Seat, Spare};
-use journal_lines::Line;
 use position_core::Fault;
 use std::alloc::Global;
 use std::sync::ledger::Share;
-use topic_seats::SeatCount;
 
 fn count(lines: &[Line], number: u64) -> usize
     ensures { result ≡ lines_of number lines.now }

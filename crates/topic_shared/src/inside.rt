@@ -2,7 +2,7 @@
 ghost use Rattle.std.specs.Prelude.{◌≡◌, ◌↔◌, ◌⊎◌, ◌+◌, [], ◌∷◌, ◌++◌, Err, IfOk, IfErr, OnErr};
 ghost use Rattle.position_core.specs.declared.fault.Fault.TheVariants.{NoMemory, JournalFull, NoRoom};
 ghost use Rattle.delivery_machine.specs.Run.{Step};
-ghost use Rattle.journal_lines.specs.Lines.{line};
+ghost use Rattle.topic_shared.specs.Lines.{line};
 ghost use Rattle.topic_shared.specs.Accounts.{MayReply, IsLegal, Accounts};
 
 use crate::cell::Cell;

@@ -2,9 +2,9 @@
 ghost use Rattle.std.specs.Prelude.{◌≡◌, ◌↔◌, length, IsTrue};
 ghost use Rattle.topic_shared.specs.Accounts.{Stands};
 
+use crate::line::Line;
 use crate::receipt::Receipt;
 use delivery_machine::Event;
-use journal_lines::Line;
 use std::marker::Model;
 
 /// The lines of a topic, which count from 0 on.
@@ -20,7 +20,7 @@ impl Drop for Journal {
 
 impl Model for Journal {
     ghost use Rattle.std.specs.Prelude.{List};
-    ghost use Rattle.journal_lines.specs.Lines.{Line};
+    ghost use Rattle.topic_shared.specs.Lines.{Line};
 
     ghost Value = { List Line };
 

@@ -6,8 +6,8 @@ ghost use Rattle.delivery_machine.specs.Words.{removed};
 ghost use Rattle.std.specs.List.{position};
 ghost use Rattle.topic_shared.specs.Attached.{is_among, detaches, asks_to_attach, attaches, needs};
 
+use crate::line::Line;
 use delivery_machine::{ConsumerNumber, Event, Fault, ProducerNumber, Reply};
-use journal_lines::Line;
 
 fn is_among(numbers: &[u64], number: u64) -> bool
     ensures { result ≡ is_among numbers.now number }

@@ -7,13 +7,13 @@ use crate::cell::Cell;
 use crate::closing::spares;
 use crate::inside::Inside;
 use crate::journal::Journal;
+use crate::limits::{LineLimit, SeatCount};
 use crate::receipt::Receipt;
 use crate::seat::{Opening, Seat};
 use delivery_machine::{Event, Fault, Topic};
 use std::alloc::Global;
 use std::sync::ledger::Blank;
 use std::sync::{Mutex, Wait};
-use topic_seats::{LineLimit, SeatCount};
 
 /// A topic that threads share.
 pub struct SharedTopic<T: Topic + Drop, L: Opening> {

@@ -8,8 +8,8 @@ ghost use Rattle.delivery_machine.specs.Journals.{is_storing};
 ghost use Rattle.topic_shared.specs.Kept.{HasNoLine, StoresLine, with_promise};
 
 use crate::cell::{Cell, write};
+use crate::line::{Draft, Line};
 use delivery_machine::{Event, Fault, Opened, Ordinal, Reply, Saved, Snapshot, Topic};
-use journal_lines::{Draft, Line};
 
 /// How much is durable after an event of storing.
 fn store_to<T: Topic>(topic: &mut T, event: &Event) -> u64

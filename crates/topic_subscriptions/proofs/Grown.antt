@@ -13,7 +13,7 @@ use Rattle.position_core.specs.declared.position.Position.{Position}
 use Rattle.position_core.specs.declared.message.Entry.{Entry}
 use Rattle.position_core.specs.Position.{position_cmp, positions_total, same_position}
 use Rattle.log_pieces.proofs.Searching.{found}
-use Rattle.due_tree.proofs.Elements.{slice_get_push_end, slice_get_push_other}
+use Rattle.pending_core.proofs.Elements.{slice_get_push_end, slice_get_push_other}
 use Rattle.delivery_machine.specs.State.{Member, DeadLetter, Subscription}
 use Rattle.delivery_machine.specs.Words.{is_dead, is_live}
 use Rattle.delivery_machine.specs.Places.{AreBelow}

@@ -10,3 +10,4 @@ pub mod Lowering
 pub mod Outcomes
 pub mod Trimmed
 pub mod Undone
+mod Examples

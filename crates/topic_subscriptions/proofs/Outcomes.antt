@@ -15,7 +15,7 @@ use Rattle.std.proofs.lemmas.Map.Views.{tells_apart}
 use Rattle.ack_ranges.specs.Ranges.{HasGapBefore, IsNextMissing, below}
 use Rattle.ack_ranges.proofs.Covers.{contains_below, same_numbers}
 use Rattle.ack_ranges.proofs.Sets.{already_in}
-use Rattle.place_bits.specs.Places.{IsNext, NoneFrom}
+use Rattle.number_sets.specs.Places.{IsNext, NoneFrom}
 use Rattle.pending_core.specs.Pending.{Pending, nothing_pending}
 use Rattle.topic_subscriptions.specs.Sought.{GoesOn, going_on}
 use Rattle.topic_subscriptions.specs.Closed.{AreOwed, Outcomes, is_open, outcomes_of, with_acknowledged, with_buried}

@@ -3,12 +3,12 @@ ghost use Rattle.std.specs.Prelude.{◌≡◌, ◌+◌, ◌<◌, ◌≤◌, ◌^
 ghost use Rattle.std.specs.List.{All, count_by};
 ghost use Rattle.std.specs.FinSet as set;
 ghost use Rattle.ack_ranges.specs.Ranges.{IsNextMissing, below, numbers};
-ghost use Rattle.place_bits.specs.Places.{IsNext, NoneFrom};
+ghost use Rattle.number_sets.specs.Places.{IsNext, NoneFrom};
 ghost use Rattle.topic_subscriptions.specs.Closed.{is_open, lowered_by, outcomes_of, with_acknowledged, with_buried};
 
 use crate::less::less;
 use ack_ranges::AckSet;
-use place_bits::PlaceBits;
+use number_sets::PlaceBits;
 use position_core::LogIndex;
 use std::alloc::{AllocError, Global};
 use std::marker::Model;

@@ -4,7 +4,7 @@ ghost use Rattle.std.specs.FinSet as set;
 ghost use Rattle.topic_subscriptions.specs.Less.{AreAdded, EndBefore, IsFirstRange, IsNextOwed};
 
 use ack_ranges::{AckSet, Ranges};
-use place_bits::PlaceBits;
+use number_sets::PlaceBits;
 use position_core::LogIndex;
 use std::alloc::{AllocError, Global};
 

@@ -5,7 +5,7 @@ ghost use Rattle.std.specs.Option.{option_copied, option_map};
 ghost use Rattle.std.specs.FinSet as set;
 ghost use Rattle.std.specs.FinMap as map_of;
 ghost use Rattle.ack_ranges.specs.Ranges.{IsNextMissing, numbers};
-ghost use Rattle.place_bits.specs.Places.{IsNext, NoneFrom};
+ghost use Rattle.number_sets.specs.Places.{IsNext, NoneFrom};
 ghost use Rattle.pending_core.specs.Pending.{IsFirstAt, IsFirstDue, IsFirstPending, count_at, pending_count_at};
 ghost use Rattle.dead_core.specs.Letters.{next_safe};
 ghost use Rattle.topic_subscriptions.specs.Placed.{IsNextLive, acknowledged_at, all_safe_in, buried_at, due_again_at, holding_at, is_live_at, moved_from, redelivered_at, released_at, safe_below_in, sought_to};

@@ -1,6 +1,5 @@
-//! Tests of topics and of what they are made of: values at their limits and against tables from outside, small structures
-//! against plain ones, dispatchers over a view of lists; both topics over random lists of events, worked rows as whole
-//! replays, and a topic under its lock.
+//! Tests of topics and of what they are made of: hashes, ids and shares against tables from outside, dispatchers over a
+//! view of lists, logs; both topics where no line asks, replays whose reader or writer fails, and a topic under its lock.
 #![tactic(auto)]
 
 #[cfg(test)]

@@ -1,4 +1,4 @@
-// Values and small structures, and dispatchers; both topics, replays, and a topic under its lock.
+// Values against tables from outside, and dispatchers; both topics, replays, and a topic under its lock.
 mod both_topics;
 mod replays;
 mod scenes;

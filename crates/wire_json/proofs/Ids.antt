@@ -9,8 +9,8 @@ use Rattle.std.proofs.Math.Nat.{pow-suc}
 use Rattle.base64.specs.Engines.{standard}
 use Rattle.base64.specs.GeneralPurpose.{decode_of, decoded_of}
 use Rattle.position_core.specs.declared.position.Position.{Position}
-use Rattle.position_core.specs.Id.{IsIdOf, id_bytes, text_of, varint, varint_within}
-use Rattle.position_core.proofs.Ids.{text_decodes}
+use Rattle.value_texts.specs.Id.{IsIdOf, id_bytes, text_of, varint, varint_within}
+use Rattle.value_texts.proofs.Ids.{text_decodes}
 use Rattle.wire_json.specs.Ids.{id_of, if_id, number_in, numbers_in}
 
 quotient_fits : (most n : ℕ) → n < 128 ^ suc most → n / 128 < 128 ^ most

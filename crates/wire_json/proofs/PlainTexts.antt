@@ -14,10 +14,10 @@ use Rattle.base64.specs.GeneralPurpose.{IsBytes, encode_of}
 use Rattle.base64.specs.Rfc4648.{encode, encode_symbols, padding_len}
 use Rattle.json.specs.Print.{escape, escape_byte}
 use Rattle.position_core.specs.declared.position.Position.{Position}
-use Rattle.position_core.specs.Id.{id_bytes, text_of}
+use Rattle.value_texts.specs.Id.{id_bytes, text_of}
 use Rattle.json_values.specs.Escapes.{needs_escape}
 use Rattle.json_values.proofs.Escapes.{cons_plain, plain_byte}
-use Rattle.position_core.proofs.Ids.{id_bytes_are_bytes}
+use Rattle.value_texts.proofs.Ids.{id_bytes_are_bytes}
 
 abbrev IsPlainTable : List ℕ → Type 0
 IsPlainTable t = (i : ℕ) → i < 64 → needs_escape (slice_index t i) ≡ false

@@ -6,7 +6,7 @@ use Rattle.json_values.specs.Written.{object_text}
 use Rattle.position_core.specs.declared.position.Position.{Position}
 use Rattle.position_core.specs.declared.fault.Fault.{Fault}
 use Rattle.position_core.specs.declared.fault.Fault.TheVariants.{BadJson, BadPayload, NoMemory, TopicFull}
-use Rattle.position_core.specs.Id.{text_of}
+use Rattle.value_texts.specs.Id.{text_of}
 use Rattle.wire_json.specs.declared.answers.SendError.{SendError}
 use Rattle.wire_json.specs.declared.answers.SendError.TheVariants.{CreateProducer, Subscribe, Deserialize, Serialize, Authenticate, Authorize, PayloadEncoding, Unknown}
 

@@ -4,7 +4,7 @@ use Rattle.std.specs.Str.{bytes_eq}
 use Rattle.base64.specs.Engines.{standard}
 use Rattle.base64.specs.GeneralPurpose.{decoded_of}
 use Rattle.position_core.specs.declared.position.Position.{Position}
-use Rattle.position_core.specs.Id.{text_of}
+use Rattle.value_texts.specs.Id.{text_of}
 
 -- the number that the bytes begin with, 7 bits in each, the lowest first, and the bytes after it
 abbrev pub number_in : List ℕ → Option (ℕ × List ℕ)

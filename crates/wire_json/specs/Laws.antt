@@ -3,7 +3,7 @@ use Rattle.std.specs.Prelude.{◌≡◌, ◌↔◌, ◌<◌, ◌^◌, List, ℕ,
 use Rattle.json.specs.Json.{Json, document}
 use Rattle.position_core.specs.declared.message.Entry.{Entry}
 use Rattle.position_core.specs.declared.position.Position.{Position}
-use Rattle.position_core.specs.Id.{IsIdOf}
+use Rattle.value_texts.specs.Id.{IsIdOf}
 use Rattle.delivery_machine.specs.declared.reply.Reply.{Reply}
 use Rattle.delivery_machine.specs.declared.reply.Reply.TheVariants.{Stats}
 use Rattle.json_values.specs.Times.{IsTimeText}

@@ -7,7 +7,7 @@ use Rattle.position_core.specs.declared.kind.Kind.{Kind}
 use Rattle.position_core.specs.declared.kind.Kind.TheVariants.{Exclusive, Failover, Shared, KeyShared}
 use Rattle.position_core.specs.declared.position.Position.{Position}
 use Rattle.position_core.specs.Fault.{number_of}
-use Rattle.position_core.specs.Id.{text_of}
+use Rattle.value_texts.specs.Id.{text_of}
 use Rattle.delivery_machine.specs.declared.reply.Reply.{Reply}
 use Rattle.delivery_machine.specs.declared.reply.Reply.TheVariants.{Done, Refused, Stats}
 use Rattle.json_values.specs.Written.{object_text}

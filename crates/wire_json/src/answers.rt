@@ -6,6 +6,7 @@ ghost use Rattle.wire_json.specs.Answers.{context_field, error_text, id_field, m
 use json_values::{push_decimal, push_quoted, room_for};
 use position_core::{Fault, Position};
 use std::alloc::AllocError;
+use value_texts::append_id;
 
 /// How many bytes an answer has beside its context at most.
 const MOST_BESIDE_CONTEXT: usize = 128;
@@ -101,7 +102,7 @@ pub(crate) fn push_id(out: &mut String, id: Position) -> Result<(), AllocError>
     ensures { OnOk result (string_bytes out.new ≡ string_bytes out.old ++ leading (id_field id ∷ [])) }
 {
     out.push_str("\"messageId\":\"")?;
-    id.append_text(out)?;
+    append_id(out, id)?;
     out.push_str("\",")?;
     Ok(())
 }

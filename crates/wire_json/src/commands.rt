@@ -10,6 +10,7 @@ use json_values::{object_of, text_at, whole_at};
 use position_core::{Fault, Permits, Position};
 use serde_json::Value;
 use std::alloc::{AllocError, Global};
+use value_texts::read_id;
 
 /// What a consumer asks for.
 #[derive(Clone, Copy, Debug, PartialEq, Eq)]
@@ -30,7 +31,7 @@ pub enum Command {
 pub(crate) fn id_of(text: &str) -> Option<Position>
     ensures { result ≡ id_of text.now }
 {
-    match Position::from_text(text.as_bytes()) {
+    match read_id(text.as_bytes()) {
         Ok(position) => Some(position),
         Err(_) => None,
     }

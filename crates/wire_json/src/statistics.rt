@@ -8,6 +8,7 @@ use delivery_machine::Reply;
 use json_values::{push_decimal, push_quoted};
 use position_core::{Fault, Kind, Moment, Position};
 use std::alloc::AllocError;
+use value_texts::append_id;
 
 /// How many bytes an answer has at most.
 const MOST_BYTES: usize = 256;
@@ -57,7 +58,7 @@ fn push_mark_delete(out: &mut String, position: Option<Position>) -> Result<(), 
         return Ok(());
     };
     out.push_str("\"markDelete\":\"")?;
-    position.append_text(out)?;
+    append_id(out, position)?;
     out.push_str("\",")?;
     Ok(())
 }

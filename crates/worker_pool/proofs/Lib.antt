@@ -1,3 +1,2 @@
--- Lemmas on what may go to another thread, and on what a response is.
-pub mod Crosses
+-- Lemmas on what a response is.
 pub mod Said

@@ -1,27 +1,97 @@
 // The calls of a session: at its seat, and of the broker that all seats are at.
+ghost use Rattle.std.specs.Prelude.{◌≡◌};
+
 use crate::pages::overview_in;
 use crate::place::Place;
-use broker_dir::{Gate, Seated};
-use delivery_machine::{Fault, Moment, Opened, Reply};
-use marks::Naming;
+use broker_parts::Broker;
+use delivery_machine::{Fault, Moment, Reply};
 use session_links::{Caller, Request};
-use sqlite::Alter;
 use std::sync::Wait;
-use topic_watched::Watched;
 use worker_loops::Doorbell;
+
+/// Why a call was refused, where it was.
+fn fault_of(answer: &Result<Reply, Fault>) -> Option<Fault> {
+    match answer {
+        Ok(Reply::Refused(fault)) => Some(*fault),
+        Err(fault) => Some(*fault),
+        _ => None,
+    }
+}
+
+/// The calls of the one at a seat.
+#[derive(Drop)]
+pub(crate) struct Seated<'a, D: Broker<Doorbell>, R: Wait> {
+    rt: &'a R,
+    directory: &'a D,
+    seat: &'a D::Seat,
+    /// Why the last call was refused, where it was.
+    refused: Option<Fault>,
+}
+
+impl<'a, D: Broker<Doorbell>, R: Wait> Seated<'a, D, R> {
+    pub(crate) fn at(rt: &'a R, directory: &'a D, seat: &'a D::Seat) -> Self {
+        Seated {
+            rt,
+            directory,
+            seat,
+            refused: None,
+        }
+    }
+
+    /// Why the last call was refused, where it was.
+    pub(crate) fn refused(&self) -> Option<Fault>
+        ensures { result ≡ self.now.refused }
+    {
+        self.refused
+    }
+}
+
+impl<'a, D: Broker<Doorbell>, R: Wait> Caller for Seated<'a, D, R> {
+    ghost use Rattle.std.specs.Prelude.{None};
+
+    ghost calls = { λ c. None };
+
+    fn call(&mut self, request: Request) -> Result<Reply, Fault> {
+        let answer = self.directory.call(self.rt, self.seat, request);
+        self.refused = fault_of(&answer);
+        answer
+    }
+
+    /// Whoever sits at one topic sees no others.
+    fn overview(&mut self) -> Result<String, Fault> {
+        Err(Fault::BadRoute)
+    }
+}
 
 /// The calls of a session, which sees the broker as it is at the moment, with so many connections.
 #[derive(Drop)]
-pub(crate) struct Desk<'a, T: Opened + Drop, S: Alter, J: Naming, G: Gate + Drop, R: Wait> {
-    pub(crate) seated: Seated<'a, T, S, J, Doorbell, R, G>,
-    pub(crate) rt: &'a R,
-    pub(crate) place: &'a Place<T, S, J, G>,
-    pub(crate) now: Moment,
-    pub(crate) connections: u64,
+pub(crate) struct Desk<'a, D: Broker<Doorbell>, R: Wait> {
+    seated: Seated<'a, D, R>,
+    rt: &'a R,
+    place: &'a Place<D>,
+    now: Moment,
+    connections: u64,
 }
 
-impl<'a, T: Watched + Drop, S: Alter, J: Naming, G: Gate + Drop, R: Wait> Caller
-    for Desk<'a, T, S, J, G, R> {
+impl<'a, D: Broker<Doorbell>, R: Wait> Desk<'a, D, R> {
+    pub(crate) fn at(
+        rt: &'a R,
+        place: &'a Place<D>,
+        seat: &'a D::Seat,
+        now: Moment,
+        connections: u64,
+    ) -> Self {
+        Desk {
+            seated: Seated::at(rt, &place.directory, seat),
+            rt,
+            place,
+            now,
+            connections,
+        }
+    }
+}
+
+impl<'a, D: Broker<Doorbell>, R: Wait> Caller for Desk<'a, D, R> {
     ghost use Rattle.std.specs.Prelude.{None};
 
     ghost calls = { λ c. None };

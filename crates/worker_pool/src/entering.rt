@@ -1,20 +1,19 @@
 // From a request to a session: the target is read, a seat is taken, the session begins, and only then the request is
 // accepted. So whoever sees its connection open is subscribed, or is a producer of its topic. One whose topic is being opened
 // waits before that.
+use crate::desk::Seated;
 use crate::guest::Guest;
 use crate::place::Place;
 use crate::serving::Served;
 use crate::waiting::Waiting;
-use broker_dir::{Attached, Coming, Gate, Visitor, Waiter};
-use delivery_machine::{Fault, Opened, TopicName};
+use broker_parts::{Broker, Coming, Visitor, Waiter};
+use delivery_machine::{Fault, TopicName};
 use endpoint_core::{Endpoint, route};
-use marks::Naming;
 use mio::net::TcpStream;
 use session_core::{Session, open};
 use session_links::Conn;
 use session_texts::reason;
 use socket_conn::{Held, SocketConn};
-use sqlite::Alter;
 use status_pages::Role;
 use std::alloc::Global;
 use std::io::Eprint;
@@ -63,9 +62,9 @@ fn accept(conn: &mut SocketConn<Held<TcpStream>>) {
 }
 
 /// Says on standard error why a topic is not opened: its client learns no more than that the store failed.
-pub(crate) fn say_unopened<T: Opened + Drop, S: Alter, J: Naming, G: Gate + Drop, R: Wait + Eprint>(
+pub(crate) fn say_unopened<D: Broker<Doorbell>, R: Wait + Eprint>(
     rt: &R,
-    place: &Place<T, S, J, G>,
+    place: &Place<D>,
     topic: &TopicName,
     fault: Fault,
 ) {
@@ -80,12 +79,12 @@ pub(crate) fn say_unopened<T: Opened + Drop, S: Alter, J: Naming, G: Gate + Drop
 }
 
 /// Comes to the topic that is wished for.
-fn come_to<T: Opened + Drop, S: Alter, J: Naming, G: Gate + Drop, R: Wait + Eprint>(
+fn come_to<D: Broker<Doorbell>, R: Wait + Eprint>(
     rt: &R,
-    place: &Place<T, S, J, G>,
+    place: &Place<D>,
     wish: &Wish,
     bell: &Arc<Doorbell>,
-) -> Result<Coming<T, J, Doorbell>, Fault> {
+) -> Result<Coming<D::Seat, Doorbell>, Fault> {
     let Ok(bell) = Arc::try_clone(bell) else {
         return Err(Fault::NoMemory);
     };
@@ -99,15 +98,15 @@ fn come_to<T: Opened + Drop, S: Alter, J: Naming, G: Gate + Drop, R: Wait + Epri
 }
 
 /// The session of the endpoint at the seat. None where the topic refuses it; the connection is closed then.
-fn session_at<T: Opened + Drop, S: Alter, J: Naming, G: Gate + Drop, R: Wait>(
+fn session_at<D: Broker<Doorbell>, R: Wait>(
     rt: &R,
     alloc: Global,
-    place: &Place<T, S, J, G>,
+    place: &Place<D>,
     endpoint: Endpoint,
     conn: &mut SocketConn<Held<TcpStream>>,
-    attached: &Attached<T, J, Doorbell>,
+    seat: &D::Seat,
 ) -> Option<Session> {
-    let mut caller = place.directory.caller(rt, attached, &place.gate);
+    let mut caller = Seated::at(rt, &place.directory, seat);
     if !conn.is_open() {
         drop(endpoint);
         return None;
@@ -122,25 +121,25 @@ fn session_at<T: Opened + Drop, S: Alter, J: Naming, G: Gate + Drop, R: Wait>(
 }
 
 /// The session begins, or the seat is free again; then the request is accepted.
-fn begin<T: Opened + Drop, S: Alter, J: Naming, G: Gate + Drop, R: Wait>(
+fn begin<D: Broker<Doorbell>, R: Wait>(
     rt: &R,
     alloc: Global,
-    place: &Place<T, S, J, G>,
+    place: &Place<D>,
     endpoint: Endpoint,
     mut conn: SocketConn<Held<TcpStream>>,
-    attached: Attached<T, J, Doorbell>,
-) -> Option<Guest<T, J>> {
-    match session_at(rt, alloc, place, endpoint, &mut conn, &attached) {
+    seat: D::Seat,
+) -> Option<Guest<D::Seat>> {
+    match session_at(rt, alloc, place, endpoint, &mut conn, &seat) {
         Some(session) => {
             accept(&mut conn);
             Some(Guest::Serves(Served {
                 conn,
                 session,
-                attached,
+                seat,
             }))
         }
         None => {
-            place.directory.detach(rt, attached);
+            place.directory.detach(rt, seat);
             accept(&mut conn);
             drop(conn);
             None
@@ -149,15 +148,15 @@ fn begin<T: Opened + Drop, S: Alter, J: Naming, G: Gate + Drop, R: Wait>(
 }
 
 /// Lets in a connection whose request has this target. None where the connection was turned away.
-pub(crate) fn enter<T: Opened + Drop, S: Alter, J: Naming, G: Gate + Drop, R: Wait + Eprint>(
+pub(crate) fn enter<D: Broker<Doorbell>, R: Wait + Eprint>(
     rt: &R,
     alloc: Global,
-    place: &Place<T, S, J, G>,
+    place: &Place<D>,
     mut conn: SocketConn<Held<TcpStream>>,
     target: &str,
     comer: Comer,
     bell: &Arc<Doorbell>,
-) -> Option<Guest<T, J>> {
+) -> Option<Guest<D::Seat>> {
     match route(alloc, target) {
         Ok(endpoint) => enter_at(rt, alloc, place, conn, endpoint, comer, bell),
         Err(fault) => {
@@ -169,15 +168,15 @@ pub(crate) fn enter<T: Opened + Drop, S: Alter, J: Naming, G: Gate + Drop, R: Wa
     }
 }
 
-fn enter_at<T: Opened + Drop, S: Alter, J: Naming, G: Gate + Drop, R: Wait + Eprint>(
+fn enter_at<D: Broker<Doorbell>, R: Wait + Eprint>(
     rt: &R,
     alloc: Global,
-    place: &Place<T, S, J, G>,
+    place: &Place<D>,
     mut conn: SocketConn<Held<TcpStream>>,
     endpoint: Endpoint,
     comer: Comer,
     bell: &Arc<Doorbell>,
-) -> Option<Guest<T, J>> {
+) -> Option<Guest<D::Seat>> {
     match wish_of(&endpoint, comer) {
         Some(wish) => enter_with(rt, alloc, place, conn, endpoint, wish, bell),
         None => {
@@ -191,20 +190,20 @@ fn enter_at<T: Opened + Drop, S: Alter, J: Naming, G: Gate + Drop, R: Wait + Epr
 }
 
 /// The connection comes to its topic: a session begins there, or it waits for the topic to be opened.
-pub(crate) fn enter_with<T: Opened + Drop, S: Alter, J: Naming, G: Gate + Drop, R: Wait + Eprint>(
+pub(crate) fn enter_with<D: Broker<Doorbell>, R: Wait + Eprint>(
     rt: &R,
     alloc: Global,
-    place: &Place<T, S, J, G>,
+    place: &Place<D>,
     mut conn: SocketConn<Held<TcpStream>>,
     endpoint: Endpoint,
     wish: Wish,
     bell: &Arc<Doorbell>,
-) -> Option<Guest<T, J>> {
+) -> Option<Guest<D::Seat>> {
     match come_to(rt, place, &wish, bell) {
-        Ok(Coming::Seated(attached)) => {
-            place.directory.introduce(rt, &attached, wish.visitor);
+        Ok(Coming::Seated(seat)) => {
+            place.directory.introduce(rt, &seat, wish.visitor);
             drop(wish);
-            begin(rt, alloc, place, endpoint, conn, attached)
+            begin(rt, alloc, place, endpoint, conn, seat)
         }
         Ok(Coming::Waits(waiter)) => wait(rt, alloc, conn, endpoint, wish, bell, waiter),
         Err(fault) => {
@@ -219,7 +218,7 @@ pub(crate) fn enter_with<T: Opened + Drop, S: Alter, J: Naming, G: Gate + Drop, 
 }
 
 /// The connection waits, with its request not accepted.
-fn wait<T: Opened + Drop, J: Naming, R: Wait>(
+fn wait<X: Drop, R: Wait>(
     rt: &R,
     alloc: Global,
     mut conn: SocketConn<Held<TcpStream>>,
@@ -227,7 +226,7 @@ fn wait<T: Opened + Drop, J: Naming, R: Wait>(
     wish: Wish,
     bell: &Arc<Doorbell>,
     waiter: Waiter<Doorbell>,
-) -> Option<Guest<T, J>> {
+) -> Option<Guest<X>> {
     match Arc::try_clone(bell) {
         Ok(bell) => Some(Guest::Waits(Waiting {
             alloc,

@@ -2,24 +2,21 @@
 use crate::place::Place;
 use crate::serving::{Served, serve_turn};
 use crate::waiting::{Waiting, wait_turn};
-use broker_dir::Gate;
-use delivery_machine::{Moment, Opened};
-use marks::Naming;
-use sqlite::Alter;
+use broker_parts::Broker;
+use delivery_machine::Moment;
 use std::io::Eprint;
 use std::sync::Wait;
-use topic_watched::Watched;
-use worker_loops::Turned;
+use worker_loops::{Doorbell, Turned};
 
 /// A connection that was let in.
 #[derive(Drop)]
-pub enum Guest<T: Opened + Drop, J: Naming> {
-    Serves(Served<T, J>),
+pub enum Guest<X: Drop> {
+    Serves(Served<X>),
     /// Its request is accepted once its topic is open.
     Waits(Waiting),
 }
 
-impl<T: Opened + Drop, J: Naming> Guest<T, J> {
+impl<X: Drop> Guest<X> {
     pub(crate) fn note_readable(&mut self) {
         match self {
             Guest::Serves(served) => served.conn.note_readable(),
@@ -45,13 +42,13 @@ impl<T: Opened + Drop, J: Naming> Guest<T, J> {
 }
 
 /// One turn of a connection that was let in. Gives it back where it has not ended.
-pub(crate) fn turn<T: Watched + Drop, S: Alter, J: Naming, G: Gate + Drop, R: Wait + Eprint>(
+pub(crate) fn turn<D: Broker<Doorbell>, R: Wait + Eprint>(
     rt: &R,
-    place: &Place<T, S, J, G>,
-    guest: Guest<T, J>,
+    place: &Place<D>,
+    guest: Guest<D::Seat>,
     now: Moment,
     connections: u64,
-) -> (Turned, Option<Guest<T, J>>) {
+) -> (Turned, Option<Guest<D::Seat>>) {
     match guest {
         Guest::Serves(served) => serve_turn(rt, place, served, now, connections),
         Guest::Waits(waiting) => wait_turn(rt, place, waiting),

@@ -13,4 +13,4 @@ mod serving;
 mod waiting;
 
 pub use place::{About, Place, VERSION};
-pub use worker_loops::{Ended, Limits, serve};
+pub use worker_loops::{Doorbell, Ended, Limits, serve};

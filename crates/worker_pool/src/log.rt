@@ -1,13 +1,12 @@
 // What an operator reads on standard error: a line for each thing, as `level=.. msg=".." ..`.
 use crate::place::Place;
 use crate::refusals::Refused;
-use broker_dir::{Copied, Gate, Notice, moment};
-use delivery_machine::{Moment, Opened};
-use marks::Naming;
-use sqlite::Alter;
+use broker_parts::{Broker, Copied, Notice, moment};
+use delivery_machine::Moment;
 use std::io::Eprint;
 use std::rt::{Clock, Files};
 use std::sync::Wait;
+use worker_loops::Doorbell;
 
 /// How many lines of a kind are said at once.
 const MOST_LINES: u32 = 32;
@@ -50,7 +49,7 @@ fn say_copied<R: Eprint>(rt: &R, copied: &Copied, millis: u64) {
     }
 }
 
-impl<T: Opened + Drop, S: Alter, J: Naming, G: Gate + Drop> Place<T, S, J, G> {
+impl<D: Broker<Doorbell>> Place<D> {
     /// Makes the copy of the database that was asked for, and says what came of it.
     pub(crate) fn make_backup<R: Wait + Clock + Eprint + Files>(&self, rt: &R) {
         let Some(first) = Moment::new(0) else {

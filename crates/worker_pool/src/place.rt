@@ -9,18 +9,15 @@ use crate::pages::{
     Page, asked_of, bad_request, health, index, metrics_of, not_found, overview_of,
 };
 use crate::refusals::Refusals;
-use broker_dir::{Cause, Directory, Gate, moment};
-use delivery_machine::{Fault, Moment, Opened};
-use marks::Naming;
+use broker_parts::{Broker, moment};
+use delivery_machine::{Fault, Moment};
 use mio::net::TcpStream;
 use socket_conn::{Held, SocketConn};
-use sqlite::Alter;
 use status_pages::{BrokerSeen, ProgramSeen};
 use std::alloc::{AllocError, Global};
 use std::io::Eprint;
 use std::rt::{Clock, Files};
 use std::sync::{Arc, Wait};
-use topic_watched::Watched;
 use worker_loops::{Asking, Comer, Doorbell, House, Job, Start, Turned, work_at};
 
 /// The program's version, as its package has it too.
@@ -33,20 +30,18 @@ pub struct About {
     pub started: Moment,
 }
 
-/// What all workers share: the directory of topics, and the gate before each of them.
-pub struct Place<T: Opened + Drop, S: Alter, J: Naming, G: Drop> {
-    pub(crate) directory: Directory<T, S, J, Doorbell>,
-    pub(crate) gate: G,
+/// What all workers share: the directory of topics, and what is counted beside it.
+pub struct Place<D: Broker<Doorbell>> {
+    pub(crate) directory: D,
     about: About,
     pub(crate) refusals: Refusals,
     memory: Memory,
 }
 
-impl<T: Opened + Drop, S: Alter + Drop, J: Naming, G: Drop> Drop for Place<T, S, J, G> {
+impl<D: Broker<Doorbell>> Drop for Place<D> {
     fn drop(self) {
         let Place {
             directory: _,
-            gate: _,
             about: _,
             refusals: _,
             memory: _,
@@ -54,11 +49,10 @@ impl<T: Opened + Drop, S: Alter + Drop, J: Naming, G: Drop> Drop for Place<T, S,
     }
 }
 
-impl<T: Opened + Drop, S: Alter, J: Naming, G: Drop> Place<T, S, J, G> {
-    pub fn new(directory: Directory<T, S, J, Doorbell>, gate: G, about: About) -> Self {
+impl<D: Broker<Doorbell>> Place<D> {
+    pub fn new(directory: D, about: About) -> Self {
         Place {
             directory,
-            gate,
             about,
             refusals: Refusals::new(),
             memory: Memory::new(),
@@ -66,7 +60,7 @@ impl<T: Opened + Drop, S: Alter, J: Naming, G: Drop> Place<T, S, J, G> {
     }
 }
 
-impl<T: Watched + Drop, S: Alter, J: Naming, G: Drop> Place<T, S, J, G> {
+impl<D: Broker<Doorbell>> Place<D> {
     /// What is seen of the program at the moment, with so many connections.
     fn program_seen(&self, now: Moment, connections: u64) -> ProgramSeen {
         ProgramSeen {
@@ -110,13 +104,13 @@ impl<T: Watched + Drop, S: Alter, J: Naming, G: Drop> Place<T, S, J, G> {
     }
 
     /// Why the store failed, or refused last where it has not; none where it never did.
-    pub fn cause<R: Wait>(&self, rt: &R) -> Option<Cause> {
+    pub fn cause<R: Wait>(&self, rt: &R) -> Option<D::Cause> {
         self.directory.cause(rt)
     }
 }
 
-impl<T: Watched + Drop, S: Alter, J: Naming, G: Gate + Drop> House for Place<T, S, J, G> {
-    type Guest = Guest<T, J>;
+impl<D: Broker<Doorbell>> House for Place<D> {
+    type Guest = Guest<D::Seat>;
 
     fn moment<R: Clock>(&self, rt: &R, last: Moment) -> Moment {
         moment(rt, last)
@@ -130,7 +124,7 @@ impl<T: Watched + Drop, S: Alter, J: Naming, G: Gate + Drop> House for Place<T, 
         target: &str,
         comer: Comer,
         bell: &Arc<Doorbell>,
-    ) -> Option<Guest<T, J>> {
+    ) -> Option<Guest<D::Seat>> {
         enter(rt, alloc, self, conn, target, comer, bell)
     }
 
@@ -147,25 +141,25 @@ impl<T: Watched + Drop, S: Alter, J: Naming, G: Gate + Drop> House for Place<T, 
         self.page(rt, alloc, now, connections, asked).ok()
     }
 
-    fn note_readable(&self, guest: &mut Guest<T, J>) {
+    fn note_readable(&self, guest: &mut Guest<D::Seat>) {
         guest.note_readable();
     }
 
-    fn ping(&self, guest: &mut Guest<T, J>) -> bool {
+    fn ping(&self, guest: &mut Guest<D::Seat>) -> bool {
         guest.ping()
     }
 
-    fn hang_up(&self, guest: &mut Guest<T, J>) {
+    fn hang_up(&self, guest: &mut Guest<D::Seat>) {
         guest.hang_up();
     }
 
     fn turn<R: Wait + Eprint>(
         &self,
         rt: &R,
-        guest: Guest<T, J>,
+        guest: Guest<D::Seat>,
         now: Moment,
         connections: u64,
-    ) -> (Turned, Option<Guest<T, J>>) {
+    ) -> (Turned, Option<Guest<D::Seat>>) {
         turn(rt, self, guest, now, connections)
     }
 
@@ -179,7 +173,7 @@ impl<T: Watched + Drop, S: Alter, J: Naming, G: Gate + Drop> House for Place<T, 
     }
 }
 
-impl<T: Watched + Drop, S: Alter, J: Naming, G: Gate + Drop> Job for Place<T, S, J, G> {
+impl<D: Broker<Doorbell>> Job for Place<D> {
     fn keep<R: Wait + Clock>(&self, rt: &R) {
         self.directory.keep(rt);
     }

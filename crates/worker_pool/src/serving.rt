@@ -1,26 +1,23 @@
 // A session with its connection, and its turns.
-use crate::desk::Desk;
+use crate::desk::{Desk, Seated};
 use crate::entering::turn_away;
 use crate::guest::Guest;
 use crate::place::Place;
-use broker_dir::{Attached, Gate};
-use delivery_machine::{Fault, Moment, Opened};
-use marks::Naming;
+use broker_parts::Broker;
+use delivery_machine::{Fault, Moment};
 use mio::net::TcpStream;
 use session_bells::Rest;
 use session_core::{Session, TextCount, leave, serve};
 use socket_conn::{Held, SocketConn};
-use sqlite::Alter;
 use std::sync::Wait;
-use topic_watched::Watched;
 use worker_loops::{After, Doorbell, Turned};
 
 /// A session with its connection and its seat.
 #[derive(Drop)]
-pub struct Served<T: Opened + Drop, J: Naming> {
+pub struct Served<X: Drop> {
     pub(crate) conn: SocketConn<Held<TcpStream>>,
     pub(crate) session: Session,
-    pub(crate) attached: Attached<T, J, Doorbell>,
+    pub(crate) seat: X,
 }
 
 /// How many texts of one connection are taken before the next one's turn.
@@ -31,7 +28,7 @@ fn most_texts() -> TextCount {
     }
 }
 
-impl<T: Opened + Drop, J: Naming> Served<T, J> {
+impl<X: Drop> Served<X> {
     /// Asks the client for a sign of life. False where the connection is lost.
     pub(crate) fn ping(&mut self) -> bool {
         if self.conn.ping().is_err() {
@@ -43,10 +40,10 @@ impl<T: Opened + Drop, J: Naming> Served<T, J> {
 
     /// Whether it is to be served again at once: it takes texts, and some may be there, of which the socket does not tell
     /// again; or it has something to send and room for it. Else it has left its bell.
-    fn goes_on<S: Alter, G: Gate + Drop, R: Wait>(
+    fn goes_on<D: Broker<Doorbell, Seat = X>, R: Wait>(
         &mut self,
         rt: &R,
-        place: &Place<T, S, J, G>,
+        place: &Place<D>,
     ) -> bool {
         let waits = self.session.waits();
         let has_texts = waits.texts && self.conn.is_readable();
@@ -57,14 +54,14 @@ impl<T: Opened + Drop, J: Naming> Served<T, J> {
             durable: waits.durable,
             messages: waits.messages,
         };
-        !place.directory.rest(rt, &self.attached, rest)
+        !place.directory.rest(rt, &self.seat, rest)
     }
 
     /// What a turn came to that took so many texts.
-    fn turned<S: Alter, G: Gate + Drop, R: Wait>(
+    fn turned<D: Broker<Doorbell, Seat = X>, R: Wait>(
         &mut self,
         rt: &R,
-        place: &Place<T, S, J, G>,
+        place: &Place<D>,
         received: u32,
     ) -> Turned {
         let after = if self.goes_on(rt, place) {
@@ -81,27 +78,21 @@ impl<T: Opened + Drop, J: Naming> Served<T, J> {
 }
 
 /// One turn of a session. Gives it back where it has not ended.
-pub(crate) fn serve_turn<T: Watched + Drop, S: Alter, J: Naming, G: Gate + Drop, R: Wait>(
+pub(crate) fn serve_turn<D: Broker<Doorbell>, R: Wait>(
     rt: &R,
-    place: &Place<T, S, J, G>,
-    served: Served<T, J>,
+    place: &Place<D>,
+    served: Served<D::Seat>,
     now: Moment,
     connections: u64,
-) -> (Turned, Option<Guest<T, J>>) {
+) -> (Turned, Option<Guest<D::Seat>>) {
     let Served {
         mut conn,
         session,
-        attached,
+        seat,
     } = served;
     let _ = conn.flush();
     let left = {
-        let mut caller = Desk {
-            seated: place.directory.caller(rt, &attached, &place.gate),
-            rt,
-            place,
-            now,
-            connections,
-        };
+        let mut caller = Desk::at(rt, place, &seat, now, connections);
         if conn.is_open() {
             serve(session, &mut conn, &mut caller, now, most_texts())
         } else {
@@ -116,12 +107,12 @@ pub(crate) fn serve_turn<T: Watched + Drop, S: Alter, J: Naming, G: Gate + Drop,
             let served = Served {
                 conn,
                 session,
-                attached,
+                seat,
             };
             stay(rt, place, served, received)
         }
         None => {
-            place.directory.detach(rt, attached);
+            place.directory.detach(rt, seat);
             see_off(conn);
             (Turned::gone(), None)
         }
@@ -136,46 +127,46 @@ fn see_off(mut conn: SocketConn<Held<TcpStream>>) {
 }
 
 /// Why the session may not stay, where it may not: the store failed, the topic leaves or is gone, or an administrator ended it.
-fn refusal<T: Opened + Drop, S: Alter, J: Naming, G: Gate + Drop, R: Wait>(
+fn refusal<D: Broker<Doorbell>, R: Wait>(
     rt: &R,
-    place: &Place<T, S, J, G>,
-    served: &Served<T, J>,
+    place: &Place<D>,
+    served: &Served<D::Seat>,
 ) -> Option<Fault> {
     if place.directory.is_closed() {
         Some(Fault::StoreFailed)
     } else {
-        served.attached.refusal(rt)
+        place.directory.refusal(rt, &served.seat)
     }
 }
 
 /// The session ends, and its client is told why once its seat is free.
-fn dismiss<T: Opened + Drop, S: Alter, J: Naming, G: Gate + Drop, R: Wait>(
+fn dismiss<D: Broker<Doorbell>, R: Wait>(
     rt: &R,
-    place: &Place<T, S, J, G>,
-    served: Served<T, J>,
+    place: &Place<D>,
+    served: Served<D::Seat>,
     fault: Fault,
 ) {
     let Served {
         mut conn,
         session,
-        attached,
+        seat,
     } = served;
     {
-        let mut caller = place.directory.caller(rt, &attached, &place.gate);
+        let mut caller = Seated::at(rt, &place.directory, &seat);
         leave(session, &mut caller);
     }
-    place.directory.detach(rt, attached);
+    place.directory.detach(rt, seat);
     turn_away(&mut conn, 4008, fault);
     drop(conn);
 }
 
 /// The session stays, unless it may not.
-fn stay<T: Opened + Drop, S: Alter, J: Naming, G: Gate + Drop, R: Wait>(
+fn stay<D: Broker<Doorbell>, R: Wait>(
     rt: &R,
-    place: &Place<T, S, J, G>,
-    mut served: Served<T, J>,
+    place: &Place<D>,
+    mut served: Served<D::Seat>,
     received: u32,
-) -> (Turned, Option<Guest<T, J>>) {
+) -> (Turned, Option<Guest<D::Seat>>) {
     match refusal(rt, place, &served) {
         Some(fault) => {
             place.refusals.note(rt, fault);

@@ -2,13 +2,11 @@
 use crate::entering::{Wish, enter_with, say_unopened, turn_away};
 use crate::guest::Guest;
 use crate::place::Place;
-use broker_dir::{Gate, Outcome, Waiter};
-use delivery_machine::{Fault, Opened};
+use broker_parts::{Broker, Outcome, Waiter};
+use delivery_machine::Fault;
 use endpoint_core::Endpoint;
-use marks::Naming;
 use mio::net::TcpStream;
 use socket_conn::{Held, SocketConn};
-use sqlite::Alter;
 use std::alloc::Global;
 use std::io::Eprint;
 use std::sync::{Arc, Wait};
@@ -40,11 +38,7 @@ enum Step {
 }
 
 /// What the connection is to do.
-fn next_step<T: Opened + Drop, S: Alter, J: Naming, G: Gate + Drop, R: Wait>(
-    rt: &R,
-    place: &Place<T, S, J, G>,
-    waiting: &Waiting,
-) -> Step {
+fn next_step<D: Broker<Doorbell>, R: Wait>(rt: &R, place: &Place<D>, waiting: &Waiting) -> Step {
     if place.directory.is_closed() {
         return Step::Refuse(Fault::StoreFailed);
     }
@@ -59,11 +53,11 @@ fn next_step<T: Opened + Drop, S: Alter, J: Naming, G: Gate + Drop, R: Wait>(
 }
 
 /// One turn of a waiting connection. Gives it back where it has not ended.
-pub(crate) fn wait_turn<T: Opened + Drop, S: Alter, J: Naming, G: Gate + Drop, R: Wait + Eprint>(
+pub(crate) fn wait_turn<D: Broker<Doorbell>, R: Wait + Eprint>(
     rt: &R,
-    place: &Place<T, S, J, G>,
+    place: &Place<D>,
     waiting: Waiting,
-) -> (Turned, Option<Guest<T, J>>) {
+) -> (Turned, Option<Guest<D::Seat>>) {
     match next_step(rt, place, &waiting) {
         Step::Wait => (Turned::waits(), Some(Guest::Waits(waiting))),
         Step::Enter => enter_again(rt, place, waiting),
@@ -92,11 +86,11 @@ pub(crate) fn wait_turn<T: Opened + Drop, S: Alter, J: Naming, G: Gate + Drop, R
 }
 
 /// The topic is open: the connection comes to it as if it came now.
-fn enter_again<T: Opened + Drop, S: Alter, J: Naming, G: Gate + Drop, R: Wait + Eprint>(
+fn enter_again<D: Broker<Doorbell>, R: Wait + Eprint>(
     rt: &R,
-    place: &Place<T, S, J, G>,
+    place: &Place<D>,
     waiting: Waiting,
-) -> (Turned, Option<Guest<T, J>>) {
+) -> (Turned, Option<Guest<D::Seat>>) {
     let Waiting {
         alloc,
         conn,
@@ -125,9 +119,9 @@ fn next_round() -> Turned {
 }
 
 /// The topic could not be opened.
-fn refuse<T: Opened + Drop, S: Alter, J: Naming, G: Gate + Drop, R: Wait + Eprint>(
+fn refuse<D: Broker<Doorbell>, R: Wait + Eprint>(
     rt: &R,
-    place: &Place<T, S, J, G>,
+    place: &Place<D>,
     waiting: Waiting,
     fault: Fault,
 ) {

@@ -8,8 +8,7 @@ ghost use Rattle.row_tables.specs.Ready.{AreKeyed};
 use broker_dir::Terms;
 use marks::{Naming, Unnamed};
 use position_core::LedgerSize;
-use row_found::open_in_memory;
-use row_schema::reopen;
+use row_schema::{open_in_memory, reopen};
 use row_store::Keeper;
 use sqlite::{Alter, Connection, MemStore};
 use std::process::Abort;
@@ -62,11 +61,6 @@ fn terms_of<R: Abort>(rt: &R, lines: u32, seats: u32) -> Terms {
 /// So many may sit at a topic.
 pub(super) fn terms<R: Abort>(rt: &R, seats: u32) -> Terms {
     terms_of(rt, 2_000, seats)
-}
-
-/// A topic's journal has more lines than after which it begins anew, and not many more.
-pub(super) fn long_terms<R: Abort>(rt: &R) -> Terms {
-    terms_of(rt, 5_000, 8)
 }
 
 /// A topic's journal has eight lines.

@@ -1,5 +1,4 @@
 // The server over a database in memory.
-mod administering;
 mod attaching;
 mod broker;
 mod chime;
@@ -10,7 +9,6 @@ mod memory;
 mod moving;
 mod pieces;
 mod retries;
-mod seeing;
 mod stops;
 mod trimming;
 mod unloading;

@@ -1,27 +1,15 @@
 // Lines that topics are asked, and what they answer, as far as tests look at it.
 use delivery_machine::{Event, Reply};
-use position_core::{ConsumerNumber, Fault, Ordinal, Position, TopicName};
+use position_core::{Fault, TopicName};
 use replay_lines::{Line, read_line};
 use std::process::Abort;
+use value_texts::read_topic_name;
 
 #[derive(Clone, Copy)]
 pub(super) enum Answer {
     Refused(Fault),
-    Duplicate {
-        length: u64,
-    },
-    Progress {
-        durable: u64,
-        length: u64,
-    },
-    Sent {
-        consumer: ConsumerNumber,
-        position: Position,
-    },
-    /// So many messages are gone by now.
-    Trimmed(u64),
-    Died(Ordinal),
-    Dead(Ordinal),
+    Duplicate { length: u64 },
+    Progress { durable: u64, length: u64 },
     /// It was done, and tests do not look how.
     Other,
 }
@@ -35,17 +23,6 @@ impl Answer {
                 durable: *durable,
                 length: *length,
             },
-            Reply::Sent {
-                consumer,
-                position,
-                ..
-            } => Answer::Sent {
-                consumer: *consumer,
-                position: *position,
-            },
-            Reply::Trimmed(gone) => Answer::Trimmed(*gone),
-            Reply::Died { ordinal, .. } => Answer::Died(*ordinal),
-            Reply::Dead { ordinal, .. } => Answer::Dead(*ordinal),
             _ => Answer::Other,
         }
     }
@@ -56,7 +33,7 @@ impl Answer {
 }
 
 pub(super) fn topic_name<R: Abort + AllocGlobal>(rt: &R, text: &str) -> TopicName {
-    let name = TopicName::from_text(rt.alloc(), text);
+    let name = read_topic_name(rt.alloc(), text);
     name.expect(rt, "no memory").expect(rt, "no name")
 }
 
@@ -66,16 +43,4 @@ pub(super) fn event_in<R: Abort + AllocGlobal>(rt: &R, name: &TopicName, line: &
         Ok(Line::Event(event)) => event,
         _ => panic!(rt; "no event, or no memory"),
     }
-}
-
-/// The line that gives the word about the message at the position, from the consumer.
-pub(super) fn line_about<R: Abort + AllocGlobal>(
-    rt: &R,
-    word: &str,
-    consumer: ConsumerNumber,
-    position: Position,
-) -> String {
-    let id = position.to_text(rt.alloc()).expect(rt, "no memory");
-    let line = format!(in rt.alloc(); "{word} {consumer} {}", id.as_str());
-    line.expect(rt, "no memory")
 }

@@ -13,7 +13,7 @@ use super::stops::{Machine, NEVER, Outcome, Stop};
 use super::works::{Work, is_done, statements};
 use delivery_machine::Snapshot;
 use marks::{Naming, Unnamed};
-use row_found::open_files;
+use row_schema::open_files;
 use row_store::Keeper;
 use sqlite::{Alter, Connection, FileStore, Files, Options};
 use sqlite_disk::{Crash, Disk, Fuse, Memory};

@@ -7,12 +7,11 @@ ghost use Rattle.row_tables.specs.Ready.{AreKeyed};
 
 use super::answers::{Answer, topic_name};
 use super::keeps::{Keeps, Scene};
-use super::same::{changed, same};
+use super::same::same;
 use super::topics::Lone;
 use delivery_machine::{Event, Fault, Saved, Snapshot};
 use marks::{Naming, Unnamed};
-use row_found::open_in_memory;
-use row_schema::reopen;
+use row_schema::{open_in_memory, reopen};
 use row_store::{Keeper, Pace, Refused, Written};
 use sqlite::{Alter, Connection, MemStore};
 use std::marker::Brand;
@@ -99,10 +98,6 @@ impl<S: Alter + Drop, J: Naming> Keeps for Keeper<S, J> {
         topic.cell.stored().is_some()
     }
 
-    fn is_by_word(topic: &Lone<J>) -> bool {
-        topic.cell.is_by_word()
-    }
-
     fn is_same(one: &Snapshot, other: &Snapshot) -> bool {
         same(one, other)
     }
@@ -110,10 +105,6 @@ impl<S: Alter + Drop, J: Naming> Keeps for Keeper<S, J> {
     fn had(snapshot: &Snapshot) -> u64 {
         let stay = snapshot.log().count() as u64;
         snapshot.gone().saturating_add(stay)
-    }
-
-    fn changed(before: &Snapshot, now: &Snapshot) -> u64 {
-        changed(before.subscriptions(), now.subscriptions())
     }
 
     fn view<R: Abort>(&mut self, rt: &R, topic: &mut Lone<J>) -> Part<J> {

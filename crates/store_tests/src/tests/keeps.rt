@@ -41,15 +41,10 @@ pub(super) trait Keeps: Drop {
     /// Whether a snapshot of it was confirmed.
     fn is_stored(topic: &Self::Topic) -> bool;
 
-    fn is_by_word(topic: &Self::Topic) -> bool;
-
     fn is_same(one: &Self::Snapshot, other: &Self::Snapshot) -> bool;
 
     /// How many messages the topic had, those that are gone among them.
     fn had(snapshot: &Self::Snapshot) -> u64;
-
-    /// How many subscriptions went on under another kind.
-    fn changed(before: &Self::Snapshot, now: &Self::Snapshot) -> u64;
 
     /// The topic as it is, to be stored.
     fn view<R: Abort>(&mut self, rt: &R, topic: &mut Self::Topic) -> Self::Part;

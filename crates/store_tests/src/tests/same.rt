@@ -1,4 +1,4 @@
-// Whether two snapshots are the same, field by field, and which subscriptions changed their kind.
+// Whether two snapshots are the same, field by field.
 use delivery_machine::{Author, Counted, DeadLetter, KeptSubscription, Snapshot};
 use log_pieces::Pieces;
 
@@ -85,24 +85,4 @@ pub(super) fn same(one: &Snapshot, other: &Snapshot) -> bool {
         && same_front(one, other)
         && same_log(one.log(), other.log())
         && same_subscriptions(one.subscriptions(), other.subscriptions())
-}
-
-fn has_other_kind(before: &[KeptSubscription], sub: &KeptSubscription) -> bool {
-    for old in before {
-        if old.name.is(&sub.name) && old.kind != sub.kind {
-            return true;
-        }
-    }
-    false
-}
-
-/// How many of the subscriptions were there before under another kind.
-pub(super) fn changed(before: &[KeptSubscription], now: &[KeptSubscription]) -> u64 {
-    let mut count: u64 = 0;
-    for sub in now {
-        if has_other_kind(before, sub) {
-            count = count.saturating_add(1);
-        }
-    }
-    count
 }

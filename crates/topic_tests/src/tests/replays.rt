@@ -1,31 +1,13 @@
-// Worked rows, and readers and writers that fail.
+// Readers and writers that fail, and memory that is refused.
 ghost use Rattle.std.specs.Prelude.{◌≤◌};
 
 mod doubles;
-mod dying;
-mod failover;
-mod forgotten;
-mod keyed;
-mod producers;
-mod refusals;
-mod restarts;
-mod rows;
-mod rules;
-mod seeking;
-mod shared;
-mod statistics;
-mod sticky;
-mod trimming;
 
-use delivery_machine::Opened;
 use doubles::{ByByte, Narrow};
-use plain_topic::PlainTopic;
 use position_core::LedgerSize;
-use replay_core::{Stop, replay, replay_fresh, status};
-use rows::check_rows;
+use replay_core::{Stop, replay, status};
 use std::io::Read;
 use std::process::Abort;
-use topic_core::TopicCore;
 
 type Ended = Result<(), Stop>;
 
@@ -61,114 +43,6 @@ fn check_read<R: Abort + AllocGlobal, I: Read>(rt: &R, input: &mut I, output: &[
     let outcome = replay(rt.alloc(), input, &mut written, size_of(50_000));
     assert!(rt; written.as_slice() == output, "{:?}", written.as_slice());
     assert!(rt; outcome == ended);
-}
-
-/// Replays the input over a topic of the type, and compares what is written and how it ends.
-fn check_over<T: Opened + Drop, R: Abort + AllocGlobal>(
-    rt: &R,
-    input: &[u8],
-    output: &[u8],
-    ended: Ended,
-) {
-    let mut reader = input;
-    let mut written = Vec::new(rt.alloc());
-    let outcome = replay_fresh::<T, &[u8], Vec<u8>>(
-        rt.alloc(),
-        &mut reader,
-        &mut written,
-        size_of(50_000),
-    );
-    assert!(rt; written.as_slice() == output, "{:?}", written.as_slice());
-    assert!(rt; outcome == ended);
-}
-
-/// Both topics answer the input so.
-fn check<R: Abort + AllocGlobal>(rt: &R, input: &[u8], output: &[u8], ended: Ended) {
-    check_over::<PlainTopic, R>(rt, input, output, ended);
-    check_over::<TopicCore, R>(rt, input, output, ended);
-}
-
-#[test]
-fn first_row(rt: HostRuntime) {
-    check(&rt, FIRST_ROW, FIRST_REPLIES, Ok(()));
-}
-
-#[test]
-fn nothing_to_dispatch_before_stored(rt: HostRuntime) {
-    let rows = "producer p - -> producer 1 p -1
-publish 1 0 - aGk= 1000 -> published CAAQAA== 1
-subscribe s Exclusive 0 push:1000 0 60000 0 - Earliest -> consumer 1
-dispatch s 1000 -> idle
-";
-    check_rows(&rt, &[rows]);
-}
-
-#[test]
-fn second_exclusive_member(rt: HostRuntime) {
-    let rows = "subscribe s Exclusive 0 push:1000 0 60000 0 - Earliest -> consumer 1
-subscribe s Exclusive 0 push:1000 0 60000 0 - Earliest -> refused F6
-ack 1 CAAQAw== -> refused F8
-ack 1 CIAAEAM= -> refused F17
-ack 1 CAAQAw -> refused F17
-ack 2 CAAQAw== -> refused F3
-";
-    check_rows(&rt, &[rows]);
-}
-
-#[test]
-fn small_ledgers(rt: HostRuntime) {
-    let mut reader = b"producer - -\npublish 1 0 - - 0\npublish 1 1 - - 0\n".as_slice();
-    let mut written = Vec::new(rt.alloc());
-    let outcome = replay(rt.alloc(), &mut reader, &mut written, size_of(1));
-    assert!(rt;
-        written.as_slice()
-            == b"producer 1 auto-0 -1\npublished CAAQAA== 1\npublished CAEQAA== 2\n".as_slice()
-    );
-    assert!(rt; outcome == Ok(()));
-}
-
-#[test]
-fn names_are_escaped(rt: HostRuntime) {
-    let input = b"producer a%20b%2Fc~%c3%A9%zz -\nproducer %2D 4\nproducer %2d -\nproducer %252D 0";
-    let output =
-        b"producer 1 a%20b/c~%C3%A9%25zz -1\nproducer 2 %2D 4\nrefused F2\nproducer 3 %252D 0\n";
-    check(&rt, input, output, Ok(()));
-}
-
-#[test]
-fn empty_input(rt: HostRuntime) {
-    check(&rt, b"", b"", Ok(()));
-}
-
-#[test]
-fn last_line_without_its_end(rt: HostRuntime) {
-    check(&rt, b"stored\nstored", b"durable 0\ndurable 0\n", Ok(()));
-    check(
-        &rt,
-        b"stored\n\n",
-        b"durable 0\nbad line 2\n",
-        Err(Stop::BadLine(2)),
-    );
-}
-
-#[test]
-fn bad_line(rt: HostRuntime) {
-    check(
-        &rt,
-        b"stored\nstored\nrestored\nstored\n",
-        b"durable 0\ndurable 0\nbad line 3\n",
-        Err(Stop::BadLine(3)),
-    );
-}
-
-/// A line of the most bytes has an id that is none; with a byte more it is no line.
-#[test]
-fn longest_line(rt: HostRuntime) {
-    let mut line = b"ack 1 ".to_vec(rt.alloc()).expect(&rt, "no memory");
-    line.resize(1_500_000, b'x').expect(&rt, "no memory");
-    check(&rt, line.as_slice(), b"refused F17\n", Ok(()));
-    line.push(b'x').expect(&rt, "no memory");
-    check(&rt, line.as_slice(), b"bad line 1\n", Err(Stop::BadLine(1)));
 }
 
 #[test]

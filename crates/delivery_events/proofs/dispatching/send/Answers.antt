@@ -3,16 +3,16 @@ use Rattle.std.proofs.lemmas.Option.{slice_get_within}
 use Rattle.delivery_machine.specs.State.{State, Member}
 use Rattle.delivery_machine.specs.Words.{changed, is_member, is_waiting, visible}
 use Rattle.delivery_machine.specs.Delivering.{holding}
-use Rattle.delivery_machine.proofs.Ranks.{ranks_changed}
+use Rattle.machine_laws.proofs.Ranks.{ranks_changed}
 use Rattle.dedup_core.specs.Sequences.{AgreesWith}
 use Rattle.dispatch_core.specs.Changes.{Sent}
 use Rattle.dispatch_core.specs.declared.dispatcher.Offer.{Offer}
-use Rattle.dispatchers.specs.Told.{AreTold}
-use Rattle.dispatchers.specs.declared.dispatch.Dispatch.{Dispatch}
-use Rattle.dispatchers.proofs.Agreed.{told_kept}
-use Rattle.dispatchers.proofs.Offered.{offered_there, offered_waits}
-use Rattle.dispatchers.proofs.Quiet.{kept_members}
-use Rattle.dispatchers.proofs.Standing.{index_there}
+use Rattle.topic_served.specs.Told.{AreTold}
+use Rattle.topic_served.specs.declared.dispatch.Dispatch.{Dispatch}
+use Rattle.topic_served.proofs.Agreed.{told_kept}
+use Rattle.topic_served.proofs.Offered.{offered_there, offered_waits}
+use Rattle.topic_served.proofs.Quiet.{kept_members}
+use Rattle.topic_served.proofs.Standing.{index_there}
 use Rattle.topic_log.specs.Written.{all_of, Written}
 use Rattle.topic_members.specs.Members.{spending}
 use Rattle.topic_members.proofs.Given.{given_paid}

@@ -2,7 +2,7 @@ use Rattle.std.proofs.Common.{refl, sym}
 use Rattle.std.specs.List.{find}
 use Rattle.std.proofs.lemmas.Option.{slice_get_within}
 use Rattle.delivery_machine.specs.Words.{is_named}
-use Rattle.dispatchers.proofs.Offered.{offered_there}
+use Rattle.topic_served.proofs.Offered.{offered_there}
 use Rattle.topic_subscriptions.specs.Placed.{is_placed, sub_in}
 use Rattle.topic_parts.specs.Parts.{log_of}
 use Rattle.topic_parts.proofs.Changing.{named_sub}

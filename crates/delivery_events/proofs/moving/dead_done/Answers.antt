@@ -10,7 +10,7 @@ use Rattle.delivery_machine.proofs.Places.{found_nothing}
 use Rattle.dedup_core.specs.Sequences.{AgreesWith}
 use Rattle.dead_core.specs.Letters.{next_safe}
 use Rattle.dispatch_core.specs.Changes.{Gone}
-use Rattle.dispatchers.proofs.Gone.{first_letter, gone_moved}
+use Rattle.topic_served.proofs.Gone.{first_letter, gone_moved}
 use Rattle.topic_log.specs.Written.{all_of, Written}
 use Rattle.topic_subscriptions.specs.Placed.{Placed, is_placed, sub_in}
 use Rattle.topic_parts.specs.Parts.{log_of, state_of}

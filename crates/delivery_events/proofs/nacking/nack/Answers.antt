@@ -6,9 +6,9 @@ use Rattle.delivery_machine.specs.Words.{changed, is_held_at, is_named}
 use Rattle.delivery_machine.specs.Delivering.{holding}
 use Rattle.topic_log.specs.Written.{all_of}
 use Rattle.dedup_core.specs.Sequences.{AgreesWith}
-use Rattle.dispatchers.specs.Told.{AreTold}
-use Rattle.dispatchers.proofs.Agreed.{told_kept}
-use Rattle.dispatchers.proofs.Quiet.{kept_nacked}
+use Rattle.topic_served.specs.Told.{AreTold}
+use Rattle.topic_served.proofs.Agreed.{told_kept}
+use Rattle.topic_served.proofs.Quiet.{kept_nacked}
 use Rattle.topic_subscriptions.specs.Placed.{is_placed, sub_in}
 use Rattle.topic_parts.specs.Parts.{log_of, state_of}
 use Rattle.topic_parts.specs.declared.parts.Parts.{Parts}

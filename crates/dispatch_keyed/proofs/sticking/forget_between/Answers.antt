@@ -1,6 +1,6 @@
 use Rattle.std.proofs.Common.{◌<◌, sym, ap, ◌∙◌, subst, arith}
 use Rattle.std.specs.FinMap as map_of
-use Rattle.hash_firsts.specs.Firsts.{Firsts}
+use Rattle.number_sets.specs.Firsts.{Firsts}
 use Rattle.dispatch_keyed.proofs.Firsts.{take_others, fewer, still_none}
 use Rattle.dispatch_keyed.proofs.sticking.forget_between.Goals as goal
 

@@ -5,10 +5,10 @@ use Rattle.dedup_core.specs.Sequences.{AgreesWith}
 use Rattle.delivery_machine.specs.State.{State}
 use Rattle.delivery_machine.specs.Joining as machine
 use Rattle.dispatch_core.specs.Changes.{Joined}
-use Rattle.dispatchers.specs.Told.{AreTold}
-use Rattle.dispatchers.specs.declared.dispatch.Dispatch.{Dispatch}
-use Rattle.dispatchers.proofs.Spots.{set_at}
-use Rattle.dispatchers.proofs.Asking.{asks_for_free}
+use Rattle.topic_served.specs.Told.{AreTold}
+use Rattle.topic_served.specs.declared.dispatch.Dispatch.{Dispatch}
+use Rattle.topic_served.proofs.Spots.{set_at}
+use Rattle.topic_served.proofs.Asking.{asks_for_free}
 use Rattle.topic_log.specs.Written.{all_of, Written}
 use Rattle.topic_members.specs.Members.{joining}
 use Rattle.topic_subscriptions.specs.Placed.{Placed, is_placed, sub_in}

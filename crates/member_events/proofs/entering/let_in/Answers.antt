@@ -5,7 +5,7 @@ use Rattle.position_core.specs.declared.kind.Kind.{Kind}
 use Rattle.delivery_machine.specs.State.{Member}
 use Rattle.delivery_machine.specs.Shares.{asks_taken, is_share_of}
 use Rattle.dispatch_core.specs.Changes.{AgreesAfter, Joined}
-use Rattle.dispatchers.specs.Agreeing.{agrees}
+use Rattle.topic_served.specs.Agreeing.{agrees}
 use Rattle.topic_members.specs.Members.{joining}
 use Rattle.topic_subscriptions.specs.Placed.{IsPlacedIn, Placed, is_placed, joined_by, sub_in}
 use Rattle.topic_parts.specs.declared.parts.Parts.{Parts}

@@ -5,10 +5,10 @@ use Rattle.std.specs.Ordering.{is_lt}
 use Rattle.position_core.specs.Name.{name_order}
 use Rattle.topic_log.specs.Written.{all_of}
 use Rattle.dedup_core.specs.Sequences.{AgreesWith}
-use Rattle.dispatchers.specs.Agreeing.{agrees}
-use Rattle.dispatchers.specs.Told.{AreTold}
-use Rattle.dispatchers.specs.declared.dispatch.Dispatch.{Dispatch}
-use Rattle.dispatchers.proofs.Spots.{inserted_at}
+use Rattle.topic_served.specs.Agreeing.{agrees}
+use Rattle.topic_served.specs.Told.{AreTold}
+use Rattle.topic_served.specs.declared.dispatch.Dispatch.{Dispatch}
+use Rattle.topic_served.proofs.Spots.{inserted_at}
 use Rattle.topic_subscriptions.specs.Placed.{IsPlacedIn, Placed, is_placed, sub_in}
 use Rattle.topic_parts.specs.declared.parts.Parts.{Parts}
 use Rattle.topic_parts.specs.Parts.{AreTied, log_of, state_of}

@@ -2,8 +2,8 @@ use Rattle.std.proofs.Common.{◌≡◌, ◌∙◌, List, Some, true, sym, ap, a
 use Rattle.std.specs.FinMap as map_of
 use Rattle.delivery_machine.specs.State.{Subscription}
 use Rattle.dispatch_core.specs.Changes.{Released}
-use Rattle.dispatchers.specs.Stepping.{freed, freeing}
-use Rattle.dispatchers.proofs.Spots.{set_at}
+use Rattle.topic_served.specs.Stepping.{freed, freeing}
+use Rattle.topic_served.proofs.Spots.{set_at}
 use Rattle.topic_subscriptions.specs.Placed.{Placed, is_placed, sub_in}
 use Rattle.topic_parts.specs.declared.parts.Parts.{Parts}
 use Rattle.topic_parts.specs.Parts.{log_of, state_of}

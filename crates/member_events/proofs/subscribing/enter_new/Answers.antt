@@ -8,7 +8,7 @@ use Rattle.delivery_machine.specs.Joining.{with_member}
 use Rattle.delivery_machine.specs.Words.{is_named}
 use Rattle.delivery_machine.specs.declared.event.Initial.{Initial}
 use Rattle.delivery_machine.proofs.Places.{found_nothing}
-use Rattle.dispatchers.specs.Stepping.{opened}
+use Rattle.topic_served.specs.Stepping.{opened}
 use Rattle.topic_members.specs.Joined.{Joined}
 use Rattle.topic_members.specs.Members.{joining}
 use Rattle.topic_members.specs.declared.member.Terms.{Terms}

@@ -1,7 +1,7 @@
 use Rattle.std.proofs.Common.{◌≡◌, ℕ, List, ap, ap₂, map, subst, sym}
 use Rattle.delivery_machine.specs.State.{Member, State}
 use Rattle.delivery_machine.specs.Laws.{IsReached}
-use Rattle.delivery_machine.proofs.Ranks.{rank_of}
+use Rattle.machine_laws.proofs.Ranks.{rank_of}
 use Rattle.topic_members.specs.Joined.{Joined}
 use Rattle.topic_served.specs.declared.served.Served.{Served}
 use Rattle.topic_served.specs.Served.{IsSettled, state_in}

@@ -6,7 +6,7 @@ use Rattle.delivery_machine.specs.Words.{active_at}
 use Rattle.delivery_machine.specs.Joining.{taken_over, with_member}
 use Rattle.delivery_machine.specs.declared.event.Event.TheVariants.{Subscribe}
 use Rattle.delivery_machine.specs.declared.reply.Reply.TheVariants.{Refused, Subscribed}
-use Rattle.delivery_machine.proofs.TurnedAway.{turned_away}
+use Rattle.machine_laws.proofs.TurnedAway.{turned_away}
 use Rattle.topic_members.specs.Members.{joining}
 use Rattle.topic_served.specs.Served.{state_in}
 use Rattle.member_events.specs.Active.{active_in_order}

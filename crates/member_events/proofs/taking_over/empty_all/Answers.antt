@@ -1,8 +1,8 @@
 use Rattle.std.proofs.Common.{◌∙◌, ℕ, List, ap, ap₂, sym, map}
 use Rattle.delivery_machine.specs.State.{Member, Subscription}
 use Rattle.delivery_machine.specs.Joining.{all_released}
-use Rattle.delivery_machine.proofs.OrderOverMembers.{emptied_ranks}
-use Rattle.delivery_machine.proofs.Ranks.{rank_of}
+use Rattle.machine_laws.proofs.OrderOverMembers.{emptied_ranks}
+use Rattle.machine_laws.proofs.Ranks.{rank_of}
 use Rattle.topic_served.specs.Served.{state_in}
 use Rattle.member_events.proofs.Beside.{bound_members}
 use Rattle.member_events.proofs.Freed.{all_released_already}

@@ -1,6 +1,6 @@
 use Rattle.std.proofs.Common.{arith}
 use Rattle.std.proofs.lemmas.Bool.{false≢true}
-use Rattle.position_core.proofs.LastDigits.{one_number}
+use Rattle.value_texts.proofs.LastDigits.{one_number}
 use Rattle.replay_lines.proofs.numbers.read_bounded.Goals as goal
 
 pub returns-then-number-gt4294967295 : goal.returns-then-number-gt4294967295

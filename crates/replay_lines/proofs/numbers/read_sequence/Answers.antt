@@ -1,6 +1,6 @@
 use Rattle.std.proofs.Common.{arith}
 use Rattle.replay_lines.specs.Numbers.{IsSequence}
-use Rattle.position_core.proofs.LastDigits.{one_number}
+use Rattle.value_texts.proofs.LastDigits.{one_number}
 use Rattle.replay_lines.proofs.numbers.read_sequence.Goals as goal
 
 pub returns-then-number-gt9223372036854775807 : goal.returns-then-number-gt9223372036854775807

@@ -8,7 +8,7 @@ use Rattle.position_core.specs.declared.topic_name.TopicName.{TopicName}
 use Rattle.row_reading.specs.Places.{seen}
 use Rattle.delivery_machine.specs.State.{DeadLetter}
 use Rattle.delivery_machine.specs.WellFormed.{AreDeadLettersOf}
-use Rattle.delivery_machine.proofs.Letters.{none_dead}
+use Rattle.machine_laws.proofs.Letters.{none_dead}
 use Rattle.row_forms.specs.Forms.{index_in}
 use Rattle.row_reading.specs.Reading.{IsLetterOf, OrdinalsCame}
 use Rattle.row_reading.proofs.Letters.{HasLeast, HasNoOthers, HavePlaces, came_more, came_none, dead_at, dead_more, least_below_more, least_more, letters_more, no_least, no_others, no_others_more, places_more}

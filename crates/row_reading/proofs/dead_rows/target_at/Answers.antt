@@ -1,7 +1,7 @@
 use Rattle.std.proofs.Common.{◌≡◌, ap, false, not, sym, true, ◌∙◌}
 use Rattle.position_core.specs.declared.topic_name.TopicName.{TopicName}
 use Rattle.position_core.specs.TopicName.{same_topic, topic_text}
-use Rattle.position_core.proofs.TopicNames.{one_topic}
+use Rattle.value_texts.proofs.TopicNames.{one_topic}
 use Rattle.row_reading.proofs.dead_rows.target_at.Goals as goal
 
 pub returns-else-is_other-clause-all_read : goal.returns-else-is_other-clause-all_read

@@ -4,7 +4,7 @@ use Rattle.log_pieces.specs.Pieces.{index_of}
 use Rattle.delivery_machine.specs.State.{State}
 use Rattle.delivery_machine.specs.Laws.{IsReached}
 use Rattle.delivery_machine.specs.Acknowledging.{with_acknowledged}
-use Rattle.dispatchers.proofs.Standing.{index_there}
+use Rattle.topic_served.proofs.Standing.{index_there}
 use Rattle.topic_parts.specs.Parts.{log_of}
 use Rattle.topic_served.specs.Served.{state_in}
 use Rattle.topic_served.proofs.Settled.{well_of}

@@ -1,10 +1,10 @@
 // A topic of many messages is opened piece by piece: who wants it waits, and all others are served.
-use super::broker::{Broker, Came};
+use super::broker::Broker;
 use super::chime::{Chime, bell};
 use super::letters::play;
 use super::stops::again;
 use super::world::{Scene, asked, open, settle, sit, topic_name, with_rows};
-use broker_dir::{Outcome, Waiter};
+use broker_parts::{Coming, Outcome, Waiter};
 use delivery_machine::{Fault, Reply};
 use std::process::Abort;
 use std::rt::Clock;
@@ -50,8 +50,8 @@ fn wait_for<D: Broker, R: Abort + AllocGlobal + Wait>(
 ) -> Waiter<Chime> {
     let chime = Arc::try_clone(chime).expect(rt, "no memory");
     match topics.attach(rt, &topic_name(rt, T), false, chime) {
-        Ok(Came::Waits(waiter)) => waiter,
-        Ok(Came::Seated(_)) => panic!(rt; "a seat, and nothing was read"),
+        Ok(Coming::Waits(waiter)) => waiter,
+        Ok(Coming::Seated(_)) => panic!(rt; "a seat, and nothing was read"),
         Err(_) => panic!(rt; "refused"),
     }
 }

@@ -1,10 +1,11 @@
 // A broker over a database in memory, and topics that are asked by lines.
 ghost use Rattle.std.specs.Prelude.{◌≡◌};
 
-use super::broker::{Broker, Came};
+use super::broker::Broker;
 use super::chime::{Chime, bell};
 use crate::tests::base::{keeper_over, terms};
 use broker_dir::{Directory, Terms};
+use broker_parts::Coming;
 use delivery_machine::{Event, Fault, Reply, Retention};
 use marks::{Naming, Unnamed};
 use position_core::TopicName;
@@ -17,6 +18,7 @@ use std::rt::Clock;
 use std::sync::{Arc, Wait};
 use stored_cell::Note;
 use topic_core::TopicCore;
+use value_texts::read_topic_name;
 
 /// What is done over a database that has no rows.
 pub(super) trait Scene {
@@ -57,7 +59,7 @@ pub(super) fn open<D: Broker, R: Abort + AllocGlobal>(rt: &R, keeper: D::Rows, s
 }
 
 pub(super) fn topic_name<R: Abort + AllocGlobal>(rt: &R, text: &str) -> TopicName {
-    let name = TopicName::from_text(rt.alloc(), text);
+    let name = read_topic_name(rt.alloc(), text);
     name.expect(rt, "no memory").expect(rt, "no name")
 }
 
@@ -70,8 +72,8 @@ pub(super) fn come<D: Broker, R: Abort + AllocGlobal + Wait>(
     chime: Arc<Chime>,
 ) -> Result<D::Seat, Fault> {
     match topics.attach(rt, name, create, chime) {
-        Ok(Came::Seated(seat)) => Ok(seat),
-        Ok(Came::Waits(waiter)) => {
+        Ok(Coming::Seated(seat)) => Ok(seat),
+        Ok(Coming::Waits(waiter)) => {
             waiter.leave(rt);
             Err(Fault::NoSession)
         }
@@ -116,19 +118,6 @@ pub(super) fn asked<D: Broker, R: Abort + AllocGlobal + Wait>(
 ) -> Reply {
     let answer = answer_to(rt, topics, seat, line);
     answer.ok().expect(rt, "no answer, or no memory")
-}
-
-/// The topic has this rule of its own from now on, or none.
-pub(super) fn set_rule<D: Broker, R: Abort + AllocGlobal + Wait>(
-    rt: &R,
-    topics: &D,
-    seat: &D::Seat,
-    retention: Option<Retention>,
-) {
-    let event = Event::SetRetention { retention };
-    let answer = topics.call(rt, seat, Request::Event(event));
-    assert!(rt; matches!(answer, Ok(Reply::Done)));
-    drop(answer);
 }
 
 /// Whether nothing is left to do after a hundred tasks.

@@ -3,7 +3,7 @@ use Rattle.std.specs.Prelude.{is_some}
 use Rattle.dedup_core.specs.Sequences.{AgreesWith}
 use Rattle.delivery_machine.specs.Ticking.{redelivered, redelivering}
 use Rattle.dispatch_core.specs.Changes.{Reset}
-use Rattle.dispatchers.proofs.Resetting.{reset_redelivered}
+use Rattle.topic_served.proofs.Resetting.{reset_redelivered}
 use Rattle.topic_log.specs.Written.{all_of, Written}
 use Rattle.topic_subscriptions.specs.Placed.{Placed, is_placed, sub_in}
 use Rattle.topic_parts.specs.Parts.{log_of, state_of}

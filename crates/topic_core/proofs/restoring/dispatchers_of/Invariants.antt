@@ -1,8 +1,8 @@
 use Rattle.std.proofs.Common.{◌≡◌, ℕ, Some, length}
 use Rattle.std.specs.Prelude.{slice_get}
 use Rattle.delivery_machine.specs.State.{Subscription}
-use Rattle.dispatchers.specs.Agreeing.{agrees}
-use Rattle.dispatchers.specs.declared.dispatch.Dispatch.{Dispatch}
+use Rattle.topic_served.specs.Agreeing.{agrees}
+use Rattle.topic_served.specs.declared.dispatch.Dispatch.{Dispatch}
 use Rattle.topic_parts.specs.Parts.{state_of}
 use Rattle.topic_core.proofs.restoring.dispatchers_of.Given as goal
 

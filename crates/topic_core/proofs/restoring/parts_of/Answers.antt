@@ -3,7 +3,7 @@ use Rattle.delivery_machine.specs.State.{State, Author}
 use Rattle.delivery_machine.specs.WellFormed.{AreAuthors}
 use Rattle.delivery_machine.specs.Laws.{IsReached}
 use Rattle.delivery_machine.specs.Places.{KeptPlaces, snapshot_in}
-use Rattle.delivery_machine.proofs.ReachedOn.{reached_restarted}
+use Rattle.machine_laws.proofs.ReachedOn.{reached_restarted}
 use Rattle.topic_core.proofs.Goes.{goes_on, over, sound_over}
 use Rattle.topic_core.proofs.restoring.parts_of.Goals as goal
 

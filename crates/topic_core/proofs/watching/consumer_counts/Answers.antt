@@ -5,8 +5,8 @@ use Rattle.delivery_machine.proofs.Places.{found_nothing}
 use Rattle.topic_subscriptions.specs.Placed.{is_placed, sub_in}
 use Rattle.topic_parts.specs.declared.parts.Parts.{Parts}
 use Rattle.topic_parts.specs.Parts.{log_of, state_of}
-use Rattle.topic_watched.specs.declared.counts.ConsumerCounts.{ConsumerCounts}
-use Rattle.topic_watched.specs.Counts.{counts_in}
+use Rattle.delivery_machine.specs.declared.consumer_counts.ConsumerCounts.{ConsumerCounts}
+use Rattle.delivery_machine.specs.ConsumerCounts.{counts_in}
 use Rattle.topic_core.proofs.Consumers.{counts_by, subscription_at}
 use Rattle.topic_core.proofs.watching.consumer_counts.Goals as goal
 

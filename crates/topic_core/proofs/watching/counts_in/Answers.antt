@@ -4,7 +4,7 @@ use Rattle.delivery_machine.specs.Words.{pending_in}
 use Rattle.topic_subscriptions.specs.Placed.{sub_in}
 use Rattle.topic_parts.specs.Parts.{log_of, state_of}
 use Rattle.topic_parts.proofs.Pending.{pending_counted}
-use Rattle.topic_watched.specs.Counts.{room_of}
+use Rattle.delivery_machine.specs.ConsumerCounts.{room_of}
 use Rattle.topic_core.proofs.Consumers.{counts_are}
 use Rattle.topic_core.proofs.watching.counts_in.Goals as goal
 

@@ -1,6 +1,6 @@
 use Rattle.std.proofs.Common.{◌∙◌, ap, get_or, arith}
 use Rattle.std.proofs.lemmas.List.{length-map, length-set}
-use Rattle.dispatchers.proofs.TellingAll.{told_to_all}
+use Rattle.topic_served.proofs.TellingAll.{told_to_all}
 use Rattle.topic_subscriptions.specs.Placed.{sub_in}
 use Rattle.topic_parts.specs.Parts.{log_of, state_of}
 use Rattle.topic_served.proofs.Going.{told_one_more}

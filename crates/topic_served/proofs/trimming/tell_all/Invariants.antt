@@ -1,7 +1,7 @@
 use Rattle.std.proofs.Common.{◌≡◌, length}
 use Rattle.delivery_machine.specs.State.{State}
-use Rattle.dispatchers.specs.Told.{AreTold}
-use Rattle.dispatchers.proofs.TellingAll.{AreToldTo}
+use Rattle.topic_served.specs.Told.{AreTold}
+use Rattle.topic_served.proofs.TellingAll.{AreToldTo}
 use Rattle.topic_parts.specs.Parts.{state_of}
 use Rattle.topic_served.specs.Trimming.{AreTrimmed}
 use Rattle.topic_served.proofs.trimming.tell_all.Given as goal

@@ -1,4 +1,4 @@
-use Rattle.journal_lines.proofs.Legality.{legal_joined}
+use Rattle.topic_shared.proofs.Legality.{legal_joined}
 use Rattle.topic_shared.proofs.laws.meeting_journals_are_one.Goals as goal
 
 pub returns : goal.returns

@@ -6,9 +6,10 @@ use replay_lines::{Line, read_line};
 use std::io::BufRead;
 use std::process::Abort;
 use topic_core::TopicCore;
+use value_texts::read_topic_name;
 
 pub(super) fn topic_name<R: Abort + AllocGlobal>(rt: &R) -> TopicName {
-    let name = TopicName::from_text(rt.alloc(), "persistent://public/default/t");
+    let name = read_topic_name(rt.alloc(), "persistent://public/default/t");
     name.expect(rt, "no memory").expect(rt, "no name")
 }
 

@@ -4,9 +4,9 @@ use super::message::{message_at, position_at};
 use super::subscription::name;
 use delivery_machine::DeadLetter;
 use plain_lists::{
-    Producer, Subscription, auto_name, drop_producer, drop_subscription, least_free, store_all,
+    PositionSet, Producer, Subscription, auto_name, drop_producer, drop_subscription, least_free,
+    store_all,
 };
-use plain_tables::PositionSet;
 use position_core::{Base, Held, Kind, Message, ProducerName};
 use std::process::Abort;
 use std::sync::ArcStr;

@@ -5,6 +5,7 @@ use super::subscription::name;
 use plain_lists::{Member, Terms};
 use position_core::{Credit, Flow, Level, Millis, RedeliverLimit, TopicName, WindowSize};
 use std::process::Abort;
+use value_texts::read_topic_name;
 
 /// How a consumer takes messages.
 #[derive(Clone, Copy)]
@@ -23,7 +24,7 @@ fn flow<R: Abort>(rt: &R, takes: Takes) -> Flow {
 }
 
 pub(super) fn dead_topic<R: Abort + AllocGlobal>(rt: &R) -> TopicName {
-    let name = TopicName::from_text(rt.alloc(), "persistent://public/default/t-s-DLQ");
+    let name = read_topic_name(rt.alloc(), "persistent://public/default/t-s-DLQ");
     name.expect(rt, "no memory").expect(rt, "no topic")
 }
 

@@ -6,8 +6,7 @@ ghost use Rattle.delivery_machine.specs.declared.event.Initial.TheVariants.{Earl
 
 use super::message::position_at;
 use crate::list_view::ListView;
-use plain_lists::Subscription;
-use plain_tables::PositionSet;
+use plain_lists::{PositionSet, Subscription};
 use position_core::{Held, Kind, Name};
 use std::process::Abort;
 

@@ -1,6 +1,6 @@
 // That sets and counts are made where there is memory.
 use super::message::{message_at, position_at};
-use plain_tables::{CountTable, PositionSet, positions_up_to};
+use plain_lists::{CountTable, PositionSet, positions_up_to};
 use position_core::{Message, Position};
 use std::process::Abort;
 

@@ -1,8 +1,8 @@
 // One dispatcher of each kind, over a topic that nothing has happened to.
 use dispatch_core::{Seen, View};
-use dispatchers::Dispatch;
 use position_core::{Fault, Kind, LogIndex};
 use std::process::Abort;
+use topic_served::Dispatch;
 
 /// Its subscription is of the kind.
 #[derive(Clone, Copy)]
@@ -11,7 +11,7 @@ struct Bare {
 }
 
 impl View for Bare {
-    ghost use Rattle.dispatchers.specs.Bare.{bare, only};
+    ghost use Rattle.topic_served.specs.Bare.{bare, only};
 
     ghost state = { λ v. bare v.kind };
 

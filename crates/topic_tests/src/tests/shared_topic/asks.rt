@@ -7,6 +7,7 @@ use position_core::{
 use std::process::Abort;
 use std::sync::ArcStr;
 use topic_core::TopicCore;
+use value_texts::read_topic_name;
 
 /// What a caller asks for; its name is its producer's and its subscription's.
 #[derive(Clone, Copy)]
@@ -23,7 +24,7 @@ pub(super) enum Ask {
 }
 
 fn topic_name<R: Abort + AllocGlobal>(rt: &R, text: &str) -> TopicName {
-    let name = TopicName::from_text(rt.alloc(), text);
+    let name = read_topic_name(rt.alloc(), text);
     name.expect(rt, "no memory").expect(rt, "no name")
 }
 

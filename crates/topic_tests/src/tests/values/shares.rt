@@ -2,8 +2,42 @@
 use hash_ranges::SplitTable;
 use std::process::Abort;
 
-fn join<R: Abort>(rt: &R, table: &mut SplitTable, consumer: u64) {
-    table.join(consumer).expect(rt, "no memory");
+#[derive(Clone, Copy)]
+enum Step {
+    Joins(u64),
+    Leaves(u64),
+}
+
+/// Steps of one table after another, and who owns the first quarter of the hashes then, the second, and the second half.
+const STEPS: &[(Step, Option<(u64, u64, u64)>)] = &[
+    (Step::Leaves(1), None),
+    (Step::Joins(1), Some((1, 1, 1))),
+    (Step::Joins(2), Some((2, 2, 1))),
+    (Step::Leaves(3), Some((2, 2, 1))),
+    (Step::Joins(3), Some((3, 2, 1))),
+    (Step::Leaves(1), Some((3, 2, 2))),
+    (Step::Leaves(3), Some((2, 2, 2))),
+    (Step::Leaves(2), None),
+    // a share in the middle goes to the one after it
+    (Step::Joins(1), Some((1, 1, 1))),
+    (Step::Joins(2), Some((2, 2, 1))),
+    (Step::Joins(3), Some((3, 2, 1))),
+    (Step::Leaves(2), Some((3, 1, 1))),
+    (Step::Leaves(3), Some((1, 1, 1))),
+    (Step::Leaves(1), None),
+    // the last one to the one before it
+    (Step::Joins(1), Some((1, 1, 1))),
+    (Step::Joins(2), Some((2, 2, 1))),
+    (Step::Joins(3), Some((3, 2, 1))),
+    (Step::Leaves(1), Some((3, 2, 2))),
+    (Step::Leaves(2), Some((3, 3, 3))),
+];
+
+fn make<R: Abort>(rt: &R, table: &mut SplitTable, step: Step) {
+    match step {
+        Step::Joins(consumer) => table.join(consumer).expect(rt, "no memory"),
+        Step::Leaves(consumer) => table.leave(consumer),
+    }
 }
 
 /// The owners of the hashes at the ends of quarters.
@@ -18,100 +52,26 @@ fn owners(table: &SplitTable) -> [Option<u64>; 6] {
     ]
 }
 
-fn quarters(first: u64, second: u64, half: u64) -> [Option<u64>; 6] {
-    [
-        Some(first),
-        Some(first),
-        Some(second),
-        Some(second),
-        Some(half),
-        Some(half),
-    ]
-}
-
-/// Who owns the first quarter, the second, and the second half.
-fn check<R: Abort>(rt: &R, table: &SplitTable, first: u64, second: u64, half: u64) {
-    assert!(rt; owners(table) == quarters(first, second, half));
-}
-
-fn check_none<R: Abort>(rt: &R, table: &SplitTable) {
-    assert!(rt; owners(table) == [None; 6]);
-}
-
-fn join_three<R: Abort>(rt: &R, table: &mut SplitTable) {
-    join(rt, table, 1);
-    join(rt, table, 2);
-    join(rt, table, 3);
-}
-
-fn come_and_go<R: Abort>(rt: &R, table: &mut SplitTable) {
-    join(rt, table, 1);
-    check(rt, table, 1, 1, 1);
-    join(rt, table, 2);
-    check(rt, table, 2, 2, 1);
-    join(rt, table, 3);
-    check(rt, table, 3, 2, 1);
-    table.leave(1);
-    check(rt, table, 3, 2, 2);
-    table.leave(3);
-    check(rt, table, 2, 2, 2);
-}
-
-#[test]
-fn three_join_and_two_leave(rt: HostRuntime) {
-    come_and_go(&rt, &mut SplitTable::new(rt.alloc()));
-}
-
-#[test]
-fn hashes_go_to_the_share_after(rt: HostRuntime) {
-    let mut table = SplitTable::new(rt.alloc());
-    join_three(&rt, &mut table);
-    table.leave(2);
-    check(&rt, &table, 3, 1, 1);
-}
-
-#[test]
-fn last_hashes_go_to_the_share_before(rt: HostRuntime) {
-    let mut table = SplitTable::new(rt.alloc());
-    join_three(&rt, &mut table);
-    table.leave(1);
-    check(&rt, &table, 3, 2, 2);
-    table.leave(2);
-    check(&rt, &table, 3, 3, 3);
-}
-
-#[test]
-fn who_is_not_there_leaves_nothing(rt: HostRuntime) {
-    let mut table = SplitTable::new(rt.alloc());
-    table.leave(1);
-    check_none(&rt, &table);
-    join(&rt, &mut table, 1);
-    join(&rt, &mut table, 2);
-    table.leave(3);
-    check(&rt, &table, 2, 2, 1);
-}
-
-#[test]
-fn first_after_all_left_has_all(rt: HostRuntime) {
-    let mut table = SplitTable::new(rt.alloc());
-    join(&rt, &mut table, 1);
-    join(&rt, &mut table, 2);
-    table.leave(2);
-    table.leave(1);
-    check_none(&rt, &table);
-    join(&rt, &mut table, 3);
-    check(&rt, &table, 3, 3, 3);
-}
-
-#[test]
-fn joins_where_there_is_memory(rt: HostRuntime) {
-    let mut table = SplitTable::new(rt.alloc());
-    for consumer in 0..4_096u64 {
-        join(&rt, &mut table, consumer);
+fn quarters(shares: Option<(u64, u64, u64)>) -> [Option<u64>; 6] {
+    match shares {
+        Some((first, second, half)) => [
+            Some(first),
+            Some(first),
+            Some(second),
+            Some(second),
+            Some(half),
+            Some(half),
+        ],
+        None => [None; 6],
     }
-    for consumer in 1..4_096u64 {
-        table.leave(consumer);
+}
+
+#[test]
+fn shares_are_halved_and_joined(rt: HostRuntime) {
+    let mut table = SplitTable::new(rt.alloc());
+    for (step, shares) in STEPS {
+        make(&rt, &mut table, *step);
+        assert!(rt; owners(&table) == quarters(*shares));
     }
-    assert!(rt; table.owner(0) == Some(0));
-    assert!(rt; table.owner(65_535) == Some(0));
+    drop(table);
 }

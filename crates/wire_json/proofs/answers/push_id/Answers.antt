@@ -8,4 +8,4 @@ use Rattle.wire_json.proofs.answers.push_id.Goals as goal
 pub returns : goal.returns
 unfolding escape_byte
 returns c =
-    plain_comma_pushed (codes "messageId") _ _ _ _ _ _ (plain_id c.args.id) refl c.in_ok-push_str.ensures.bytes c.in_ok-append_text.ensures.ok c.in_ok-push_str-2.ensures.bytes
+    plain_comma_pushed (codes "messageId") _ _ _ _ _ _ (plain_id c.args.id) refl c.in_ok-push_str.ensures.bytes c.in_ok-append_id.ensures.ok c.in_ok-push_str-2.ensures.bytes

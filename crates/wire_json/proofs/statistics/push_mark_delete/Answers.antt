@@ -9,4 +9,4 @@ pub returns : goal.returns
 unfolding escape_byte
 returns c =
     rw c.in-Some.is
-    (plain_comma_pushed (codes "markDelete") _ _ _ _ _ _ (plain_id c.in-Some.position) refl c.in_ok-push_str.ensures.bytes c.in_ok-append_text.ensures.ok c.in_ok-push_str-2.ensures.bytes)
+    (plain_comma_pushed (codes "markDelete") _ _ _ _ _ _ (plain_id c.in-Some.position) refl c.in_ok-push_str.ensures.bytes c.in_ok-append_id.ensures.ok c.in_ok-push_str-2.ensures.bytes)

@@ -1,6 +1,6 @@
 use Rattle.std.proofs.Common.{ap, ◌∙◌}
 use Rattle.stored_cell.specs.Held.{Held}
-use Rattle.topic_seats.specs.Seats.{without_seat}
+use Rattle.topic_shared.specs.Seats.{without_seat}
 use Rattle.broker_dir.proofs.Seats.{left_again}
 use Rattle.broker_dir.proofs.inside.Inside.enter.Goals as goal
 

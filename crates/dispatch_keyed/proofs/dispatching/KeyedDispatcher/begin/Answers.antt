@@ -1,5 +1,5 @@
 use Rattle.std.proofs.Common.{refl, ap, ap₂, sym, ◌∙◌, arith}
-use Rattle.hash_firsts.specs.Firsts.{Firsts}
+use Rattle.number_sets.specs.Firsts.{Firsts}
 use Rattle.hash_rows.proofs.Moving.{unsent_behind}
 use Rattle.dispatch_keyed.specs.Owning.{owners_with}
 use Rattle.dispatch_keyed.proofs.Agreed.{agrees_empty, key_shared}

@@ -1,5 +1,5 @@
 use Rattle.std.proofs.Common.{refl, ap, ◌∙◌}
-use Rattle.hash_firsts.specs.Firsts.{Firsts}
+use Rattle.number_sets.specs.Firsts.{Firsts}
 use Rattle.dispatch_keyed.proofs.Agreed.{agrees_empty}
 use Rattle.dispatch_keyed.proofs.Owning.{same_owners}
 use Rattle.dispatch_keyed.proofs.dispatching.KeyedDispatcher.on_reset.Goals as goal

@@ -1,6 +1,6 @@
 use Rattle.delivery_machine.proofs.Kept.{kinds_agree}
 use Rattle.position_core.specs.declared.kind.Kind.TheVariants.{Shared}
-use Rattle.waiting_places.proofs.Telling.{tells-new}
+use Rattle.dispatch_core.proofs.Telling.{tells-new}
 use Rattle.dispatch_shared.proofs.Agreeing.{nobody_in_line}
 use Rattle.dispatch_shared.proofs.shared.SharedDispatcher.begin.Goals as goal
 

@@ -1,5 +1,5 @@
 use Rattle.std.proofs.Common.{◌∙◌, sym}
-use Rattle.waiting_places.proofs.Telling.{tells-new}
+use Rattle.dispatch_core.proofs.Telling.{tells-new}
 use Rattle.dispatch_shared.proofs.shared.SharedDispatcher.on_reset.Goals as goal
 
 pub returns-clause-ok : goal.returns-clause-ok

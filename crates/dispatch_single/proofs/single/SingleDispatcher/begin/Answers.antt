@@ -1,5 +1,5 @@
 use Rattle.std.proofs.Common.{sym, subst}
-use Rattle.waiting_places.proofs.Telling.{tells-new}
+use Rattle.dispatch_core.proofs.Telling.{tells-new}
 use Rattle.dispatch_single.proofs.Agreeing.{nobody_in_line}
 use Rattle.dispatch_single.specs.InOrder.{TellsLine}
 use Rattle.dispatch_single.proofs.single.SingleDispatcher.begin.Goals as goal

@@ -1,5 +1,5 @@
 use Rattle.std.specs.FinSet as set
-use Rattle.waiting_places.proofs.Telling.{tells-new}
+use Rattle.dispatch_core.proofs.Telling.{tells-new}
 use Rattle.dispatch_single.proofs.Agreeing.{agrees-with}
 use Rattle.dispatch_single.proofs.single.SingleDispatcher.on_reset.Goals as goal
 

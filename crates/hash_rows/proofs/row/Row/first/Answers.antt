@@ -1,6 +1,6 @@
 use Rattle.std.proofs.Common.{arith, subst, sym, ◌∙◌, ◌+◌, ◌-◌}
 use Rattle.std.proofs.lemmas.List.{get_or_default}
-use Rattle.place_bits.specs.Places.{IsNext}
+use Rattle.number_sets.specs.Places.{IsNext}
 use Rattle.hash_rows.specs.Rows.{waits_in}
 use Rattle.hash_rows.proofs.From.{first_from, none_from}
 use Rattle.hash_rows.proofs.row.Row.first.Goals as goal

@@ -1,7 +1,7 @@
 use Rattle.std.proofs.Common.{ap, ◌∙◌, sym, true≢false}
 use Rattle.std.specs.Ordering.{nat_cmp}
 use Rattle.std.specs.FinSet as set
-use Rattle.place_bits.specs.Places.{Places}
+use Rattle.number_sets.specs.Places.{Places}
 use Rattle.hash_rows.specs.Ranks.{rank_of}
 use Rattle.hash_rows.specs.Rows.{waits_in, holds_in}
 use Rattle.hash_rows.proofs.row.Row.new.Goals as goal

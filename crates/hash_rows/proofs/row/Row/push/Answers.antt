@@ -1,7 +1,7 @@
 use Rattle.std.proofs.Common.{refl, ap, sym, ◌∙◌, subst, List, ℕ}
 use Rattle.std.specs.FinSet as set
 use Rattle.std.specs.Ordering.{nat_cmp}
-use Rattle.place_bits.specs.Places.{Places}
+use Rattle.number_sets.specs.Places.{Places}
 use Rattle.hash_rows.specs.Ranks.{Rises, AreRanksOf}
 use Rattle.hash_rows.proofs.Marks.{on_err, rises_more, more_within, still_within}
 use Rattle.hash_rows.proofs.Known.{knows_as_much, has_one_more}

@@ -2,7 +2,7 @@ use Rattle.std.proofs.Common.{rules, refl, sym, subst}
 use Rattle.delivery_machine.specs.State.{State}
 use Rattle.delivery_machine.specs.Laws.{IsReached}
 use Rattle.delivery_machine.specs.Places.{snapshot_in}
-use Rattle.delivery_machine.proofs.ReachedOn.{reached_restarted}
+use Rattle.machine_laws.proofs.ReachedOn.{reached_restarted}
 use Rattle.plain_topic.proofs.Saved.{goes_on}
 use Rattle.plain_topic.proofs.lists.Lists.restarted.Goals as goal
 

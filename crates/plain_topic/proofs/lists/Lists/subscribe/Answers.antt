@@ -1,5 +1,5 @@
 use Rattle.std.proofs.Common.{arith, ◌∙◌, sym}
-use Rattle.delivery_machine.proofs.TurnedAway.{is_let_in, turned_away}
+use Rattle.machine_laws.proofs.TurnedAway.{is_let_in, turned_away}
 use Rattle.plain_topic.specs.StateOf.{state_of}
 use Rattle.plain_topic.proofs.lists.Lists.subscribe.Goals as goal
 

@@ -1,5 +1,5 @@
 use Rattle.delivery_machine.specs.declared.event.Event.TheVariants.{Stored}
-use Rattle.delivery_machine.proofs.ReachedOn.{reached_step}
+use Rattle.machine_laws.proofs.ReachedOn.{reached_step}
 use Rattle.plain_topic.specs.StateOf.{state_of}
 use Rattle.plain_topic.proofs.plain.PlainTopicSaved.stored.Goals as goal
 

@@ -1,4 +1,4 @@
-use Rattle.delivery_machine.proofs.ReachedOn.{reached_sound}
+use Rattle.machine_laws.proofs.ReachedOn.{reached_sound}
 use Rattle.plain_topic.specs.StateOf.{state_of}
 use Rattle.plain_topic.proofs.plain.PlainTopicSaved.view.Goals as goal
 

@@ -1,4 +1,4 @@
-use Rattle.delivery_machine.proofs.ReachedOn.{reached_step}
+use Rattle.machine_laws.proofs.ReachedOn.{reached_step}
 use Rattle.plain_topic.specs.StateOf.{state_of}
 use Rattle.plain_topic.proofs.plain.PlainTopicTopic.apply.Goals as goal
 

@@ -1,5 +1,5 @@
 use Rattle.delivery_machine.specs.declared.event.Event.TheVariants.{Stored}
-use Rattle.delivery_machine.proofs.ReachedOn.{reached_step}
+use Rattle.machine_laws.proofs.ReachedOn.{reached_step}
 use Rattle.topic_served.specs.Served.{state_in}
 use Rattle.topic_core.proofs.topic.TopicCoreSaved.stored.Goals as goal
 

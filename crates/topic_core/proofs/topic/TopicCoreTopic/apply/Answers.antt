@@ -1,4 +1,4 @@
-use Rattle.delivery_machine.proofs.ReachedOn.{reached_step}
+use Rattle.machine_laws.proofs.ReachedOn.{reached_step}
 use Rattle.topic_served.specs.Served.{state_in}
 use Rattle.topic_core.proofs.topic.TopicCoreTopic.apply.Goals as goal
 

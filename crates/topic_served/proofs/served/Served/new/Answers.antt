@@ -3,7 +3,7 @@ use Rattle.dedup_core.specs.Sequences.{AgreesWith}
 use Rattle.delivery_machine.specs.State.{State, Author}
 use Rattle.delivery_machine.specs.Trimming.{with_authors}
 use Rattle.delivery_machine.specs.Laws.{IsReached}
-use Rattle.delivery_machine.proofs.ReachedOn.{reached_fresh}
+use Rattle.machine_laws.proofs.ReachedOn.{reached_fresh}
 use Rattle.topic_served.proofs.Telling.{nobody_told}
 use Rattle.topic_served.proofs.served.Served.new.Goals as goal
 

@@ -2,7 +2,7 @@ use Rattle.std.proofs.Common.{sym, subst, arith, take}
 use Rattle.dispatch_core.specs.Changes.{Reset}
 use Rattle.delivery_machine.specs.Seeking.{seeking, sought}
 use Rattle.dedup_core.specs.Sequences.{AgreesWith}
-use Rattle.dispatchers.proofs.Resetting.{reset_sought}
+use Rattle.topic_served.proofs.Resetting.{reset_sought}
 use Rattle.topic_log.specs.Written.{all_of, Written}
 use Rattle.topic_subscriptions.specs.Placed.{is_placed, sub_in}
 use Rattle.topic_parts.specs.Parts.{log_of, state_of}

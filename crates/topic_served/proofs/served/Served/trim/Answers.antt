@@ -1,8 +1,8 @@
 use Rattle.std.proofs.Common.{◌∙◌, List, sym, subst, arith, length-take}
 use Rattle.std.proofs.lemmas.List.{with_items_is}
 use Rattle.delivery_machine.specs.State.{State}
-use Rattle.dispatchers.specs.Told.{AreTold}
-use Rattle.dispatchers.specs.declared.dispatch.Dispatch.{Dispatch}
+use Rattle.topic_served.specs.Told.{AreTold}
+use Rattle.topic_served.specs.declared.dispatch.Dispatch.{Dispatch}
 use Rattle.topic_parts.specs.Parts.{log_of, state_of}
 use Rattle.topic_served.specs.Trimming.{AreTrimmed}
 use Rattle.topic_served.proofs.Going.{are_idle, are_trimmed}

@@ -2,7 +2,7 @@ use Rattle.std.proofs.Common.{rules, ◌≡◌, ◌+◌, ◌≤◌, length, arit
 use Rattle.delivery_machine.specs.Run.{Step}
 use Rattle.delivery_machine.specs.Journals.{producers_in, consumers_in}
 use Rattle.topic_shared.specs.Kept.{Kept, kept_lines, needed_by, spoken_for}
-use Rattle.journal_lines.proofs.Answered.{long_replies}
+use Rattle.topic_shared.proofs.Answered.{long_replies}
 use Rattle.topic_shared.proofs.Cells.{kept_more, needs_some}
 use Rattle.topic_shared.proofs.cell.Cell.call_within.Goals as goal
 

@@ -1,4 +1,4 @@
-use Rattle.dispatchers.proofs.Asking.{asks_for_none}
+use Rattle.topic_served.proofs.Asking.{asks_for_none}
 use Rattle.topic_tests.proofs.tests.scenes.told.tell_each.Goals as goal
 
 pub on_join-requires : goal.on_join-requires

@@ -1,0 +1,180 @@
+// The directory, as its broker's workers know it.
+use crate::attached::Attached;
+use crate::attaching::Left;
+use crate::directory::Directory;
+use crate::overview::topics_seen;
+use crate::unloading::leave_blank;
+use broker_parts::{
+    Broker, Coming, Copied, Did, Notice, Tasks, Visitor, backups_seen, want_backup,
+};
+use delivery_machine::{Fault, Moment, Reply, TopicName, Watched};
+use marks::Naming;
+use row_forms::topic_text;
+use row_store::Cause;
+use session_bells::{Bell, Rest};
+use session_links::Request;
+use sqlite::Alter;
+use status_pages::{BrokerSeen, ProgramSeen};
+use std::rt::{Clock, Files};
+use std::sync::{Arc, Wait};
+
+/// How many stores a worker makes in one turn where the thread that stores is not there.
+const MOST_IN_TURN: u32 = 8;
+
+impl<T: Watched + Drop, S: Alter + Drop, J: Naming, B: Bell + Drop> Broker<B>
+    for Directory<T, S, J, B> {
+    type Seat = Attached<T, J, B>;
+
+    type Cause = Cause;
+
+    fn attach<R: Wait>(
+        &self,
+        rt: &R,
+        name: &TopicName,
+        create: bool,
+        bell: Arc<B>,
+    ) -> Result<Coming<Attached<T, J, B>, B>, Fault> {
+        Directory::attach(self, rt, name, create, bell)
+    }
+
+    /// A topic with nothing in it, of which nothing is stored, leaves with the last one who sat there: so a name is made by what
+    /// is done there, and by no attach. One whose journal is full is seen out once nobody sits there.
+    fn detach<R: Wait>(&self, rt: &R, seat: Attached<T, J, B>) {
+        let number = seat.seat;
+        let topic = seat.into_topic();
+        match topic.leave(rt, number, self.uses.next()) {
+            Left::Ends => self.board.send(rt, topic),
+            Left::Blank => leave_blank(rt, &self.table, &self.counts, topic),
+            Left::Stays => drop(topic),
+        }
+    }
+
+    fn introduce<R: Wait>(&self, rt: &R, seat: &Attached<T, J, B>, visitor: Visitor) {
+        seat.introduce(rt, visitor);
+    }
+
+    /// Each call is one hold of the topic's lock, and of no other. Refused (F16) where the store failed.
+    fn call<R: Wait>(
+        &self,
+        rt: &R,
+        seat: &Attached<T, J, B>,
+        request: Request,
+    ) -> Result<Reply, Fault> {
+        if self.closed.is_shut() {
+            drop(request);
+            return Err(Fault::StoreFailed);
+        }
+        match request {
+            Request::Event(event) => seat.ask(rt, &self.board, event),
+            Request::CreateSubscription {
+                subscription,
+                target,
+            } => seat.create(rt, &self.board, subscription, target),
+            Request::Peek {
+                subscription,
+                count,
+            } => seat.peek(rt, self.alloc, subscription, count),
+            Request::Disconnect { session } => Ok(seat.disconnect(rt, session)),
+            Request::BackUp => Ok(want_backup(&self.backups, seat.is_near(rt))),
+            Request::DeleteTopic => self.delete(rt, &seat.topic),
+        }
+    }
+
+    /// The topic's journal is full (F15), or the topic was deleted (F11); or an administrator ended its session (F3).
+    fn refusal<R: Wait>(&self, rt: &R, seat: &Attached<T, J, B>) -> Option<Fault> {
+        seat.topic.refusal(rt, seat.seat)
+    }
+
+    fn rest<R: Wait>(&self, rt: &R, seat: &Attached<T, J, B>, rest: Rest) -> bool {
+        !self.closed.is_shut() && seat.rest(rt, rest)
+    }
+
+    /// Topics are in the order in which they were opened; none is loaded by it. Each is looked at by itself, with the others
+    /// free. Only want of memory is a refusal (F1).
+    fn seen<R: Wait>(&self, rt: &R, program: ProgramSeen) -> Result<BrokerSeen, Fault> {
+        let topics = match topics_seen(rt, self.alloc, &self.table) {
+            Ok(topics) => topics,
+            Err(fault) => return Err(fault),
+        };
+        let stores = self.counts.stores(rt);
+        Ok(BrokerSeen {
+            program,
+            is_closed: self.closed.is_shut(),
+            stores: stores.times,
+            rows: stores.rows,
+            loads: self.counts.loads(),
+            unloads: self.counts.unloads(),
+            backups: backups_seen(&self.backups),
+            topics,
+        })
+    }
+
+    fn notice<R: Wait>(&self, rt: &R) -> Option<Notice> {
+        self.counts.notice(rt)
+    }
+
+    fn cause<R: Wait>(&self, rt: &R) -> Option<Cause> {
+        let keeper = self.keeper.lock(rt);
+        keeper.refusal()
+    }
+
+    fn why_unopened<R: Wait>(&self, rt: &R, name: &TopicName) -> Option<Cause> {
+        let Ok(text) = topic_text(self.alloc, name) else {
+            return None;
+        };
+        let keeper = self.keeper.lock(rt);
+        match keeper.refusal() {
+            Some(Cause::BadRows) if keeper.spoilt() != Some(text.as_str()) => None,
+            cause => cause,
+        }
+    }
+
+    fn is_closed(&self) -> bool {
+        self.closed.is_shut()
+    }
+
+    /// It stores where nobody else has lately either. Else the thread does.
+    fn help<R: Wait + Clock>(&self, rt: &R, made: u64) {
+        let mut made = made;
+        for _ in 0..MOST_IN_TURN {
+            let Some(topics) = self.board.lead(rt, made) else {
+                return;
+            };
+            self.store(rt, topics.as_slice());
+            if !self.board.end(rt) {
+                return;
+            }
+            made = 0;
+        }
+    }
+
+    /// It sends the courier of dead letters too.
+    fn keep<R: Wait + Clock>(&self, rt: &R) {
+        let Some(mut tasks) = Tasks::new(self.alloc) else {
+            return;
+        };
+        tasks.read_clocks(rt);
+        for _ in rt.forever() {
+            let task = self.board.next(rt, tasks.turn());
+            let goes_on = self.begin_task(rt, task, &mut tasks);
+            if tasks.did == Did::Other {
+                tasks.walk(rt, self);
+            }
+            if !goes_on {
+                return;
+            }
+        }
+    }
+
+    /// It is made under the database's name and the moment in milliseconds since 1970.
+    fn back_up<R: Wait + Files>(&self, rt: &R, now: Moment) -> Option<Copied> {
+        match &self.backups {
+            Some(backups) => backups.back_up(rt, self.alloc, &self.keeper, now),
+            None => None,
+        }
+    }
+
+    fn finish<R: Wait>(&self, rt: &R) {
+        self.board.finish(rt);
+    }
+}

@@ -1,0 +1,2 @@
+-- What the contracts of a broker's parts cite.
+pub mod Ends

@@ -1,0 +1,145 @@
+// Who hears of what a topic answers: those who sit there, its subscriptions, and whoever looks.
+ghost use Rattle.std.specs.Prelude.{◌≡◌, IfErr};
+
+use crate::graves::{Change, Graves};
+use crate::tallies::{Tallies, ends_producer};
+use crate::visitors::Visitors;
+use delivery_machine::{Event, Fault, KeptSubscription, Reply};
+use session_bells::{Asked, Bell, Bells};
+use std::alloc::Global;
+use std::sync::Wait;
+
+/// Who hears of what a topic answers.
+pub struct Hearers<B: Bell + Drop> {
+    pub bells: Bells<B>,
+    pub graves: Graves,
+    pub tallies: Tallies,
+    pub visitors: Visitors,
+}
+
+impl<B: Bell + Drop> Drop for Hearers<B> {
+    fn drop(self) {
+        let Hearers {
+            bells: _,
+            graves: _,
+            tallies: _,
+            visitors: _,
+        } = self;
+    }
+}
+
+/// Whether the reply to a consumer is noted at its subscription.
+fn is_of_subscription(reply: &Reply) -> bool {
+    matches!(
+        reply,
+        Reply::Sent { .. } | Reply::Released { .. } | Reply::Rewound { .. } | Reply::Died { .. }
+    )
+}
+
+/// An event and who asked it, once there is room for its answer.
+#[derive(Drop)]
+pub struct Prepared {
+    change: Change,
+    ends_producer: bool,
+}
+
+impl Prepared {
+    /// An event that ends a producer or a consumer, whose answer takes no room.
+    pub fn end(event: &Event) -> Self {
+        Prepared {
+            change: Change::Nothing,
+            ends_producer: ends_producer(event),
+        }
+    }
+}
+
+impl<B: Bell + Drop> Hearers<B> {
+    /// Those of a topic that was just opened, with so many messages that are stored: the courier is to look at each of the
+    /// subscriptions in which letters lie.
+    pub fn opened(
+        alloc: Global,
+        durable: u64,
+        subscriptions: &[KeptSubscription],
+    ) -> Result<Self, Fault>
+        ensures { IfErr result (λ fault. fault ≡ Fault.NoMemory) }
+    {
+        let mut graves = Graves::new(alloc);
+        match graves.know(subscriptions) {
+            Ok(()) => Ok(Hearers {
+                bells: Bells::new(alloc, durable),
+                graves,
+                tallies: Tallies::new(),
+                visitors: Visitors::new(alloc),
+            }),
+            Err(fault) => {
+                drop(graves);
+                Err(fault)
+            }
+        }
+    }
+
+    /// Nobody sits at the seat any more, and its bell is gone.
+    pub fn exit<R: Wait>(&mut self, rt: &R, seat: u64) {
+        self.bells.exit(rt, seat);
+        self.visitors.exit(seat);
+    }
+
+    /// What the event does to them, with the room that its answer takes. Only want of memory is a refusal (F1).
+    pub fn prepare(&mut self, asked: &Asked, event: &Event) -> Result<Prepared, Fault>
+        ensures { IfErr result (λ fault. fault ≡ Fault.NoMemory) }
+    {
+        let Ok(change) = self.graves.prepare(event) else {
+            return Err(Fault::NoMemory);
+        };
+        match self.bells.prepare(asked) {
+            Ok(()) => Ok(Prepared {
+                change,
+                ends_producer: ends_producer(event),
+            }),
+            Err(_) => {
+                drop(change);
+                Err(Fault::NoMemory)
+            }
+        }
+    }
+
+    /// What was prepared was answered so to the one at the seat. Those are rung to whom it leads.
+    pub fn answered<R: Wait>(
+        &mut self,
+        rt: &R,
+        seat: u64,
+        asked: &Asked,
+        prepared: Prepared,
+        reply: &Reply,
+    ) {
+        let Prepared {
+            change,
+            ends_producer,
+        } = prepared;
+        self.tallies.note(ends_producer, reply);
+        self.bells.answered(rt, seat, asked, reply);
+        self.graves.answered(change, reply);
+        if let Reply::Subscribed { consumer } = reply {
+            self.visitors.join(seat, *consumer);
+        }
+        if is_of_subscription(reply)
+            && let Some(name) = self.bells.subscription(seat)
+        {
+            self.graves.note(name, reply);
+        }
+    }
+
+    /// Whether a courier is to be sent to a subscription.
+    pub fn has_letters(&self) -> bool {
+        self.graves.first_open().is_some()
+    }
+
+    /// What was prepared was refused: the room is given back that one would have had who did not join.
+    pub fn refused<R: Wait>(&mut self, rt: &R, seat: u64, asked: &Asked, fault: Fault) {
+        if let Asked::Joins(_) = asked {
+            let reply = Reply::Refused(fault);
+            self.bells.answered(rt, seat, asked, &reply);
+            drop(reply);
+        }
+    }
+}

@@ -1,0 +1,49 @@
+// When the storing thread looks for topics that nobody uses.
+ghost use Rattle.std.specs.Prelude.{[], ◌++◌, ◌≡◌, ◌∷◌};
+
+use crate::pause::Due;
+use std::time::Instant;
+
+/// When the next look is, and how many uses had been counted at the last five.
+#[derive(Clone, Copy)]
+pub struct Looks {
+    due: Option<Due>,
+    marks: [u64; 5],
+}
+
+impl Looks {
+    pub fn new() -> Self {
+        Looks {
+            due: None,
+            marks: [0; 5],
+        }
+    }
+
+    /// The first look is a minute from now.
+    pub fn begin(&mut self, time: Option<Instant>) {
+        if self.due.is_none() {
+            self.due = Some(Due::in_a_minute(time));
+        }
+    }
+
+    pub fn due(&self) -> Option<Due> {
+        self.due
+    }
+
+    pub fn is_due(&self, time: Option<Instant>) -> bool {
+        match self.due {
+            Some(due) => due.left(time).is_none(),
+            None => false,
+        }
+    }
+
+    /// The look is made now, and the next one in a minute. How many uses had been counted five looks ago.
+    pub fn mark(&mut self, made: u64, time: Option<Instant>) -> u64
+        ensures { result ∷ self.new.marks ≡ self.old.marks ++ made ∷ [] }
+    {
+        let [oldest, second, third, fourth, last] = self.marks;
+        self.marks = [second, third, fourth, last, made];
+        self.due = Some(Due::in_a_minute(time));
+        oldest
+    }
+}

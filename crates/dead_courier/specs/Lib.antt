@@ -1,3 +1,0 @@
--- What the contracts of the courier cite.
-pub mod Moving
-pub mod Steps

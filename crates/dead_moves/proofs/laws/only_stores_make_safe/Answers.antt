@@ -1,5 +1,0 @@
-use Rattle.dead_moves.proofs.SafeByStores.{only_stores_make_safe}
-use Rattle.dead_moves.proofs.laws.only_stores_make_safe.Goals as goal
-
-pub returns : goal.returns
-returns c = only_stores_make_safe

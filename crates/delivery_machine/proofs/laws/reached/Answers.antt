@@ -1,6 +1,0 @@
-use Rattle.delivery_machine.proofs.WellReached.{reached_all}
-use Rattle.delivery_machine.proofs.WellFormedStates.{well_formed}
-use Rattle.delivery_machine.proofs.laws.reached.Goals as goal
-
-pub returns : goal.returns
-returns c s events replies t begins run = well_formed t (reached_all s events replies t begins run)

@@ -1,5 +1,0 @@
-use Rattle.hash_firsts.proofs.Views.{not_there}
-use Rattle.hash_firsts.proofs.hash_firsts.HashFirsts.take_out.Goals as goal
-
-pub returns-else-node_of-lt-NO_NUMBER : goal.returns-else-node_of-lt-NO_NUMBER
-returns-else-node_of-lt-NO_NUMBER c = not_there c.args.self.now c.args.hash c.node_of.result c.node_of.ensures.number c.if-node_of-lt-NO_NUMBER.false

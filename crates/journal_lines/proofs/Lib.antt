@@ -1,2 +1,0 @@
-pub mod Legality
-pub mod Answered

@@ -1,0 +1,9 @@
+pub mod Bits
+pub mod Front
+pub mod Sets
+pub mod Climb
+pub mod Lowered
+pub mod Numbers
+pub mod Ranges
+pub mod Changes
+pub mod Views

@@ -1,0 +1,14 @@
+use Rattle.std.proofs.Common.{List, ap, sym, ◌∙◌, ℕ, arith}
+use Rattle.number_sets.specs.Bits.{has, is_used}
+use Rattle.number_sets.proofs.Bits.{has_none, used_none}
+use Rattle.number_sets.proofs.summed.SummedLayer.new.Goals as goal
+
+pub invariant_of-result : goal.invariant_of-result
+invariant_of-result g c = record {
+  few = omega (arith, c.new.ensures.len);
+  covered = omega (arith, c.new.ensures.len);
+  summed = λ w. c.new-2.ensures.none w ∙ sym (ap (λ (ws : List ℕ). is_used ws w) c.new.ensures.items ∙ used_none w);
+}
+
+pub returns-clause-none : goal.returns-clause-none
+returns-clause-none g c = λ i. ap (λ (ws : List ℕ). has ws i) c.new.ensures.items ∙ has_none i

@@ -1,7 +1,0 @@
-use Rattle.std.proofs.Common.{List, ap, ◌∙◌, ℕ}
-use Rattle.place_bits.specs.Bits.{has}
-use Rattle.place_bits.proofs.Bits.{has_none}
-use Rattle.place_bits.proofs.top.TopLayer.new.Goals as goal
-
-pub returns-clause-none : goal.returns-clause-none
-returns-clause-none c = λ i. ap (λ (ws : List ℕ). has ws i) c.new.ensures.items ∙ has_none i

@@ -1,7 +1,0 @@
-use Rattle.std.proofs.Common.{ap, ◌∙◌}
-use Rattle.std.specs.FinMap as map_of
-use Rattle.plain_tables.proofs.KeptCounts.{entries_back}
-use Rattle.plain_tables.proofs.counts.CountTable.of.Goals as goal
-
-pub returns : goal.returns
-returns c = ap map_of.from_entries (c.in_ok-entries.ensures ∙ c.as_slice.ensures.entries) ∙ entries_back c.args.counts.now

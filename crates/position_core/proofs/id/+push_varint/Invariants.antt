@@ -1,4 +1,0 @@
-use Rattle.position_core.proofs.id.+push_varint.Given as goal
-
-abbrev pub decreases-push_varint : goal.decreases-push_varint
-decreases-push_varint l = l.number

@@ -1,5 +1,0 @@
-use Rattle.server_tests.proofs.tests.sockets.world.serve_all.Given as goal
-
--- the history that was just opened
-abbrev pub ghosts-run : goal.ghosts-run
-ghosts-run g a = record { book = a.history }

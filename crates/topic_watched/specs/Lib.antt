@@ -1,2 +1,0 @@
--- What the contracts of a watched topic cite.
-pub mod Counts

@@ -1,0 +1,3 @@
+pub mod Id
+pub mod Decimals
+pub mod RangesText

@@ -1,2 +1,0 @@
--- What the contracts of the table of waiting messages cite.
-pub mod Waiting
