@@ -194,8 +194,10 @@ def shared():
     """Some messages are given back, and come again."""
     query = f'?subscriptionType=Shared&subscriptionInitialPosition=Earliest&receiverQueueSize={COUNT // 2}{NACK}'
     readers = [consumer(port, 'all', 'many', query) for _ in range(2)]
-    for reader in readers:
-        for number, message in enumerate(take(reader, COUNT // 2)):
+    # Each has its half before any is acknowledged: else one who acknowledges first takes of the other's half as well.
+    halves = [take(reader, COUNT // 2) for reader in readers]
+    for reader, half in zip(readers, halves):
+        for number, message in enumerate(half):
             if number < 3:
                 give_back(reader, message)
             else:
