@@ -1,8 +1,8 @@
 #!/usr/bin/env bash
 # Tries the program that was proved over real sockets, from outside: targets and texts with what they are answered, each refusal
-# with its code, requests that ask for no WebSocket, what comes again and when, what is seen of the broker and what is asked of it,
-# what goes and what stays, two topics at once, whoever comes and goes; then kills, and a disk that takes no more. It wants Python's
-# own library alone.
+# with its code, requests that ask for no WebSocket, who is let in, who floods or is silent, what comes again and when, what is
+# seen of the broker and what is asked of it, what goes and what stays, two topics at once, whoever comes and goes; then kills, and
+# a disk that takes no more. It wants Python's own library alone.
 set -euo pipefail
 cd "$(dirname "$0")/.."
 program=$PWD/crates/pulsar_broker/out/pulsar_broker
@@ -20,6 +20,8 @@ python3 bench/server/texts.py "$program" "$(port)"
 python3 bench/server/mutants.py "$program" 2000 "$(port)"
 python3 bench/server/refusals.py "$program" "$(port)"
 python3 bench/server/plain.py "$program" "$(port)"
+python3 bench/server/doors.py "$program" "$(port)"
+python3 bench/server/floods.py "$program" "$(port)"
 python3 bench/server/returns.py "$program" 5 "$(port)"
 python3 bench/server/seen.py "$program" "$(port)"
 python3 bench/server/administer.py "$program" "$(port)"

@@ -99,13 +99,13 @@ refused 'closed with 4002 F6' node "$here/consumer.js" "$address" my-topic taken
 refused 'F12' "$python" "$here/admin.py" "$address" my-topic drop taken
 kill "$consumer"
 wait "$consumer" || true
-refused 'closed with 4001 F20' "$python" "$here/producer.py" "$address" a%2Fb
-refused 'closed with 4001 F20' node "$here/producer.js" "$address" a%2Fb
-refused 'closed with 4001 F20' "$python" "$here/once.py" "$address" a%2Fb
-refused 'closed with 4001 F20' node "$here/once.js" "$address" a%2Fb
-refused 'closed with 4002 F20' "$python" "$here/key_shared.py" "$address" a%2Fb
-refused 'closed with 4002 F20' "$python" "$here/sticky.py" "$address" a%2Fb
-refused 'closed with 4002 F20' "$python" "$here/dead_letters.py" "$address" a%2Fb
+refused 'closed with 4001 F20' "$python" "$here/producer.py" "$address" a%00b
+refused 'closed with 4001 F20' node "$here/producer.js" "$address" a%00b
+refused 'closed with 4001 F20' "$python" "$here/once.py" "$address" a%00b
+refused 'closed with 4001 F20' node "$here/once.js" "$address" a%00b
+refused 'closed with 4002 F20' "$python" "$here/key_shared.py" "$address" a%00b
+refused 'closed with 4002 F20' "$python" "$here/sticky.py" "$address" a%00b
+refused 'closed with 4002 F20' "$python" "$here/dead_letters.py" "$address" a%00b
 refused 'closed with 4008 F11' "$python" "$here/admin.py" "$address" not-there stats my-sub
 timeout 60 "$python" "$here/admin.py" "$address" my-topic delete
 refused 'closed with 4008 F11' "$python" "$here/admin.py" "$address" my-topic stats my-sub

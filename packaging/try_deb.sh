@@ -23,7 +23,7 @@ within apt-get install -qq -y /tmp/broker.deb > /dev/null
 within pulsar_broker --version
 within install -d -o pulsar-broker -m 750 /var/lib/pulsar-broker/main
 # The unit's own line, with its words filled in.
-words=$(sed -n 's/^ExecStart=//p' "$here/pulsar-broker@.service" | sed 's/%i/main/; s/${ADDRESS}/127.0.0.1:8080/; s/${WORKERS}/4/; s/${KEEP}/86400000ms/; s|${BACKUP}|/var/lib/pulsar-broker/main|')
+words=$(sed -n 's/^ExecStart=//p' "$here/pulsar-broker@.service" | sed 's/%i/main/; s/${ADDRESS}/127.0.0.1:8080/; s/${WORKERS}/4/; s/${KEEP}/86400000ms/; s|${BACKUP}|/var/lib/pulsar-broker/main|; s/ $WORDS//')
 within LD_PRELOAD=libjemalloc.so.2 su -s /bin/sh pulsar-broker -c "exec $words" > "$room/tmp/said" 2>&1 &
 broker=$!
 until grep -q listening "$room/tmp/said"; do sleep 0.1; done

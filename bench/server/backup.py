@@ -1,7 +1,8 @@
 #!/usr/bin/env python3
-# Copies of the database while the broker serves: asked for again and again under load. Each copy is whole for sqlite3, has
-# each message that was answered before it was asked for, and starts a broker that delivers them. Nobody gets one from
-# another machine's address. The gate runs it.
+# Copies of the database while the broker serves: asked for under load, of one broker after another, since two copies of one are a
+# minute apart. Each copy is whole for sqlite3, has each message that was answered before it was asked for, and starts a broker
+# that delivers them. It is its owner's alone, and goes where no link leads it. Nobody gets one from another machine's address.
+# The gate runs it.
 # backup.py PROGRAM [times] [port]
 import base64
 import json
@@ -22,7 +23,6 @@ times = int(sys.argv[2]) if len(sys.argv) > 2 else 20
 port = int(sys.argv[3]) if len(sys.argv) > 3 else 18098
 TOPICS = 4
 counts = [0] * TOPICS
-ended = threading.Event()
 
 
 def admin(host='127.0.0.1'):
@@ -46,7 +46,7 @@ def asked(client, **said):
     return client.receive()
 
 
-def publish(number):
+def publish(number, ended):
     """Publishes until the end, and counts what was answered."""
     client = producer(port, f't{number}')
     while not ended.is_set():
@@ -112,6 +112,64 @@ def far():
         return None if host.startswith('127.') else host
 
 
+def under_load():
+    """A copy while all topics are published to, and how many messages of each had been answered when it was asked for."""
+    broker.start()
+    ended = threading.Event()
+    threads = [threading.Thread(target=publish, args=[number, ended]) for number in range(TOPICS)]
+    goal = min(counts) + 500
+    for thread in threads:
+        thread.start()
+    while min(counts) < goal:
+        time.sleep(0.01)
+    least = list(counts)
+    name = copy(admin())
+    ended.set()
+    for thread in threads:
+        thread.join()
+    broker.kill()
+    return name, least
+
+
+def is_private(name):
+    """Nobody but its owner may read or write it."""
+    for each in (name, f'{name}-wal'):
+        assert os.stat(each).st_mode & 0o777 == 0o600, (each, oct(os.stat(each).st_mode))
+
+
+def waits(client):
+    """A second copy is not made within a second of the first; a third is refused meanwhile."""
+    made = asked(client, type='overview')['backups']
+    assert asked(client, type='backup') == {'result': 'ok'}
+    assert asked(client, type='backup') == {'fault': 12, 'result': 'refused'}
+    time.sleep(1.5)
+    assert asked(client, type='overview')['backups'] == made
+
+
+def leads_nowhere():
+    """Links under the names that a copy may get lead it to no other file."""
+    stranger = f'{folder}/stranger'
+    with open(stranger, 'w') as it:
+        it.write('of somebody else')
+    broker.start()
+    client = admin()
+    now = int(time.time() * 1000)
+    links = [f'{folder}/broker.db.{millis}{end}' for millis in range(now, now + 4000) for end in ('.part', '.part-wal', '', '-wal')]
+    for link in links:
+        os.symlink(stranger, link)
+    name = copy(client)
+    assert name in links, 'the copy came too late for the links'
+    assert not os.path.islink(name) and not os.path.islink(f'{name}-wal')
+    is_private(name)
+    with open(stranger) as it:
+        assert it.read() == 'of somebody else'
+    check(name, counts)
+    for link in links:
+        if os.path.islink(link):
+            os.remove(link)
+    broker.kill()
+
+
 host = far()
 folder = tempfile.mkdtemp(prefix='broker-', dir=os.environ.get('ROOM', '.'))
 broker = Broker(program, port, 4, folder, ['keep=all', f'backup={folder}'])
@@ -121,28 +179,26 @@ assert first.receive()['result'] == 'ok'
 boss = admin()
 name = copy(boss)
 check(name, [1])
-print('ok a copy of a broker that rests')
+is_private(name)
+for line in ('X-Forwarded-For: 192.0.2.1', 'forwarded: for=127.0.0.1', 'X-Real-IP: 127.0.0.1'):
+    handed_on = Client(port, '/ws/v2/admin/persistent/public/default/t0', lines=line + '\r\n')
+    assert asked(handed_on, type='backup') == {'fault': 20, 'result': 'refused'}, line
+    handed_on.close()
+print('ok no copy for whom a proxy handed on')
+waits(boss)
+broker.kill()
+print('ok a copy of a broker that rests, a minute before the next')
 
-threads = [threading.Thread(target=publish, args=[number]) for number in range(TOPICS)]
-for thread in threads:
-    thread.start()
-while min(counts) < 500:
-    time.sleep(0.01)
-names = []
-for _ in range(times):
-    least = list(counts)
-    names.append((copy(boss), least))
-ended.set()
-for thread in threads:
-    thread.join()
-for name, least in names:
+copies = [under_load() for _ in range(times)]
+for name, least in copies:
     check(name, least)
-starts(names[-1][0])
+starts(copies[-1][0])
 left = [each for each in os.listdir(folder) if '.part' in each]
 assert not left, left
 print(f'ok {times} copies under load, with {sum(counts)} messages at the end: each is whole, has what was answered before, and starts')
+leads_nowhere()
+print('ok no link leads a copy elsewhere')
 
-broker.kill()
 broker.more = ['backup=/nowhere/at/all']
 broker.start()
 boss = admin()
@@ -163,4 +219,12 @@ if host:
     process.kill()
     process.wait()
     print('ok no copy for an address that is not the loopback')
+
+# A client of IPv4 comes as one of IPv6, where the broker listens for both.
+process = subprocess.Popen([program, broker.database, f'[::]:{port}', '2', f'backup={folder}'], stdout=subprocess.PIPE)
+if process.stdout.readline().startswith(b'listening'):
+    assert asked(admin(), type='backup') == {'result': 'ok'}
+    print('ok a copy for the loopback address of IPv4 as one of IPv6')
+process.kill()
+process.wait()
 shutil.rmtree(folder)

@@ -10,13 +10,14 @@ import time
 
 
 class Client:
-    def __init__(self, port, target, timeout=30):
+    def __init__(self, port, target, timeout=30, lines=''):
+        """The request has these lines too, each with its end."""
         self.sock = socket.create_connection(('127.0.0.1', port), timeout=timeout)
         self.sock.setsockopt(socket.IPPROTO_TCP, socket.TCP_NODELAY, 1)
         key = base64.b64encode(os.urandom(16)).decode()
         self.sock.sendall((f'GET {target} HTTP/1.1\r\nHost: 127.0.0.1:{port}\r\nUpgrade: websocket\r\n'
                            f'Connection: Upgrade\r\nSec-WebSocket-Key: {key}\r\n'
-                           'Sec-WebSocket-Version: 13\r\n\r\n').encode())
+                           f'Sec-WebSocket-Version: 13\r\n{lines}\r\n').encode())
         self.rest = b''
         while b'\r\n\r\n' not in self.rest:
             self.rest += self.more()

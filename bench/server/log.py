@@ -101,5 +101,5 @@ with tempfile.TemporaryDirectory(dir=os.environ.get('ROOM')) as room:
     broker = Said(room)
     reader = consumer(port, 'loaded', 's', '?subscriptionInitialPosition=Earliest')
     assert 'payload' in reader.receive()
-    print(broker.until(r'level=info msg="topic loaded" topic=persistent://public/default/loaded millis=\d+'))
+    print(broker.until(r'level=info msg="topic loaded" topic="persistent://public/default/loaded" millis=\d+'))
     broker.end()

@@ -2,8 +2,11 @@
 # Requests that ask for no WebSocket: each is answered with its status and its body, and then its connection ends. One that
 # comes in pieces is answered too, and a producer is answered meanwhile. The gate runs it.
 # plain.py PROGRAM [port]
+import base64
+import hashlib
 import http.client
 import os
+import re
 import socket
 import sys
 import time
@@ -30,7 +33,8 @@ def said(pieces, pause=0.0):
 
 def whole(status, body):
     return (f'HTTP/1.1 {status}\r\nContent-Type: {TEXT}\r\nContent-Length: {len(body)}\r\nConnection: close\r\n'
-            f'Cache-Control: no-store\r\n\r\n{body}').encode()
+            'Cache-Control: no-store\r\nX-Content-Type-Options: nosniff\r\nCross-Origin-Resource-Policy: same-origin\r\n'
+            f"Content-Security-Policy: default-src 'none'; frame-ancestors 'none'\r\n\r\n{body}").encode()
 
 
 def asks(what, status, body, pieces, pause=0.0):
@@ -49,9 +53,27 @@ def is_read(method, path, status, body, headers={}):
     print(f'{status} {method} {path} {" ".join(headers)}')
 
 
+def page_runs_its_own():
+    """The page's policy names its one script and its one style, and lets it ask nobody but the broker."""
+    conn = http.client.HTTPConnection('127.0.0.1', port, timeout=10)
+    conn.request('GET', '/')
+    answer = conn.getresponse()
+    text = answer.read().decode()
+    policy = dict(part.split(' ', 1) for part in answer.headers['Content-Security-Policy'].split('; '))
+    for tag in ('script', 'style'):
+        inner, = re.findall(f'<{tag}>(.*?)</{tag}>', text, re.S)
+        digest = base64.b64encode(hashlib.sha256(inner.encode()).digest()).decode()
+        assert policy[f'{tag}-src'] == f"'sha256-{digest}'", policy
+    assert (policy['default-src'], policy['connect-src'], policy['frame-ancestors']) == ("'none'", "'self'", "'none'"), policy
+    assert answer.headers['X-Content-Type-Options'] == 'nosniff'
+    assert answer.headers['Cross-Origin-Resource-Policy'] == 'same-origin'
+    conn.close()
+    print('200 the page, with a policy for its own script')
+
+
 def head(line, size=0):
     """A head of that size, or as short as can be."""
-    begun = line + b'\r\nHost: a\r\n'
+    begun = line + b'\r\nHost: localhost\r\n'
     if size:
         begun += b'X: ' + b'x' * (size - len(begun) - 7) + b'\r\n'
     return begun + b'\r\n'
@@ -67,6 +89,9 @@ try:
     asks('a head of 8,193 bytes', '400 Bad Request', 'bad request\n', [head(b'GET /health HTTP/1.1', 8193)])
     asks('101 lines', '400 Bad Request', 'bad request\n', [b'GET /health HTTP/1.1\r\n' + b'a: b\r\n' * 101 + b'\r\n'])
     asks('no head', '400 Bad Request', 'bad request\n', [b'\x16\x03\x01\x02\0\x01\0'])
+    asks('another host', '403 Forbidden', 'forbidden\n', [b'GET /health HTTP/1.1\r\nHost: a\r\n\r\n'])
+    asks('no host', '400 Bad Request', 'bad request\n', [b'GET /health HTTP/1.1\r\n\r\n'])
+    page_runs_its_own()
     is_read('GET', '/nothing', 404, b'not found\n')
     is_read('GET', '/ws/v2/producer/persistent/public/default/t', 404, b'not found\n')
     is_read('GET', '/health', 400, b'bad request\n', UPGRADE)

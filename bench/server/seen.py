@@ -110,7 +110,7 @@ def millis_of(text):
 
 def nothing_yet():
     seen = overview()
-    assert seen['topics'] == [] and seen['sessions'] == 0 and seen['closed'] is False, seen
+    assert seen['topics'] == [] and seen['sessions'] == 0 and seen['closed'] is seen['open'] is False, seen
     assert seen['connections'] == 1 and seen['loads'] == seen['unloads'] == 0, seen
     assert abs(seen['now'] - time.time() * 1000) < 5000 and 0 <= seen['now'] - seen['started'] < 30000, seen
     assert seen['memory'] > 1 << 20 and seen['stores'] == {'count': 0, 'micros': 0}, seen
@@ -360,6 +360,37 @@ def metrics_agree(seen):
         print('ok promtool finds nothing')
 
 
+LOOKS = 4200
+
+
+def looks_leave_nothing():
+    """More looks than a topic's journal has lines: it begins anew each time, nothing else changes, and the topic goes on."""
+    reader = consumer(port, 'all', 'sole')
+    take(reader, COUNT)
+    shows('what looks find', 'all', 'sole', pending=COUNT)
+    before, most = topic_of(overview(), 'all'), 0
+    for _ in range(LOOKS):
+        found = topic_of(overview(), 'all')
+        most = max(most, found.pop('journal'))
+        assert found == {key: value for key, value in before.items() if key != 'journal'}, (before, found)
+    assert most < LOOKS and topic_of(overview(), 'all')['journal'] < most, most
+    ends(reader)
+    print(f'ok {LOOKS} looks leave nothing')
+
+
+def open_to_others():
+    """A broker at an address that others than its machine's own may reach says so, unless it was told that this is meant."""
+    for more, is_open in ([], True), (['open'], False):
+        process = subprocess.Popen([program, ':memory:', f'0.0.0.0:{port}', '1', *more], stdout=subprocess.PIPE,
+                                   stderr=subprocess.PIPE, text=True)
+        assert process.stdout.readline().startswith('listening')
+        assert overview()['open'] is is_open, more
+        process.kill()
+        said = process.communicate()[1]
+        assert ('level=warn msg="open to everybody who reaches this address"' in said) is is_open, said
+    print('ok a broker that is open to others says so')
+
+
 def again(broker):
     """A topic that is not in memory is not loaded by a look."""
     broker.kill()
@@ -376,6 +407,7 @@ def again(broker):
     ends(reader)
 
 
+open_to_others()
 broker = Broker(program, port)
 try:
     nothing_yet()
@@ -394,6 +426,7 @@ try:
     seen = overview()
     adds_up(seen)
     metrics_agree(seen)
+    looks_leave_nothing()
     assert '<!doctype html>' in page('/')
     again(broker)
 finally:

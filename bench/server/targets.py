@@ -18,8 +18,8 @@ PRODUCER, CONSUMER = f'/ws/v2/producer/{T}?', f'/ws/v2/consumer/{T}/s?'
 # Each target with the topic's three names.
 TOPICS = [
     ('/ws/v2/producer/' + T, 'public/default/t'), ('/ws/v2/producer/persistent/a+b/%20/%C3%A9%25', 'a+b/ /\u00e9%'),
-    ('/ws/v2/producer/persistent/a/b/c#d/e', 'a/b/c'), ('/ws/v2/x/../producer/./persistent/a/b/c?', 'a/b/c'),
-    ('/ws\\v2/producer/persistent/a/b/c', 'a/b/c'), ('/ws/v2/producer/persistent/a/b/' + 'n' * 255, 'a/b/' + 'n' * 255),
+    ('/ws/v2/producer/persistent/a/b/c?', 'a/b/c'), ('/ws/v2/producer/persistent/a.b..c/..a/%2e..', 'a.b..c/..a/...'),
+    ('/ws/v2/producer/persistent/a/b/%252e%5C%23', 'a/b/%2e\\#'), ('/ws/v2/producer/persistent/a/b/' + 'n' * 255, 'a/b/' + 'n' * 255),
 ]
 PATHS_OF_NONE = [
     '/', 'ws/v2/admin/persistent/a/b/c', '@host/ws/v2/admin/persistent/a/b/c', '//ws/v2/admin/persistent/a/b/c', '\\ws\\v2/admin/persistent/a/b/c',
@@ -27,11 +27,16 @@ PATHS_OF_NONE = [
     '/ws/v2/admin/persistent/a/b', '/ws/v2/admin/persistent/a/b/c/', '/ws/v2/admin/persistent/a/b/c/d', '/ws/v2/producer/persistent/a/b/c/',
     '/ws/v2/producer/persistent/a/b/%FF/?x=%FF', f'/ws/v2/consumer/{T}', f'/ws/v2/consumer/{T}?pullMode=no', '/ws/v2/consumer/persistent/a/b/c/d/',
     '/ws/v2/producer/persistent/a/b/', '/ws/v2/producer/persistent/a/b/?producerName=', f'/ws/v2/consumer/{T}/',
+    # Paths that a proxy and a URL could read in two ways.
+    '/ws/v2/producer/persistent/a/b/c#d/e', '/ws/v2/producer/persistent/a/b/c?x#y', '/ws\\v2/producer/persistent/a/b/c',
+    '/ws/v2/x/../producer/persistent/a/b/c', '/ws/v2/./producer/persistent/a/b/c', '/ws/v2/producer/persistent/a/x/%2e%2E/b/c',
+    '/ws/v2/producer/persistent/a/b/c%2fd%2fe/../../../admin/persistent/x/y/z', '/ws/v2/producer/persistent/a/b/..\\..\\..\\..\\admin\\persistent\\a\\b\\c',
+    '/ws/v2/producer/persistent/public/default/a%2Fb', '/ws/v2/consumer/persistent/public/%2f/t/s?pullMode=no', '/ws/v2/producer/persistent/public//t',
 ]
 NAMES_OF_NONE = [
-    ('producer/persistent/public/default/a%2Fb', 4001), ('producer/persistent/public//t', 4001), ('producer/persistent/%00/default/t', 4001),
+    ('producer/persistent/%00/default/t', 4001),
     ('producer/persistent/a/b/%7F?encryptionKeys=k', 4001), (f'consumer/{T}/%FF', 4002), (f'consumer/{T}/%1f', 4002),
-    ('consumer/persistent/public/%2f/t/s?pullMode=no', 4002), ('admin/persistent/a/b/%C3', 4008),
+    ('consumer/persistent/public/%0a/t/s?pullMode=no', 4002), ('admin/persistent/a/b/%C3', 4008),
     ('consumer/persistent/a/b/' + 'n' * 256 + '/s', 4002), ('consumer/persistent/a/b/' + 'n' * 250 + '/s?subscriptionType=Shared&maxRedeliverCount=1', 4002),
 ]
 

@@ -20,7 +20,7 @@ trap finish EXIT
 
 start() {                # start NAME PORT
     : > "$room/said"
-    "$program" "$room/$1.db" "127.0.0.1:$2" 2 > "$room/said" &
+    "$program" "$room/$1.db" "127.0.0.1:$2" 2 letters=own > "$room/said" &
     until grep -q listening "$room/said"; do sleep 0.05; done
 }
 start bills $((port + 1))
@@ -50,6 +50,26 @@ ctl() {                  # ctl USER WORD..
     timeout 60 /usr/bin/python3 "$here/../../tools/brokerctl" --ca "$room/brokers.crt" \
         --broker "wss://$user:secret%20of%20${owner:-$user}@localhost:$port" "$@"
 }
+status() {               # status USER TARGET: how a request for a WebSocket is answered, or the code that it is closed with then
+    /usr/bin/python3 - "$room/brokers.crt" "$port" "$1:secret of $1" "$2" <<'END'
+import base64, os, socket, ssl, sys
+file, port, user, target = sys.argv[1:]
+with ssl.create_default_context(cafile=file).wrap_socket(socket.create_connection(('localhost', int(port))), server_hostname='localhost') as sock:
+    sock.sendall((f'GET {target} HTTP/1.1\r\nHost: localhost:{port}\r\nAuthorization: Basic {base64.b64encode(user.encode()).decode()}\r\n'
+                  'Upgrade: websocket\r\nConnection: Upgrade\r\nSec-WebSocket-Version: 13\r\n'
+                  f'Sec-WebSocket-Key: {base64.b64encode(os.urandom(16)).decode()}\r\n{os.environ.get("MORE", "")}\r\n').encode())
+    answer = sock.recv(4096)
+    if answer.split()[1] == b'101':
+        # a ping: it is answered, or the session was closed with a code
+        sock.sendall(b'\x89\x80\0\0\0\0')
+        frame = answer.split(b'\r\n\r\n', 1)[1]
+        while len(frame) < 2 or len(frame) < 2 + frame[1]:
+            frame += sock.recv(4096)
+        print(int.from_bytes(frame[2:4], 'big') if frame[0] & 15 == 8 else 101)
+    else:
+        print(answer.split()[1].decode())
+END
+}
 is() { diff <(printf '%s\n' "${@:2}") - > /dev/null || { echo "$1" >&2; exit 1; }; }
 refused() { "${@:2}" > "$room/out" 2>&1 && { echo "it was not refused: $*" >&2; exit 1; } || grep "$1" "$room/out"; }
 
@@ -65,6 +85,25 @@ owner=bills refused 'turned away with 401' ctl orders publish shop/orders/new th
 refused 'turned away with 401' ctl bills publish shop/orders/new third
 refused 'turned away with 404' ctl bills publish public/default/mine third
 refused 'turned away with 401' ctl orders delete shop/orders/new
+
+echo "== A path that nginx and the broker might read in two ways is turned away"
+path=/ws/v2/producer/persistent/shop/bills
+for target in "$path/a%2fb%2fc%2fd%2fe%2ff/../../../../../admin/persistent/shop/orders/new" \
+    "$path/"'..\..\..\..\admin\persistent\shop\bills\t' "$path/../../../../admin/persistent/shop/orders/new" \
+    "$path/%2e%2e/orders/new" "$path/.%2E/orders/new" "$path/./new" "$path/.." "$path/x/.?y" "$path//new" "$path/a%2Fb" \
+    "$path/a%5cb" "$path/a\\b" "$path/a#b"; do
+    status bills "$target" | is "$target is not turned away" 400
+done
+for target in "$path/caf%C3%A9" "$path/a.b..c" "$path/..a?x=/../"; do
+    status bills "$target" | is "$target is turned away" 101
+done
+
+echo "== Pages of other origins are turned away, and dead letters stay in their namespace"
+MORE=$'Origin: https://evil.example\r\n' status bills "$path/new" | is "a foreign origin is let in" 403
+MORE=$'Origin: https://localhost:'"$port"$'\r\n' status bills "$path/new" | is "its own origin is turned away" 101
+letters='/ws/v2/consumer/persistent/shop/bills/open/clerk?subscriptionType=Shared&maxRedeliverCount=1&deadLetterTopic=shop'
+status bills "$letters/orders/new" | is "letters may go to another namespace" 4002
+status bills "$letters/bills/dead" | is "letters may not go to their own namespace" 101
 
 echo "== The broker of the orders is killed, and goes on elsewhere with a copy of its files"
 { kill -9 $orders; wait $orders; } 2> /dev/null || true

@@ -1,9 +1,13 @@
 // A copy of the database while it is used: its file and its log, as they are at a moment between two commits.
+ghost use Rattle.std.specs.Prelude.{◌≡◌};
+ghost use Rattle.broker_parts.specs.Copies.{is_early};
+
 use delivery_machine::{Fault, Moment, Reply};
 use status_pages::BackupsSeen;
 use std::alloc::Global;
-use std::fs::OpenFile;
+use std::fs::{OpenFile, OpenOptions};
 use std::io::Read;
+use std::os::unix::fs::OpenOptionsExt;
 use std::rt::Files;
 use std::sync::atomic::{AtomicBool, AtomicU64, Ordering};
 use std::sync::{Mutex, Wait};
@@ -11,6 +15,12 @@ use std::{fs, io};
 
 /// How often the file is copied with the store free, before it is copied with the store held.
 const TIMES: u32 = 3;
+
+/// How long it is from one copy to the next, in milliseconds: whoever asks again and again fills no disk with them.
+const PAUSE: u64 = 60_000;
+
+/// Who may read and write a copy: its owner alone.
+const MODE: u32 = 0o600;
 
 /// The database's file, the folder that its copies go into, and what came of them.
 pub struct Backups {
@@ -22,6 +32,15 @@ pub struct Backups {
     failed: AtomicU64,
     /// The moment of the last copy, in milliseconds since 1970; 0 before the first.
     last: AtomicU64,
+    /// The moment at which a copy was begun last, whatever came of it; 0 before the first.
+    begun: AtomicU64,
+}
+
+/// Whether it is too early for a copy, after one that was begun at that moment. A clock that was set back hinders none.
+fn is_early(begun: u64, now: u64) -> bool
+    ensures { result ≡ is_early begun now }
+{
+    begun > 0 && begun <= now && now - begun < PAUSE
 }
 
 impl Drop for Backups {
@@ -33,6 +52,7 @@ impl Drop for Backups {
             made: _,
             failed: _,
             last: _,
+            begun: _,
         } = self;
     }
 }
@@ -49,6 +69,7 @@ impl Backups {
             made: AtomicU64::new(0),
             failed: AtomicU64::new(0),
             last: AtomicU64::new(0),
+            begun: AtomicU64::new(0),
         })
     }
 
@@ -87,8 +108,14 @@ impl Backups {
         self.is_wanted.store(false, Ordering::SeqCst);
     }
 
-    /// Makes the copy that is wanted, under the database's name and the moment in milliseconds since 1970. None where none is.
-    /// Whoever stores has the lock.
+    /// Whether a copy is wanted, and a minute has passed since one was begun.
+    fn is_due(&self, now: Moment) -> bool {
+        self.is_wanted.load(Ordering::SeqCst)
+            && !is_early(self.begun.load(Ordering::SeqCst), now.millis())
+    }
+
+    /// Makes the copy that is wanted, under the database's name and the moment in milliseconds since 1970. None where none is
+    /// wanted, or one was begun within the last minute. Whoever stores has the lock.
     pub fn back_up<K, R: Wait + Files>(
         &self,
         rt: &R,
@@ -96,9 +123,10 @@ impl Backups {
         lock: &Mutex<K>,
         now: Moment,
     ) -> Option<Copied> {
-        if !self.is_wanted.load(Ordering::SeqCst) {
+        if !self.is_due(now) {
             return None;
         }
+        self.begun.store(now.millis(), Ordering::SeqCst);
         let copied = self.copied(rt, alloc, lock, now);
         self.note(&copied, now);
         Some(copied)
@@ -146,8 +174,8 @@ pub fn backups_seen(backups: &Option<Backups>) -> BackupsSeen {
     }
 }
 
-/// The database is to be copied, by whoever has files. Refused (F20) unless the client is at the broker's own machine and a
-/// folder was given for copies, and (F12) while a copy is waited for.
+/// The database is to be copied, by whoever has files, a minute after the last copy at the earliest. Refused (F20) unless the
+/// client is at the broker's own machine and a folder was given for copies, and (F12) while a copy is waited for.
 pub fn want_backup(backups: &Option<Backups>, is_near: bool) -> Reply {
     match backups {
         Some(backups) if is_near => if backups.is_wanted.swap(true, Ordering::SeqCst) {
@@ -184,6 +212,18 @@ fn head_of<R: Files>(rt: &R, log: &str) -> io::Result<[u8; 32]> {
     let mut file = fs::open(rt, log)?;
     file.read_exact(&mut head)?;
     Ok(head)
+}
+
+/// Copies a file to a new one, which its owner alone may read. What stands under the new name goes first, and is not followed
+/// where it is a link: one who may write to the folder could let it lead elsewhere.
+fn copy_to_new<R: Files>(rt: &R, from: &str, to: &str) -> io::Result<()> {
+    let mut source = fs::open(rt, from)?;
+    let _ = fs::remove_file(rt, to);
+    let mut options = OpenOptions::new();
+    options.write(true).create_new(true).mode(MODE);
+    let mut target = options.open(rt, to)?;
+    let _ = io::copy(&mut source, &mut target)?;
+    Ok(())
 }
 
 /// The disk has what was copied.
@@ -223,8 +263,8 @@ fn copy<K, R: Wait + Files>(rt: &R, lock: &Mutex<K>, file: &str, paths: &Paths) 
         }
     }
     let _held = lock.lock(rt);
-    let _ = fs::copy(rt, file, paths.part.as_str())?;
-    let _ = fs::copy(rt, paths.log.as_str(), paths.log_part.as_str())?;
+    copy_to_new(rt, file, paths.part.as_str())?;
+    copy_to_new(rt, paths.log.as_str(), paths.log_part.as_str())?;
     Ok(())
 }
 
@@ -237,11 +277,11 @@ fn is_copied<K, R: Wait + Files>(
     paths: &Paths,
 ) -> io::Result<bool> {
     let before = head_of(rt, paths.log.as_str())?;
-    let _ = fs::copy(rt, file, paths.part.as_str())?;
+    copy_to_new(rt, file, paths.part.as_str())?;
     let _held = lock.lock(rt);
     if head_of(rt, paths.log.as_str())? != before {
         return Ok(false);
     }
-    let _ = fs::copy(rt, paths.log.as_str(), paths.log_part.as_str())?;
+    copy_to_new(rt, paths.log.as_str(), paths.log_part.as_str())?;
     Ok(true)
 }

@@ -1,5 +1,5 @@
 // Who sits at a topic's seats, as its lookers are told.
-ghost use Rattle.std.specs.Prelude.{◌≡◌, IfSome, Some};
+ghost use Rattle.std.specs.Prelude.{◌≡◌, IfSome, Some, None, true, false};
 ghost use Rattle.broker_parts.specs.Ends.{refusal_at};
 
 use crate::stage::Stage;
@@ -11,18 +11,24 @@ use std::net::SocketAddr;
 /// Who sits at a seat.
 #[derive(Clone, Copy, Debug, PartialEq, Eq)]
 pub struct Visitor {
-    /// Where its client is, where that is known.
+    /// Where its client is, where that is known; or the proxy that handed its request on.
     pub address: Option<SocketAddr>,
+    /// A proxy handed its request on.
+    pub is_handed_on: bool,
     pub role: Role,
     /// When it came.
     pub since: Moment,
 }
 
 impl Visitor {
-    /// Whether its client is known to be at the broker's own machine.
-    pub fn is_near(&self) -> bool {
+    /// Whether its client is known to be at the broker's own machine. One behind a proxy may be anywhere, although the proxy
+    /// is near. A loopback address of IPv4 may be written as one of IPv6 (RFC 4291, section 2.5.5.2).
+    pub fn is_near(&self) -> bool
+        ensures handed_on { self.now.is_handed_on ≡ true → result ≡ false }
+        ensures unknown { self.now.address ≡ None → result ≡ false }
+    {
         match self.address {
-            Some(address) => address.ip().is_loopback(),
+            Some(address) => !self.is_handed_on && address.ip().to_canonical().is_loopback(),
             None => false,
         }
     }

@@ -3,3 +3,7 @@ pub mod Decimals
 pub mod Decoded
 pub mod Found
 pub mod Reading
+pub mod Dots
+pub mod Places
+pub mod Authorities
+pub mod Named

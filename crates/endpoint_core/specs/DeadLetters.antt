@@ -7,7 +7,8 @@ use Rattle.position_core.specs.declared.topic_name.TopicName.{TopicName}
 use Rattle.endpoint_core.specs.declared.faults.Cause.{Cause}
 use Rattle.endpoint_core.specs.declared.faults.Cause.TheVariants.{BadParameter}
 use Rattle.endpoint_core.specs.Faults.{and_then}
-use Rattle.endpoint_core.specs.Paths.{after, segments_of}
+use Rattle.endpoint_core.specs.Segments.{segments_of}
+use Rattle.endpoint_core.specs.Paths.{after}
 use Rattle.endpoint_core.specs.Queries.{Parameter, value_at, said}
 use Rattle.endpoint_core.specs.Numbers.{number_up_to}
 

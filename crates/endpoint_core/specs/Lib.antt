@@ -1,5 +1,7 @@
 pub mod Faults
 pub mod Texts
+pub mod Segments
+pub mod OneReading
 pub mod Paths
 pub mod Queries
 pub mod Numbers
@@ -7,5 +9,7 @@ pub mod Words
 pub mod DeadLetters
 pub mod Producers
 pub mod Ranges
+pub mod Letters
 pub mod Consumers
 pub mod Routes
+pub mod Origins

@@ -1,6 +1,6 @@
 -- The path of a target: whom it is for, and the names in it.
-use Rattle.std.specs.Prelude.{ℕ, ◌==◌, List, [], ◌∷◌, ◌++◌, length, drop, nat_eq, codes, Option, Some, None, option_and_then, ok_or, Result, Ok, Err, if◌then◌else◌}
-use Rattle.std.specs.List.{slice_split, starts_with}
+use Rattle.std.specs.Prelude.{ℕ, ◌==◌, ◌&&◌, List, [], ◌∷◌, ◌++◌, length, drop, nat_eq, codes, Option, Some, None, option_and_then, ok_or, Result, Ok, Err, if◌then◌else◌}
+use Rattle.std.specs.List.{starts_with}
 use Rattle.url.specs.declared.error.ParseError.{ParseError}
 use Rattle.url.specs.Parts.{Parts}
 use Rattle.url.specs.Parser.{parse_url}
@@ -11,6 +11,7 @@ use Rattle.endpoint_core.specs.declared.faults.Role.TheVariants.{Unknown, Produc
 use Rattle.endpoint_core.specs.declared.faults.Cause.{Cause}
 use Rattle.endpoint_core.specs.declared.faults.Cause.TheVariants.{UnknownPath, BadName}
 use Rattle.endpoint_core.specs.Faults.{and_then}
+use Rattle.endpoint_core.specs.OneReading.{has_one_reading}
 use Rattle.endpoint_core.specs.Texts.{text_of}
 
 -- the URL, where the text is one
@@ -18,10 +19,11 @@ abbrev pub if_url : Result Parts ParseError → Result Parts Cause
 if_url (Ok url) = Ok url
 if_url (Err error) = Err UnknownPath
 
--- the URL of a target, which begins with `/`
+-- the URL of a target, which begins with `/` and which every reader takes for one path
 abbrev pub url_of : List ℕ → Result Parts Cause
 url_of target =
-    if starts_with nat_eq target (codes "/") then if_url (parse_url None (codes "ws://localhost" ++ target)) else Err UnknownPath
+    if starts_with nat_eq target (codes "/") && has_one_reading target
+    then if_url (parse_url None (codes "ws://localhost" ++ target)) else Err UnknownPath
 
 -- what follows the front, where the text begins with it
 abbrev pub after : List ℕ → List ℕ → Option (List ℕ)
@@ -40,10 +42,6 @@ asked path =
     asked_by (after (codes "/ws/v2/producer/persistent/") path)
     (after (codes "/ws/v2/consumer/persistent/") path)
     (after (codes "/ws/v2/admin/persistent/") path)
-
--- the parts of a text between its slashes
-abbrev pub segments_of : List ℕ → List (List ℕ)
-segments_of text = slice_split (λ byte. byte == 47) text
 
 abbrev pub if_name : List ℕ → Option (List ℕ)
 if_name text = if is_name text then Some text else None

@@ -1,19 +1,28 @@
 //! The routes of WebSocket handshakes: the target of a request, read as an endpoint.
 #![tactic(auto)]
 
+mod admitted;
 mod consumers;
 mod dead_letters;
 mod faults;
+mod hosts;
+mod letters;
 mod numbers;
+mod origins;
 mod paths;
 mod producers;
 mod queries;
 mod ranges;
 mod routes;
+mod targets;
 mod texts;
 mod words;
 
+pub use admitted::Admitted;
 pub use consumers::ConsumerEndpoint;
 pub use faults::{Cause, Role, RouteFault};
+pub use letters::Letters;
+pub use origins::may_come;
 pub use producers::ProducerEndpoint;
 pub use routes::{AdminEndpoint, Endpoint, route};
+pub use targets::has_one_reading;

@@ -30,7 +30,7 @@ fn number_of(text: &str) -> Option<u64>
     }
 }
 
-fn number_up_to<const MOST: u32>(text: &str) -> Option<Bounded<0, MOST>>
+pub fn number_up_to<const MOST: u32>(text: &str) -> Option<Bounded<0, MOST>>
     ensures { result ≡ number_up_to MOST text.now }
 {
     let number = number_of(text)?;

@@ -2,9 +2,11 @@
 ghost use Rattle.std.specs.Prelude.{◌≡◌, IfOk, map, string_bytes, ◌++◌, codes};
 ghost use Rattle.std.specs.Option.{option_copied};
 ghost use Rattle.endpoint_core.specs.Faults.{Gives};
-ghost use Rattle.endpoint_core.specs.Paths.{after, asked, name_at, segments_of, subscription_at, subscription_in, topic_at, topic_in, url_of};
+ghost use Rattle.endpoint_core.specs.Segments.{segments_of};
+ghost use Rattle.endpoint_core.specs.Paths.{after, asked, name_at, subscription_at, subscription_in, topic_at, topic_in, url_of};
 
 use crate::faults::{Cause, Role};
+use crate::targets::has_one_reading;
 use crate::texts::text_of;
 use position_core::{Name, SubscriptionName, TopicName};
 use std::alloc::{AllocError, Global};
@@ -18,11 +20,12 @@ fn whole(alloc: Global, target: &str) -> Result<String, AllocError>
     Ok(text)
 }
 
-/// The URL of a target. One that does not begin with `/` would change the host.
+/// The URL of a target. One that does not begin with `/` would change the host, and one that can be read in two
+/// ways is refused before the URL's rules resolve it.
 pub fn url_of(alloc: Global, target: &str) -> Result<Url, Cause>
     ensures { Gives result (url_of target.now) }
 {
-    if !target.starts_with("/") {
+    if !target.starts_with("/") || !has_one_reading(target) {
         return Err(Cause::UnknownPath);
     }
     let text = whole(alloc, target)?;

@@ -2,10 +2,11 @@
 ghost use Rattle.std.specs.Prelude.{◌≡◌, ◌⊎◌, Ok, Err, IfOk, IfErr, map};
 ghost use Rattle.endpoint_core.specs.declared.faults.Cause.TheVariants.{NoMemory};
 ghost use Rattle.endpoint_core.specs.Faults.{Gives};
-ghost use Rattle.endpoint_core.specs.Routes.{admin_at, consumer_at, endpoint_at, producer_at, route_of};
+ghost use Rattle.endpoint_core.specs.Routes.{admin_at, consumer_at, endpoint_at, if_kept, producer_at, route_of};
 
 use crate::consumers::{ConsumerEndpoint, consumer_of};
 use crate::faults::{Cause, Role, RouteFault};
+use crate::letters::{Letters, keeps_letters};
 use crate::paths::{asked, segments_of, subscription_in, topic_in, url_of};
 use crate::producers::{ProducerEndpoint, producer_of};
 use crate::queries::Query;
@@ -35,13 +36,29 @@ fn producer_at(alloc: Global, segments: &[&str], query: &str) -> Result<Endpoint
     Ok(Endpoint::Producer(producer))
 }
 
-fn consumer_at(alloc: Global, segments: &[&str], query: &str) -> Result<Endpoint, Cause>
-    ensures { Gives result (consumer_at (map (λ segment. segment.now) segments.now) query.now) }
+/// The consumer, unless its dead letters would go where they may not.
+fn if_kept(letters: Letters, consumer: ConsumerEndpoint) -> Result<Endpoint, Cause>
+    ensures { result ≡ if_kept letters consumer }
+{
+    if keeps_letters(letters, &consumer.topic, &consumer.dead_topic) {
+        return Ok(Endpoint::Consumer(consumer));
+    }
+    drop(consumer);
+    Err(Cause::BadParameter)
+}
+
+fn consumer_at(
+    alloc: Global,
+    segments: &[&str],
+    query: &str,
+    letters: Letters,
+) -> Result<Endpoint, Cause>
+    ensures { Gives result (consumer_at letters (map (λ segment. segment.now) segments.now) query.now) }
 {
     let (topic, subscription) = subscription_in(alloc, segments)?;
     let query = Query::read(alloc, query)?;
     let consumer = consumer_of(alloc, topic, subscription, &query)?;
-    Ok(Endpoint::Consumer(consumer))
+    if_kept(letters, consumer)
 }
 
 fn admin_at(alloc: Global, segments: &[&str], query: &str) -> Result<Endpoint, Cause>
@@ -52,29 +69,36 @@ fn admin_at(alloc: Global, segments: &[&str], query: &str) -> Result<Endpoint, C
     Ok(Endpoint::Admin(AdminEndpoint { topic }))
 }
 
-fn endpoint_at(alloc: Global, role: Role, rest: &str, query: &str) -> Result<Endpoint, Cause>
-    ensures { Gives result (endpoint_at role rest.now query.now) }
+fn endpoint_at(
+    alloc: Global,
+    role: Role,
+    rest: &str,
+    query: &str,
+    letters: Letters,
+) -> Result<Endpoint, Cause>
+    ensures { Gives result (endpoint_at letters role rest.now query.now) }
 {
     let segments = segments_of(alloc, rest)?;
     match role {
         Role::Unknown => Err(Cause::UnknownPath),
         Role::Producer => producer_at(alloc, &segments, query),
-        Role::Consumer => consumer_at(alloc, &segments, query),
+        Role::Consumer => consumer_at(alloc, &segments, query, letters),
         Role::Admin => admin_at(alloc, &segments, query),
     }
 }
 
 /// Reads the target of a handshake's request.
-pub fn route(alloc: Global, target: &str) -> Result<Endpoint, RouteFault>
-    ensures ok { IfOk result (λ endpoint. route_of target.now ≡ Ok endpoint) }
-    ensures err { IfErr result (λ fault. (fault.cause ≡ NoMemory) ⊎ (route_of target.now ≡ Err fault)) }
+pub fn route(alloc: Global, target: &str, letters: Letters) -> Result<Endpoint, RouteFault>
+    ensures ok { IfOk result (λ endpoint. route_of letters target.now ≡ Ok endpoint) }
+    ensures err { IfErr result (λ fault. (fault.cause ≡ NoMemory) ⊎ (route_of letters target.now ≡ Err fault)) }
 {
     let url = match url_of(alloc, target) {
         Ok(url) => url,
         Err(cause) => return Err(RouteFault::of(Role::Unknown, cause)),
     };
     let (role, rest) = asked(url.path());
-    match endpoint_at(alloc, role, rest, url.query().unwrap_or("")) {
+    let query = url.query().unwrap_or("");
+    match endpoint_at(alloc, role, rest, query, letters) {
         Ok(endpoint) => Ok(endpoint),
         Err(cause) => Err(RouteFault::of(role, cause)),
     }

@@ -1,5 +1,7 @@
 // What the program's arguments ask for.
 use delivery_machine::{KeptAge, KeptMessages, Retention};
+use endpoint_core::Letters;
+use worker_pool::Patience;
 
 /// What is to be served, and where.
 #[derive(Clone, Copy, Debug, PartialEq, Eq)]
@@ -15,6 +17,15 @@ pub struct Asked<'a> {
     pub keep: Retention,
     /// The folder that copies of the database go into, where any may be made.
     pub backup: Option<&'a str>,
+    /// Others than the machine's own may come, and that is meant.
+    pub is_open: bool,
+    /// Hosts by whose names the broker may be asked, and origins whose pages may ask, each behind a comma.
+    pub hosts: &'a str,
+    pub origins: &'a str,
+    pub letters: Letters,
+    pub patience: Patience,
+    /// How many connections another machine's address may have at once.
+    pub per_address: u32,
 }
 
 const MOST_WORKERS: u64 = 256;
@@ -24,6 +35,16 @@ const MOST_CONNECTIONS: u64 = 2_305_843_009_213_693_952;
 const MOST_MESSAGES: u64 = 1_048_576;
 
 const MOST_MILLIS: u64 = 253_402_300_799_999;
+
+/// How long a client may be silent: from a second to a day.
+const LEAST_SILENCE: u64 = 1_000;
+
+const MOST_SILENCE: u64 = 86_400_000;
+
+/// How many connections one address may have where nothing is said: more than a program needs, and a quarter of all.
+const PER_ADDRESS: u32 = 16_384;
+
+const MOST_PER_ADDRESS: u64 = 65_536;
 
 /// A decimal number with neither a sign nor leading zeros, up to a limit.
 fn number(word: &str, most: u64) -> Option<u64> {
@@ -66,61 +87,147 @@ fn rule(word: &str) -> Option<Retention> {
     }
 }
 
-/// What the words ask for, but for what is kept and where copies go.
-fn read_others<'a>(
-    words: &'a [String],
-    keep: Retention,
-    backup: Option<&'a str>,
-) -> Option<Asked<'a>> {
-    let (database, address, count, connections) = match words {
-        [database, address, count] => (database, address, count, None),
-        [database, address, count, connections] => (
-            database,
-            address,
-            count,
-            Some(number(connections.as_str(), MOST_CONNECTIONS)?),
-        ),
-        _ => return None,
-    };
-    Some(Asked {
-        database: database.as_str(),
-        address: address.as_str(),
-        workers: workers(count.as_str())?,
-        connections,
-        keep,
-        backup,
+/// A number of milliseconds that a client may be silent, as `30000ms`.
+fn silence(word: &str) -> Option<u64> {
+    let millis = number(word.strip_suffix("ms")?, MOST_SILENCE)?;
+    if millis >= LEAST_SILENCE {
+        Some(millis)
+    } else {
+        None
+    }
+}
+
+/// After how long a client is pinged, and how long after that its session ends, as `30000ms,45000ms`.
+fn patience(word: &str) -> Option<Patience> {
+    let (ping, end) = word.split_once(',')?;
+    Some(Patience {
+        ping: silence(ping)?,
+        end: silence(end)?,
     })
 }
 
-/// What follows the name in the last word, where that begins with it, and the words before; else all of them.
-fn split_named<'a>(words: &'a [String], name: &str) -> (&'a [String], Option<&'a str>) {
-    if let Some((last, others)) = words.split_last()
-        && let Some(word) = last.as_str().strip_prefix(name)
-    {
-        return (others, Some(word));
-    }
-    (words, None)
+fn per_address(word: &str) -> Option<u32> {
+    u32::try_from(number(word, MOST_PER_ADDRESS)?).ok()
 }
 
-/// A folder for copies; none where it is not named, or where the database is no file.
-fn folder<'a>(word: &'a str, words: &[String]) -> Option<&'a str> {
-    match words.first() {
-        Some(database) if database.as_str() != ":memory:" && !word.is_empty() => Some(word),
-        _ => None,
+fn letters(word: &str) -> Option<Letters> {
+    if word == "own" {
+        Some(Letters::Own)
+    } else {
+        None
+    }
+}
+
+/// What the words ask for that have names, in any order.
+#[derive(Clone, Copy, Debug, PartialEq, Eq)]
+struct Named<'a> {
+    keep: Option<Retention>,
+    backup: Option<&'a str>,
+    is_open: bool,
+    hosts: Option<&'a str>,
+    origins: Option<&'a str>,
+    letters: Option<Letters>,
+    patience: Option<Patience>,
+    per_address: Option<u32>,
+}
+
+/// The value, where there is none yet: a word stands once.
+fn once<T: Copy>(before: Option<T>, value: T) -> Option<Option<T>> {
+    match before {
+        Some(_) => None,
+        None => Some(Some(value)),
+    }
+}
+
+fn non_empty(word: &str) -> Option<&str> {
+    if word.is_empty() { None } else { Some(word) }
+}
+
+impl<'a> Named<'a> {
+    fn nothing() -> Self {
+        Named {
+            keep: None,
+            backup: None,
+            is_open: false,
+            hosts: None,
+            origins: None,
+            letters: None,
+            patience: None,
+            per_address: None,
+        }
+    }
+
+    /// Others than the machine's own may come. None where that was said before.
+    fn open(&mut self) -> Option<()> {
+        if self.is_open {
+            return None;
+        }
+        self.is_open = true;
+        Some(())
+    }
+
+    /// Takes one more word. None where it has no such name or value, or stands twice.
+    fn take(&mut self, word: &'a str) -> Option<()> {
+        if word == "open" {
+            return self.open();
+        }
+        let (name, value) = word.split_once('=')?;
+        match name {
+            "keep" => self.keep = once(self.keep, rule(value)?)?,
+            "backup" => self.backup = once(self.backup, non_empty(value)?)?,
+            "hosts" => self.hosts = once(self.hosts, non_empty(value)?)?,
+            "origins" => self.origins = once(self.origins, non_empty(value)?)?,
+            "letters" => self.letters = once(self.letters, letters(value)?)?,
+            "per-address" => self.per_address = once(self.per_address, per_address(value)?)?,
+            "silence" => self.patience = once(self.patience, patience(value)?)?,
+            _ => return None,
+        }
+        Some(())
+    }
+
+    /// Takes all of them.
+    fn read(&mut self, words: &'a [String]) -> Option<()> {
+        for word in words {
+            self.take(word.as_str())?;
+        }
+        Some(())
+    }
+}
+
+/// After how many connections to end, where the first word says so, and the words behind it.
+fn split_connections(words: &[String]) -> Option<(Option<u64>, &[String])> {
+    match words.split_first() {
+        Some((first, others)) if first.as_str().starts_with(|c: char| c.is_ascii_digit()) => Some((
+            Some(number(first.as_str(), MOST_CONNECTIONS)?),
+            others,
+        )),
+        _ => Some((None, words)),
     }
 }
 
 /// What the words after the program's name ask for. None where they are wrong. Without a rule all is kept, and without a
-/// folder no copies are made.
+/// folder no copies are made; none can be made of what is held in memory.
 pub fn read_arguments(words: &[String]) -> Option<Asked<'_>> {
-    let (words, backup) = split_named(words, "backup=");
-    let backup = match backup {
-        Some(word) => Some(folder(word, words)?),
-        None => None,
-    };
-    let (words, keep) = split_named(words, "keep=");
-    match keep {
-        Some(word) => read_others(words, rule(word)?, backup),
-        None => read_others(words, Retention::All, backup),
+    let (database, address) = (words.first()?.as_str(), words.get(1)?.as_str());
+    let workers = workers(words.get(2)?.as_str())?;
+    let (connections, words) = split_connections(words.get(3..)?)?;
+    let mut named = Named::nothing();
+    named.read(words)?;
+    if database == ":memory:" && named.backup.is_some() {
+        return None;
     }
+    Some(Asked {
+        database,
+        address,
+        workers,
+        connections,
+        keep: named.keep.unwrap_or(Retention::All),
+        backup: named.backup,
+        is_open: named.is_open,
+        hosts: named.hosts.unwrap_or(""),
+        origins: named.origins.unwrap_or(""),
+        letters: named.letters.unwrap_or(Letters::Anywhere),
+        patience: named.patience.unwrap_or(Patience::usual()),
+        per_address: named.per_address.unwrap_or(PER_ADDRESS),
+    })
 }

@@ -15,7 +15,7 @@ use marks::{Naming, Unnamed};
 use position_core::LedgerSize;
 use row_store::Keeper;
 use sqlite::{Alter, Connection};
-use std::alloc::AllocGlobal;
+use std::alloc::{AllocGlobal, Global};
 use std::io::{Eprint, Print};
 use std::marker::Brand;
 use std::net::{Net, TcpListener, TcpStream};
@@ -24,7 +24,7 @@ use std::sync::{Arc, Wait};
 use std::thread::Threads;
 use stored_cell::{Note, Notes};
 use topic_shared::{LineLimit, SeatCount};
-use worker_pool::{About, Ended, Limits, VERSION, serve};
+use worker_pool::{About, Ended, Limits, Rules, VERSION, serve};
 
 /// How the program ends.
 #[derive(Clone, Copy, Debug, PartialEq, Eq)]
@@ -61,6 +61,29 @@ fn fate_of(ended: Ended) -> Fate {
     }
 }
 
+/// Whether others than the machine's own may come to the listener, although nobody said that they should.
+fn is_open_to_others(asked: &Asked<'_>, listener: &TcpListener) -> bool {
+    match listener.local_addr() {
+        Ok(address) => !asked.is_open && !address.ip().to_canonical().is_loopback(),
+        Err(_) => false,
+    }
+}
+
+/// Says that it was started, and with what.
+fn say_started<R: Eprint + Files>(rt: &R, alloc: Global, asked: &Asked<'_>, is_open: bool) {
+    let Sizes { file, log } = Sizes::of(rt, alloc, asked.database);
+    let _ = eprintln!(rt;
+        "level=info msg=\"started\" version={VERSION} database={} bytes={file} log_bytes={log} address={} workers={}",
+        asked.database, asked.address, asked.workers
+    );
+    if is_open {
+        let _ = eprintln!(rt;
+            "level=warn msg=\"open to everybody who reaches this address\" address={}",
+            asked.address
+        );
+    }
+}
+
 /// Says why serving ended, where the store failed.
 fn say_end<S: Alter + Drop, J: Naming, R: Wait + Eprint>(
     rt: &R,
@@ -92,7 +115,7 @@ fn serve_named<
         + 'static,
     S: Alter + Send + Drop + 'static,
     J: Naming + Send + Sync + 'static,
->(rt: &R, asked: &Asked<'_>, conn: Connection<S>, history: Unnamed<Note>) -> Fate
+>(rt: &R, asked: &Asked<'_>, rules: Rules, conn: Connection<S>, history: Unnamed<Note>) -> Fate
     requires book { history ≡ J.book }
     requires keyed { HasCleanDisk (state S.Store conn) → IsTrue (state S.Store conn).is_open → AreKeyed (state S.Store conn).now }
 {
@@ -118,28 +141,27 @@ fn serve_named<
         };
         directory = directory.with_backups(backups);
     }
+    let Ok(listener) = TcpListener::bind(rt, asked.address) else {
+        return Fate::CannotServe;
+    };
+    let is_open = is_open_to_others(asked, &listener);
     let about = About {
         started: moment(rt, first),
+        is_open,
     };
-    let server = Server::new(directory, about);
+    let server = Server::new(directory, about, rules);
     let Ok(server) = Arc::new(alloc, server) else {
         return Fate::CannotServe;
     };
     let Ok(served) = Arc::try_clone(&server) else {
         return Fate::CannotServe;
     };
-    let Ok(listener) = TcpListener::bind(rt, asked.address) else {
-        return Fate::CannotServe;
-    };
     let _ = println!(rt; "listening {}", asked.address);
-    let Sizes { file, log } = Sizes::of(rt, alloc, asked.database);
-    let _ = eprintln!(rt;
-        "level=info msg=\"started\" version={VERSION} database={} bytes={file} log_bytes={log} address={} workers={}",
-        asked.database, asked.address, asked.workers
-    );
+    say_started(rt, alloc, asked, is_open);
     let limits = Limits {
         workers: asked.workers,
         connections: asked.connections,
+        most_per_address: Some(asked.per_address),
     };
     let ended = serve(rt, alloc, listener, server, limits);
     say_end(rt, asked, &served, ended);
@@ -163,8 +185,8 @@ pub fn serve_over<
         + Drop
         + 'static,
     S: Alter + Send + Drop + 'static,
->(rt: &R, asked: &Asked<'_>, conn: Connection<S>) -> Fate
+>(rt: &R, asked: &Asked<'_>, rules: Rules, conn: Connection<S>) -> Fate
     requires keyed { HasCleanDisk (state S.Store conn) → IsTrue (state S.Store conn).is_open → AreKeyed (state S.Store conn).now }
 {
-    serve_named::<R, S, Brand>(rt, asked, conn, Unnamed::new())
+    serve_named::<R, S, Brand>(rt, asked, rules, conn, Unnamed::new())
 }

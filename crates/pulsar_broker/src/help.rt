@@ -1,8 +1,7 @@
 // What the program says of itself.
 
 /// How it is used.
-pub const HELP: &str =
-    r#"usage: pulsar_broker database address workers [connections] [keep=rule] [backup=folder]
+pub const HELP: &str = r#"usage: pulsar_broker database address workers [connections] [word ..]
 
 A topic broker with Apache Pulsar's subscription types, spoken to by JSON over WebSockets.
 
@@ -13,6 +12,12 @@ A topic broker with Apache Pulsar's subscription types, spoken to by JSON over W
   keep=rule     what is kept of what every subscription has acknowledged:
                 keep=all (the default), keep=1000 messages, keep=86400000ms
   backup=folder where copies of the database go that an administrator asks for (brokerctl backup)
+  open          everybody who reaches the address may publish, consume and administer, and that is meant
+  hosts=name,.. names by which it may be asked, beside localhost and addresses in digits
+  origins=o,..  origins such as https://page.example whose web pages may use it, beside its own
+  letters=own   a consumer's dead letters stay in the tenant and namespace of its topic
+  per-address=n connections of one address of another machine at once: 16384 (the default)
+  silence=a,b   a client that is silent for a is pinged, and ended b later: silence=30000ms,45000ms (the default)
 
   pulsar_broker broker.db 127.0.0.1:8080 4 keep=86400000ms
 

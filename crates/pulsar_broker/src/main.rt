@@ -1,23 +1,27 @@
-//! Serves topics over WebSockets: `pulsar_broker <database> <address> <workers> [connections] [keep=<rule>] [backup=<folder>]`.
+//! Serves topics over WebSockets: `pulsar_broker <database> <address> <workers> [connections] [word ..]`.
 #![tactic(auto)]
 
 mod arguments;
 mod broker;
 mod causes;
+mod files;
 mod help;
 mod server;
 mod sizes;
 
-use arguments::read_arguments;
+use arguments::{Asked, read_arguments};
 use broker::{Fate, serve_over};
 use causes::{say_why, why_unopened};
+use endpoint_core::Admitted;
+use files::make_private;
 use help::HELP;
 use row_schema::{open, open_in_memory};
 use sqlite::Unknown;
+use std::alloc::{AllocError, Global};
 use std::env;
 use std::io::ErrorKind;
 use std::process::ExitCode;
-use worker_pool::VERSION;
+use worker_pool::{Rules, VERSION};
 
 /// The database that is held in memory, and gone with the program.
 const IN_MEMORY: &str = ":memory:";
@@ -80,6 +84,24 @@ fn says_of_itself(rt: &HostRuntime, words: &[String]) -> bool {
     }
 }
 
+/// Says how it is used, and gives the status to end with.
+fn wrong_words(rt: &HostRuntime) -> ExitCode {
+    let _ = eprintln!(rt; "usage: pulsar_broker database address workers [connections]");
+    ExitCode::from(2)
+}
+
+/// The rules that the words ask for; none where a host or an origin is none.
+fn rules_of(alloc: Global, asked: &Asked<'_>) -> Result<Option<Rules>, AllocError> {
+    let Some(admitted) = Admitted::from_words(alloc, asked.hosts, asked.origins)? else {
+        return Ok(None);
+    };
+    Ok(Some(Rules {
+        admitted,
+        letters: asked.letters,
+        patience: asked.patience,
+    }))
+}
+
 fn main(rt: HostRuntime) -> ExitCode {
     let words = match words(&rt) {
         Ok(words) => words,
@@ -90,17 +112,22 @@ fn main(rt: HostRuntime) -> ExitCode {
         return ExitCode::SUCCESS;
     }
     let Some(asked) = read_arguments(words.as_slice()) else {
-        let _ = eprintln!(rt; "usage: pulsar_broker database address workers [connections]");
-        return ExitCode::from(2);
+        return wrong_words(&rt);
+    };
+    let rules = match rules_of(rt.alloc(), &asked) {
+        Ok(Some(rules)) => rules,
+        Ok(None) => return wrong_words(&rt),
+        Err(_) => return ending(&rt, Fate::CannotServe),
     };
     let fate = if asked.database == IN_MEMORY {
         match open_in_memory(rt.alloc()) {
-            Ok(conn) => serve_over(&rt, &asked, conn),
+            Ok(conn) => serve_over(&rt, &asked, rules, conn),
             Err(_) => Fate::CannotServe,
         }
     } else {
+        make_private(&rt, asked.database);
         match open(&rt, asked.database, Unknown) {
-            Ok(conn) => serve_over(&rt, &asked, conn),
+            Ok(conn) => serve_over(&rt, &asked, rules, conn),
             Err(error) => {
                 let why = why_unopened(&rt, asked.database, error);
                 say_why(&rt, asked.database, why);

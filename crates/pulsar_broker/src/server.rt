@@ -9,7 +9,7 @@ use std::rt::{Clock, Files};
 use std::sync::Wait;
 use topic_core::TopicCore;
 use worker_loops::{Doorbell, Job, Start};
-use worker_pool::{About, Place};
+use worker_pool::{About, Place, Rules};
 
 /// The workers' place over the directory of one database. It is a type of its own, so that whoever starts it need not know
 /// what a directory is made of.
@@ -24,9 +24,13 @@ impl<S: Alter + Drop, J: Naming> Drop for Server<S, J> {
 }
 
 impl<S: Alter + Drop, J: Naming> Server<S, J> {
-    pub fn new(directory: Directory<TopicCore, S, J, Doorbell>, about: About) -> Self {
+    pub fn new(
+        directory: Directory<TopicCore, S, J, Doorbell>,
+        about: About,
+        rules: Rules,
+    ) -> Self {
         Server {
-            place: Place::new(directory, about),
+            place: Place::new(directory, about, rules),
         }
     }
 

@@ -3,3 +3,4 @@ pub mod CloseLemmas
 pub mod HeadsLemmas
 pub mod ShakesLemmas
 mod HeldLemmas
+mod FramesLemmas

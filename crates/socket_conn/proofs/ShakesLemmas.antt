@@ -60,7 +60,7 @@ module _ {S : Type 0} where
   begins alloc u stream rest socket conn is held left fresh = rw is record { begun = refl; answer = held; rest = left; fresh = fresh }
 
   pub opens : (old : Shaking S) (u : Upgrade) (stream : S) (rest : List ℕ) (shaken : Shaken S) → IsUpgrade old.head.items u → stream ≡ old.stream.inner → rest ≡ drop u.len old.head.items
-      → ((conn : SocketConn (Held S)) × (shaken ≡ Open conn u.target) × Begins u stream rest conn) → Judges old shaken
+      → ((conn : SocketConn (Held S)) × (shaken ≡ Open conn u.asked) × Begins u stream rest conn) → Judges old shaken
   opens old u stream rest shaken asks inner left (conn, is, begins) = rw is (u, asks, refl, rw (← left, ← inner) begins)
 
   -- nothing was read yet
@@ -74,7 +74,7 @@ module _ {S : Type 0} where
   -- what the last look came to, where more is not waited for
   pub looked : (remaining : S → Option (List ℕ)) (old last : Shaking S) (shaken : Shaken S) → HasHeard remaining old last → Judges last shaken
       → ((new : Shaking S) → ¬ (shaken ≡ Waits new)) → Shakes remaining old shaken
-  looked remaining old last (Open conn target) heard judged other = (last, heard, judged)
+  looked remaining old last (Open conn asked) heard judged other = (last, heard, judged)
   looked remaining old last (Plain stream request) heard judged other = (last, heard, judged.0, judged.1)
   looked remaining old last (Waits new) heard judged other = absurd (other new refl)
   looked remaining old last Failed heard judged other = tt

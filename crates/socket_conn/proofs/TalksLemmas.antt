@@ -1,9 +1,10 @@
 -- What a call of the socket comes to.
-use Rattle.std.proofs.Common.{◌≡◌, ◌++◌, ◌∙◌, [], ℕ, List, Bool, true, false, Option, None, Some, Result, Ok, Err, refl, sym, ap, subst, inl, inr, append_assoc}
+use Rattle.std.proofs.Common.{◌≡◌, ◌++◌, ◌∙◌, [], ℕ, List, Bool, true, false, Option, None, Some, Result, Ok, Err, MatchBool, refl, sym, ap, subst, inl, inr, append_assoc}
 use Rattle.std.specs.Io.KnownBytes.{Appends, append_known}
-use Rattle.socket_conn.specs.Talks.{SendsText, IsTextFrame, ComesTo, DriedSince, Takes, ReadsOnce, Receives, WouldWait, SaysClosed, breach_of}
+use Rattle.socket_conn.specs.Talks.{SendsText, IsTextFrame, ComesTo, ErrorComesTo, GivenComesTo, MessageComesTo, GivesSigns, WaitedSince, Takes, ReadsError, ReadsMessage, ReadsOnce, Receives, WouldWait, SaysClosed, breach_of}
 use Rattle.socket_conn.specs.State.{over, emptied, ended, noting}
 use Rattle.socket_conn.specs.declared.outcomes.Came.{Came}
+use Rattle.socket_conn.specs.declared.outcomes.Signs.{Signs}
 use Rattle.socket_conn.specs.declared.conn.SocketConn.{SocketConn}
 use Rattle.session_links.specs.declared.conn.ConnFault.{ConnFault}
 use Rattle.session_links.specs.declared.conn.Incoming.{Incoming}
@@ -14,6 +15,7 @@ use Rattle.tungstenite.specs.declared.message.Message.{Message}
 use Rattle.tungstenite.specs.Socket.{Socket, Runs, Replies, Writes, Flushed, Reads}
 use Rattle.websocket.specs.View.{Leaves}
 use Rattle.websocket.specs.declared.protocol.frame.coding.CloseCode.{CloseCode}
+use Rattle.websocket.specs.declared.protocol.frame.coding.CloseCode.TheVariants.{Size}
 use Rattle.websocket.specs.Content.{text}
 use Rattle.websocket.specs.Connection.{Connection, IsMaskOf, write_step, write_active, check_can_write}
 use Rattle.websocket.specs.Frame.{after_check}
@@ -102,13 +104,13 @@ module _ {S : Type 0} where
   noted : (error : Error) (code : Option CloseCode) → breach_of error ≡ code → (c : SocketConn S) → noting code c ≡ noting (breach_of error) c
   noted error code is c = ap (λ k. noting k c) (sym is)
 
-  dried_out : (dry : S → ℕ) (times : ℕ) (socket : Socket S) (is_dry : Bool) → is_dry ≡ true → DriedSince dry times socket is_dry → ¬ (dry socket.stream ≡ times)
-  dried_out dry times socket true is h = h
-  dried_out dry times socket false is h = cc
+  waited : (times : S → ℕ) (count : ℕ) (socket : Socket S) (has : Bool) → has ≡ true → WaitedSince times count socket has → ¬ (times socket.stream ≡ count)
+  waited times count socket true is h = h
+  waited times count socket false is h = cc
 
-  not_dried : (dry : S → ℕ) (times : ℕ) (socket : Socket S) (is_dry : Bool) → is_dry ≡ false → DriedSince dry times socket is_dry → dry socket.stream ≡ times
-  not_dried dry times socket true is h = cc
-  not_dried dry times socket false is h = h
+  not_waited : (times : S → ℕ) (count : ℕ) (socket : Socket S) (has : Bool) → has ≡ false → WaitedSince times count socket has → times socket.stream ≡ count
+  not_waited times count socket true is h = cc
+  not_waited times count socket false is h = h
 
   -- a read after the flush is a read from the state and the bytes before it
   pub reads-once : (remaining contents : S → Option (List ℕ)) (old idle new : Socket S) (given : Result Message Error)
@@ -124,30 +126,79 @@ module _ {S : Type 0} where
       (idle, run, got, sent, flushed, none, gave.4 none, frames, gave.0, replies)
   reads-once remaining contents old idle new (Err error) flushed none reads = (idle, flushed, none, reads)
 
+  -- what the stream tells of a read, where it had counted before the call
+  pub signed : (dry spent : S → ℕ) (is_over : S → Bool) (old socket : Socket S) (stream : S) (dried spents : ℕ) (signs : Signs)
+      → stream ≡ old.stream → dried ≡ dry stream → spents ≡ spent stream
+      → GivesSigns dry spent is_over dried spents socket signs → GivesSigns dry spent is_over (dry old.stream) (spent old.stream) socket signs
+  signed dry spent is_over old socket stream dried spents signs is is_dried is_spents gives =
+      subst (λ n. GivesSigns dry spent is_over n (spent old.stream) socket signs) (is_dried ∙ ap dry is)
+      (subst (λ n. GivesSigns dry spent is_over dried n socket signs) (is_spents ∙ ap spent is) gives)
+
+  -- what the connection answers to a read by which a message had more frames than it may
+  too_many : (remaining contents : S → Option (List ℕ)) (full dry spent : S → ℕ) (is_over : S → Bool) (old new : SocketConn S) (socket : Socket S) (given : Result Message Error) (answer : Result Incoming ConnFault)
+      → ReadsOnce remaining contents old.socket socket given → is_over socket.stream ≡ true → Takes (Came.Breaks Size) (over socket (emptied old)) new answer
+      → Receives remaining contents full dry spent is_over old new answer
+  too_many remaining contents full dry spent is_over old new socket given (Ok incoming) reads long takes = cc
+  too_many remaining contents full dry spent is_over old new socket given (Err fault) reads long takes = rw takes.1 (inr (inr (long, (given, reads), refl)))
+
+  -- the same of a message that was read, where none had more
+  message_answered : (remaining contents : S → Option (List ℕ)) (full dry spent : S → ℕ) (is_over : S → Bool) (old new : SocketConn S) (socket : Socket S) (message : Message) (came : Came) (answer : Result Incoming ConnFault)
+      → ReadsMessage remaining contents old.socket socket message → MessageComesTo message came → is_over socket.stream ≡ false
+      → Takes came (over socket (emptied old)) new answer → Receives remaining contents full dry spent is_over old new answer
+  message_answered remaining contents full dry spent is_over old new socket message (Came.Text bytes) answer reads comes short takes =
+      rw (takes.0, takes.1) (short, (message, reads, comes, refl))
+  message_answered remaining contents full dry spent is_over old new socket message Came.Ping answer reads comes short takes =
+      rw (takes.0, takes.1) (inr (short, inl (message, reads, inl (comes, refl))))
+  message_answered remaining contents full dry spent is_over old new socket message Came.Pong answer reads comes short takes =
+      rw (takes.0, takes.1) (inr (short, inl (message, reads, inr (comes, refl))))
+  message_answered remaining contents full dry spent is_over old new socket message Came.Nothing answer reads comes short takes = absurd comes
+  message_answered remaining contents full dry spent is_over old new socket message Came.Spent answer reads comes short takes = absurd comes
+  message_answered remaining contents full dry spent is_over old new socket message Came.Closes answer reads comes short takes =
+      rw (takes.0, takes.1) (short, refl, inl (message, reads, comes))
+  message_answered remaining contents full dry spent is_over old new socket message (Came.Breaks code) answer reads comes short takes = absurd comes
+  message_answered remaining contents full dry spent is_over old new socket message Came.Fails (Ok incoming) reads comes short takes = cc
+  message_answered remaining contents full dry spent is_over old new socket message Came.Fails (Err fault) reads comes short takes =
+      rw takes.1 (inr (inl (short, inl (message, reads, comes, refl))))
+
+  -- the same of an error
+  error_answered : (remaining contents : S → Option (List ℕ)) (full dry spent : S → ℕ) (is_over : S → Bool) (old new : SocketConn S) (socket : Socket S) (signs : Signs) (error : Error) (came : Came) (answer : Result Incoming ConnFault)
+      → ReadsError remaining contents old.socket socket error → ErrorComesTo signs error came → GivesSigns dry spent is_over (dry old.socket.stream) (spent old.socket.stream) socket signs
+      → is_over socket.stream ≡ false → Takes came (over socket (emptied old)) new answer → Receives remaining contents full dry spent is_over old new answer
+  error_answered remaining contents full dry spent is_over old new socket signs error (Came.Text bytes) answer reads comes given short takes = absurd comes
+  error_answered remaining contents full dry spent is_over old new socket signs error Came.Ping answer reads comes given short takes = absurd comes
+  error_answered remaining contents full dry spent is_over old new socket signs error Came.Pong answer reads comes given short takes = absurd comes
+  error_answered remaining contents full dry spent is_over old new socket signs error Came.Nothing answer reads comes given short takes =
+      let before = not_waited spent (spent old.socket.stream) socket signs.is_spent comes.1.0 given.1 in
+      let dried = waited dry (dry old.socket.stream) socket signs.is_dry comes.1.1 given.0 in
+      rw (takes.0, takes.1) (inr (short, inr (error, reads, comes.0, inr (before, dried, refl))))
+  error_answered remaining contents full dry spent is_over old new socket signs error Came.Spent answer reads comes given short takes =
+      let used_up = waited spent (spent old.socket.stream) socket signs.is_spent comes.1 given.1 in
+      rw (takes.0, takes.1) (inr (short, inr (error, reads, comes.0, inl (used_up, refl))))
+  error_answered remaining contents full dry spent is_over old new socket signs error Came.Closes answer reads comes given short takes =
+      rw (takes.0, takes.1) (short, refl, inr (error, reads, comes))
+  error_answered remaining contents full dry spent is_over old new socket signs error (Came.Breaks code) (Ok incoming) reads comes given short takes = cc
+  error_answered remaining contents full dry spent is_over old new socket signs error (Came.Breaks code) (Err fault) reads comes given short takes =
+      rw takes.1 (inr (inl (short, inr (error, reads, (λ waits. absurd (breach-waits error code comes waits)), breach-is-no-close error code comes, noted error (Some code) comes (ended (over socket (emptied old)))))))
+  error_answered remaining contents full dry spent is_over old new socket signs error Came.Fails (Ok incoming) reads comes given short takes = cc
+  error_answered remaining contents full dry spent is_over old new socket signs error Came.Fails (Err fault) reads comes given short takes =
+      let before = λ (waits : WouldWait error). not_waited spent (spent old.socket.stream) socket signs.is_spent (comes.0 waits).0 given.1 in
+      let asked = λ (waits : WouldWait error). not_waited dry (dry old.socket.stream) socket signs.is_dry (comes.0 waits).1 given.0 in
+      rw takes.1 (inr (inl (short, inr (error, reads, (λ waits. (before waits, asked waits)), comes.1, noted error None comes.2 (ended (over socket (emptied old)))))))
+
+  by_frames : (remaining contents : S → Option (List ℕ)) (full dry spent : S → ℕ) (is_over : S → Bool) (old new : SocketConn S) (socket : Socket S) (signs : Signs) (now : Bool) (given : Result Message Error) (came : Came) (answer : Result Incoming ConnFault)
+      → MatchBool now (came ≡ Came.Breaks Size) (GivenComesTo signs given came) → now ≡ is_over socket.stream
+      → ReadsOnce remaining contents old.socket socket given → GivesSigns dry spent is_over (dry old.socket.stream) (spent old.socket.stream) socket signs
+      → Takes came (over socket (emptied old)) new answer → Receives remaining contents full dry spent is_over old new answer
+  by_frames remaining contents full dry spent is_over old new socket signs true given came answer comes said reads signed takes =
+      too_many remaining contents full dry spent is_over old new socket given answer reads (sym said) (subst (λ c. Takes c (over socket (emptied old)) new answer) comes takes)
+  by_frames remaining contents full dry spent is_over old new socket signs false (Ok message) came answer comes said reads signed takes =
+      message_answered remaining contents full dry spent is_over old new socket message came answer reads comes (sym said) takes
+  by_frames remaining contents full dry spent is_over old new socket signs false (Err error) came answer comes said reads signed takes =
+      error_answered remaining contents full dry spent is_over old new socket signs error came answer reads comes signed (sym said) takes
+
   -- what the connection answers to a read, by what the read came to
-  pub answered : (remaining contents : S → Option (List ℕ)) (full dry : S → ℕ) (old new : SocketConn S) (socket : Socket S) (is_dry : Bool) (given : Result Message Error) (came : Came) (answer : Result Incoming ConnFault)
-      → ReadsOnce remaining contents old.socket socket given → ComesTo is_dry given came → DriedSince dry (dry old.socket.stream) socket is_dry
-      → Takes came (over socket (emptied old)) new answer → Receives remaining contents full dry old new answer
-  answered remaining contents full dry old new socket is_dry (Ok message) (Came.Text bytes) answer reads comes dried takes =
-      rw (takes.0, takes.1) (message, reads, comes, refl)
-  answered remaining contents full dry old new socket is_dry (Ok message) Came.Control answer reads comes dried takes =
-      rw (takes.0, takes.1) (inr (inl (message, reads, comes, refl)))
-  answered remaining contents full dry old new socket is_dry (Ok message) Came.Nothing answer reads comes dried takes = absurd comes
-  answered remaining contents full dry old new socket is_dry (Ok message) Came.Closes answer reads comes dried takes =
-      rw (takes.0, takes.1) (refl, inl (message, reads, comes))
-  answered remaining contents full dry old new socket is_dry (Ok message) (Came.Breaks code) answer reads comes dried takes = absurd comes
-  answered remaining contents full dry old new socket is_dry (Ok message) Came.Fails (Ok incoming) reads comes dried takes = cc
-  answered remaining contents full dry old new socket is_dry (Ok message) Came.Fails (Err fault) reads comes dried takes =
-      rw takes.1 (inr (inl (message, reads, comes, refl)))
-  answered remaining contents full dry old new socket is_dry (Err error) (Came.Text bytes) answer reads comes dried takes = absurd comes
-  answered remaining contents full dry old new socket is_dry (Err error) Came.Control answer reads comes dried takes = absurd comes
-  answered remaining contents full dry old new socket is_dry (Err error) Came.Nothing answer reads comes dried takes =
-      rw (takes.0, takes.1) (inr (inr (error, reads, comes.0, dried_out dry (dry old.socket.stream) socket is_dry comes.1 dried, refl)))
-  answered remaining contents full dry old new socket is_dry (Err error) Came.Closes answer reads comes dried takes =
-      rw (takes.0, takes.1) (refl, inr (error, reads, comes))
-  answered remaining contents full dry old new socket is_dry (Err error) (Came.Breaks code) (Ok incoming) reads comes dried takes = cc
-  answered remaining contents full dry old new socket is_dry (Err error) (Came.Breaks code) (Err fault) reads comes dried takes =
-      rw takes.1 (inr (inr (error, reads, (λ waits. absurd (breach-waits error code comes waits)), breach-is-no-close error code comes, noted error (Some code) comes (ended (over socket (emptied old))))))
-  answered remaining contents full dry old new socket is_dry (Err error) Came.Fails (Ok incoming) reads comes dried takes = cc
-  answered remaining contents full dry old new socket is_dry (Err error) Came.Fails (Err fault) reads comes dried takes =
-      rw takes.1 (inr (inr (error, reads, (λ waits. not_dried dry (dry old.socket.stream) socket is_dry (comes.0 waits) dried), comes.1, noted error None comes.2 (ended (over socket (emptied old))))))
+  pub answered : (remaining contents : S → Option (List ℕ)) (full dry spent : S → ℕ) (is_over : S → Bool) (old new : SocketConn S) (socket : Socket S) (signs : Signs) (given : Result Message Error) (came : Came) (answer : Result Incoming ConnFault)
+      → ReadsOnce remaining contents old.socket socket given → ComesTo signs given came → GivesSigns dry spent is_over (dry old.socket.stream) (spent old.socket.stream) socket signs
+      → Takes came (over socket (emptied old)) new answer → Receives remaining contents full dry spent is_over old new answer
+  answered remaining contents full dry spent is_over old new socket signs given came answer reads comes signed takes =
+      by_frames remaining contents full dry spent is_over old new socket signs signs.is_over given came answer comes signed.2 reads signed takes

@@ -1,4 +1,6 @@
 pub mod Waits
+pub mod Frames
+pub mod Turns
 pub mod State
 pub mod Talks
 pub mod Heads

@@ -1,10 +1,9 @@
 -- What a connection comes to whose request is on its way: the bytes that came, and the session's connection that they open.
 use Rattle.std.specs.Prelude.{◌≡◌, ⊤, ℕ, List, [], ◌++◌, drop, Option, true}
 use Rattle.std.specs.Io.KnownBytes.{Consumes}
-use Rattle.std.specs.declared.alloc.Global.{Global}
-use Rattle.std.specs.declared.string.String.{String}
 use Rattle.socket_conn.specs.Heads.{IsRequest, IsUpgrade}
 use Rattle.socket_conn.specs.State.{begun}
+use Rattle.socket_conn.specs.declared.asked.Asked.{Asked}
 use Rattle.socket_conn.specs.declared.conn.SocketConn.{SocketConn}
 use Rattle.socket_conn.specs.declared.head.Upgrade.{Upgrade}
 use Rattle.socket_conn.specs.declared.held.Held.{Held}
@@ -28,10 +27,10 @@ module _ {S : Type 0} where
     pub rest : conn.socket.input ≡ left
     pub fresh : IsFresh (record conn.socket { input = [] }) conn.socket.stream Server
 
-  -- the bytes that came are a head that asks for a WebSocket with this target, and what came behind it
-  abbrev pub Opens : List ℕ → S → SocketConn (Held S) → String Global → Type 0
-  Opens bytes stream conn target =
-      (u : Upgrade) × IsUpgrade bytes u × (target ≡ u.target) × Begins u stream (drop u.len bytes) conn
+  -- the bytes that came are a head that asks for a WebSocket, and for this; and what came behind it
+  abbrev pub Opens : List ℕ → S → SocketConn (Held S) → Asked → Type 0
+  Opens bytes stream conn asked =
+      (u : Upgrade) × IsUpgrade bytes u × (asked ≡ u.asked) × Begins u stream (drop u.len bytes) conn
 
   -- more bytes came, none maybe, which were kept
   abbrev pub HasHeard : (S → Option (List ℕ)) → Shaking S → Shaking S → Type 0
@@ -46,7 +45,7 @@ module _ {S : Type 0} where
 
   -- what a look at the bytes so far comes to
   abbrev pub Judges : Shaking S → Shaken S → Type 0
-  Judges old (Open conn target) = Opens old.head.items old.stream.inner conn target
+  Judges old (Open conn asked) = Opens old.head.items old.stream.inner conn asked
   Judges old (Plain stream request) = (stream ≡ old.stream.inner) × IsRequest old.head.items request
   Judges old (Waits new) = new ≡ old
   Judges old Failed = ⊤
@@ -54,8 +53,8 @@ module _ {S : Type 0} where
   -- how far the connection has come: it is open, or asks for something else, with the bytes that came up to then; or waits for
   -- more, where the stream was asked and had nothing to give; or has failed
   abbrev pub Shakes : (S → Option (List ℕ)) → Shaking S → Shaken S → Type 0
-  Shakes remaining old (Open conn target) =
-      (last : Shaking S) × HasHeard remaining old last × Opens last.head.items last.stream.inner conn target
+  Shakes remaining old (Open conn asked) =
+      (last : Shaking S) × HasHeard remaining old last × Opens last.head.items last.stream.inner conn asked
   Shakes remaining old (Plain stream request) =
       (last : Shaking S) × HasHeard remaining old last × (stream ≡ last.stream.inner) × IsRequest last.head.items request
   Shakes remaining old (Waits new) = HasHeard remaining old new × ¬ (new.stream.dry ≡ old.stream.dry)

@@ -33,6 +33,7 @@ module _ {S : Type 0} where
         is_blocked = false;
         unsent = 0;
         received = 0;
+        is_heard = false;
         breach = None;
       }
 
@@ -63,6 +64,10 @@ module _ {S : Type 0} where
   -- one message more was received
   abbrev pub with_received : SocketConn S → SocketConn S
   with_received c = record c { received = min (c.received + 1) (2 ^ 32 - 1) }
+
+  -- one message more was received, of which the client is heard: a text, a binary message or a pong
+  abbrev pub with_heard : SocketConn S → SocketConn S
+  with_heard c = record (with_received c) { is_heard = true }
 
   -- nothing more has come yet
   abbrev pub drained : SocketConn S → SocketConn S

@@ -7,9 +7,10 @@ use Rattle.session_links.specs.declared.conn.ConnFault.{ConnFault}
 use Rattle.session_links.specs.declared.conn.Incoming.{Incoming}
 use Rattle.session_links.specs.declared.conn.Incoming.TheVariants as Said
 use Rattle.socket_conn.specs.declared.outcomes.Came.{Came}
+use Rattle.socket_conn.specs.declared.outcomes.Signs.{Signs}
 use Rattle.socket_conn.specs.declared.conn.SocketConn.{SocketConn}
-use Rattle.socket_conn.specs.Waits.{HasWaited}
-use Rattle.socket_conn.specs.State.{Flushes, over, emptied, drained, ended, noting, with_received, lost}
+use Rattle.socket_conn.specs.Waits.{HasNotWaited, HasWaited}
+use Rattle.socket_conn.specs.State.{Flushes, over, emptied, drained, ended, noting, with_heard, with_received, lost}
 use Rattle.tungstenite.specs.declared.error.Error.{Error}
 use Rattle.tungstenite.specs.declared.error.Error.TheVariants as Why
 use Rattle.tungstenite.specs.declared.message.Message.{Message}
@@ -44,13 +45,19 @@ IsData (Kind.Ping s) = ⊥
 IsData (Kind.Pong s) = ⊥
 IsData (Kind.Close frame) = ⊥
 
--- a ping or a pong
-abbrev pub IsPingOrPong : Message → Type 0
-IsPingOrPong (Kind.Text s) = ⊥
-IsPingOrPong (Kind.Binary s) = ⊥
-IsPingOrPong (Kind.Ping s) = ⊤
-IsPingOrPong (Kind.Pong s) = ⊤
-IsPingOrPong (Kind.Close frame) = ⊥
+abbrev pub IsPing : Message → Type 0
+IsPing (Kind.Text s) = ⊥
+IsPing (Kind.Binary s) = ⊥
+IsPing (Kind.Ping s) = ⊤
+IsPing (Kind.Pong s) = ⊥
+IsPing (Kind.Close frame) = ⊥
+
+abbrev pub IsPong : Message → Type 0
+IsPong (Kind.Text s) = ⊥
+IsPong (Kind.Binary s) = ⊥
+IsPong (Kind.Ping s) = ⊥
+IsPong (Kind.Pong s) = ⊤
+IsPong (Kind.Close frame) = ⊥
 
 abbrev pub IsClose : Message → Type 0
 IsClose (Kind.Text s) = ⊥
@@ -81,25 +88,41 @@ breach_of error = None
 -- what a message comes to that was read
 abbrev pub MessageComesTo : Message → Came → Type 0
 MessageComesTo message (Came.Text bytes) = HasBytes bytes.items message
-MessageComesTo message Came.Control = IsPingOrPong message
+MessageComesTo message Came.Ping = IsPing message
+MessageComesTo message Came.Pong = IsPong message
 MessageComesTo message Came.Nothing = ⊥
+MessageComesTo message Came.Spent = ⊥
 MessageComesTo message Came.Closes = IsClose message
 MessageComesTo message (Came.Breaks code) = ⊥
 MessageComesTo message Came.Fails = IsData message
 
--- what an error comes to, where the stream had nothing to give meanwhile, or was not asked
-abbrev pub ErrorComesTo : (is_dry : Bool) → Error → Came → Type 0
-ErrorComesTo is_dry error (Came.Text bytes) = ⊥
-ErrorComesTo is_dry error Came.Control = ⊥
-ErrorComesTo is_dry error Came.Nothing = WouldWait error × (is_dry ≡ true)
-ErrorComesTo is_dry error Came.Closes = SaysClosed error
-ErrorComesTo is_dry error (Came.Breaks code) = breach_of error ≡ Some code
-ErrorComesTo is_dry error Came.Fails = (WouldWait error → is_dry ≡ false) × (¬ SaysClosed error) × (breach_of error ≡ None)
+-- what it comes to that the stream would have to wait: it has given all that it may in a turn; or it had nothing to give; or it was
+-- not asked, which is a failure
+abbrev pub WaitComesTo : Signs → Came → Type 0
+WaitComesTo signs Came.Spent = signs.is_spent ≡ true
+WaitComesTo signs Came.Nothing = (signs.is_spent ≡ false) × (signs.is_dry ≡ true)
+WaitComesTo signs Came.Fails = (signs.is_spent ≡ false) × (signs.is_dry ≡ false)
+WaitComesTo signs came = ⊥
 
--- what a read comes to
-abbrev pub ComesTo : (is_dry : Bool) → Result Message Error → Came → Type 0
-ComesTo is_dry (Ok message) came = MessageComesTo message came
-ComesTo is_dry (Err error) came = ErrorComesTo is_dry error came
+-- what an error comes to, where the stream gave these signs meanwhile
+abbrev pub ErrorComesTo : Signs → Error → Came → Type 0
+ErrorComesTo signs error (Came.Text bytes) = ⊥
+ErrorComesTo signs error Came.Ping = ⊥
+ErrorComesTo signs error Came.Pong = ⊥
+ErrorComesTo signs error Came.Nothing = WouldWait error × WaitComesTo signs Came.Nothing
+ErrorComesTo signs error Came.Spent = WouldWait error × WaitComesTo signs Came.Spent
+ErrorComesTo signs error Came.Closes = SaysClosed error
+ErrorComesTo signs error (Came.Breaks code) = breach_of error ≡ Some code
+ErrorComesTo signs error Came.Fails = (WouldWait error → WaitComesTo signs Came.Fails) × (¬ SaysClosed error) × (breach_of error ≡ None)
+
+-- what a read comes to by what it gave
+abbrev pub GivenComesTo : Signs → Result Message Error → Came → Type 0
+GivenComesTo signs (Ok message) came = MessageComesTo message came
+GivenComesTo signs (Err error) came = ErrorComesTo signs error came
+
+-- what a read comes to: where a message had more frames than it may, whatever was given, to a message that is too long
+abbrev pub ComesTo : Signs → Result Message Error → Came → Type 0
+ComesTo signs given came = MatchBool signs.is_over (came ≡ Came.Breaks Size) (GivenComesTo signs given came)
 
 module _ {S : Type 0} where
   -- all that waited to be sent left, and then one message was read: the bytes that the stream gave, behind those kept from
@@ -129,18 +152,26 @@ module _ {S : Type 0} where
       ((old.is_readable ≡ false) × (new ≡ old)) ⊎ (Flushed contents old.socket new.socket × Flushes full old new false)
 
   -- the socket was read once, and what that gave comes to this
-  abbrev pub Brings : (remaining : S → Option (List ℕ)) → (is_dry : Bool) → Socket S → Socket S → Came → Type 0
-  Brings remaining is_dry old new came = (given : Result Message Error) × Reads remaining old new given × ComesTo is_dry given came
+  abbrev pub Brings : (remaining : S → Option (List ℕ)) → Signs → Socket S → Socket S → Came → Type 0
+  Brings remaining signs old new came = (given : Result Message Error) × Reads remaining old new given × ComesTo signs given came
 
-  -- whether the stream had nothing to give since it counted so many
-  abbrev pub DriedSince : (S → ℕ) → ℕ → Socket S → Bool → Type 0
-  DriedSince dry times socket is_dry = MatchBool is_dry (¬ (dry socket.stream ≡ times)) (dry socket.stream ≡ times)
+  -- whether the stream had to wait since it counted so many
+  abbrev pub WaitedSince : (S → ℕ) → ℕ → Socket S → Bool → Type 0
+  WaitedSince times count socket has_waited = MatchBool has_waited (¬ (times socket.stream ≡ count)) (times socket.stream ≡ count)
+
+  -- what the stream tells of a read, before which it had counted so often that it had nothing to give, and that it had given all that
+  -- it may in a turn
+  abbrev pub GivesSigns : (dry spent : S → ℕ) (is_over : S → Bool) → (dried spents : ℕ) → Socket S → Signs → Type 0
+  GivesSigns dry spent is_over dried spents socket signs =
+      WaitedSince dry dried socket signs.is_dry × WaitedSince spent spents socket signs.is_spent × (signs.is_over ≡ is_over socket.stream)
 
   -- what the connection does with what a read came to, and what it answers
   abbrev pub Takes : Came → SocketConn S → SocketConn S → Result Incoming ConnFault → Type 0
-  Takes (Came.Text bytes) old new answer = (answer ≡ Ok (Said.Text bytes)) × (new ≡ with_received old)
-  Takes Came.Control old new answer = (answer ≡ Ok Said.Nothing) × (new ≡ with_received old)
+  Takes (Came.Text bytes) old new answer = (answer ≡ Ok (Said.Text bytes)) × (new ≡ with_heard old)
+  Takes Came.Ping old new answer = (answer ≡ Ok Said.Nothing) × (new ≡ with_received old)
+  Takes Came.Pong old new answer = (answer ≡ Ok Said.Nothing) × (new ≡ with_heard old)
   Takes Came.Nothing old new answer = (answer ≡ Ok Said.Nothing) × (new ≡ drained old)
+  Takes Came.Spent old new answer = (answer ≡ Ok Said.Nothing) × (new ≡ old)
   Takes Came.Closes old new answer = (answer ≡ Ok Said.Gone) × (new ≡ ended old)
   Takes (Came.Breaks code) old new answer = IsErr answer × (new ≡ noting (Some code) (ended old))
   Takes Came.Fails old new answer = IsErr answer × (new ≡ ended old)
@@ -149,31 +180,61 @@ module _ {S : Type 0} where
   abbrev pub read_of : SocketConn S → SocketConn S → SocketConn S
   read_of old new = over new.socket (emptied old)
 
-  -- what the socket did where the connection, before and after, gave this answer, and what else changed. A text: it read one
-  -- message, of these bytes. Nothing: it was not read, or read a ping or a pong, or the stream was asked and had nothing to give, which is noted. Gone:
-  -- it read a close, whose reply waits, or said that the client has closed. A fault: the connection was lost before, or there was
-  -- no memory for a copy of the message, or the read failed in another way, of which a breach of the protocol is noted
-  abbrev pub Receives : (remaining contents : S → Option (List ℕ)) (full dry : S → ℕ) → SocketConn S → SocketConn S → Result Incoming ConnFault → Type 0
-  Receives remaining contents full dry old new (Ok (Said.Text bytes)) =
-      (message : Message) × ReadsMessage remaining contents old.socket new.socket message × HasBytes bytes.items message
-      × (new ≡ with_received (read_of old new))
-  Receives remaining contents full dry old new (Ok Said.Nothing) =
-      ReadsNothing contents full old new
-      ⊎ ((message : Message) × ReadsMessage remaining contents old.socket new.socket message × IsPingOrPong message
-      × (new ≡ with_received (read_of old new)))
-      ⊎ ((error : Error) × ReadsError remaining contents old.socket new.socket error × WouldWait error
-      × HasWaited dry old.socket new.socket × (new ≡ drained (read_of old new)))
-  Receives remaining contents full dry old new (Ok Said.Gone) =
-      (new ≡ ended (read_of old new))
-      × (((message : Message) × ReadsMessage remaining contents old.socket new.socket message × IsClose message)
-      ⊎ ((error : Error) × ReadsError remaining contents old.socket new.socket error × SaysClosed error))
-  Receives remaining contents full dry old new (Err fault) =
-      ((old.is_lost ≡ true) × (new ≡ ended old))
-      ⊎ ((message : Message) × ReadsMessage remaining contents old.socket new.socket message × IsData message
+  -- no message had more frames than it may
+  abbrev pub IsWithin : (is_over : S → Bool) → Socket S → Type 0
+  IsWithin is_over socket = is_over socket.stream ≡ false
+
+  -- a read that gave a ping; or a pong, of which the client is heard
+  abbrev pub ReadsControl : (remaining contents : S → Option (List ℕ)) → SocketConn S → SocketConn S → Type 0
+  ReadsControl remaining contents old new =
+      (message : Message) × ReadsMessage remaining contents old.socket new.socket message
+      × ((IsPing message × (new ≡ with_received (read_of old new))) ⊎ (IsPong message × (new ≡ with_heard (read_of old new))))
+
+  -- a read that would block: the stream has given all that it may in a turn, and the connection may be read in the next; or the stream
+  -- was asked and had nothing to give, which is noted
+  abbrev pub ReadsAgain : (remaining contents : S → Option (List ℕ)) (dry spent : S → ℕ) → SocketConn S → SocketConn S → Type 0
+  ReadsAgain remaining contents dry spent old new =
+      (error : Error) × ReadsError remaining contents old.socket new.socket error × WouldWait error
+      × ((HasWaited spent old.socket new.socket × (new ≡ read_of old new))
+      ⊎ (HasNotWaited spent old.socket new.socket × HasWaited dry old.socket new.socket × (new ≡ drained (read_of old new))))
+
+  -- a read that failed: there was no memory for a copy of the message; or the stream or the client has failed, of which a breach of
+  -- the protocol is noted
+  abbrev pub ReadsFault : (remaining contents : S → Option (List ℕ)) (dry spent : S → ℕ) → SocketConn S → SocketConn S → Type 0
+  ReadsFault remaining contents dry spent old new =
+      ((message : Message) × ReadsMessage remaining contents old.socket new.socket message × IsData message
       × (new ≡ ended (read_of old new)))
       ⊎ ((error : Error) × ReadsError remaining contents old.socket new.socket error
-      × (WouldWait error → dry new.socket.stream ≡ dry old.socket.stream) × (¬ SaysClosed error)
+      × (WouldWait error → HasNotWaited spent old.socket new.socket × HasNotWaited dry old.socket new.socket) × (¬ SaysClosed error)
       × (new ≡ noting (breach_of error) (ended (read_of old new))))
+
+  -- a read by which a message had more frames than it may, whatever it gave: that a message is too long is noted
+  abbrev pub ReadsTooMany : (remaining contents : S → Option (List ℕ)) (is_over : S → Bool) → SocketConn S → SocketConn S → Type 0
+  ReadsTooMany remaining contents is_over old new =
+      (is_over new.socket.stream ≡ true)
+      × ((given : Result Message Error) × ReadsOnce remaining contents old.socket new.socket given)
+      × (new ≡ noting (Some Size) (ended (read_of old new)))
+
+  -- what the socket did where the connection, before and after, gave this answer, and what else changed. A text: it read one
+  -- message, of these bytes. Nothing: it was not read, or read a ping or a pong, or would block. Gone: it read a close, whose reply
+  -- waits, or said that the client has closed. A fault: the connection was lost before, or the read failed. Once a message had more
+  -- frames than it may, a read is a fault alone
+  abbrev pub Receives : (remaining contents : S → Option (List ℕ)) (full dry spent : S → ℕ) (is_over : S → Bool) → SocketConn S → SocketConn S → Result Incoming ConnFault → Type 0
+  Receives remaining contents full dry spent is_over old new (Ok (Said.Text bytes)) =
+      IsWithin is_over new.socket
+      × ((message : Message) × ReadsMessage remaining contents old.socket new.socket message × HasBytes bytes.items message
+      × (new ≡ with_heard (read_of old new)))
+  Receives remaining contents full dry spent is_over old new (Ok Said.Nothing) =
+      ReadsNothing contents full old new
+      ⊎ (IsWithin is_over new.socket × (ReadsControl remaining contents old new ⊎ ReadsAgain remaining contents dry spent old new))
+  Receives remaining contents full dry spent is_over old new (Ok Said.Gone) =
+      IsWithin is_over new.socket × (new ≡ ended (read_of old new))
+      × (((message : Message) × ReadsMessage remaining contents old.socket new.socket message × IsClose message)
+      ⊎ ((error : Error) × ReadsError remaining contents old.socket new.socket error × SaysClosed error))
+  Receives remaining contents full dry spent is_over old new (Err fault) =
+      ((old.is_lost ≡ true) × (new ≡ ended old))
+      ⊎ (IsWithin is_over new.socket × ReadsFault remaining contents dry spent old new)
+      ⊎ ReadsTooMany remaining contents is_over old new
 
 -- ---- what was sent
 

@@ -17,6 +17,10 @@ with_waits times (Ok a) = times
 with_waits times (Err e) = with_wait times (error_kind e)
 
 module _ {S : Type 0} where
-  -- the socket's stream had to wait in between
+  -- the socket's stream did not have to wait in between
+  abbrev pub HasNotWaited : (S → ℕ) → Socket S → Socket S → Type 0
+  HasNotWaited times old new = times new.stream ≡ times old.stream
+
+  -- it had to wait in between
   abbrev pub HasWaited : (S → ℕ) → Socket S → Socket S → Type 0
-  HasWaited times old new = ¬ (times new.stream ≡ times old.stream)
+  HasWaited times old new = ¬ HasNotWaited times old new

@@ -5,12 +5,12 @@ ghost use Rattle.tungstenite.specs.Content.{text as Text};
 ghost use Rattle.tungstenite.specs.Socket.{Flushed, Writes, content_of};
 ghost use Rattle.websocket.specs.Connection.{write_step};
 ghost use Rattle.websocket.specs.Content.{ping};
-ghost use Rattle.socket_conn.specs.State.{Flushes, StaysOrBlocks, begun, blocked, ended, hung_up, over, says_close, with_unsent};
-ghost use Rattle.socket_conn.specs.Talks.{Brings, Closes, DriedSince, Receives, SendsText, Takes};
+ghost use Rattle.socket_conn.specs.State.{Flushes, StaysOrBlocks, begun, blocked, ended, hung_up, says_close, with_unsent};
+ghost use Rattle.socket_conn.specs.Talks.{Closes, Receives, SendsText};
 ghost use Rattle.websocket.specs.CloseCode.{close_code_of};
 
-use crate::held::Held;
-use crate::outcomes::{Came, outcome_of, would_block};
+use crate::frames::CountsFrames;
+use crate::outcomes::would_block;
 use crate::waits::CountsWaits;
 use bytes::Bytes;
 use session_links::{Conn, ConnFault, Incoming};
@@ -20,6 +20,9 @@ use tungstenite::{Message, NoMask, WebSocket};
 use websocket::protocol::CloseCode;
 
 mod closing;
+mod receiving;
+mod taking;
+mod turns;
 
 /// How many bytes may wait for the socket before no further text is taken.
 const MOST_UNSENT: usize = 65_536;
@@ -41,6 +44,8 @@ pub struct SocketConn<S: Read + Write + Drop> {
     unsent: usize,
     /// How many messages were received.
     received: u32,
+    /// Of these, one was a text, a binary message or a pong.
+    is_heard: bool,
     /// The code that the client's breach of the protocol is closed with, once that was met.
     breach: Option<CloseCode>,
 }
@@ -56,6 +61,7 @@ impl<S: Read + Write + Drop> Drop for SocketConn<S> {
             is_blocked: _,
             unsent: _,
             received: _,
+            is_heard: _,
             breach: _,
         } = self;
     }
@@ -75,6 +81,7 @@ impl<S: Read + Write + CountsWaits + Drop> SocketConn<S> {
             is_blocked: false,
             unsent: 0,
             received: 0,
+            is_heard: false,
             breach: None,
         }
     }
@@ -105,16 +112,6 @@ impl<S: Read + Write + CountsWaits + Drop> SocketConn<S> {
         ensures { result ≡ self.now.is_blocked }
     {
         self.is_blocked
-    }
-
-    /// How many messages were received since this was asked last.
-    pub fn take_received(&mut self) -> u32
-        ensures count { result ≡ self.old.received }
-        ensures taken { self.new ≡ record self.old { received = 0 } }
-    {
-        let received = self.received;
-        self.received = 0;
-        received
     }
 
     /// It is given up: the next receive says that the client has gone.
@@ -157,53 +154,6 @@ impl<S: Read + Write + CountsWaits + Drop> SocketConn<S> {
         ensures { IsTrue result → ¬ (S.full self.now.socket.stream ≡ full) }
     {
         self.socket.get_ref().times_full() != full
-    }
-
-    /// Reads once. The stream had counted so often that it was dry.
-    fn read(&mut self, dry: u64) -> Came
-        ensures same { self.new ≡ record self.old { socket = self.new.socket } }
-        ensures came { (is_dry : Bool) × Brings S.remaining is_dry self.old.socket self.new.socket result × DriedSince S.dry dry self.new.socket is_dry }
-    {
-        let read = self.socket.read();
-        let is_dry = self.socket.get_ref().times_dry() != dry;
-        let came = outcome_of(self.alloc, &read, is_dry);
-        drop(read);
-        came
-    }
-
-    fn take(&mut self, what: Came) -> Result<Incoming, ConnFault>
-        requires { self.old.is_open ≡ true }
-        ensures ok { IfOk result (λ incoming. self.new.is_open ≡ goes_on incoming) }
-        ensures err { OnErr result (self.new.is_open ≡ false) }
-        ensures takes { Takes what self.old self.new result }
-    {
-        match what {
-            Came::Text(text) => {
-                self.received = self.received.saturating_add(1);
-                Ok(Incoming::Text(text))
-            }
-            Came::Control => {
-                self.received = self.received.saturating_add(1);
-                Ok(Incoming::Nothing)
-            }
-            Came::Nothing => {
-                self.is_readable = false;
-                Ok(Incoming::Nothing)
-            }
-            Came::Closes => {
-                self.is_open = false;
-                Ok(Incoming::Gone)
-            }
-            Came::Breaks(code) => {
-                self.is_open = false;
-                self.breach = Some(code);
-                Err(ConnFault)
-            }
-            Came::Fails => {
-                self.is_open = false;
-                Err(ConnFault)
-            }
-        }
     }
 
     fn text_of(&self, text: &str) -> Result<Message, AllocError>
@@ -268,17 +218,7 @@ impl<S: Read + Write + CountsWaits + Drop> SocketConn<S> {
     }
 }
 
-impl<S: Read + Write + Drop> SocketConn<Held<S>> {
-    /// What waits may go out, the answer to the request first.
-    pub fn let_go(&mut self)
-        ensures { self.new ≡ record self.old { socket = self.new.socket; is_blocked = false } }
-    {
-        self.socket.get_mut().let_go();
-        self.is_blocked = false;
-    }
-}
-
-impl<S: Read + Write + CountsWaits + Drop> Conn for SocketConn<S> {
+impl<S: Read + Write + CountsWaits + CountsFrames + Drop> Conn for SocketConn<S> {
     ghost use Rattle.socket_conn.specs.State.{is_roomy};
 
     // A socket tells nothing of its exchange.
@@ -293,18 +233,20 @@ impl<S: Read + Write + CountsWaits + Drop> Conn for SocketConn<S> {
         ensures ok { IfOk result (λ incoming. Tells (with_receipt (receipt_of incoming)) None None) }
         ensures open { IfOk result (λ incoming. self.new.is_open ≡ goes_on incoming) }
         ensures err { OnErr result ((self.new.is_open ≡ false) × Tells same None None) }
-        ensures read { Receives S.remaining S.contents S.full S.dry self.old self.new result }
+        ensures read { Receives S.remaining S.contents S.full S.dry S.spent S.over self.old self.new result }
         ensures lost { self.old.is_lost ≡ true → IsErr result × (self.new ≡ ended self.old) }
     {
         if self.is_lost {
             self.is_open = false;
             return Err(ConnFault);
         }
-        let dry = self.socket.get_ref().times_dry();
+        let stream = self.socket.get_ref();
+        let dry = stream.times_dry();
+        let spent = stream.times_spent();
         if !self.is_readable || !self.flush() {
             return Ok(Incoming::Nothing);
         }
-        let what = self.read(dry);
+        let what = self.read(dry, spent);
         self.take(what)
     }
 

@@ -1,11 +1,12 @@
 // The head of a request (RFC 9112, section 3), and whether it asks for a WebSocket (RFC 6455, section 4.2.1).
-ghost use Rattle.std.specs.Prelude.{◌≡◌, IfOk, string_bytes};
-ghost use Rattle.socket_conn.specs.Heads.{IsOfKind, IsReadAs, accepting, asks_amiss, target_text};
+ghost use Rattle.std.specs.Prelude.{◌≡◌, IfOk, codes};
+ghost use Rattle.httparse.specs.Spans.{IsRequestOf, IsRequestWithin, span_bytes};
+ghost use Rattle.socket_conn.specs.Heads.{IsReadAs, accepting, is_plain};
 
+use crate::asked::{Asked, asked_of, is_sound};
 use httparse::Status;
-use httparse::spans::{EMPTY_HEADER_SPAN, parse_request};
+use httparse::spans::{EMPTY_HEADER_SPAN, HeaderSpan, RequestSpans, parse_request};
 use std::alloc::{AllocError, Global};
-use std::str;
 use websocket::handshake::HandshakeError;
 use websocket::handshake::server::check_request;
 
@@ -18,8 +19,7 @@ const MOST_PLAIN: usize = 8_192;
 /// A request that asks for a WebSocket.
 #[derive(Debug, Drop)]
 pub struct Upgrade {
-    /// The path and the query.
-    pub target: String,
+    pub asked: Asked,
     /// What accepts it.
     pub answer: Vec<u8>,
     /// How many bytes the head has.
@@ -29,12 +29,12 @@ pub struct Upgrade {
 /// A request that asks for no WebSocket.
 #[derive(Debug, Drop)]
 pub enum Request {
-    /// A GET of this target: the path and the query, or an empty text where they are none.
-    Get(String),
+    Get(Asked),
     /// A request with another method.
     Other,
-    /// No head, or one with more than 100 lines; or the head of a GET that has more than 8,192 bytes, or asks for a WebSocket
-    /// without a valid key or in another version.
+    /// No head, or one with more than 100 lines; or the head of a GET that has no `Host` or several, several `Origin`s, or a
+    /// line that ends with LF alone; or has more than 8,192 bytes, or asks for a WebSocket without a valid key or in another
+    /// version.
     Bad,
 }
 
@@ -60,75 +60,61 @@ fn answer_with(alloc: Global, accept: &[u8; 28]) -> Result<Vec<u8>, AllocError>
     Ok(answer)
 }
 
-/// The target as a text; an empty one, which is no endpoint, where it is none.
-#[tactic(auto, using(crate::proofs::HeadsLemmas::text, crate::proofs::HeadsLemmas::no_text))]
-fn target_of(alloc: Global, bytes: &[u8]) -> Result<String, AllocError>
-    ensures { IfOk result (λ target. string_bytes target ≡ target_text bytes.now) }
+/// Whether a head of so many bytes, not accepted for this reason, says nothing of a WebSocket and is not too long.
+fn is_plain(len: usize, why: HandshakeError) -> bool
+    ensures { result ≡ is_plain len why }
 {
-    match str::from_utf8(bytes) {
-        Ok(text) => String::from_str(alloc, text),
-        Err(_) => Ok(String::new(alloc)),
-    }
-}
-
-fn asking(alloc: Global, target: &[u8], accept: &[u8; 28], len: usize) -> Result<Head, AllocError>
-    ensures { IfOk result (λ head. (u : Upgrade) × (head ≡ Head.Upgrade u) × (string_bytes u.target ≡ target_text target.now) × (u.answer.items ≡ accepting accept.now) × (u.len ≡ len)) }
-{
-    let target = target_of(alloc, target)?;
-    let answer = answer_with(alloc, accept)?;
-    Ok(Head::Upgrade(Upgrade {
-        target,
-        answer,
-        len,
-    }))
-}
-
-/// Whether a head that is not accepted for this reason asks for a WebSocket all the same.
-fn asks_amiss(why: HandshakeError) -> bool
-    ensures { result ≡ asks_amiss why }
-{
-    matches!(
+    let asks_amiss = matches!(
         why,
         HandshakeError::MissingSecWebSocketVersionHeader
             | HandshakeError::MissingSecWebSocketKey
             | HandshakeError::InvalidSecWebSocketKey
-    )
+    );
+    len <= MOST_PLAIN && !asks_amiss
 }
 
-/// The request of a head of so many bytes that is not accepted for this reason.
-fn request_of(
+fn upgrade_of(
     alloc: Global,
-    method: &[u8],
-    target: &[u8],
+    asked: Asked,
+    accept: &[u8; 28],
     len: usize,
-    why: HandshakeError,
-) -> Result<Request, AllocError>
-    ensures { IfOk result (IsOfKind method.now target.now len why) }
+) -> Result<Upgrade, AllocError>
+    ensures { IfOk result (λ u. (u.asked ≡ asked) × (u.answer.items ≡ accepting accept.now) × (u.len ≡ len)) }
 {
-    if method != b"GET".as_slice() {
-        return Ok(Request::Other);
-    }
-    if len > MOST_PLAIN || asks_amiss(why) {
-        return Ok(Request::Bad);
-    }
-    match target_of(alloc, target) {
-        Ok(target) => Ok(Request::Get(target)),
+    match answer_with(alloc, accept) {
+        Ok(answer) => Ok(Upgrade { asked, answer, len }),
         Err(error) => Err(error),
     }
 }
 
-fn refused(
+/// What a whole head of a GET comes to.
+fn judge(
     alloc: Global,
-    method: &[u8],
-    target: &[u8],
-    len: usize,
-    why: HandshakeError,
+    bytes: &[u8],
+    found: &RequestSpans,
+    spans: &[HeaderSpan],
 ) -> Result<Head, AllocError>
-    ensures { IfOk result (λ head. (request : Request) × (head ≡ Head.Plain request) × IsOfKind method.now target.now len why request) }
+    requires within { IsRequestWithin bytes.now spans.now found.now }
+    requires is_head { IsRequestOf bytes.now spans.now found.now }
+    requires gets { span_bytes bytes.now found.now.method ≡ codes "GET" }
+    ensures { IfOk result (IsReadAs bytes.now) }
 {
-    match request_of(alloc, method, target, len, why) {
-        Ok(request) => Ok(Head::Plain(request)),
-        Err(error) => Err(error),
+    let fields = &spans[..found.headers];
+    if !is_sound(&bytes[..found.len], bytes, fields) {
+        return Ok(Head::Plain(Request::Bad));
+    }
+    let path = found.path.of(bytes);
+    match check_request(bytes, found, spans) {
+        Ok(accept) => {
+            let asked = asked_of(alloc, path, bytes, fields)?;
+            let upgrade = upgrade_of(alloc, asked, &accept, found.len)?;
+            Ok(Head::Upgrade(upgrade))
+        }
+        Err(why) if is_plain(found.len, why) => {
+            let asked = asked_of(alloc, path, bytes, fields)?;
+            Ok(Head::Plain(Request::Get(asked)))
+        }
+        Err(_) => Ok(Head::Plain(Request::Bad)),
     }
 }
 
@@ -140,15 +126,12 @@ pub fn read_head(alloc: Global, bytes: &[u8]) -> Result<Head, AllocError>
     match parse_request(bytes, &mut spans) {
         Ok(Status::Partial) => Ok(Head::Partial),
         Err(_) => Ok(Head::Plain(Request::Bad)),
-        Ok(Status::Complete(found)) => match check_request(bytes, &found, &spans) {
-            Ok(accept) => asking(alloc, found.path.of(bytes), &accept, found.len),
-            Err(why) => refused(
-                alloc,
-                found.method.of(bytes),
-                found.path.of(bytes),
-                found.len,
-                why,
-            ),
-        },
+        Ok(Status::Complete(found)) => {
+            if found.method.of(bytes) == b"GET".as_slice() {
+                judge(alloc, bytes, &found, &spans)
+            } else {
+                Ok(Head::Plain(Request::Other))
+            }
+        }
     }
 }

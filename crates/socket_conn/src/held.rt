@@ -1,20 +1,28 @@
-// A stream whose output waits until it is let go: so a request is accepted only once its session has begun.
-ghost use Rattle.std.specs.Prelude.{◌≡◌, ◌≤◌, [], true, false, length, drop, IfOk, IsErr, IsTrue};
+// A stream whose output waits until it is let go, so that a request is accepted only once its session has begun; and which gives
+// so much in a turn at most, so that others have theirs.
+ghost use Rattle.std.specs.Prelude.{◌≡◌, ◌≤◌, ◌<◌, ◌-◌, [], true, false, length, drop, IfOk, IsErr, IsTrue};
 ghost use Rattle.std.specs.Io.KnownBytes.{append_known, Keeps, ReadConsumes, WriteAppends};
 ghost use Rattle.std.specs.Io.{ReadsAtMost, WritesAtMost};
 ghost use Rattle.std.specs.IoError.{error_kind};
+ghost use Rattle.socket_conn.specs.Frames.{no_frames, walked};
 ghost use Rattle.socket_conn.specs.Shakes.{IsHeld};
+ghost use Rattle.socket_conn.specs.Turns.{IsInTurn, after_read, most_a_turn};
 ghost use Rattle.socket_conn.specs.Waits.{with_wait, with_waits};
 ghost use Rattle.tungstenite.specs.Socket.{IsFresh};
 
+use crate::frames::{CountsFrames, FrameCount};
 use crate::waits::CountsWaits;
 use std::alloc::Global;
 use std::io;
 use std::io::{ErrorKind, Read, Write};
 use tungstenite::{NoMask, Role, WebSocket, WebSocketConfig};
 
+/// How many bytes a turn reads at most.
+const MOST_A_TURN: usize = 262_144;
+
 /// A stream with bytes that go out before all others. As long as it is held, nothing goes out, and a write says that it
-/// would block. It counts how often it had to wait.
+/// would block. It gives so many bytes in a turn at most, and then says that it would block, without asking the stream
+/// below. It counts how often it had to wait, and the frames of what it gave.
 #[derive(Drop)]
 pub struct Held<S> {
     inner: S,
@@ -26,6 +34,11 @@ pub struct Held<S> {
     full: u64,
     /// How often it had nothing to give.
     dry: u64,
+    /// How many bytes it may still give in this turn.
+    left: usize,
+    /// How often it gave nothing since these were used up.
+    spent: u64,
+    frames: FrameCount,
 }
 
 impl<S> Held<S> {
@@ -35,6 +48,8 @@ impl<S> Held<S> {
         ensures inner { result.inner ≡ inner }
         ensures first { result.first ≡ first }
         ensures at { result.at ≡ 0 }
+        ensures turn { result.left ≡ most_a_turn }
+        ensures frames { result.frames ≡ no_frames }
     {
         Held {
             inner,
@@ -43,6 +58,9 @@ impl<S> Held<S> {
             is_held: true,
             full: 0,
             dry: 0,
+            left: MOST_A_TURN,
+            spent: 0,
+            frames: FrameCount::new(),
         }
     }
 
@@ -57,6 +75,9 @@ impl<S> Held<S> {
             is_held: _,
             full: _,
             dry: _,
+            left: _,
+            spent: _,
+            frames: _,
         } = self;
         inner
     }
@@ -67,6 +88,29 @@ impl<S> Held<S> {
     {
         self.is_held = false;
     }
+
+    /// A turn begins, in which it gives as many bytes as in any other.
+    pub fn begin_turn(&mut self)
+        ensures { self.new ≡ record self.old { left = most_a_turn } }
+    {
+        self.left = MOST_A_TURN;
+    }
+
+    /// Counts the frames of bytes that were read before.
+    fn note_before(&mut self, bytes: &[u8])
+        ensures { self.new ≡ record self.old { frames = walked self.old.frames bytes.now } }
+    {
+        self.frames.walk(bytes);
+    }
+
+    /// It gave these bytes.
+    fn note_given(&mut self, bytes: &[u8])
+        requires { length bytes.now ≤ self.old.left }
+        ensures { self.new ≡ record self.old { left = self.old.left - length bytes.now; frames = walked self.old.frames bytes.now } }
+    {
+        self.left -= bytes.len();
+        self.frames.walk(bytes);
+    }
 }
 
 impl<S: Write> Held<S> {
@@ -76,7 +120,7 @@ impl<S: Write> Held<S> {
         ensures bytes { Keeps (append_known (S.contents self.old.inner) (drop self.old.at self.old.first.items))
             (append_known (S.contents self.new.inner) (drop self.new.at self.new.first.items)) }
         ensures gone { IfOk result (λ all. IsTrue all → length self.new.first.items ≤ self.new.at) }
-        ensures counts { (self.new.full ≡ self.old.full) × (self.new.dry ≡ self.old.dry) }
+        ensures same { self.new ≡ record self.old { inner = self.new.inner; at = self.new.at } }
     {
         if self.is_held {
             return Err(io::Error::from(ErrorKind::WouldBlock));
@@ -97,7 +141,7 @@ impl<S: Write> Held<S> {
 
 impl<S: Write> Held<S> {
     fn write_on(&mut self, buf: &[u8]) -> io::Result<usize>
-        ensures counts { (self.new.full ≡ self.old.full) × (self.new.dry ≡ self.old.dry) }
+        ensures same { self.new ≡ record self.old { inner = self.new.inner; at = self.new.at } }
         ensures held { self.old.is_held ≡ true → IsErr result × (self.new ≡ self.old) }
         ensures bound { WritesAtMost result buf.now }
         ensures bytes { WriteAppends (append_known (S.contents self.old.inner) (drop self.old.at self.old.first.items))
@@ -112,7 +156,7 @@ impl<S: Write> Held<S> {
     }
 
     fn flush_on(&mut self) -> io::Result<()>
-        ensures counts { (self.new.full ≡ self.old.full) × (self.new.dry ≡ self.old.dry) }
+        ensures same { self.new ≡ record self.old { inner = self.new.inner; at = self.new.at } }
         ensures held { self.old.is_held ≡ true → IsErr result × (self.new ≡ self.old) }
         ensures bytes { Keeps (append_known (S.contents self.old.inner) (drop self.old.at self.old.first.items))
             (append_known (S.contents self.new.inner) (drop self.new.at self.new.first.items)) }
@@ -141,12 +185,40 @@ impl<S> CountsWaits for Held<S> {
 
     ghost dry = { λ d. d.dry };
 
+    ghost spent = { λ d. d.spent };
+
     fn times_full(&self) -> u64 {
         self.full
     }
 
     fn times_dry(&self) -> u64 {
         self.dry
+    }
+
+    fn times_spent(&self) -> u64 {
+        self.spent
+    }
+}
+
+impl<S> CountsFrames for Held<S> {
+    ghost over = { λ d. d.frames.is_over };
+
+    fn is_over(&self) -> bool {
+        self.frames.is_over()
+    }
+}
+
+impl<S: Read> Held<S> {
+    /// Reads no more than the turn has left.
+    fn read_within(&mut self, buf: &mut [u8]) -> io::Result<usize>
+        requires { 0 < self.old.left }
+        ensures bound { ReadsAtMost result buf.new }
+        ensures bytes { ReadConsumes (S.remaining self.old.inner) (S.remaining self.new.inner) result buf.new }
+        ensures within { IfOk result (λ n. n ≤ self.old.left) }
+        ensures same { self.new ≡ record self.old { inner = self.new.inner } }
+    {
+        let most = self.left.min(buf.len());
+        self.inner.read(&mut buf[..most])
     }
 }
 
@@ -156,13 +228,23 @@ impl<S: Read> Read for Held<S> {
     fn read(&mut self, buf: &mut [u8]) -> io::Result<usize>
         ensures bound { ReadsAtMost result buf.new }
         ensures bytes { ReadConsumes (S.remaining self.old.inner) (S.remaining self.new.inner) result buf.new }
-        ensures counted { self.new ≡ record self.old { inner = self.new.inner; dry = with_waits self.old.dry result } }
+        ensures turn { IsInTurn self.old.left result }
+        ensures counted { self.new ≡ after_read self.old self.new.inner result buf.new }
     {
-        let read = self.inner.read(buf);
-        if let Err(error) = &read {
-            self.dry = counted(self.dry, error);
+        if self.left == 0 {
+            self.spent = self.spent.wrapping_add(1);
+            return Err(io::Error::from(ErrorKind::WouldBlock));
         }
-        read
+        match self.read_within(buf) {
+            Ok(count) => {
+                self.note_given(&buf[..count]);
+                Ok(count)
+            }
+            Err(error) => {
+                self.dry = counted(self.dry, &error);
+                Err(error)
+            }
+        }
     }
 }
 
@@ -174,7 +256,7 @@ impl<S: Write> Write for Held<S> {
         ensures bound { WritesAtMost result buf.now }
         ensures bytes { WriteAppends (append_known (S.contents self.old.inner) (drop self.old.at self.old.first.items))
             (append_known (S.contents self.new.inner) (drop self.new.at self.new.first.items)) result buf.now }
-        ensures counted { self.new.full ≡ with_waits self.old.full result }
+        ensures counted { self.new ≡ record self.old { inner = self.new.inner; at = self.new.at; full = with_waits self.old.full result } }
     {
         let wrote = self.write_on(buf);
         if let Err(error) = &wrote {
@@ -187,7 +269,7 @@ impl<S: Write> Write for Held<S> {
         ensures held { self.old.is_held ≡ true → IsErr result × (self.new ≡ record self.old { full = self.new.full }) }
         ensures bytes { Keeps (append_known (S.contents self.old.inner) (drop self.old.at self.old.first.items))
             (append_known (S.contents self.new.inner) (drop self.new.at self.new.first.items)) }
-        ensures counted { self.new.full ≡ with_waits self.old.full result }
+        ensures counted { self.new ≡ record self.old { inner = self.new.inner; at = self.new.at; full = with_waits self.old.full result } }
     {
         let flushed = self.flush_on();
         if let Err(error) = &flushed {
@@ -209,7 +291,10 @@ pub(crate) fn socket_of<S: Read + Write + Drop>(
     ensures input { result.input ≡ rest.items }
     ensures answer { IsHeld stream answer.items result.stream }
     ensures fresh { IsFresh (record result { input = [] }) result.stream Role.Server }
+    ensures turn { result.stream.left ≡ most_a_turn }
+    ensures frames { result.stream.frames ≡ walked no_frames rest.items }
 {
-    let held = Held::new(stream, answer);
+    let mut held = Held::new(stream, answer);
+    held.note_before(&rest);
     WebSocket::from_partially_read(alloc, held, NoMask, rest, Role::Server, Some(config))
 }

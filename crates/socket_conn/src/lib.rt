@@ -2,7 +2,9 @@
 #![tactic(auto)]
 
 mod answering;
+mod asked;
 mod conn;
+mod frames;
 mod head;
 mod held;
 mod outcomes;
@@ -10,7 +12,9 @@ mod shaking;
 mod waits;
 
 pub use answering::{Answered, Answering};
+pub use asked::Asked;
 pub use conn::SocketConn;
+pub use frames::CountsFrames;
 pub use head::{Head, Request, Upgrade, read_head};
 pub use held::Held;
 pub use shaking::{Shaken, Shaking};

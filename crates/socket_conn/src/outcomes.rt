@@ -1,6 +1,6 @@
 // What a read of the socket came to.
 ghost use Rattle.std.specs.Prelude.{MatchBool, IsTrue, ◌↔◌};
-ghost use Rattle.socket_conn.specs.Talks.{ComesTo, ErrorComesTo, MessageComesTo, WouldWait};
+ghost use Rattle.socket_conn.specs.Talks.{ComesTo, ErrorComesTo, GivenComesTo, MessageComesTo, WaitComesTo, WouldWait};
 ghost use Rattle.tungstenite.specs.Failure.{IsIo};
 
 use std::alloc::Global;
@@ -12,15 +12,28 @@ use websocket::protocol::CloseCode;
 #[derive(Drop)]
 pub(crate) enum Came {
     Text(Vec<u8>),
-    /// A ping or a pong.
-    Control,
+    Ping,
+    Pong,
     /// Nothing yet.
     Nothing,
+    /// Nothing more in this turn.
+    Spent,
     /// The client closes.
     Closes,
     /// The client broke the protocol, which is closed with the code.
     Breaks(CloseCode),
     Fails,
+}
+
+/// What the stream tells of a read.
+#[derive(Clone, Copy)]
+pub(crate) struct Signs {
+    /// It had nothing to give.
+    pub(crate) is_dry: bool,
+    /// It had given all that it may in a turn.
+    pub(crate) is_spent: bool,
+    /// A message had more frames than it may.
+    pub(crate) is_over: bool,
 }
 
 pub(crate) fn would_block(error: &Error) -> bool
@@ -51,17 +64,31 @@ fn message_in(alloc: Global, message: &Message) -> Came
             Ok(bytes) => Came::Text(bytes),
             Err(_) => Came::Fails,
         },
-        Message::Ping(_) | Message::Pong(_) => Came::Control,
+        Message::Ping(_) => Came::Ping,
+        Message::Pong(_) => Came::Pong,
         Message::Close(_) => Came::Closes,
     }
 }
 
-/// What a read that gave no message comes to. One that would block, of a stream that was not asked, has failed.
-fn failure_of(error: &Error, is_dry: bool) -> Came
-    ensures { ErrorComesTo is_dry error.now result }
+/// What a read that would block comes to. It has failed where the stream was not asked, and might have given more.
+fn wait_of(signs: Signs) -> Came
+    ensures { WaitComesTo signs result }
+{
+    if signs.is_spent {
+        Came::Spent
+    } else if signs.is_dry {
+        Came::Nothing
+    } else {
+        Came::Fails
+    }
+}
+
+/// What a read that gave no message comes to.
+fn failure_of(error: &Error, signs: Signs) -> Came
+    ensures { ErrorComesTo signs error.now result }
 {
     if would_block(error) {
-        return if is_dry { Came::Nothing } else { Came::Fails };
+        return wait_of(signs);
     }
     match error {
         Error::ConnectionClosed => Came::Closes,
@@ -73,11 +100,22 @@ fn failure_of(error: &Error, is_dry: bool) -> Came
     }
 }
 
-pub(crate) fn outcome_of(alloc: Global, read: &Result<Message, Error>, is_dry: bool) -> Came
-    ensures { ComesTo is_dry read.now result }
+fn given_of(alloc: Global, read: &Result<Message, Error>, signs: Signs) -> Came
+    ensures { GivenComesTo signs read.now result }
 {
     match read {
         Ok(message) => message_in(alloc, message),
-        Err(error) => failure_of(error, is_dry),
+        Err(error) => failure_of(error, signs),
+    }
+}
+
+/// What a read comes to. A message of too many frames is too long, whatever was read before it.
+pub(crate) fn outcome_of(alloc: Global, read: &Result<Message, Error>, signs: Signs) -> Came
+    ensures { ComesTo signs read.now result }
+{
+    if signs.is_over {
+        Came::Breaks(CloseCode::Size)
+    } else {
+        given_of(alloc, read, signs)
     }
 }

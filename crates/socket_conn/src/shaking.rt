@@ -5,6 +5,7 @@ ghost use Rattle.socket_conn.specs.declared.conn.SocketConn.{SocketConn};
 ghost use Rattle.socket_conn.specs.declared.held.Held.{Held};
 ghost use Rattle.socket_conn.specs.Shakes.{Begins, Hears, Judges, Shakes};
 
+use crate::asked::Asked;
 use crate::conn::SocketConn;
 use crate::head::{Head, Request, Upgrade, read_head};
 use crate::held::{Held, socket_of};
@@ -40,8 +41,8 @@ pub struct Shaking<S: Read + Write + Drop> {
 /// How far a connection is.
 #[derive(Drop)]
 pub enum Shaken<S: Read + Write + Drop> {
-    /// It asks for a WebSocket with this target. Nothing has been sent: the answer goes out once the connection is let go.
-    Open(SocketConn<Held<S>>, String),
+    /// It asks for a WebSocket, and for this. Nothing has been sent: the answer goes out once the connection is let go.
+    Open(SocketConn<Held<S>>, Asked),
     /// It asks for none. This is its stream, and what came behind the head is dropped.
     Plain(S, Request),
     /// The stream is to be ready first.
@@ -76,10 +77,10 @@ fn opened<S: Read + Write + Drop>(
     upgrade: Upgrade,
     rest: Vec<u8>,
 ) -> Shaken<S>
-    ensures { (conn : SocketConn (Held S)) × (result ≡ Shaken.Open conn upgrade.target) × Begins upgrade stream rest.items conn }
+    ensures { (conn : SocketConn (Held S)) × (result ≡ Shaken.Open conn upgrade.asked) × Begins upgrade stream rest.items conn }
 {
     let Upgrade {
-        target,
+        asked,
         answer,
         len: _,
     } = upgrade;
@@ -88,7 +89,7 @@ fn opened<S: Read + Write + Drop>(
         .max_message_size(Some(MOST_BYTES))
         .max_frame_size(Some(MOST_BYTES));
     let socket = socket_of(alloc, stream, answer, rest, config);
-    Shaken::Open(SocketConn::new(alloc, socket), target)
+    Shaken::Open(SocketConn::new(alloc, socket), asked)
 }
 
 impl<S: Read + Write + Drop> Shaking<S> {

@@ -8,6 +8,9 @@ pub trait CountsWaits {
 
     ghost dry: { Self → ℕ };
 
+    // How often it gave nothing, and was not asked, since it had given all that it may in a turn.
+    ghost spent: { Self → ℕ };
+
     /// How often it took nothing.
     fn times_full(&self) -> u64
         ensures { result ≡ full self.now };
@@ -15,4 +18,8 @@ pub trait CountsWaits {
     /// How often it had nothing to give.
     fn times_dry(&self) -> u64
         ensures { result ≡ dry self.now };
+
+    /// How often it gave nothing since it had given all that it may in a turn.
+    fn times_spent(&self) -> u64
+        ensures { result ≡ spent self.now };
 }

@@ -13,7 +13,7 @@ mod seen;
 pub use histogram::Histogram;
 pub use metrics::metrics_text;
 pub use overview::overview_text;
-pub use page::PAGE;
+pub use page::{PAGE, PAGE_POLICY};
 pub use seen::{
     BackupsSeen, BrokerSeen, Holds, ProgramSeen, Role, Rows, SessionSeen, SubscriptionSeen,
     TopicSeen,

@@ -140,6 +140,12 @@ fn push_topics(out: &mut String, topics: &[TopicSeen]) -> Result<(), AllocError>
     out.push_str("],")
 }
 
+/// Appends whether something is so under its name, and a comma.
+fn push_truth(out: &mut String, name: &str, is_so: bool) -> Result<(), AllocError> {
+    push_key(out, name)?;
+    out.push_str(if is_so { "true," } else { "false," })
+}
+
 fn push_rows(out: &mut String, rows: Rows) -> Result<(), AllocError> {
     out.push_str("\"rows\":{")?;
     push_number(out, "deleted", rows.deleted)?;
@@ -170,18 +176,16 @@ fn push_beginning(out: &mut String, seen: &BrokerSeen) -> Result<(), AllocError>
         now,
         connections,
         memory,
+        is_open,
     } = seen.program;
     out.push_str("{")?;
     push_backups(out, seen.backups)?;
-    out.push_str(if seen.is_closed {
-        "\"closed\":true,"
-    } else {
-        "\"closed\":false,"
-    })?;
+    push_truth(out, "closed", seen.is_closed)?;
     push_number(out, "connections", connections)?;
     push_number(out, "loads", seen.loads)?;
     push_known(out, "memory", memory)?;
-    push_number(out, "now", now)
+    push_number(out, "now", now)?;
+    push_truth(out, "open", is_open)
 }
 
 /// The overview. Only want of memory is a failure.

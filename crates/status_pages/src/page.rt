@@ -190,6 +190,7 @@ const few = (texts, what) => texts.length > 6 ? [...texts.slice(0, 5), `and ${sa
 
 function tellWrong(now) {
 const wrong = [
+seen.open && 'Everybody who reaches its address may publish, consume and administer here: nobody said that this is meant',
 seen.closed && 'Nothing is stored any more: the broker wrote to its standard error why',
 mean > 200 && `The disk is slow: a store takes ${say(mean)} ms`,
 ...few(topics.filter(isFull).map(item => `${nameOf(item)} is ${full(item)} full`), 'topics'),
@@ -265,3 +266,7 @@ look();
 </script>
 </html>
 "#;
+
+/// What the browser may do for it, as a `Content-Security-Policy`: run its script, use its style, ask where it came from.
+pub const PAGE_POLICY: &str =
+    "default-src 'none'; script-src 'sha256-u72Q6mghv3Ye/MRk3p9tXiddOn4ow2DhoZ3gkeWkErw='; style-src 'sha256-MSDXp9wTRuKGUrOrZYQHyBXedI2xqUp7y0dJ/uU6MWw='; connect-src 'self'; img-src data:; base-uri 'none'; form-action 'none'; frame-ancestors 'none'";

@@ -131,6 +131,8 @@ pub struct ProgramSeen {
     pub connections: u64,
     /// How many bytes of it are in memory, where the system tells.
     pub memory: Option<u64>,
+    /// It listens at an address that others than its own machine's may reach, and nobody said that it should.
+    pub is_open: bool,
 }
 
 /// What is seen of the broker.

@@ -1,34 +1,29 @@
-// Accepting connections, and the threads that serve them.
-use crate::job::{Job, Start};
-use crate::post::Post;
-use crate::putter::Putter;
-use crate::worker::{Door, WAKER};
+// Accepting connections.
+use crate::crew::Crew;
+use crate::job::Job;
+use crate::troubles::{Trouble, Troubles};
+use crate::worker::WAKER;
 use mio::net::{TcpListener, TcpStream};
 use mio::{Events, Interest, Poll, Token, Waker};
 use std::alloc::Global;
 use std::io::Eprint;
-use std::net::Net;
+use std::net::{Net, SocketAddr};
 use std::rt::{Clock, Files};
-use std::sync::atomic::{AtomicUsize, Ordering};
 use std::sync::{Arc, Wait};
 use std::thread::{JoinHandle, Threads};
 use std::time::Duration;
 use std::{io, thread};
 
-/// How many connections there may be at once.
-const MOST_CONNECTIONS: usize = 65_536;
-
-/// The stack of a worker, in bytes.
-const STACK: usize = 1_048_576;
-
 /// The token of the listener.
 const LISTENER: Token = Token(0);
 
-/// How many workers there are, and after how many connections to end.
+/// How many workers there are, after how many connections to end, and how many one address may have at once.
 #[derive(Clone, Copy, Debug, PartialEq, Eq)]
 pub struct Limits {
     pub workers: u32,
     pub connections: Option<u64>,
+    /// None where there is no limit. The machine's own address has none, and of IPv6 a network counts as one address.
+    pub most_per_address: Option<u32>,
 }
 
 /// How serving ended.
@@ -42,17 +37,6 @@ pub enum Ended {
     Failed,
 }
 
-/// The workers, as the accepting thread knows them.
-#[derive(Drop)]
-struct Crew {
-    posts: Vec<Arc<Post>>,
-    /// How many connections there are.
-    connections: Arc<AtomicUsize>,
-    threads: Vec<JoinHandle<bool>>,
-    door: Arc<Door>,
-    putter: Putter,
-}
-
 /// The listener, and what wakes the accepting thread. It keeps the waker: a wake is lost where its waker is dropped first.
 #[derive(Drop)]
 struct Entrance {
@@ -62,140 +46,9 @@ struct Entrance {
     waker: Arc<Waker>,
 }
 
-impl Crew {
-    fn new(alloc: Global) -> Option<Crew> {
-        Some(Crew {
-            posts: Vec::new(alloc),
-            connections: Arc::new(alloc, AtomicUsize::new(0)).ok()?,
-            threads: Vec::new(alloc),
-            door: Arc::new(alloc, Door::new()).ok()?,
-            putter: Putter::new(alloc)?,
-        })
-    }
-
-    /// Room for one more worker.
-    fn make_room(&mut self) -> bool {
-        self.posts.reserve(1).is_ok() && self.threads.reserve(1).is_ok()
-    }
-
-    /// What a worker at the post begins with.
-    fn start_of(&mut self, poll: Poll, post: &Arc<Post>) -> Option<Start> {
-        match (
-            Arc::try_clone(post),
-            Arc::try_clone(&self.door),
-            self.putter.taker(),
-        ) {
-            (Ok(post), Ok(door), Some(taker)) => Some(Start {
-                poll,
-                post,
-                taker,
-                door,
-            }),
-            _ => None,
-        }
-    }
-
-    /// Starts a worker. None where it could not be.
-    fn hire<
-        R: Threads + Wait + Net + Clock + Eprint + Copy + Send + Sync + Drop + 'static,
-        X: Job + Send + Sync + Drop + 'static,
-    >(&mut self, rt: &R, alloc: Global, place: &Arc<X>) -> Option<()> {
-        if !self.make_room() {
-            return None;
-        }
-        let (poll, post) = poll_with_post(rt, alloc, &self.connections)?;
-        let start = self.start_of(poll, &post)?;
-        self.put_to_work(rt, alloc, place, post, start)
-    }
-
-    fn put_to_work<
-        R: Threads + Wait + Net + Clock + Eprint + Copy + Send + Sync + Drop + 'static,
-        X: Job + Send + Sync + Drop + 'static,
-    >(
-        &mut self,
-        rt: &R,
-        alloc: Global,
-        place: &Arc<X>,
-        post: Arc<Post>,
-        start: Start,
-    ) -> Option<()> {
-        let thread = spawn(rt, alloc, place, start)?;
-        self.posts.push(post).ok()?;
-        self.threads.push(thread).ok()
-    }
-
-    /// How many connections there are.
-    fn connections(&self) -> usize {
-        self.connections.load(Ordering::SeqCst)
-    }
-
-    /// The worker with the fewest connections.
-    fn least(&self) -> Option<usize> {
-        let mut least = None;
-        let mut fewest = usize::MAX;
-        for at in 0..self.posts.len() {
-            if let Some(post) = self.posts.get(at) {
-                let count = post.connections();
-                if least.is_none() || count < fewest {
-                    least = Some(at);
-                    fewest = count;
-                }
-            }
-        }
-        least
-    }
-
-    /// Nothing more comes: each worker ends once its connections have.
-    fn shut<R: Wait>(&self, rt: &R) {
-        self.door.shut();
-        for post in self.posts.iter() {
-            post.nudge(rt);
-        }
-    }
-
-    /// Waits for all workers. False where one could not work.
-    fn join<R: Threads>(self, rt: &R) -> bool {
-        let mut has_worked = true;
-        for thread in self.threads {
-            has_worked = thread.join(rt) && has_worked;
-        }
-        has_worked
-    }
-}
-
-/// A poll, and the post of a worker, which wakes it.
-fn poll_with_post<R: Net>(
-    rt: &R,
-    alloc: Global,
-    all: &Arc<AtomicUsize>,
-) -> Option<(Poll, Arc<Post>)> {
-    let poll = Poll::new(rt).ok()?;
-    let post = post_for(alloc, &poll, all)?;
-    Some((poll, post))
-}
-
-fn post_for(alloc: Global, poll: &Poll, all: &Arc<AtomicUsize>) -> Option<Arc<Post>> {
-    let waker = Waker::new(poll.registry(), WAKER).ok()?;
-    let all = Arc::try_clone(all).ok()?;
-    Arc::new(alloc, Post::new(alloc, waker, all)).ok()
-}
-
 fn waker_for(alloc: Global, poll: &Poll) -> Option<Arc<Waker>> {
     let waker = Waker::new(poll.registry(), WAKER).ok()?;
     Arc::new(alloc, waker).ok()
-}
-
-/// A thread in which a worker works.
-fn spawn<
-    R: Threads + Wait + Net + Clock + Eprint + Copy + Send + Sync + Drop + 'static,
-    X: Job + Send + Sync + Drop + 'static,
->(rt: &R, alloc: Global, place: &Arc<X>, start: Start) -> Option<JoinHandle<bool>> {
-    let place = Arc::try_clone(place).ok()?;
-    let handle = *rt;
-    thread::Builder::new()
-        .stack_size(STACK)
-        .spawn(rt, move || place.work(&handle, alloc, start))
-        .ok()
 }
 
 impl Entrance {
@@ -216,32 +69,10 @@ impl Entrance {
     }
 }
 
-/// Hands the connection to the worker that has the fewest. One that is too many is turned away.
-fn hand_over<R: Wait + Eprint>(rt: &R, crew: &mut Crew, stream: TcpStream) -> bool {
-    if crew.connections() >= MOST_CONNECTIONS {
-        let _ = eprintln!(rt; "a connection was turned away: there are 65536");
-        return true;
-    }
-    let _ = stream.set_nodelay(true);
-    let Some(at) = crew.least() else {
-        return false;
-    };
-    if !crew.putter.put(rt, stream) {
-        return false;
-    }
-    match crew.posts.get(at) {
-        Some(post) => {
-            post.ring_newcomer(rt);
-            true
-        }
-        None => false,
-    }
-}
-
 /// What came of accepting.
 #[derive(Drop)]
 enum Accepted {
-    Stream(TcpStream),
+    Stream(TcpStream, SocketAddr),
     /// None waits.
     Nothing,
     /// None could be had, for want of file descriptors for example.
@@ -251,7 +82,7 @@ enum Accepted {
 impl Entrance {
     fn accept(&self) -> Accepted {
         match self.listener.accept() {
-            Ok((stream, _)) => Accepted::Stream(stream),
+            Ok((stream, address)) => Accepted::Stream(stream, address),
             Err(error) => {
                 if error.kind() == io::ErrorKind::WouldBlock {
                     Accepted::Nothing
@@ -286,16 +117,20 @@ fn welcome<R: Wait + Clock + Eprint + Files, X: Job>(
     crew: &mut Crew,
     most: u64,
 ) -> bool {
+    let mut troubles = Troubles::new();
     for _ in rt.forever() {
-        if crew.putter.count() >= most || place.has_failed() {
+        if crew.count() >= most || place.has_failed() {
             return true;
         }
         place.attend(rt);
+        troubles.say(rt);
         let goes_on = match entrance.accept() {
-            Accepted::Stream(stream) => hand_over(rt, crew, stream),
+            Accepted::Stream(stream, address) => {
+                crew.take_in(rt, &mut troubles, stream, address)
+            }
             Accepted::Nothing => entrance.wait(Some(ROUND)),
             Accepted::Fails => {
-                let _ = eprintln!(rt; "a connection could not be accepted");
+                troubles.note(Trouble::NotAccepted);
                 entrance.wait(Some(PAUSE))
             }
         };
@@ -318,18 +153,6 @@ fn store_beside<
         let _ = waker.wake();
     });
     thread.ok()
-}
-
-fn hire_all<
-    R: Threads + Wait + Net + Clock + Eprint + Copy + Send + Sync + Drop + 'static,
-    X: Job + Send + Sync + Drop + 'static,
->(rt: &R, alloc: Global, place: &Arc<X>, crew: &mut Crew, workers: u32) -> bool {
-    for _ in 0..workers {
-        if crew.hire(rt, alloc, place).is_none() {
-            return false;
-        }
-    }
-    true
 }
 
 /// The thread that stores, which wakes the accepting one at its end.
@@ -379,9 +202,9 @@ fn serve_by<
     limits: Limits,
 ) -> Ended {
     let most = limits.connections.unwrap_or(u64::MAX);
-    let has_served = hire_all(rt, alloc, place, &mut crew, limits.workers)
+    let has_served = crew.hire_all(rt, alloc, place, limits.workers)
         && welcome(rt, &**place, entrance, &mut crew, most);
-    let count = crew.putter.count();
+    let count = crew.count();
     crew.shut(rt);
     let has_worked = crew.join(rt);
     if has_served && has_worked {
@@ -397,7 +220,10 @@ pub fn serve<
     R: Threads + Wait + Net + Clock + Eprint + Files + Copy + Send + Sync + Drop + 'static,
     X: Job + Send + Sync + Drop + 'static,
 >(rt: &R, alloc: Global, listener: std::net::TcpListener, place: Arc<X>, limits: Limits) -> Ended {
-    match (Entrance::new(rt, alloc, listener), Crew::new(alloc)) {
+    match (
+        Entrance::new(rt, alloc, listener),
+        Crew::new(alloc, limits.most_per_address),
+    ) {
         (Some(mut entrance), Some(crew)) => serve_at(
             rt,
             alloc,

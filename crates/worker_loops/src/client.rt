@@ -1,10 +1,12 @@
 // A connection that a worker serves.
+use crate::addresses::Visit;
 use crate::house::{After, Asking, Comer, House, Turned};
 use crate::post::Doorbell;
-use crate::rounds::{ENDED, PINGED, SHAKING};
+use crate::rounds::SHAKING;
+use crate::silence::{Hearing, Silence};
 use delivery_machine::Moment;
 use mio::net::TcpStream;
-use socket_conn::{Answered, Answering, Shaken, Shaking};
+use socket_conn::{Answered, Answering, Asked, Held, Shaken, Shaking, SocketConn};
 use std::alloc::Global;
 use std::io::Eprint;
 use std::mem;
@@ -16,7 +18,7 @@ use std::sync::{Arc, Wait};
 pub(crate) enum Stage<G: Drop> {
     /// Its request has not come whole.
     Shaking(Shaking<TcpStream>),
-    /// It asked for no WebSocket, and its response has not gone whole.
+    /// It asked for no WebSocket, or may not come, and its response has not gone whole.
     Answering(Answering<TcpStream>),
     Open(G),
     /// At its end.
@@ -61,45 +63,48 @@ pub(crate) struct Client<G: Drop> {
     bell: Arc<Doorbell>,
     /// Where it comes from, where the system tells.
     address: Option<SocketAddr>,
+    /// It counts as its address's until it ends.
+    visit: Option<Visit>,
     stage: Stage<G>,
     /// It is among those that are served next.
     pub(crate) is_due: bool,
     /// When it came.
     came: u64,
-    /// When something came from it last.
-    heard: u64,
-    /// It was pinged since.
-    is_pinged: bool,
+    hearing: Hearing,
 }
 
 impl<G: Drop> Client<G> {
     pub(crate) fn new(
         bell: Arc<Doorbell>,
         address: Option<SocketAddr>,
+        visit: Option<Visit>,
         shaking: Shaking<TcpStream>,
         now: u64,
     ) -> Self {
         Client {
             bell,
             address,
+            visit,
             stage: Stage::Shaking(shaking),
             is_due: false,
             came: now,
-            heard: now,
-            is_pinged: false,
+            hearing: Hearing::begin(now),
         }
     }
 
     /// Something has come from it.
-    pub(crate) fn note_readable<H: House<Guest = G>>(&mut self, house: &H, now: u64) {
-        self.heard = now;
-        self.is_pinged = false;
+    pub(crate) fn note_readable<H: House<Guest = G>>(&mut self, house: &H) {
         match &mut self.stage {
             Stage::Open(guest) => house.note_readable(guest),
             Stage::Shaking(_) => {}
             Stage::Answering(_) => {}
             Stage::Gone => {}
         }
+    }
+
+    /// Its silence counts from now on.
+    pub(crate) fn note_heard(&mut self, now: u64) {
+        self.hearing.hear(now);
     }
 
     /// Looks whether its client is there still. One that is silent for long is pinged once, and then given up.
@@ -110,23 +115,22 @@ impl<G: Drop> Client<G> {
         now: u64,
     ) -> Look {
         match &mut self.stage {
-            Stage::Open(guest) => {
-                let silent = now.saturating_sub(self.heard);
-                if silent >= ENDED {
-                    say_silent(rt, self.address, silent);
+            Stage::Open(guest) => match self.hearing.look(house.patience(), now) {
+                Silence::Fine => Look::Fine,
+                Silence::Ping => {
+                    self.hearing.ping(now);
+                    if house.ping(guest) {
+                        Look::Fine
+                    } else {
+                        Look::Due
+                    }
+                }
+                Silence::End => {
+                    say_silent(rt, self.address, self.hearing.silent(now));
                     house.hang_up(guest);
-                    return Look::Due;
-                }
-                if silent < PINGED || self.is_pinged {
-                    return Look::Fine;
-                }
-                self.is_pinged = true;
-                if house.ping(guest) {
-                    Look::Fine
-                } else {
                     Look::Due
                 }
-            }
+            },
             Stage::Shaking(_) => self.look_at_request(now),
             Stage::Answering(_) => self.look_at_request(now),
             Stage::Gone => Look::Over,
@@ -175,18 +179,13 @@ impl<G: Drop> Client<G> {
                 self.come_to(Stage::Shaking(shaking));
                 Turned::waits()
             }
-            Shaken::Open(conn, target) => {
-                let comer = Comer {
-                    address: self.address,
-                    came: now,
-                };
-                let guest = house.enter(rt, alloc, conn, target.as_str(), comer, &self.bell);
-                drop(target);
-                match guest {
-                    Some(guest) => self.turn(rt, house, guest, now, connections),
-                    None => Turned::gone(),
+            Shaken::Open(conn, asked) => match house.refusal(alloc, &asked) {
+                Some(response) => {
+                    drop(asked);
+                    self.answer_on(Answering::start(conn.into_stream(), response))
                 }
-            }
+                None => self.enter(rt, alloc, house, conn, asked, now, connections),
+            },
             Shaken::Plain(stream, request) => {
                 let asking = Asking {
                     request,
@@ -196,6 +195,29 @@ impl<G: Drop> Client<G> {
                 self.answer(rt, alloc, house, stream, asking)
             }
             Shaken::Failed => Turned::gone(),
+        }
+    }
+
+    /// The first turn of a connection that may come.
+    fn enter<H: House<Guest = G>, R: Wait + Eprint>(
+        &mut self,
+        rt: &R,
+        alloc: Global,
+        house: &H,
+        conn: SocketConn<Held<TcpStream>>,
+        asked: Asked,
+        now: Moment,
+        connections: u64,
+    ) -> Turned {
+        let comer = Comer {
+            address: self.address,
+            came: now,
+        };
+        let guest = house.enter(rt, alloc, conn, &asked, comer, &self.bell);
+        drop(asked);
+        match guest {
+            Some(guest) => self.turn(rt, house, guest, now, connections),
+            None => Turned::gone(),
         }
     }
 

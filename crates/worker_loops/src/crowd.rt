@@ -2,10 +2,10 @@
 use crate::client::{Client, Look};
 use crate::house::{After, House, Turned};
 use crate::post::{Doorbell, Post};
-use crate::rounds::STEPS;
+use crate::putter::Newcomer;
+use crate::rounds::{Now, STEPS};
 use crate::timers::Timers;
 use delivery_machine::Moment;
-use mio::net::TcpStream;
 use mio::{Interest, Poll, Token};
 use slab::Slab;
 use socket_conn::Shaking;
@@ -26,15 +26,15 @@ pub(crate) struct Crowd<G: Drop> {
     made: u64,
 }
 
-/// The stream, once the poll tells of it under the token.
-fn registered(poll: &Poll, stream: TcpStream, token: usize) -> Option<TcpStream> {
-    let mut stream = stream;
+/// The connection, once the poll tells of it under the token.
+fn registered(poll: &Poll, newcomer: Newcomer, token: usize) -> Option<Newcomer> {
+    let mut newcomer = newcomer;
     let interest = Interest::READABLE | Interest::WRITABLE;
     match poll
         .registry()
-        .register(&mut stream, Token(token), interest)
+        .register(&mut newcomer.stream, Token(token), interest)
     {
-        Ok(()) => Some(stream),
+        Ok(()) => Some(newcomer),
         Err(_) => None,
     }
 }
@@ -49,17 +49,18 @@ fn client_of<G: Drop>(
     alloc: Global,
     post: &Arc<Post>,
     token: usize,
-    stream: TcpStream,
+    newcomer: Newcomer,
     now: u64,
 ) -> Option<Client<G>> {
     match bell_for(alloc, post, token) {
         Some(bell) => {
+            let Newcomer { stream, visit } = newcomer;
             let address = stream.peer_addr().ok();
             let shaking = Shaking::start(alloc, stream);
-            Some(Client::new(bell, address, shaking, now))
+            Some(Client::new(bell, address, visit, shaking, now))
         }
         None => {
-            drop(stream);
+            drop(newcomer);
             None
         }
     }
@@ -107,15 +108,9 @@ impl<G: Drop> Crowd<G> {
     }
 
     /// The socket is ready.
-    pub(crate) fn note<H: House<Guest = G>>(
-        &mut self,
-        house: &H,
-        token: usize,
-        is_readable: bool,
-        now: u64,
-    ) {
+    pub(crate) fn note<H: House<Guest = G>>(&mut self, house: &H, token: usize, is_readable: bool) {
         if is_readable && let Some(client) = self.clients.get_mut(token) {
-            client.note_readable(house, now);
+            client.note_readable(house);
         }
         self.make_due(token);
     }
@@ -136,23 +131,23 @@ impl<G: Drop> Crowd<G> {
         rt: &R,
         poll: &Poll,
         post: &Arc<Post>,
-        stream: TcpStream,
+        newcomer: Newcomer,
         now: u64,
     ) -> bool {
         if !self.make_room(rt, post) {
-            drop(stream);
+            drop(newcomer);
             return false;
         }
         let token = self.clients.vacant_key();
-        match registered(poll, stream, token) {
-            Some(stream) => self.begin(post, token, stream, now),
+        match registered(poll, newcomer, token) {
+            Some(newcomer) => self.begin(post, token, newcomer, now),
             None => false,
         }
     }
 
     /// The connection, for which there is room, comes to the token.
-    fn begin(&mut self, post: &Arc<Post>, token: usize, stream: TcpStream, now: u64) -> bool {
-        match client_of(self.alloc, post, token, stream, now) {
+    fn begin(&mut self, post: &Arc<Post>, token: usize, newcomer: Newcomer, now: u64) -> bool {
+        match client_of(self.alloc, post, token, newcomer, now) {
             Some(client) => self.clients.insert(client).is_ok(),
             None => false,
         }
@@ -164,7 +159,7 @@ impl<G: Drop> Crowd<G> {
         rt: &R,
         house: &H,
         post: &Post,
-        now: Moment,
+        now: &Now,
         served: &mut Vec<usize>,
     ) {
         served.clear();
@@ -183,7 +178,7 @@ impl<G: Drop> Crowd<G> {
         rt: &R,
         house: &H,
         post: &Post,
-        now: Moment,
+        now: &Now,
         token: usize,
     ) {
         let Some(client) = self.clients.get_mut(token) else {
@@ -191,7 +186,10 @@ impl<G: Drop> Crowd<G> {
         };
         client.is_due = false;
         let connections = post.all_connections() as u64;
-        let turned = client.serve(rt, self.alloc, house, now, connections);
+        let turned = client.serve(rt, self.alloc, house, now.moment, connections);
+        if turned.heard {
+            client.note_heard(now.millis);
+        }
         self.made = self.made.saturating_add(turned.made);
         self.go_on(post, token, turned);
     }

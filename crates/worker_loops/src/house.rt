@@ -1,10 +1,11 @@
 // What workers know of those whom they serve: that a connection is let in by the house, which gives it its turns.
-ghost use Rattle.std.specs.Prelude.{◌≡◌, None};
+ghost use Rattle.std.specs.Prelude.{◌≡◌, None, false};
 
 use crate::post::Doorbell;
+use crate::silence::Patience;
 use delivery_machine::Moment;
 use mio::net::TcpStream;
-use socket_conn::{Held, Request, SocketConn};
+use socket_conn::{Asked, Held, Request, SocketConn};
 use std::alloc::Global;
 use std::io::Eprint;
 use std::net::SocketAddr;
@@ -31,6 +32,8 @@ pub struct Turned {
     pub made: u64,
     /// When the connection is to be looked at again, in milliseconds since 1970.
     pub due: Option<u64>,
+    /// Its silence counts from now on: something whole came from its client, a text or a pong, or its request was accepted.
+    pub heard: bool,
 }
 
 impl Turned {
@@ -39,11 +42,13 @@ impl Turned {
         ensures after { result.after ≡ After.Gone }
         ensures made { result.made ≡ 1 }
         ensures due { result.due ≡ None }
+        ensures heard { result.heard ≡ false }
     {
         Turned {
             after: After::Gone,
             made: 1,
             due: None,
+            heard: false,
         }
     }
 
@@ -52,11 +57,13 @@ impl Turned {
         ensures after { result.after ≡ after }
         ensures made { result.made ≡ 0 }
         ensures due { result.due ≡ None }
+        ensures heard { result.heard ≡ false }
     {
         Turned {
             after,
             made: 0,
             due: None,
+            heard: false,
         }
     }
 
@@ -65,11 +72,13 @@ impl Turned {
         ensures after { result.after ≡ After.Rest }
         ensures made { result.made ≡ 0 }
         ensures due { result.due ≡ None }
+        ensures heard { result.heard ≡ false }
     {
         Turned {
             after: After::Rest,
             made: 0,
             due: None,
+            heard: false,
         }
     }
 }
@@ -97,14 +106,20 @@ pub trait House {
     /// The moment that it is, or the last one that was told.
     fn moment<R: Clock>(&self, rt: &R, last: Moment) -> Moment;
 
-    /// Lets in a connection whose request has this target, and accepts the request only then. None where the connection was
-    /// turned away.
+    /// How long its guests' clients may be silent.
+    fn patience(&self) -> Patience;
+
+    /// The response to a request for a WebSocket that may not come, as it goes out: whole, with its head. None where it may.
+    fn refusal(&self, alloc: Global, asked: &Asked) -> Option<Vec<u8>>;
+
+    /// Lets in a connection that asks for a WebSocket and may come, and accepts its request only then. None where the
+    /// connection was turned away.
     fn enter<R: Wait + Eprint>(
         &self,
         rt: &R,
         alloc: Global,
         conn: SocketConn<Held<TcpStream>>,
-        target: &str,
+        asked: &Asked,
         comer: Comer,
         bell: &Arc<Doorbell>,
     ) -> Option<Self::Guest>;

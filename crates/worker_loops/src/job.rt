@@ -1,10 +1,10 @@
 // What the threads of a broker do.
 use crate::house::House;
 use crate::post::Post;
+use crate::putter::Newcomer;
 use crate::worker::{Door, Worker};
 use handover::Taker;
 use mio::Poll;
-use mio::net::TcpStream;
 use std::alloc::Global;
 use std::io::Eprint;
 use std::rt::{Clock, Files};
@@ -15,7 +15,7 @@ use std::sync::{Arc, Wait};
 pub struct Start {
     pub(crate) poll: Poll,
     pub(crate) post: Arc<Post>,
-    pub(crate) taker: Taker<TcpStream>,
+    pub(crate) taker: Taker<Newcomer>,
     pub(crate) door: Arc<Door>,
 }
 

@@ -3,17 +3,24 @@
 #![tactic(auto)]
 
 mod accepting;
+mod addresses;
 mod client;
+mod crew;
 mod crowd;
 mod house;
 mod job;
 mod post;
 mod putter;
 mod rounds;
+mod silence;
+mod stopwatch;
+mod tally;
 mod timers;
+mod troubles;
 mod worker;
 
 pub use accepting::{Ended, Limits, serve};
 pub use house::{After, Asking, Comer, House, Turned};
 pub use job::{Job, Start, work_at};
 pub use post::Doorbell;
+pub use silence::Patience;

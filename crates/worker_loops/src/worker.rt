@@ -2,10 +2,10 @@
 use crate::crowd::Crowd;
 use crate::house::House;
 use crate::post::Post;
-use crate::rounds::Rounds;
+use crate::putter::Newcomer;
+use crate::rounds::{Now, Rounds};
 use delivery_machine::Moment;
 use handover::Taker;
-use mio::net::TcpStream;
 use mio::{Events, Poll, Token};
 use std::alloc::Global;
 use std::io;
@@ -49,7 +49,7 @@ impl Door {
 pub(crate) struct Worker<G: Drop> {
     poll: Poll,
     post: Arc<Post>,
-    taker: Taker<TcpStream>,
+    taker: Taker<Newcomer>,
     crowd: Crowd<G>,
     events: Events,
     /// Room for tokens that were rung, and for those that are served.
@@ -64,7 +64,7 @@ impl<G: Drop> Worker<G> {
         alloc: Global,
         poll: Poll,
         post: Arc<Post>,
-        taker: Taker<TcpStream>,
+        taker: Taker<Newcomer>,
     ) -> Option<Self> {
         let events = Events::with_capacity(alloc, EVENTS).ok()?;
         let now = Moment::new(0)?;
@@ -119,8 +119,12 @@ impl<G: Drop> Worker<G> {
     }
 
     fn serve<H: House<Guest = G>, R: Wait + Eprint>(&mut self, rt: &R, house: &H) {
+        let now = Now {
+            moment: self.now,
+            millis: self.rounds.now(),
+        };
         self.crowd
-            .serve(rt, house, &*self.post, self.now, &mut self.served);
+            .serve(rt, house, &*self.post, &now, &mut self.served);
     }
 
     /// Stores what waits, where that is little and nobody else does.
@@ -171,8 +175,7 @@ impl<G: Drop> Worker<G> {
             let token = event.token();
             if token != WAKER {
                 let is_readable = event.is_readable() || event.is_read_closed() || event.is_error();
-                self.crowd
-                    .note(house, token.0, is_readable, self.rounds.now());
+                self.crowd.note(house, token.0, is_readable);
             }
         }
         self.look(rt, house);

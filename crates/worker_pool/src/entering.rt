@@ -4,6 +4,7 @@
 use crate::desk::Seated;
 use crate::guest::Guest;
 use crate::place::Place;
+use crate::quoted::Quoted;
 use crate::serving::Served;
 use crate::waiting::Waiting;
 use broker_parts::{Broker, Coming, Visitor, Waiter};
@@ -13,7 +14,7 @@ use mio::net::TcpStream;
 use session_core::{Session, open};
 use session_links::Conn;
 use session_texts::reason;
-use socket_conn::{Held, SocketConn};
+use socket_conn::{Asked, Held, SocketConn};
 use status_pages::Role;
 use std::alloc::Global;
 use std::io::Eprint;
@@ -29,7 +30,7 @@ pub(crate) struct Wish {
     visitor: Visitor,
 }
 
-fn wish_of(endpoint: &Endpoint, comer: Comer) -> Option<Wish> {
+fn wish_of(endpoint: &Endpoint, comer: Comer, is_handed_on: bool) -> Option<Wish> {
     let (topic, creates, code, role) = match endpoint {
         Endpoint::Producer(producer) => (&producer.topic, true, 4001, Role::Producer),
         Endpoint::Consumer(consumer) => (&consumer.topic, true, 4002, Role::Consumer),
@@ -41,6 +42,7 @@ fn wish_of(endpoint: &Endpoint, comer: Comer) -> Option<Wish> {
         code,
         visitor: Visitor {
             address: comer.address,
+            is_handed_on,
             role,
             since: comer.came,
         },
@@ -72,9 +74,8 @@ pub(crate) fn say_unopened<D: Broker<Doorbell>, R: Wait + Eprint>(
         return;
     }
     if let Some(cause) = place.directory.why_unopened(rt, topic) {
-        let (tenant, namespace) = (topic.tenant.as_str(), topic.namespace.as_str());
-        let topic = topic.topic.as_str();
-        let _ = eprintln!(rt; "persistent://{tenant}/{namespace}/{topic}: {cause}");
+        let topic = Quoted { topic };
+        let _ = eprintln!(rt; "{topic}: {cause}");
     }
 }
 
@@ -147,18 +148,21 @@ fn begin<D: Broker<Doorbell>, R: Wait>(
     }
 }
 
-/// Lets in a connection whose request has this target. None where the connection was turned away.
+/// Lets in a connection whose request asks for this. None where the connection was turned away.
 pub(crate) fn enter<D: Broker<Doorbell>, R: Wait + Eprint>(
     rt: &R,
     alloc: Global,
     place: &Place<D>,
     mut conn: SocketConn<Held<TcpStream>>,
-    target: &str,
+    asked: &Asked,
     comer: Comer,
     bell: &Arc<Doorbell>,
 ) -> Option<Guest<D::Seat>> {
-    match route(alloc, target) {
-        Ok(endpoint) => enter_at(rt, alloc, place, conn, endpoint, comer, bell),
+    match route(alloc, asked.target.as_str(), place.rules.letters) {
+        Ok(endpoint) => {
+            let wish = wish_of(&endpoint, comer, asked.is_forwarded);
+            enter_at(rt, alloc, place, conn, endpoint, wish, bell)
+        }
         Err(fault) => {
             place.refusals.note(rt, fault.fault());
             turn_away(&mut conn, fault.close_code(), fault.fault());
@@ -174,10 +178,10 @@ fn enter_at<D: Broker<Doorbell>, R: Wait + Eprint>(
     place: &Place<D>,
     mut conn: SocketConn<Held<TcpStream>>,
     endpoint: Endpoint,
-    comer: Comer,
+    wish: Option<Wish>,
     bell: &Arc<Doorbell>,
 ) -> Option<Guest<D::Seat>> {
-    match wish_of(&endpoint, comer) {
+    match wish {
         Some(wish) => enter_with(rt, alloc, place, conn, endpoint, wish, bell),
         None => {
             place.refusals.note(rt, Fault::NoMemory);

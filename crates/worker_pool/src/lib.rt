@@ -8,9 +8,10 @@ mod log;
 mod memory;
 mod pages;
 mod place;
+mod quoted;
 mod refusals;
 mod serving;
 mod waiting;
 
-pub use place::{About, Place, VERSION};
-pub use worker_loops::{Doorbell, Ended, Limits, serve};
+pub use place::{About, Place, Rules, VERSION};
+pub use worker_loops::{Doorbell, Ended, Limits, Patience, serve};

@@ -1,5 +1,6 @@
 // What an operator reads on standard error: a line for each thing, as `level=.. msg=".." ..`.
 use crate::place::Place;
+use crate::quoted::Quoted;
 use crate::refusals::Refused;
 use broker_parts::{Broker, Copied, Notice, moment};
 use delivery_machine::Moment;
@@ -18,11 +19,8 @@ fn say_notice<R: Eprint>(rt: &R, notice: &Notice) {
             let _ = eprintln!(rt; "level=warn msg=\"slow store\" millis={millis} rows={rows}");
         }
         Notice::Load { topic, took } => {
-            let (tenant, namespace) = (topic.tenant.as_str(), topic.namespace.as_str());
-            let (name, millis) = (topic.topic.as_str(), took.as_millis());
-            let _ = eprintln!(rt;
-                "level=info msg=\"topic loaded\" topic=persistent://{tenant}/{namespace}/{name} millis={millis}"
-            );
+            let (topic, millis) = (Quoted { topic }, took.as_millis());
+            let _ = eprintln!(rt; "level=info msg=\"topic loaded\" topic={topic} millis={millis}");
         }
         Notice::Unload { topics, took } => {
             let millis = took.as_millis();

@@ -1,11 +1,12 @@
 // What is said to requests that ask for no WebSocket.
-ghost use Rattle.std.specs.Prelude.{◌≡◌, IfOk};
-ghost use Rattle.worker_pool.specs.Pages.{IsPage, asked_of, beginning, health as health_page, page_at, response_of, status_text, text_response, unseen};
+ghost use Rattle.std.specs.Prelude.{◌≡◌, ◌++◌, IfOk};
+ghost use Rattle.worker_pool.specs.Pages.{IsPage, asked_of, beginning, comes, ending, page_for, health as health_page, page_at, response_of, status_text, text_response, unseen};
 
 use delivery_machine::Fault;
+use endpoint_core::{Admitted, has_one_reading, may_come};
 use itoa::Buffer;
-use socket_conn::Request;
-use status_pages::{BrokerSeen, PAGE, metrics_text, overview_text};
+use socket_conn::{Asked, Request};
+use status_pages::{BrokerSeen, PAGE, PAGE_POLICY, metrics_text, overview_text};
 use std::alloc::{AllocError, Global};
 
 /// The status of a response (RFC 9110, section 15).
@@ -13,12 +14,16 @@ use std::alloc::{AllocError, Global};
 pub(crate) enum Status {
     Fine,
     BadRequest,
+    Forbidden,
     NotFound,
     Unavailable,
 }
 
 /// The kind of a body that is a text.
 const TEXT: &str = "text/plain; charset=utf-8";
+
+/// The policy of a body that a browser shows alone: it loads nothing, and is in no frame.
+const NOTHING: &str = "default-src 'none'; frame-ancestors 'none'";
 
 impl Status {
     fn text(self) -> &'static str
@@ -27,6 +32,7 @@ impl Status {
         match self {
             Status::Fine => "200 OK",
             Status::BadRequest => "400 Bad Request",
+            Status::Forbidden => "403 Forbidden",
             Status::NotFound => "404 Not Found",
             Status::Unavailable => "503 Service Unavailable",
         }
@@ -44,15 +50,37 @@ fn begun(alloc: Global, status: Status, kind: &str) -> Result<Vec<u8>, AllocErro
     Ok(bytes)
 }
 
-/// A response with its head, as it goes out.
-fn response(alloc: Global, status: Status, kind: &str, body: &[u8]) -> Result<Vec<u8>, AllocError>
-    ensures { IfOk result (λ bytes. bytes.items ≡ response_of status kind.now body.now) }
+/// The head, and behind it its last lines: the connection ends behind it, nobody is to keep it, and a browser may do with it what
+/// the policy says.
+fn ended(head: Vec<u8>, policy: &str) -> Result<Vec<u8>, AllocError>
+    ensures { IfOk result (λ bytes. bytes.items ≡ head.items ++ ending policy.now) }
+{
+    let mut bytes = head;
+    bytes.extend_from_slice(b"\r\nConnection: close\r\nCache-Control: no-store")?;
+    bytes.extend_from_slice(b"\r\nX-Content-Type-Options: nosniff")?;
+    bytes.extend_from_slice(b"\r\nCross-Origin-Resource-Policy: same-origin")?;
+    bytes.extend_from_slice(b"\r\nContent-Security-Policy: ")?;
+    bytes.extend_from_slice(policy.as_bytes())?;
+    bytes.extend_from_slice(b"\r\n\r\n")?;
+    Ok(bytes)
+}
+
+/// A response with its head, as it goes out. A browser may do with the body what the policy says, and pages from elsewhere may
+/// not load it.
+fn response(
+    alloc: Global,
+    status: Status,
+    kind: &str,
+    policy: &str,
+    body: &[u8],
+) -> Result<Vec<u8>, AllocError>
+    ensures { IfOk result (λ bytes. bytes.items ≡ response_of status kind.now policy.now body.now) }
 {
     let mut buffer = Buffer::new();
     let mut bytes = begun(alloc, status, kind)?;
     bytes.extend_from_slice(b"\r\nContent-Length: ")?;
     bytes.extend_from_slice(buffer.format(body.len()).as_bytes())?;
-    bytes.extend_from_slice(b"\r\nConnection: close\r\nCache-Control: no-store\r\n\r\n")?;
+    let mut bytes = ended(bytes, policy)?;
     bytes.extend_from_slice(body)?;
     Ok(bytes)
 }
@@ -60,7 +88,7 @@ fn response(alloc: Global, status: Status, kind: &str, body: &[u8]) -> Result<Ve
 fn text_page(alloc: Global, status: Status, body: &str) -> Result<Vec<u8>, AllocError>
     ensures { IfOk result (λ bytes. bytes.items ≡ text_response status body.now) }
 {
-    response(alloc, status, TEXT, body.as_bytes())
+    response(alloc, status, TEXT, NOTHING, body.as_bytes())
 }
 
 /// Whether the store stands.
@@ -83,13 +111,18 @@ pub(crate) enum Page {
     Index,
     /// There is no such page.
     Unknown,
-    /// It is no GET, or no request.
+    /// It is no GET, or no request, or its target may be read in two ways.
     Nothing,
+    /// It may not come: a page of another origin asks, or the host is none of the broker's.
+    Forbidden,
 }
 
 fn page_at(target: &str) -> Page
     ensures { result ≡ page_at target.now }
 {
+    if !has_one_reading(target) {
+        return Page::Nothing;
+    }
     if target == "/health" {
         return Page::Health;
     }
@@ -106,24 +139,46 @@ fn page_at(target: &str) -> Page
     }
 }
 
+/// Whether a request with this head may come.
+pub(crate) fn comes(admitted: &Admitted, asked: &Asked) -> bool
+    ensures { result ≡ comes admitted.now asked.now }
+{
+    let origin = match &asked.origin {
+        Some(origin) => Some(origin.as_str()),
+        None => None,
+    };
+    may_come(admitted, asked.host.as_str(), origin)
+}
+
+fn page_for(admitted: &Admitted, asked: &Asked) -> Page
+    ensures { result ≡ page_for admitted.now asked.now }
+{
+    if comes(admitted, asked) {
+        page_at(asked.target.as_str())
+    } else {
+        Page::Forbidden
+    }
+}
+
 /// The page that the request asks for.
-pub(crate) fn asked_of(request: &Request) -> Page
-    ensures { result ≡ asked_of request.now }
+pub(crate) fn asked_of(admitted: &Admitted, request: &Request) -> Page
+    ensures { result ≡ asked_of admitted.now request.now }
 {
     match request {
-        Request::Get(target) => page_at(target.as_str()),
+        Request::Get(asked) => page_for(admitted, asked),
         Request::Other => Page::Nothing,
         Request::Bad => Page::Nothing,
     }
 }
 
-fn html(alloc: Global, body: &str) -> Result<Vec<u8>, AllocError>
+fn html(alloc: Global, policy: &str, body: &str) -> Result<Vec<u8>, AllocError>
     ensures { IfOk result (λ bytes. IsPage Page.Index bytes.items) }
 {
     response(
         alloc,
         Status::Fine,
         "text/html; charset=utf-8",
+        policy,
         body.as_bytes(),
     )
 }
@@ -132,7 +187,7 @@ fn html(alloc: Global, body: &str) -> Result<Vec<u8>, AllocError>
 pub(crate) fn index(alloc: Global) -> Result<Vec<u8>, AllocError>
     ensures { IfOk result (λ bytes. IsPage Page.Index bytes.items) }
 {
-    html(alloc, PAGE)
+    html(alloc, PAGE_POLICY, PAGE)
 }
 
 /// The numbers for Prometheus, by its text format.
@@ -144,6 +199,7 @@ fn metrics(alloc: Global, seen: &BrokerSeen) -> Result<Vec<u8>, AllocError>
         alloc,
         Status::Fine,
         "text/plain; version=0.0.4; charset=utf-8",
+        NOTHING,
         text.as_bytes(),
     )
 }
@@ -153,7 +209,13 @@ fn overview(alloc: Global, seen: &BrokerSeen) -> Result<Vec<u8>, AllocError>
     ensures { IfOk result (λ bytes. IsPage Page.Overview bytes.items) }
 {
     let text = overview_text(alloc, seen)?;
-    response(alloc, Status::Fine, "application/json", text.as_bytes())
+    response(
+        alloc,
+        Status::Fine,
+        "application/json",
+        NOTHING,
+        text.as_bytes(),
+    )
 }
 
 /// There is no memory to look.
@@ -173,6 +235,12 @@ pub(crate) fn bad_request(alloc: Global) -> Result<Vec<u8>, AllocError>
     ensures { IfOk result (λ bytes. IsPage Page.Nothing bytes.items) }
 {
     text_page(alloc, Status::BadRequest, "bad request\n")
+}
+
+pub(crate) fn forbidden(alloc: Global) -> Result<Vec<u8>, AllocError>
+    ensures { IfOk result (λ bytes. IsPage Page.Forbidden bytes.items) }
+{
+    text_page(alloc, Status::Forbidden, "forbidden\n")
 }
 
 /// The numbers of what was seen, or a word of why nothing was.

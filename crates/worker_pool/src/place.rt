@@ -1,24 +1,26 @@
 // What all workers share: the directory of topics, to whose sessions connections come.
-ghost use Rattle.std.specs.Prelude.{IfOk, IfSome};
-ghost use Rattle.worker_pool.specs.Pages.{IsPage, asked_of};
+ghost use Rattle.std.specs.Prelude.{IfOk, IfSome, option_map};
+ghost use Rattle.worker_pool.specs.Pages.{IsPage, Refuses, asked_of};
 
 use crate::entering::enter;
 use crate::guest::{Guest, turn};
 use crate::memory::Memory;
 use crate::pages::{
-    Page, asked_of, bad_request, health, index, metrics_of, not_found, overview_of,
+    Page, asked_of, bad_request, comes, forbidden, health, index, metrics_of, not_found,
+    overview_of,
 };
 use crate::refusals::Refusals;
 use broker_parts::{Broker, moment};
 use delivery_machine::{Fault, Moment};
+use endpoint_core::{Admitted, Letters};
 use mio::net::TcpStream;
-use socket_conn::{Held, SocketConn};
+use socket_conn::{Asked, Held, SocketConn};
 use status_pages::{BrokerSeen, ProgramSeen};
 use std::alloc::{AllocError, Global};
 use std::io::Eprint;
 use std::rt::{Clock, Files};
 use std::sync::{Arc, Wait};
-use worker_loops::{Asking, Comer, Doorbell, House, Job, Start, Turned, work_at};
+use worker_loops::{Asking, Comer, Doorbell, House, Job, Patience, Start, Turned, work_at};
 
 /// The program's version, as its package has it too.
 pub const VERSION: &str = "0.9.0";
@@ -28,12 +30,25 @@ pub const VERSION: &str = "0.9.0";
 pub struct About {
     /// When it was started.
     pub started: Moment,
+    /// It listens at an address that others than its own machine's may reach, and nobody said that it should.
+    pub is_open: bool,
+}
+
+/// What the program was told of who may come, and of those who come.
+#[derive(Drop)]
+pub struct Rules {
+    pub admitted: Admitted,
+    /// Where a consumer may have its dead letters moved.
+    pub letters: Letters,
+    /// For how long a client may be silent.
+    pub patience: Patience,
 }
 
 /// What all workers share: the directory of topics, and what is counted beside it.
 pub struct Place<D: Broker<Doorbell>> {
     pub(crate) directory: D,
     about: About,
+    pub(crate) rules: Rules,
     pub(crate) refusals: Refusals,
     memory: Memory,
 }
@@ -43,6 +58,7 @@ impl<D: Broker<Doorbell>> Drop for Place<D> {
         let Place {
             directory: _,
             about: _,
+            rules: _,
             refusals: _,
             memory: _,
         } = self;
@@ -50,10 +66,11 @@ impl<D: Broker<Doorbell>> Drop for Place<D> {
 }
 
 impl<D: Broker<Doorbell>> Place<D> {
-    pub fn new(directory: D, about: About) -> Self {
+    pub fn new(directory: D, about: About, rules: Rules) -> Self {
         Place {
             directory,
             about,
+            rules,
             refusals: Refusals::new(),
             memory: Memory::new(),
         }
@@ -69,6 +86,7 @@ impl<D: Broker<Doorbell>> Place<D> {
             now: now.millis(),
             connections,
             memory: self.memory.bytes(),
+            is_open: self.about.is_open,
         }
     }
 
@@ -100,6 +118,7 @@ impl<D: Broker<Doorbell>> Place<D> {
             Page::Index => index(alloc),
             Page::Unknown => not_found(alloc),
             Page::Nothing => bad_request(alloc),
+            Page::Forbidden => forbidden(alloc),
         }
     }
 
@@ -116,27 +135,43 @@ impl<D: Broker<Doorbell>> House for Place<D> {
         moment(rt, last)
     }
 
+    fn patience(&self) -> Patience {
+        self.rules.patience
+    }
+
+    fn refusal(&self, alloc: Global, asked: &Asked) -> Option<Vec<u8>>
+        ensures { Refuses self.now.rules.admitted asked.now (option_map (λ bytes. bytes.items) result) }
+    {
+        if comes(&self.rules.admitted, asked) {
+            return None;
+        }
+        match forbidden(alloc) {
+            Ok(response) => Some(response),
+            Err(_) => Some(Vec::new(alloc)),
+        }
+    }
+
     fn enter<R: Wait + Eprint>(
         &self,
         rt: &R,
         alloc: Global,
         conn: SocketConn<Held<TcpStream>>,
-        target: &str,
+        asked: &Asked,
         comer: Comer,
         bell: &Arc<Doorbell>,
     ) -> Option<Guest<D::Seat>> {
-        enter(rt, alloc, self, conn, target, comer, bell)
+        enter(rt, alloc, self, conn, asked, comer, bell)
     }
 
     fn answer<R: Wait>(&self, rt: &R, alloc: Global, asking: Asking) -> Option<Vec<u8>>
-        ensures { IfSome result (λ bytes. IsPage (asked_of asking.request) bytes.items) }
+        ensures { IfSome result (λ bytes. IsPage (asked_of self.now.rules.admitted asking.request) bytes.items) }
     {
         let Asking {
             request,
             now,
             connections,
         } = asking;
-        let asked = asked_of(&request);
+        let asked = asked_of(&self.rules.admitted, &request);
         drop(request);
         self.page(rt, alloc, now, connections, asked).ok()
     }

@@ -73,6 +73,7 @@ impl<X: Drop> Served<X> {
             after,
             made: u64::from(received).max(1),
             due: self.session.waits().due,
+            heard: self.conn.take_heard(),
         }
     }
 }
@@ -90,6 +91,7 @@ pub(crate) fn serve_turn<D: Broker<Doorbell>, R: Wait>(
         session,
         seat,
     } = served;
+    conn.begin_turn();
     let _ = conn.flush();
     let left = {
         let mut caller = Desk::at(rt, place, &seat, now, connections);

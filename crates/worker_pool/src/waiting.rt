@@ -109,12 +109,13 @@ fn enter_again<D: Broker<Doorbell>, R: Wait + Eprint>(
     }
 }
 
-/// The connection is served in the next round.
+/// The connection is served in the next round. Its request was accepted, so its silence counts from now on.
 fn next_round() -> Turned {
     Turned {
         after: After::Again,
         made: 1,
         due: None,
+        heard: true,
     }
 }
 

@@ -4,7 +4,7 @@ use super::stage::{number, words};
 use super::watched::Watched;
 use crate::tests::{expect_count, push};
 use delivery_machine::{Event, Moment};
-use endpoint_core::{Endpoint, route};
+use endpoint_core::{Endpoint, Letters, route};
 use session_core::{Session, TextCount, open, serve};
 use session_links::{Incoming, Line, Request};
 use std::mem;
@@ -28,7 +28,7 @@ impl Scene {
     }
 
     fn open<R: AllocGlobal>(&mut self, rt: &R, target: &str) {
-        if let Ok(endpoint) = route(rt.alloc(), target) {
+        if let Ok(endpoint) = route(rt.alloc(), target, Letters::Anywhere) {
             self.begin(rt, endpoint);
         }
     }

@@ -1,7 +1,7 @@
 // One session of a plain topic, with its connection.
 use crate::tests::this_topic;
 use delivery_machine::{Event, Moment, Reply};
-use endpoint_core::{Endpoint, route};
+use endpoint_core::{Endpoint, Letters, route};
 use plain_topic::PlainTopic;
 use position_core::LedgerSize;
 use session_core::{Session, TextCount, open, serve};
@@ -56,7 +56,7 @@ impl Side {
 
     pub(crate) fn open<R: AllocGlobal>(&mut self, rt: &R, desk: &mut Desk, target: &str) {
         drop(mem::replace(&mut self.conn, ListConn::new(rt.alloc())));
-        if let Ok(endpoint) = route(rt.alloc(), target) {
+        if let Ok(endpoint) = route(rt.alloc(), target, Letters::Anywhere) {
             self.begin(rt, desk, endpoint);
         }
     }

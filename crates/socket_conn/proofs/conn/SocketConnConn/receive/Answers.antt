@@ -1,7 +1,7 @@
 use Rattle.std.proofs.Common.{ap, subst, ◌∙◌, ◌≡◌}
 use Rattle.socket_conn.specs.State.{over, emptied}
-use Rattle.socket_conn.specs.Talks.{DriedSince, Takes}
-use Rattle.socket_conn.proofs.TalksLemmas.{answered, reads-once}
+use Rattle.socket_conn.specs.Talks.{Takes}
+use Rattle.socket_conn.proofs.TalksLemmas.{answered, reads-once, signed}
 use Rattle.socket_conn.proofs.conn.SocketConnConn.receive.Goals as goal
 
 pub returns-clause-read : goal.returns-clause-read
@@ -10,7 +10,10 @@ returns-clause-read g c =
     let contents = g.S.Write.contents in
     let full = g.S.CountsWaits.full in
     let dry = g.S.CountsWaits.dry in
+    let spent = g.S.CountsWaits.spent in
+    let is_over = g.S.CountsFrames.over in
     let came = c.read-what.ensures.came in
+    let signs = came.0 in
     let given = came.1.0 in
     let idle = c.flush.new.self.socket in
     let socket = c.read-what.new.self.socket in
@@ -18,7 +21,7 @@ returns-clause-read g c =
     c.flush.ensures.sent (c.flush.ensures.all c.if-not-flush.false) came.1.1 in
     let flushed : c.flush.new.self ≡ over idle (emptied c.args.self.now) = rw c.if-not-flush.false at c.flush.ensures.state in
     let mid : c.read-what.new.self ≡ over socket (emptied c.args.self.now) = c.read-what.ensures.same ∙ ap (over socket) flushed in
-    let counted = c.times_dry-dry.ensures ∙ ap dry c.get_ref.ensures in
-    let dried = subst (λ t. DriedSince dry t socket came.0) counted came.2 in
-    answered remaining contents full dry c.args.self.now c.take.new.self socket came.0 given c.read-what.result c.take.result
-    reads came.1.2 dried (subst (λ m. Takes c.read-what.result m c.take.new.self c.take.result) mid c.take.ensures.takes)
+    let signs_given = signed dry spent is_over c.args.self.now.socket socket c.get_ref-stream.result.now c.times_dry-dry.result c.times_spent-spent.result signs
+    c.get_ref-stream.ensures c.times_dry-dry.ensures c.times_spent-spent.ensures came.2 in
+    answered remaining contents full dry spent is_over c.args.self.now c.take.new.self socket signs given c.read-what.result c.take.result
+    reads came.1.2 signs_given (subst (λ m. Takes c.read-what.result m c.take.new.self c.take.result) mid c.take.ensures.takes)

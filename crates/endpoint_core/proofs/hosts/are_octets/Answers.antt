@@ -1,0 +1,8 @@
+use Rattle.std.proofs.Common.{lit<, rules, tests}
+use Rattle.std.proofs.lemmas.Iterator.Search.{all_from_yields_List}
+use Rattle.std.proofs.lemmas.Iterator.Splits.{YieldsList-from_str_split}
+use Rattle.endpoint_core.specs.Origins.{is_octet}
+use Rattle.endpoint_core.proofs.hosts.are_octets.Goals as goal
+
+pub returns : goal.returns
+returns c = all_from_yields_List is_octet _ _ _ c.all.ensures.ran (YieldsList-from_str_split 46 c.args.host.now (lit< tt) c.split.ensures.text c.split.ensures.has_more c.split.ensures.pattern) (λ x b q k. search (rules, tests))

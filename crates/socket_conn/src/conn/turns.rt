@@ -1,0 +1,47 @@
+// A connection's turns: what it may read in one, and what came in it.
+ghost use Rattle.std.specs.Prelude.{◌≡◌, false};
+
+use super::SocketConn;
+use crate::held::Held;
+use std::io::{Read, Write};
+
+impl<S: Read + Write + Drop> SocketConn<S> {
+    /// How many messages were received since this was asked last.
+    pub fn take_received(&mut self) -> u32
+        ensures count { result ≡ self.old.received }
+        ensures taken { self.new ≡ record self.old { received = 0 } }
+    {
+        let received = self.received;
+        self.received = 0;
+        received
+    }
+
+    /// Whether a text, a binary message or a pong was received since this was asked last: so the client is there. A ping says
+    /// less, and a part of a text does.
+    pub fn take_heard(&mut self) -> bool
+        ensures heard { result ≡ self.old.is_heard }
+        ensures taken { self.new ≡ record self.old { is_heard = false } }
+    {
+        let is_heard = self.is_heard;
+        self.is_heard = false;
+        is_heard
+    }
+}
+
+impl<S: Read + Write + Drop> SocketConn<Held<S>> {
+    /// What waits may go out, the answer to the request first.
+    pub fn let_go(&mut self)
+        ensures { self.new ≡ record self.old { socket = self.new.socket; is_blocked = false } }
+    {
+        self.socket.get_mut().let_go();
+        self.is_blocked = false;
+    }
+
+    /// A turn begins: as many bytes may be read in it as in any other. Whoever serves the connection says so once a turn; else
+    /// nothing more is read, once those of one turn are used up.
+    pub fn begin_turn(&mut self)
+        ensures { self.new ≡ record self.old { socket = self.new.socket } }
+    {
+        self.socket.get_mut().begin_turn();
+    }
+}
