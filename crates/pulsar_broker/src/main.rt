@@ -122,13 +122,17 @@ fn main(rt: HostRuntime) -> ExitCode {
     let fate = if asked.database == IN_MEMORY {
         match open_in_memory(rt.alloc()) {
             Ok(conn) => serve_over(&rt, &asked, rules, conn),
-            Err(_) => Fate::CannotServe,
+            Err(_) => {
+                drop(rules);
+                Fate::CannotServe
+            }
         }
     } else {
         make_private(&rt, asked.database);
         match open(&rt, asked.database, Unknown) {
             Ok(conn) => serve_over(&rt, &asked, rules, conn),
             Err(error) => {
+                drop(rules);
                 let why = why_unopened(&rt, asked.database, error);
                 say_why(&rt, asked.database, why);
                 Fate::StoreFailed
