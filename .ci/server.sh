@@ -1,8 +1,9 @@
 #!/usr/bin/env bash
 # Tries the program that was proved over real sockets, from outside: targets and texts with what they are answered, each refusal
-# with its code, requests that ask for no WebSocket, who is let in, who floods or is silent, what comes again and when, what is
-# seen of the broker and what is asked of it, what goes and what stays, two topics at once, whoever comes and goes; then kills, and
-# a disk that takes no more. It wants Python's own library alone.
+# with its code, requests that ask for no WebSocket, who is let in, who floods or is silent, what one address and one topic may
+# have, what comes again and when, also where the clock is set, what is seen of the broker and what is asked of it, what goes and
+# what stays, two topics at once, whoever comes and goes; then kills, a disk that takes no more, and files that are taken away. It
+# wants gcc and Python's own library alone.
 set -euo pipefail
 cd "$(dirname "$0")/.."
 program=$PWD/crates/pulsar_broker/out/pulsar_broker
@@ -22,7 +23,10 @@ python3 bench/server/refusals.py "$program" "$(port)"
 python3 bench/server/plain.py "$program" "$(port)"
 python3 bench/server/doors.py "$program" "$(port)"
 python3 bench/server/floods.py "$program" "$(port)"
+python3 bench/server/addresses.py "$program" "$(port)"
+python3 bench/server/bounds.py "$program" "$(port)"
 python3 bench/server/returns.py "$program" 5 "$(port)"
+python3 bench/server/clock.py "$program" "$(port)"
 python3 bench/server/seen.py "$program" "$(port)"
 python3 bench/server/administer.py "$program" "$(port)"
 python3 bench/server/keeps.py "$program" "$(port)"
@@ -37,3 +41,4 @@ python3 bench/server/kills.py "$program" 5 "$(port)"
 python3 bench/server/counts.py "$program" 3 "$(port)" 10
 python3 bench/server/deaths.py "$program" 5 "$(port)"
 python3 bench/server/full.py "$program" 6 "$(port)"
+python3 bench/server/gone.py "$program" "$(port)"

@@ -2,7 +2,7 @@
 # Copies of the database while the broker serves: asked for under load, of one broker after another, since two copies of one are a
 # minute apart. Each copy is whole for sqlite3, has each message that was answered before it was asked for, and starts a broker
 # that delivers them. It is its owner's alone, and goes where no link leads it. Nobody gets one from another machine's address.
-# The gate runs it.
+# Whoever connects while a slow one is made is served. The gate runs it; it wants gcc.
 # backup.py PROGRAM [times] [port]
 import base64
 import json
@@ -170,6 +170,32 @@ def leads_nowhere():
     broker.kill()
 
 
+def serves_meanwhile():
+    """Clients that connect while a copy is made, which takes seconds."""
+    shim = f'{folder}/slow_copy.so'
+    subprocess.run(['gcc', '-O2', '-shared', '-fPIC', '-o', shim, f'{os.path.dirname(os.path.abspath(__file__))}/slow_copy.c'], check=True)
+    process = subprocess.Popen([program, broker.database, f'127.0.0.1:{port}', '2', f'backup={folder}'], stdout=subprocess.PIPE,
+                               env={**os.environ, 'LD_PRELOAD': shim, 'SLOW_COPY': '5'})
+    assert process.stdout.readline().startswith(b'listening')
+    boss = admin()
+    assert asked(boss, type='backup') == {'result': 'ok'}
+    time.sleep(1.5)
+    begun = time.time()
+    for _ in range(20):
+        client = producer(port, 't1')
+        client.send(text_of(b'meanwhile'))
+        assert client.receive()['result'] == 'ok'
+        client.leave()
+    took = time.time() - begun
+    assert asked(boss, type='overview')['backups']['made'] == 0, took
+    while asked(boss, type='overview')['backups']['made'] == 0:
+        assert time.time() < begun + 30
+        time.sleep(0.05)
+    process.kill()
+    process.wait()
+    print(f'ok 20 clients that connect while a copy is made are served in {took:.1f} s')
+
+
 host = far()
 folder = tempfile.mkdtemp(prefix='broker-', dir=os.environ.get('ROOM', '.'))
 broker = Broker(program, port, 4, folder, ['keep=all', f'backup={folder}'])
@@ -198,6 +224,7 @@ assert not left, left
 print(f'ok {times} copies under load, with {sum(counts)} messages at the end: each is whole, has what was answered before, and starts')
 leads_nowhere()
 print('ok no link leads a copy elsewhere')
+serves_meanwhile()
 
 broker.more = ['backup=/nowhere/at/all']
 broker.start()

@@ -8,44 +8,15 @@ import re
 import subprocess
 import sys
 import tempfile
-import threading
 import time
 
 from client import consumer, frame, producer, text_of
+from said import Said
 
 program = sys.argv[1]
 port = int(sys.argv[2]) if len(sys.argv) > 2 else 18105
 COUNT = int(sys.argv[3]) if len(sys.argv) > 3 else 1_000_000
 HERE = os.path.dirname(os.path.abspath(__file__))
-
-
-class Said:
-    """The program, and its lines."""
-
-    def __init__(self, folder, **more):
-        self.process = subprocess.Popen([program, f'{folder}/broker.db', f'127.0.0.1:{port}', '2'], stdout=subprocess.PIPE,
-                                        stderr=subprocess.PIPE, text=True, env={**os.environ, **more})
-        assert self.process.stdout.readline().startswith('listening')
-        self.lines = []
-        threading.Thread(target=self.read, daemon=True).start()
-
-    def read(self):
-        for line in self.process.stderr:
-            self.lines.append(line.rstrip('\n'))
-
-    def until(self, pattern, most=10):
-        """The first line that is so."""
-        end = time.time() + most
-        while time.time() < end:
-            for line in list(self.lines):
-                if re.fullmatch(pattern, line):
-                    return line
-            time.sleep(0.05)
-        raise AssertionError((pattern, self.lines))
-
-    def end(self):
-        self.process.kill()
-        self.process.wait()
 
 
 def publish(count):
@@ -71,7 +42,7 @@ def refuse(times):
 with tempfile.TemporaryDirectory(dir=os.environ.get('ROOM')) as room:
     slow = f'{room}/slow.so'
     subprocess.run(['gcc', '-O2', '-shared', '-fPIC', '-o', slow, f'{HERE}/fixed_sync.c'], check=True)
-    broker = Said(room, LD_PRELOAD=slow, SYNC_US='150000')
+    broker = Said(program, room, port, LD_PRELOAD=slow, SYNC_US='150000')
     print(broker.until(r'level=info msg="started" version=\S+ database=\S+ bytes=\d+ log_bytes=\d+ address=\S+ workers=2'))
     writer = producer(port, 'slow')
     writer.send(text_of(b'x'))
@@ -79,7 +50,7 @@ with tempfile.TemporaryDirectory(dir=os.environ.get('ROOM')) as room:
     print(broker.until(r'level=warn msg="slow store" millis=1[5-9]\d rows=\d+'))
     broker.end()
 
-    broker = Said(room)
+    broker = Said(program, room, port)
     silent = consumer(port, 'silent', 's')
     came = time.time()
     holder = consumer(port, 'taken', 's')
@@ -98,7 +69,7 @@ with tempfile.TemporaryDirectory(dir=os.environ.get('ROOM')) as room:
     print(f'after {time.time() - came:.0f} s')
     broker.end()
 
-    broker = Said(room)
+    broker = Said(program, room, port)
     reader = consumer(port, 'loaded', 's', '?subscriptionInitialPosition=Earliest')
     assert 'payload' in reader.receive()
     print(broker.until(r'level=info msg="topic loaded" topic="persistent://public/default/loaded" millis=\d+'))

@@ -17,12 +17,15 @@ use Rattle.broker_dir.proofs.table.Listed.TheSendSync.{the_send as listed_send}
 use Rattle.broker_parts.proofs.waiting.Opening.TheSendSync.{the_send as opening_send, the_sync as opening_sync}
 use Rattle.broker_parts.proofs.hearers.Hearers.TheSendSync.{the_send as hearers_send}
 use Rattle.broker_parts.proofs.wanted.Wanted.TheSendSync.{the_send as wanted_send}
+use Rattle.broker_parts.proofs.bulk.Bulk.TheSendSync.{the_send as bulk_send}
 use Rattle.broker_parts.proofs.signs.Signs.TheSendSync.{the_send as signs_send, the_sync as signs_sync}
 use Rattle.broker_parts.proofs.board.Board.TheSendSync.{the_send as board_send, the_sync as board_sync}
 use Rattle.broker_dir.proofs.closing.Closed.TheSendSync.{the_send as closed_send, the_sync as closed_sync}
 use Rattle.broker_parts.proofs.uses.Uses.TheSendSync.{the_send as uses_send, the_sync as uses_sync}
 use Rattle.broker_parts.proofs.counts.Counts.TheSendSync.{the_send as counts_send, the_sync as counts_sync}
+use Rattle.broker_parts.proofs.steps.Steps.TheSendSync.{the_send as steps_send, the_sync as steps_sync}
 use Rattle.broker_parts.proofs.backup.Backups.TheSendSync.{the_send as backups_send, the_sync as backups_sync}
+use Rattle.broker_parts.proofs.files.DataFiles.TheSendSync.{the_send as files_send, the_sync as files_sync}
 use Rattle.stored_cell.proofs.opening.Terms.TheSendSync.{the_send as terms_send, the_sync as terms_sync}
 use Rattle.delivery_machine.proofs.retention.Retention.TheSendSync.{the_send as rule_send, the_sync as rule_sync}
 use Rattle.row_store.proofs.keeper.Keeper.TheSendSync.{the_send as keeper_send}
@@ -36,6 +39,7 @@ use Rattle.stored_cell.specs.contracts.viewed.Viewed as Viewed
 use Rattle.stored_cell.specs.contracts.cell.StoredCell as StoredCell
 use Rattle.stored_cell.specs.contracts.cell.StoredCell.TheInside as StoredFields
 use Rattle.broker_parts.specs.contracts.backup.Backups as Backups
+use Rattle.broker_parts.specs.contracts.files.DataFiles as DataFiles
 use Rattle.broker_dir.specs.contracts.named_cell.NamedCell as NamedCell
 use Rattle.broker_dir.specs.contracts.inside.Inside as Inside
 use Rattle.broker_dir.specs.contracts.table.Table as Table
@@ -60,7 +64,7 @@ NamedCell-send T I g v n s = let cell = StoredCell-send T I g n s in
 
 Inside-send : (T I B : RattleType) (g : topic.Ghosts T.Denot) (v : saved.Ghosts T.Denot) (n : naming.Ghosts I.Denot) → IsSend T → IsSend B → IsSync B → IsSend (Inside.the_row T I B g v n)
 Inside-send T I B g v n s b c = let topic = NamedCell-send T I g v n s in let hearers = hearers_send B b c in declared_send (Inside.the_type T I B g v n)
-    (topic, (stage_send, (hearers, (wanted_send, (search sendable, (search sendable, tt))))))
+    (topic, (stage_send, (hearers, (wanted_send, (search sendable, (search sendable, (bulk_send, tt)))))))
 
 Shared-send : (T I B : RattleType) (g : topic.Ghosts T.Denot) (v : saved.Ghosts T.Denot) (n : naming.Ghosts I.Denot) → IsSend T → IsSend B → IsSync B → IsSend (Shared.the_row T I B g v n)
 Shared-send T I B g v n s b c = let i = Inside-send T I B g v n s b c in declared_send (Shared.the_type T I B g v n)
@@ -96,7 +100,7 @@ Directory-send T K I B g v o n s k b c = let X = Arc.the_row (Shared.the_row T I
           rule_send,
           (
             as_row_send (Mutex.the_field (Table.the_row T I B g v n)) (search (sendable, crosses, t) depth 20),
-            (as_row_send (Mutex.the_field (Keeper.the_row K I n o)) (search (sendable, crosses, e) depth 20), (d, (closed_send, (uses_send, (counts_send, (as_row_send (Option.the_field Backups.the_row) (search (sendable, crosses, backups_send) depth 20), tt)))))),
+            (as_row_send (Mutex.the_field (Keeper.the_row K I n o)) (search (sendable, crosses, e) depth 20), (d, (closed_send, (uses_send, (counts_send, (steps_send, (as_row_send (Option.the_field Backups.the_row) (search (sendable, crosses, backups_send) depth 20), (as_row_send (Option.the_field DataFiles.the_row) (search (sendable, crosses, files_send) depth 20), (search (sendable, crosses) depth 20, tt))))))))),
           ),
         ),
       ),
@@ -112,7 +116,7 @@ Directory-sync T K I B g v o n s k b c = let X = Arc.the_row (Shared.the_row T I
           rule_sync,
           (
             as_row_sync (Mutex.the_field (Table.the_row T I B g v n)) (search (sendable, crosses, t) depth 20),
-            (as_row_sync (Mutex.the_field (Keeper.the_row K I n o)) (search (sendable, crosses, e) depth 20), (d, (closed_sync, (uses_sync, (counts_sync, (as_row_sync (Option.the_field Backups.the_row) (search (sendable, crosses, backups_sync) depth 20), tt)))))),
+            (as_row_sync (Mutex.the_field (Keeper.the_row K I n o)) (search (sendable, crosses, e) depth 20), (d, (closed_sync, (uses_sync, (counts_sync, (steps_sync, (as_row_sync (Option.the_field Backups.the_row) (search (sendable, crosses, backups_sync) depth 20), (as_row_sync (Option.the_field DataFiles.the_row) (search (sendable, crosses, files_sync) depth 20), (search (sendable, crosses) depth 20, tt))))))))),
           ),
         ),
       ),

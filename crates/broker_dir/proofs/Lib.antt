@@ -1,4 +1,4 @@
--- Lemmas on the list of open topics, on what a lock guards, on looks and trims, on a store that was refused, and on what may
+-- Lemmas on the list of open topics, on what a lock guards, on looks, trims and weights, on a store that was refused, and on what may
 -- go to another thread.
 pub mod Crosses
 pub mod Listed
@@ -6,3 +6,4 @@ pub mod Seats
 pub mod Failing
 pub mod Looked
 pub mod Trims
+pub mod Weighed

@@ -1,5 +1,5 @@
 -- A seat that is free again, and what a topic keeps under its lock: its name, and what it goes on from.
-use Rattle.std.proofs.Common.{◌≡◌, ◌+◌, ◌-◌, ◌<◌, ◌≤◌, ◌==◌, ℕ, nat_lt, Bool, true, false, List, set, length, length-set, Option, Some, Result, Ok, Err, IfOk, OnErr, OnOk, IsTrue, IsFalse, if◌then◌else◌, ◌||◌, refl, sym, ap, subst, ◌∙◌, arith}
+use Rattle.std.proofs.Common.{◌≡◌, ◌+◌, ◌-◌, ◌<◌, ◌≤◌, ◌==◌, ℕ, nat_lt, Bool, true, false, List, set, length, length-set, Option, Some, Result, Ok, Err, IfOk, OnErr, OnOk, IsTrue, IsFalse, if◌then◌else◌, ◌||◌, refl, sym, ap, subst, ◌∙◌, inl, inr, arith}
 use Rattle.std.proofs.lemmas.List.{set-set, set-get_or, get_or-set_same}
 use Rattle.std.proofs.lemmas.Option.{get_or_from_slice_get, slice_get-get_or}
 use Rattle.std.proofs.lemmas.Bool.Decides.{nat_tests}
@@ -19,7 +19,7 @@ use Rattle.topic_shared.specs.Kept.{Kept, StoresLine, with_promise}
 use Rattle.stored_cell.specs.Held.{Held, SameButPromise}
 use Rattle.stored_cell.specs.Noted.{Noted}
 use Rattle.row_store.specs.Opened.{has_origin}
-use Rattle.broker_dir.specs.Handing.{HandsOn}
+use Rattle.broker_dir.specs.Handing.{Confirms, HandsOn}
 
 set_as : {X : Type 0} (xs : List X) (i : ℕ) (x : X) → slice_get xs i ≡ Some x → set xs i x ≡ xs
 set_as xs i x is = ap (set xs i) (sym (get_or_from_slice_get xs i x x is)) ∙ set-get_or xs i x
@@ -75,6 +75,12 @@ pub confirmed_named : (done : Bool) (old new : Held) (kept : Noted) → (IsFalse
 confirmed_named true old new kept nothing line =
     let stored = line refl in step_named old.cell.state (StoredTo (kept.kept.gone + length kept.kept.log) kept.kept.next_ordinal) (Durable stored.0) new.cell.state stored.1.step
 confirmed_named false old new kept nothing line = ap (λ (h : Held). h.cell.state.name) (nothing refl)
+
+-- what a confirmation does to the topic
+pub confirmed_state : (done : Bool) (old new : Held) (kept : Noted) → (IsFalse done → new ≡ old)
+    → (IsTrue done → (count : ℕ) × StoresLine old.cell (StoredTo (kept.kept.gone + length kept.kept.log) kept.kept.next_ordinal) count new.cell) → Confirms kept old.cell.state new.cell.state
+confirmed_state true old new kept nothing line = let stored = line refl in inr (stored.0, stored.1.step)
+confirmed_state false old new kept nothing line = inl (ap (λ (h : Held). h.cell.state) (nothing refl))
 
 pub confirmed_origin : {X : Type 0} (done : Bool) (old new : Held) (rows kept : Noted) (name : TopicName) → (IsFalse done → new ≡ old)
     → (IsTrue done → (new.stored ≡ Some kept) × X) → has_origin rows old.stored name ≡ true → has_origin rows new.stored name ≡ true

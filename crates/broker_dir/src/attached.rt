@@ -45,11 +45,12 @@ impl<T: Opened + Drop, J: Naming, B: Bell + Drop> Attached<T, J, B> {
         inside.hearers.bells.rest(rt, self.seat, rest)
     }
 
-    /// The topic's answer to one event.
+    /// The topic's answer to one event, where its messages may have so many bytes together.
     pub(crate) fn ask<R: Wait>(
         &self,
         rt: &R,
         board: &Board<Arc<Shared<T, J, B>>>,
+        most: Option<u64>,
         event: Event,
     ) -> Result<Reply, Fault> {
         let asked = match Asked::of(&event) {
@@ -60,7 +61,7 @@ impl<T: Opened + Drop, J: Naming, B: Bell + Drop> Attached<T, J, B> {
             }
         };
         let mut inside = self.topic.inside.lock(rt);
-        let answer = inside.answer(rt, self.seat, &asked, event);
+        let answer = inside.answer_within(rt, most, self.seat, &asked, event);
         let store = inside.wants_storing();
         drop(inside);
         drop(asked);

@@ -4,6 +4,7 @@ use crate::attaching::Left;
 use crate::directory::Directory;
 use crate::overview::topics_seen;
 use crate::unloading::leave_blank;
+use crate::why::{Why, why_by};
 use broker_parts::{
     Broker, Coming, Copied, Did, Notice, Tasks, Visitor, backups_seen, want_backup,
 };
@@ -25,7 +26,7 @@ impl<T: Watched + Drop, S: Alter + Drop, J: Naming, B: Bell + Drop> Broker<B>
     for Directory<T, S, J, B> {
     type Seat = Attached<T, J, B>;
 
-    type Cause = Cause;
+    type Cause = Why;
 
     fn attach<R: Wait>(
         &self,
@@ -65,7 +66,7 @@ impl<T: Watched + Drop, S: Alter + Drop, J: Naming, B: Bell + Drop> Broker<B>
             return Err(Fault::StoreFailed);
         }
         match request {
-            Request::Event(event) => seat.ask(rt, &self.board, event),
+            Request::Event(event) => seat.ask(rt, &self.board, self.most, event),
             Request::CreateSubscription {
                 subscription,
                 target,
@@ -113,19 +114,23 @@ impl<T: Watched + Drop, S: Alter + Drop, J: Naming, B: Bell + Drop> Broker<B>
         self.counts.notice(rt)
     }
 
-    fn cause<R: Wait>(&self, rt: &R) -> Option<Cause> {
+    /// A file that was lost is the cause, where one was, and else what the keeper refused for.
+    fn cause<R: Wait>(&self, rt: &R) -> Option<Why> {
+        if let Some(lost) = self.lost(rt) {
+            return Some(Why::Files(lost));
+        }
         let keeper = self.keeper.lock(rt);
-        keeper.refusal()
+        why_by(keeper.refusal())
     }
 
-    fn why_unopened<R: Wait>(&self, rt: &R, name: &TopicName) -> Option<Cause> {
+    fn why_unopened<R: Wait>(&self, rt: &R, name: &TopicName) -> Option<Why> {
         let Ok(text) = topic_text(self.alloc, name) else {
             return None;
         };
         let keeper = self.keeper.lock(rt);
         match keeper.refusal() {
             Some(Cause::BadRows) if keeper.spoilt() != Some(text.as_str()) => None,
-            cause => cause,
+            cause => why_by(cause),
         }
     }
 
@@ -164,6 +169,11 @@ impl<T: Watched + Drop, S: Alter + Drop, J: Naming, B: Bell + Drop> Broker<B>
                 return;
             }
         }
+    }
+
+    fn look_around<R: Wait + Clock + Files>(&self, rt: &R) {
+        let _ = self.moment_of_rules(rt);
+        self.look_at_files(rt);
     }
 
     /// It is made under the database's name and the moment in milliseconds since 1970.

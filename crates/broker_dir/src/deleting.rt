@@ -1,5 +1,8 @@
 // A topic is deleted: its rows go, and the name is as if it had never been.
 ghost use Rattle.std.specs.Prelude.{◌≡◌, None, OnErr, OnOk, Err};
+ghost use Rattle.std.specs.Map.{remove_entry};
+ghost use Rattle.std.specs.Str.{bytes_eq};
+ghost use Rattle.std.specs.String.{string_bytes};
 ghost use Rattle.indexmap.specs.IndexMap.{get_by_text};
 ghost use Rattle.position_core.specs.TopicName.{topic_text};
 ghost use Rattle.position_core.specs.declared.fault.Fault.{Fault};
@@ -13,7 +16,7 @@ use crate::directory::Directory;
 use crate::inside::Inside;
 use crate::table::Table;
 use crate::topic::Shared;
-use broker_parts::Stage;
+use broker_parts::{Stage, Wants};
 use delivery_machine::{Fault, Opened, Reply};
 use marks::Naming;
 use row_forms::topic_text;
@@ -54,7 +57,10 @@ impl<T: Opened + Drop, S: Alter, J: Naming, B: Bell + Drop> Directory<T, S, J, B
     ) -> Result<Reply, Fault> {
         let deleted = self.delete_locked(rt, topic);
         match deleted {
-            Ok(()) => Ok(Reply::Done),
+            Ok(wants) => {
+                self.board.grant(rt, topic, wants);
+                Ok(Reply::Done)
+            }
             Err(Undeleted::Refused(fault)) => Ok(Reply::Refused(fault)),
             Err(Undeleted::Failed(failed)) => {
                 drop(self.close_after(rt, failed));
@@ -63,12 +69,13 @@ impl<T: Opened + Drop, S: Alter, J: Naming, B: Bell + Drop> Directory<T, S, J, B
         }
     }
 
-    /// With all three locks held, so that nobody comes, stores or asks meanwhile.
+    /// With all three locks held, so that nobody comes, stores or asks meanwhile. A courier that waits until more of the topic is
+    /// stored has to be sent on: it is stored no more.
     fn delete_locked<R: Wait>(
         &self,
         rt: &R,
         topic: &Arc<Shared<T, J, B>>,
-    ) -> Result<(), Undeleted> {
+    ) -> Result<Wants, Undeleted> {
         let mut table = self.table.lock(rt);
         let mut keeper = self.keeper.lock(rt);
         let mut inside = topic.inside.lock(rt);
@@ -77,7 +84,10 @@ impl<T: Opened + Drop, S: Alter, J: Naming, B: Bell + Drop> Directory<T, S, J, B
                 topic.signs.note_over();
                 self.counts.unload();
                 inside.hearers.bells.ring_all(rt);
-                Ok(())
+                Ok(Wants {
+                    store: false,
+                    thread: inside.wanted.courier(false),
+                })
             }
             Err(undeleted) => Err(undeleted),
         }
@@ -94,6 +104,7 @@ fn delete_from<T: Opened + Drop, S: Alter, J: Naming, B: Bell + Drop>(
     ensures rows { HasCleanDisk (state S.Store keeper.new.conn) → OnOk result (Deletes (topic_text inside.old.topic.name) (state S.Store keeper.old.conn).now.trees (state S.Store keeper.new.conn).now.trees) }
     ensures free { OnOk result ((inside.old.stage ≡ Stage.Open) × IsDeletable inside.old.topic.cell.cell.state) }
     ensures gone { OnOk result ((inside.new.stage ≡ Stage.Gone) × (get_by_text table.new.list.topics (topic_text inside.old.topic.name) ≡ None)) }
+    ensures others { OnOk result (table.new.list.topics.entries ≡ remove_entry (λ k. bytes_eq (topic_text inside.old.topic.name) (string_bytes k)) table.old.list.topics.entries) }
     ensures stays { OnErr result ((inside.new ≡ inside.old) × (table.new.list.topics.entries ≡ table.old.list.topics.entries)) }
     ensures busy { inside.old.stage ≡ Stage.Open → result ≡ Err (Undeleted.Refused Fault.SubscriptionBusy) → IsDeletable inside.old.topic.cell.cell.state → ⊥ }
 {

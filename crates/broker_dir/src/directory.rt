@@ -1,10 +1,10 @@
 // The directory: topics by name, the keeper of all, and what waits to be stored.
-ghost use Rattle.std.specs.Prelude.{◌≡◌};
+ghost use Rattle.std.specs.Prelude.{◌≡◌, Some};
 
 use crate::closing::Closed;
 use crate::table::Table;
 use crate::topic::Shared;
-use broker_parts::{Backups, Board, Counts, Uses};
+use broker_parts::{Backups, Board, Counts, DataFiles, Steps, Uses};
 use delivery_machine::{Opened, Retention};
 use marks::Naming;
 use row_store::Keeper;
@@ -28,8 +28,14 @@ pub struct Directory<T: Opened + Drop, S: Alter, J: Naming, B: Bell + Drop> {
     pub(crate) closed: Closed,
     pub(crate) uses: Uses,
     pub(crate) counts: Counts,
+    /// The steps of the time of day, since rules by age wait after one.
+    pub(crate) steps: Steps,
     /// Where copies of the database go, where they may be made.
     pub(crate) backups: Option<Backups>,
+    /// The database's files, where it has some.
+    pub(crate) files: Option<DataFiles>,
+    /// How many bytes the messages of a topic may have together, where that is said.
+    pub(crate) most: Option<u64>,
 }
 
 impl<T: Opened + Drop, S: Alter + Drop, J: Naming, B: Bell + Drop> Drop for Directory<T, S, J, B> {
@@ -44,7 +50,10 @@ impl<T: Opened + Drop, S: Alter + Drop, J: Naming, B: Bell + Drop> Drop for Dire
             closed: _,
             uses: _,
             counts: _,
+            steps: _,
             backups: _,
+            files: _,
+            most: _,
         } = self;
     }
 }
@@ -64,7 +73,10 @@ impl<T: Opened + Drop, S: Alter, J: Naming, B: Bell + Drop> Directory<T, S, J, B
             closed: Closed::new(),
             uses: Uses::new(),
             counts: Counts::new(alloc),
+            steps: Steps::new(),
             backups: None,
+            files: None,
+            most: None,
         }
     }
 
@@ -80,7 +92,10 @@ impl<T: Opened + Drop, S: Alter, J: Naming, B: Bell + Drop> Directory<T, S, J, B
             closed: _,
             uses: _,
             counts: _,
+            steps: _,
             backups: _,
+            files: _,
+            most: _,
         } = self;
         keeper.into_inner()
     }
@@ -88,6 +103,20 @@ impl<T: Opened + Drop, S: Alter, J: Naming, B: Bell + Drop> Directory<T, S, J, B
     /// Its database may be copied while it is used.
     pub fn with_backups(mut self, backups: Backups) -> Self {
         self.backups = Some(backups);
+        self
+    }
+
+    /// Its database has these files: where one is lost the store has failed.
+    pub fn with_files(mut self, files: DataFiles) -> Self {
+        self.files = Some(files);
+        self
+    }
+
+    /// The messages that a topic keeps may have so many bytes together, and no more: a publish that is too much is refused (F4).
+    pub fn with_most(mut self, most: u64) -> Self
+        ensures { result.most ≡ Some most }
+    {
+        self.most = Some(most);
         self
     }
 }

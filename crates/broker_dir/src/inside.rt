@@ -4,13 +4,13 @@ ghost use Rattle.delivery_machine.specs.Journals.{is_storing};
 ghost use Rattle.topic_shared.specs.Kept.{is_end};
 ghost use Rattle.stored_cell.specs.Held.{IsAtRest};
 ghost use Rattle.broker_parts.specs.Ends.{entry_refusal, is_ending, refused_at};
-ghost use Rattle.broker_dir.specs.Handing.{HandsOn};
+ghost use Rattle.broker_dir.specs.Handing.{Confirms, HandsOn};
 ghost use Rattle.broker_dir.specs.Trimming.{MayAnswer, most_after as most_going, rule_of as rule_by, trim_by as trims_by};
 ghost use Rattle.topic_shared.specs.Seats.{IsFree, without_seat};
 
 use crate::named_cell::NamedCell;
 use crate::trimming::{most_after, rule_of, trim_by};
-use broker_parts::{Hearers, Prepared, Stage, Wanted, is_ending};
+use broker_parts::{Bulk, Hearers, Prepared, Stage, Wanted, is_ending};
 use delivery_machine::{Event, Fault, Moment, Opened, Reply, Retention, Snapshot};
 use marks::Naming;
 use row_store::OpenCell;
@@ -54,6 +54,8 @@ pub(crate) struct Inside<T: Opened + Drop, J: Naming, B: Bell + Drop> {
     pub(crate) used: u64,
     /// How many messages had gone when its journal last began anew for that.
     rolled_at: u64,
+    /// How many bytes its messages have, where there is a most.
+    pub(crate) bulk: Bulk,
 }
 
 impl<T: Opened + Drop, J: Naming, B: Bell + Drop> Drop for Inside<T, J, B> {
@@ -65,6 +67,7 @@ impl<T: Opened + Drop, J: Naming, B: Bell + Drop> Drop for Inside<T, J, B> {
             wanted: _,
             used: _,
             rolled_at: _,
+            bulk: _,
         } = self;
     }
 }
@@ -118,6 +121,7 @@ impl<T: Opened + Drop, J: Naming, B: Bell + Drop> Inside<T, J, B> {
                 wanted: Wanted::new(),
                 used: 0,
                 rolled_at: gone,
+                bulk: Bulk::new(alloc),
             }),
             Err(fault) => {
                 drop(topic);
@@ -166,6 +170,7 @@ impl<T: Opened + Drop, J: Naming, B: Bell + Drop> Inside<T, J, B> {
     {
         self.topic.exit(seat);
         self.hearers.exit(rt, seat);
+        self.bulk.exit(seat);
     }
 
     /// One event of the one at the seat. Those are rung to whom it leads. Refused before the topic hears of it where the topic
@@ -325,7 +330,8 @@ impl<T: Opened + Drop, J: Naming, B: Bell + Drop> Inside<T, J, B> {
     /// What was viewed, with so many messages, is stored: those are rung whose answers are ready. Where it is not what was
     /// viewed last nobody is rung, and the topic is to be stored again. How many messages came since the store before.
     pub(crate) fn confirmed<R: Wait>(&mut self, rt: &R, length: u64, kept: Kept<J>) -> u64
-        ensures { self.new.topic.name ≡ self.old.topic.name }
+        ensures state { Confirms kept self.old.topic.cell.cell.state self.new.topic.cell.cell.state }
+        ensures name { self.new.topic.name ≡ self.old.topic.name }
     {
         let came = length.saturating_sub(self.hearers.bells.durable());
         let is_done = self.topic.confirm(kept);
@@ -355,6 +361,7 @@ impl<T: Opened + Drop, J: Naming, B: Bell + Drop> Inside<T, J, B> {
         match self.topic.call(VISITOR, event) {
             Ok(receipt) => {
                 if let Reply::Trimmed(gone) = receipt.reply {
+                    self.bulk.trim(gone);
                     self.roll_if_pinned(gone);
                 }
             }
@@ -385,7 +392,10 @@ impl<T: Opened + Drop, J: Naming, B: Bell + Drop> Inside<T, J, B> {
     }
 
     /// Whether it is to be put on the board now, to be stored. It counts as put there then.
-    pub(crate) fn wants_storing(&mut self) -> bool {
+    pub(crate) fn wants_storing(&mut self) -> bool
+        ensures topic { self.new.topic ≡ self.old.topic }
+        ensures stage { self.new.stage ≡ self.old.stage }
+    {
         let has_changed = self.topic.cell().cell().needs_storing();
         self.wanted.queue(has_changed, self.stage)
     }

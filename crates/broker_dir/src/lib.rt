@@ -21,9 +21,13 @@ mod table;
 mod topic;
 mod trimming;
 mod unloading;
+mod watching;
+mod weighing;
+mod why;
 
 pub use attached::Attached;
 pub use directory::Directory;
 pub use errand::Errands;
 pub use row_store::Cause;
 pub use stored_cell::Terms;
+pub use why::Why;

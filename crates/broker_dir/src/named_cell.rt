@@ -13,6 +13,7 @@ ghost use Rattle.row_store.specs.Keeping.{StoresState};
 ghost use Rattle.row_store.specs.Opened.{has_origin};
 ghost use Rattle.stored_cell.specs.Held.{IsAtRest, bases_of};
 ghost use Rattle.stored_cell.specs.Noted.{Noted};
+ghost use Rattle.broker_dir.specs.Handing.{Confirms};
 
 use delivery_machine::{Event, Fault, Opened, Saved, Snapshot, TopicName};
 use marks::{Mark, Naming};
@@ -160,6 +161,7 @@ impl<T: Opened + Drop, J: Naming> NamedCell<T, J> {
     pub(crate) fn confirm(&mut self, kept: Kept<J>) -> bool
         ensures stored { IsTrue result → (self.new.cell.stored ≡ Some kept) × (self.new.cell.outstanding ≡ None) }
         ensures nothing { result ≡ false → self.new.cell ≡ self.old.cell }
+        ensures state { Confirms kept self.old.cell.cell.state self.new.cell.cell.state }
         ensures name { self.new.name ≡ self.old.name }
     {
         self.cell.confirm(kept)

@@ -3,6 +3,7 @@ ghost use Rattle.std.specs.Prelude.{◌≡◌, ◌+◌, [], All, IfOk, IfSome, f
 ghost use Rattle.std.specs.String.{string_bytes};
 ghost use Rattle.delivery_machine.specs.Journals.{is_storing};
 ghost use Rattle.delivery_machine.specs.Places.{snapshot_in};
+ghost use Rattle.delivery_machine.specs.Run.{Step};
 ghost use Rattle.delivery_machine.specs.Snapshot.{snapshot_of};
 ghost use Rattle.delivery_machine.specs.Statistics.{oldest as oldest_in};
 ghost use Rattle.broker_dir.specs.Handing.{HandsOn};
@@ -86,8 +87,8 @@ fn oldest_of(snapshot: &Snapshot, kept: &KeptSubscription) -> Option<u64> {
 }
 
 fn address_of(alloc: Global, visitor: &Visitor) -> Result<Option<String>, AllocError> {
-    match visitor.address {
-        Some(address) => Ok(Some(address.to_string(alloc)?)),
+    match visitor.whence {
+        Some(whence) => Ok(Some(whence.to_string(alloc)?)),
         None => Ok(None),
     }
 }
@@ -149,6 +150,19 @@ impl<T: Opened + Drop, J: Naming, B: Bell + Drop> Inside<T, J, B> {
         }
     }
 
+    /// What the topic tells of the subscription now.
+    fn ask_of(&mut self, name: &SubscriptionName) -> Result<Reply, Fault>
+        ensures told { IfOk result (λ reply. Step self.old.topic.cell.cell.state (Event.Stats name.now) reply self.new.topic.cell.cell.state) }
+        ensures state { self.new.topic.cell.cell.state ≡ self.old.topic.cell.cell.state }
+        ensures name { self.new.topic.name ≡ self.old.topic.name }
+        ensures stage { self.new.stage ≡ self.old.stage }
+    {
+        match name.clone() {
+            Ok(subscription) => self.ask(Event::Stats { subscription }),
+            Err(_) => Err(Fault::NoMemory),
+        }
+    }
+
     /// What is seen of the subscription now, where it is there.
     fn subscription_seen(
         &mut self,
@@ -161,11 +175,7 @@ impl<T: Opened + Drop, J: Naming, B: Bell + Drop> Inside<T, J, B> {
         ensures name { self.new.topic.name ≡ self.old.topic.name }
         ensures stage { self.new.stage ≡ self.old.stage }
     {
-        let asked = match name.clone() {
-            Ok(subscription) => self.ask(Event::Stats { subscription }),
-            Err(_) => Err(Fault::NoMemory),
-        };
-        match asked {
+        match self.ask_of(name) {
             Ok(reply) => {
                 let seen = subscription_by(told, &reply);
                 drop(reply);
@@ -271,6 +281,7 @@ impl<T: Watched + Drop, J: Naming, B: Bell + Drop> Inside<T, J, B> {
             name,
             gone: snapshot.gone(),
             kept: snapshot.log().count() as u64,
+            bytes: self.bulk.bytes(),
             durable,
             oldest: time_at(snapshot, 0),
             producers: tallies.producers,

@@ -1,5 +1,7 @@
 // Storing: topics are viewed, each under its lock, stored together with all locks free, and confirmed, each under its lock.
-ghost use Rattle.std.specs.Prelude.{◌≡◌, false, OnOk, Err};
+ghost use Rattle.std.specs.Prelude.{◌≡◌, false, IfOk, IfSome, OnOk, Err};
+ghost use Rattle.delivery_machine.specs.Places.{snapshot_in};
+ghost use Rattle.delivery_machine.specs.Snapshot.{snapshot_of};
 ghost use Rattle.sqlite.specs.State.{HasCleanDisk};
 ghost use Rattle.sqlite.specs.Held.{state};
 ghost use Rattle.row_store.specs.Keeping.{StoresAll, kepts};
@@ -7,9 +9,10 @@ ghost use Rattle.row_store.specs.Keeping.{StoresAll, kepts};
 use crate::closing::Unstored;
 use crate::directory::Directory;
 use crate::errand::Errands;
+use crate::inside::Inside;
 use crate::topic::Shared;
-use broker_parts::{Board, Did, Task, Tasks, Wants, instant, read, since};
-use delivery_machine::{Fault, Opened, Retention};
+use broker_parts::{Board, Did, Stage, Task, Tasks, Wants, instant, since};
+use delivery_machine::{Fault, Moment, Opened, Retention};
 use marks::Naming;
 use row_store::{Keeper, Written};
 use session_bells::Bell;
@@ -184,10 +187,12 @@ impl<T: Opened + Drop, S: Alter, J: Naming, B: Bell + Drop> Directory<T, S, J, B
             Ok(kept) => {
                 let rows = rows_of(keeper.written());
                 self.counts.store(rt, rows, since(began, instant(rt)));
+                let now = self.moment_of_rules(rt);
                 confirm_all(
                     rt,
                     &self.board,
                     &self.retention,
+                    &now,
                     topics,
                     seen.as_slice(),
                     kept,
@@ -199,10 +204,11 @@ impl<T: Opened + Drop, S: Alter, J: Naming, B: Bell + Drop> Directory<T, S, J, B
     }
 }
 
-fn confirm_all<T: Opened + Drop, J: Naming, B: Bell + Drop, R: Wait + Clock>(
+fn confirm_all<T: Opened + Drop, J: Naming, B: Bell + Drop, R: Wait>(
     rt: &R,
     board: &Board<Arc<Shared<T, J, B>>>,
     broker: &Retention,
+    now: &Option<Moment>,
     topics: &[Arc<Shared<T, J, B>>],
     seen: &[Seen],
     kept: Vec<Kept<J>>,
@@ -212,7 +218,8 @@ fn confirm_all<T: Opened + Drop, J: Naming, B: Bell + Drop, R: Wait + Clock>(
         if let Some(seen) = seen.get(at)
             && let Some(topic) = topics.get(seen.place)
         {
-            board.grant(rt, topic, topic.confirm(rt, *broker, seen.length, kept));
+            let wants = topic.confirm(rt, *broker, *now, seen.length, kept);
+            board.grant(rt, topic, wants);
         } else {
             drop(kept);
         }
@@ -246,6 +253,30 @@ fn view_all<T: Opened + Drop, S: Alter, J: Naming, B: Bell + Drop, R: Wait>(
     Ok(())
 }
 
+impl<T: Opened + Drop, J: Naming, B: Bell + Drop> Inside<T, J, B> {
+    /// The topic as it is, which it stays. None where it leaves or is gone.
+    fn viewed<S: Alter, R: Wait>(
+        &mut self,
+        rt: &R,
+        keeper: &mut Keeper<S, J>,
+    ) -> Result<Option<Part<J>>, Fault>
+        ensures part { IfOk result (λ found. IfSome found (λ part. (self.old.stage ≡ Stage.Open) × (snapshot_in part.kept ≡ snapshot_of self.old.topic.cell.cell.state))) }
+        ensures state { self.new.topic.cell.cell.state ≡ self.old.topic.cell.cell.state }
+        ensures name { self.new.topic.name ≡ self.old.topic.name }
+    {
+        if !self.may_be_viewed(rt) {
+            return Ok(None);
+        }
+        match self.topic.view_by(keeper) {
+            Ok(part) => {
+                self.hearers.graves.viewed();
+                Ok(Some(part))
+            }
+            Err(fault) => Err(fault),
+        }
+    }
+}
+
 impl<T: Opened + Drop, J: Naming, B: Bell + Drop> Shared<T, J, B> {
     /// The topic as it is, with its lock held for no longer than that takes. None where it leaves or is gone.
     fn viewed<S: Alter, R: Wait>(
@@ -254,16 +285,7 @@ impl<T: Opened + Drop, J: Naming, B: Bell + Drop> Shared<T, J, B> {
         keeper: &mut Keeper<S, J>,
     ) -> Result<Option<Part<J>>, Fault> {
         let mut inside = self.inside.lock(rt);
-        if !inside.may_be_viewed(rt) {
-            return Ok(None);
-        }
-        match inside.topic.view_by(keeper) {
-            Ok(part) => {
-                inside.hearers.graves.viewed();
-                Ok(Some(part))
-            }
-            Err(fault) => Err(fault),
-        }
+        inside.viewed(rt, keeper)
     }
 
     /// The topic is not stored with others, since it leaves or is gone: it is seen out once nobody is there.
@@ -279,14 +301,14 @@ impl<T: Opened + Drop, J: Naming, B: Bell + Drop> Shared<T, J, B> {
 
     /// What was viewed is stored. The topic's lock is held for the confirmation and the trim that follows it; what they lead to
     /// on the board comes after.
-    fn confirm<R: Wait + Clock>(
+    fn confirm<R: Wait>(
         &self,
         rt: &R,
         broker: Retention,
+        now: Option<Moment>,
         length: u64,
         kept: Kept<J>,
     ) -> Wants {
-        let now = read(rt);
         let mut inside = self.inside.lock(rt);
         let came = inside.confirmed(rt, length, kept);
         inside.trim(broker, now, came);

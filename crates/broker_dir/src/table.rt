@@ -1,6 +1,8 @@
 // The open topics by their names, in the order of opening.
 ghost use Rattle.std.specs.List.{remove};
+ghost use Rattle.std.specs.Map.{remove_entry};
 ghost use Rattle.std.specs.Prelude.{◌≡◌, ◌<◌, ◌∷◌, ◌++◌, false, true, not, [], filter, length, IfSome, None, option_copied, slice_get};
+ghost use Rattle.std.specs.Str.{bytes_eq};
 ghost use Rattle.std.specs.String.{string_bytes};
 ghost use Rattle.indexmap.specs.IndexMap.{get_by_text};
 ghost use Rattle.position_core.specs.TopicName.{same_topic, topic_text};
@@ -177,9 +179,10 @@ impl<T: Opened + Drop, J: Naming, B: Bell + Drop> Table<T, J, B> {
         }
     }
 
-    /// The topic of the name is open no more.
+    /// The topic of the name is open no more. All others stay.
     pub(crate) fn take_out(&mut self, name: &str)
-        ensures { get_by_text self.new.list.topics name.now ≡ None }
+        ensures gone { get_by_text self.new.list.topics name.now ≡ None }
+        ensures others { self.new.list.topics.entries ≡ remove_entry (λ k. bytes_eq name.now (string_bytes k)) self.old.list.topics.entries }
     {
         drop(self.list.topics.shift_remove(name));
     }

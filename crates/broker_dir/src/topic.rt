@@ -85,7 +85,7 @@ impl<T: Opened + Drop, J: Naming, B: Bell + Drop> Guarded for Shared<T, J, B> {
         awaited: Option<u64>,
     ) -> (Result<Reply, Fault>, Wants) {
         let mut inside = self.inside.lock(rt);
-        let answer = inside.visit(rt, event);
+        let answer = inside.visit_counted(rt, event);
         if is_short(&answer, awaited) {
             inside.wanted.is_awaited = true;
         }

@@ -85,9 +85,9 @@ pub(crate) fn trim_by(rule: Retention, now: Option<Moment>, most: u64) -> Option
 }
 
 impl<T: Opened + Drop, J: Naming, B: Bell + Drop> Shared<T, J, B> {
-    fn trim<R: Wait>(&self, rt: &R, broker: Retention, now: Moment) -> Wants {
+    fn trim<R: Wait>(&self, rt: &R, broker: Retention, now: Option<Moment>) -> Wants {
         let mut inside = self.inside.lock(rt);
-        inside.trim(broker, Some(now), 0);
+        inside.trim(broker, now, 0);
         Wants {
             store: inside.wants_storing(),
             thread: false,
@@ -102,11 +102,11 @@ impl<T: Opened + Drop, J: Naming, B: Bell + Drop> Table<T, J, B> {
         rt: &R,
         board: &Board<Arc<Shared<T, J, B>>>,
         broker: &Retention,
-        now: Moment,
+        now: &Option<Moment>,
     ) {
         for place in 0..self.count() {
             if let Some(topic) = self.at(place) {
-                board.grant(rt, topic, topic.trim(rt, *broker, now));
+                board.grant(rt, topic, topic.trim(rt, *broker, *now));
             }
         }
     }

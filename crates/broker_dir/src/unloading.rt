@@ -204,8 +204,9 @@ impl<T: Opened + Drop, S: Alter, J: Naming, B: Bell + Drop> Directory<T, S, J, B
             let took = since(time, instant(rt));
             self.counts.note_unloads(rt, before, took);
             self.see_all_out(rt);
+            let now = self.moment_of_rules(rt);
             let table = self.table.lock(rt);
-            table.trim_each(rt, &self.board, &self.retention, tasks.now);
+            table.trim_each(rt, &self.board, &self.retention, &now);
         }
     }
 }

@@ -1,3 +1,7 @@
 -- What the contracts of a broker's parts cite.
+pub mod Bulks
 pub mod Copies
 pub mod Ends
+pub mod Losses
+pub mod Places
+pub mod Steps

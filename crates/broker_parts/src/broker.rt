@@ -57,7 +57,7 @@ pub trait Broker<B: Bell + Drop>: Drop {
     /// What is seen of the topics that are in memory, and of what was stored.
     fn seen<R: Wait>(&self, rt: &R, program: ProgramSeen) -> Result<BrokerSeen, Fault>;
 
-    /// What took long, one after another, from the first on that was not told.
+    /// What there is to tell, one after another, from the first on that was not told.
     fn notice<R: Wait>(&self, rt: &R) -> Option<Notice>;
 
     /// Why the store failed, or refused last where it has not; none where it never did.
@@ -74,6 +74,10 @@ pub trait Broker<B: Bell + Drop>: Drop {
 
     /// Stores what waits, until the store fails or all is finished: a thread's work.
     fn keep<R: Wait + Clock>(&self, rt: &R);
+
+    /// What is looked at once a second: whether the time of day was set, and whether the database's files are there still. Where
+    /// one is lost the store has failed.
+    fn look_around<R: Wait + Clock + Files>(&self, rt: &R);
 
     /// The copy that is wanted of what is stored is made at the moment. None where none is wanted.
     fn back_up<R: Wait + Files>(&self, rt: &R, now: Moment) -> Option<Copied>;

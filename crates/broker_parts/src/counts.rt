@@ -1,5 +1,6 @@
 // What the directory has done since it was opened, as its lookers are told.
 use crate::notices::{Notice, Notices};
+use crate::steps::Step;
 use delivery_machine::TopicName;
 use status_pages::{Histogram, Rows};
 use std::alloc::Global;
@@ -111,12 +112,17 @@ impl Counts {
         }
     }
 
+    /// The time of day was set.
+    pub fn note_step<R: Wait>(&self, rt: &R, step: Step) {
+        self.notices.add(rt, Notice::Step(step));
+    }
+
     pub fn stores<R: Wait>(&self, rt: &R) -> Stores {
         let stores = self.stores.lock(rt);
         *stores
     }
 
-    /// What took long, one after another, from the first on that was not told.
+    /// What there is to tell, one after another, from the first on that was not told.
     pub fn notice<R: Wait>(&self, rt: &R) -> Option<Notice> {
         self.notices.take(rt)
     }

@@ -1,4 +1,5 @@
-// What an operator wants to know of what the directory did: what took long.
+// What an operator wants to know of what the directory did or saw: what took long, and a time of day that was set.
+use crate::steps::Step;
 use delivery_machine::TopicName;
 use std::alloc::Global;
 use std::collections::VecDeque;
@@ -9,7 +10,7 @@ use std::time::Duration;
 /// How many may wait to be told. What comes beyond is not told.
 const MOST: usize = 16;
 
-/// What took long.
+/// What took long, or went wrong.
 #[derive(Drop)]
 pub enum Notice {
     /// One commit of so many rows, from the first row to the disk's answer.
@@ -18,6 +19,8 @@ pub enum Notice {
     Load { topic: TopicName, took: Duration },
     /// So many topics that nobody used left memory.
     Unload { topics: u64, took: Duration },
+    /// The time of day was set: rules by age wait.
+    Step(Step),
 }
 
 /// What is to be told. Its lock is behind all others.

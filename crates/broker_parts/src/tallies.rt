@@ -44,11 +44,16 @@ impl Tallies {
         match reply {
             Reply::Published { .. } => add(&mut self.published, 1),
             Reply::Duplicate { .. } => add(&mut self.duplicates, 1),
-            Reply::Refused(_) => add(&mut self.refused, 1),
+            Reply::Refused(_) => self.note_refusal(),
             Reply::ProducerAdded { .. } => add(&mut self.producers, 1),
             Reply::Done if ends_producer => self.producers = self.producers.saturating_sub(1),
             _ => {}
         }
+    }
+
+    /// An event was refused.
+    pub fn note_refusal(&mut self) {
+        add(&mut self.refused, 1);
     }
 }
 

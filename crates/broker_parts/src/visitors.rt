@@ -1,18 +1,19 @@
 // Who sits at a topic's seats, as its lookers are told.
-ghost use Rattle.std.specs.Prelude.{◌≡◌, IfSome, Some, None, true, false};
+ghost use Rattle.std.specs.Prelude.{◌≡◌, ◌↔◌, IfSome, IsTrue, Some, false};
 ghost use Rattle.broker_parts.specs.Ends.{refusal_at};
+ghost use Rattle.broker_parts.specs.Places.{ComesFromHere};
 
 use crate::stage::Stage;
+use crate::whence::{Whence, is_own};
 use delivery_machine::{ConsumerNumber, Fault, Moment};
 use status_pages::Role;
 use std::alloc::Global;
-use std::net::SocketAddr;
 
 /// Who sits at a seat.
 #[derive(Clone, Copy, Debug, PartialEq, Eq)]
 pub struct Visitor {
     /// Where its client is, where that is known; or the proxy that handed its request on.
-    pub address: Option<SocketAddr>,
+    pub whence: Option<Whence>,
     /// A proxy handed its request on.
     pub is_handed_on: bool,
     pub role: Role,
@@ -22,13 +23,13 @@ pub struct Visitor {
 
 impl Visitor {
     /// Whether its client is known to be at the broker's own machine. One behind a proxy may be anywhere, although the proxy
-    /// is near. A loopback address of IPv4 may be written as one of IPv6 (RFC 4291, section 2.5.5.2).
+    /// is near.
     pub fn is_near(&self) -> bool
-        ensures handed_on { self.now.is_handed_on ≡ true → result ≡ false }
-        ensures unknown { self.now.address ≡ None → result ≡ false }
+        ensures { IsTrue result ↔ (self.now.is_handed_on ≡ false) × ComesFromHere self.now.whence }
     {
-        match self.address {
-            Some(address) => !self.is_handed_on && address.ip().to_canonical().is_loopback(),
+        match self.whence {
+            Some(Whence::Peer(address)) => !self.is_handed_on && is_own(address.ip()),
+            Some(Whence::Forwarded(_)) => false,
             None => false,
         }
     }

@@ -1,7 +1,7 @@
 // What the program's arguments ask for.
 use delivery_machine::{KeptAge, KeptMessages, Retention};
 use endpoint_core::Letters;
-use worker_pool::Patience;
+use worker_pool::{Patience, PerAddress};
 
 /// What is to be served, and where.
 #[derive(Clone, Copy, Debug, PartialEq, Eq)]
@@ -24,9 +24,13 @@ pub struct Asked<'a> {
     pub origins: &'a str,
     pub letters: Letters,
     pub patience: Patience,
-    /// How many connections another machine's address may have at once.
-    pub per_address: u32,
+    pub per_address: PerAddress,
+    /// How many bytes the messages of a topic may have that are kept; any number where there is no most.
+    pub most: Option<u64>,
 }
+
+/// The database that is held in memory, and gone with the program.
+pub const IN_MEMORY: &str = ":memory:";
 
 const MOST_WORKERS: u64 = 256;
 
@@ -41,10 +45,17 @@ const LEAST_SILENCE: u64 = 1_000;
 
 const MOST_SILENCE: u64 = 86_400_000;
 
-/// How many connections one address may have where nothing is said: more than a program needs, and a quarter of all.
-const PER_ADDRESS: u32 = 16_384;
+/// What one address may have where nothing is said: more than a program needs, a quarter of all connections, and three quarters
+/// of the topics that may be in use.
+const PER_ADDRESS: PerAddress = PerAddress {
+    sessions: 16_384,
+    topics: 192,
+    begun: 4_096,
+};
 
 const MOST_PER_ADDRESS: u64 = 65_536;
+
+const MOST_BYTES: u64 = 2_305_843_009_213_693_952;
 
 /// A decimal number with neither a sign nor leading zeros, up to a limit.
 fn number(word: &str, most: u64) -> Option<u64> {
@@ -106,8 +117,26 @@ fn patience(word: &str) -> Option<Patience> {
     })
 }
 
-fn per_address(word: &str) -> Option<u32> {
+fn count(word: &str) -> Option<u32> {
     u32::try_from(number(word, MOST_PER_ADDRESS)?).ok()
+}
+
+/// How many connections one address may have, and behind them at how many topics, and how many may begin within a second, as
+/// `16384,192,4096`. What is not said is as usual.
+fn per_address(word: &str) -> Option<PerAddress> {
+    let Some((sessions, others)) = word.split_once(',') else {
+        return Some(PerAddress {
+            sessions: count(word)?,
+            topics: PER_ADDRESS.topics,
+            begun: PER_ADDRESS.begun,
+        });
+    };
+    let (topics, begun) = others.split_once(',')?;
+    Some(PerAddress {
+        sessions: count(sessions)?,
+        topics: count(topics)?,
+        begun: count(begun)?,
+    })
 }
 
 fn letters(word: &str) -> Option<Letters> {
@@ -128,7 +157,8 @@ struct Named<'a> {
     origins: Option<&'a str>,
     letters: Option<Letters>,
     patience: Option<Patience>,
-    per_address: Option<u32>,
+    per_address: Option<PerAddress>,
+    most: Option<u64>,
 }
 
 /// The value, where there is none yet: a word stands once.
@@ -154,6 +184,7 @@ impl<'a> Named<'a> {
             letters: None,
             patience: None,
             per_address: None,
+            most: None,
         }
     }
 
@@ -179,6 +210,7 @@ impl<'a> Named<'a> {
             "origins" => self.origins = once(self.origins, non_empty(value)?)?,
             "letters" => self.letters = once(self.letters, letters(value)?)?,
             "per-address" => self.per_address = once(self.per_address, per_address(value)?)?,
+            "most" => self.most = once(self.most, number(value, MOST_BYTES)?)?,
             "silence" => self.patience = once(self.patience, patience(value)?)?,
             _ => return None,
         }
@@ -213,7 +245,7 @@ pub fn read_arguments(words: &[String]) -> Option<Asked<'_>> {
     let (connections, words) = split_connections(words.get(3..)?)?;
     let mut named = Named::nothing();
     named.read(words)?;
-    if database == ":memory:" && named.backup.is_some() {
+    if database == IN_MEMORY && named.backup.is_some() {
         return None;
     }
     Some(Asked {
@@ -229,5 +261,6 @@ pub fn read_arguments(words: &[String]) -> Option<Asked<'_>> {
         letters: named.letters.unwrap_or(Letters::Anywhere),
         patience: named.patience.unwrap_or(Patience::usual()),
         per_address: named.per_address.unwrap_or(PER_ADDRESS),
+        most: named.most,
     })
 }

@@ -4,13 +4,12 @@ ghost use Rattle.sqlite.specs.State.{HasCleanDisk};
 ghost use Rattle.sqlite.specs.Held.{state};
 ghost use Rattle.row_tables.specs.Ready.{AreKeyed};
 
-use crate::arguments::Asked;
+use crate::arguments::{Asked, IN_MEMORY};
 use crate::causes::{Why, say_why};
 use crate::server::Server;
 use crate::sizes::Sizes;
 use broker_dir::{Directory, Terms};
-use broker_parts::{Backups, moment};
-use delivery_machine::Moment;
+use broker_parts::{Backups, DataFiles, Steady};
 use marks::{Naming, Unnamed};
 use position_core::LedgerSize;
 use row_store::Keeper;
@@ -23,8 +22,9 @@ use std::rt::{Clock, Files};
 use std::sync::{Arc, Wait};
 use std::thread::Threads;
 use stored_cell::{Note, Notes};
+use topic_core::TopicCore;
 use topic_shared::{LineLimit, SeatCount};
-use worker_pool::{About, Ended, Limits, Rules, VERSION, serve};
+use worker_pool::{About, Doorbell, Ended, Limits, Rules, VERSION, serve};
 
 /// How the program ends.
 #[derive(Clone, Copy, Debug, PartialEq, Eq)]
@@ -94,8 +94,27 @@ fn say_end<S: Alter + Drop, J: Naming, R: Wait + Eprint>(
     if ended == Ended::StoreFailed
         && let Some(cause) = server.cause(rt)
     {
-        say_why(rt, asked.database, Why::Store(cause));
+        say_why(rt, asked.database, Why::Ended(cause));
     }
+}
+
+/// The directory with what was asked for beside its topics. None for want of memory.
+fn equipped<S: Alter + Drop, J: Naming>(
+    alloc: Global,
+    directory: Directory<TopicCore, S, J, Doorbell>,
+    asked: &Asked<'_>,
+) -> Option<Directory<TopicCore, S, J, Doorbell>> {
+    let mut directory = directory;
+    if let Some(folder) = asked.backup {
+        directory = directory.with_backups(Backups::new(alloc, asked.database, folder)?);
+    }
+    if asked.database != IN_MEMORY {
+        directory = directory.with_files(DataFiles::new(alloc, asked.database)?);
+    }
+    if let Some(most) = asked.most {
+        directory = directory.with_most(most);
+    }
+    Some(directory)
 }
 
 /// Serves the topics of a database, whose history is that of `J`.
@@ -131,25 +150,19 @@ fn serve_named<
     let Some(terms) = terms() else {
         return Fate::CannotServe;
     };
-    let Some(first) = Moment::new(0) else {
+    let directory = Directory::open(alloc, keeper, terms, asked.keep);
+    let Some(directory) = equipped(alloc, directory, asked) else {
         return Fate::CannotServe;
     };
-    let mut directory = Directory::open(alloc, keeper, terms, asked.keep);
-    if let Some(folder) = asked.backup {
-        let Some(backups) = Backups::new(alloc, asked.database, folder) else {
-            return Fate::CannotServe;
-        };
-        directory = directory.with_backups(backups);
-    }
     let Ok(listener) = TcpListener::bind(rt, asked.address) else {
         return Fate::CannotServe;
     };
     let is_open = is_open_to_others(asked, &listener);
-    let about = About {
-        started: moment(rt, first),
-        is_open,
+    let Some(clock) = Steady::begin(rt) else {
+        return Fate::CannotServe;
     };
-    let server = Server::new(directory, about, rules);
+    let about = About { clock, is_open };
+    let server = Server::new(alloc, directory, about, rules);
     let Ok(server) = Arc::new(alloc, server) else {
         return Fate::CannotServe;
     };
@@ -161,7 +174,7 @@ fn serve_named<
     let limits = Limits {
         workers: asked.workers,
         connections: asked.connections,
-        most_per_address: Some(asked.per_address),
+        most_per_address: Some(asked.per_address.sessions),
     };
     let ended = serve(rt, alloc, listener, server, limits);
     say_end(rt, asked, &served, ended);

@@ -16,6 +16,8 @@ pub enum Why {
     /// The system does not open it, or SQLite left a journal beside it, which only SQLite can play back.
     NotOpened,
     Store(Cause),
+    /// It was served until then.
+    Ended(broker_dir::Why),
 }
 
 impl fmt::Display for Why {
@@ -27,6 +29,7 @@ impl fmt::Display for Why {
                 "cannot be opened, or has a rollback journal of SQLite beside it",
             ),
             Why::Store(cause) => write!(f, "{cause}"),
+            Why::Ended(why) => write!(f, "{why}"),
         }
     }
 }

@@ -16,7 +16,9 @@ A topic broker with Apache Pulsar's subscription types, spoken to by JSON over W
   hosts=name,.. names by which it may be asked, beside localhost and addresses in digits
   origins=o,..  origins such as https://page.example whose web pages may use it, beside its own
   letters=own   a consumer's dead letters stay in the tenant and namespace of its topic
-  per-address=n connections of one address of another machine at once: 16384 (the default)
+  per-address=c,t,s  at once from one address of another machine: c connections, at t topics; and s sessions begun within a
+                second: per-address=16384,192,4096 (the default)
+  most=bytes    a topic whose messages have so many bytes is full: without it only 1,048,576 messages fill one
   silence=a,b   a client that is silent for a is pinged, and ended b later: silence=30000ms,45000ms (the default)
 
   pulsar_broker broker.db 127.0.0.1:8080 4 keep=86400000ms

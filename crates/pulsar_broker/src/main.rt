@@ -9,7 +9,7 @@ mod help;
 mod server;
 mod sizes;
 
-use arguments::{Asked, read_arguments};
+use arguments::{Asked, IN_MEMORY, read_arguments};
 use broker::{Fate, serve_over};
 use causes::{say_why, why_unopened};
 use endpoint_core::Admitted;
@@ -22,9 +22,6 @@ use std::env;
 use std::io::ErrorKind;
 use std::process::ExitCode;
 use worker_pool::{Rules, VERSION};
-
-/// The database that is held in memory, and gone with the program.
-const IN_MEMORY: &str = ":memory:";
 
 /// Why there are no words to read.
 #[derive(Clone, Copy)]
@@ -99,6 +96,7 @@ fn rules_of(alloc: Global, asked: &Asked<'_>) -> Result<Option<Rules>, AllocErro
         admitted,
         letters: asked.letters,
         patience: asked.patience,
+        per_address: asked.per_address,
     }))
 }
 

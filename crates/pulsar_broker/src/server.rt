@@ -1,7 +1,6 @@
 // What serves the topics of one database, as the threads are given it.
-use broker_dir::Directory;
+use broker_dir::{Directory, Why};
 use marks::Naming;
-use row_store::Cause;
 use sqlite::Alter;
 use std::alloc::Global;
 use std::io::Eprint;
@@ -25,17 +24,18 @@ impl<S: Alter + Drop, J: Naming> Drop for Server<S, J> {
 
 impl<S: Alter + Drop, J: Naming> Server<S, J> {
     pub fn new(
+        alloc: Global,
         directory: Directory<TopicCore, S, J, Doorbell>,
         about: About,
         rules: Rules,
     ) -> Self {
         Server {
-            place: Place::new(directory, about, rules),
+            place: Place::new(alloc, directory, about, rules),
         }
     }
 
     /// Why the store failed, or refused last where it has not; none where it never did.
-    pub fn cause<R: Wait>(&self, rt: &R) -> Option<Cause> {
+    pub fn cause<R: Wait>(&self, rt: &R) -> Option<Why> {
         self.place.cause(rt)
     }
 }

@@ -92,10 +92,29 @@ impl OfTopic {
     }
 }
 
+/// Appends how many bytes the messages of each topic have that counts them; nothing where none does.
+fn push_bytes(out: &mut String, topics: &[TopicSeen]) -> Result<(), AllocError> {
+    if topics.iter().all(|topic| topic.bytes.is_none()) {
+        return Ok(());
+    }
+    let head = Head::gauge(
+        "topic_bytes",
+        "Bytes of the messages that the topic keeps, where a topic may have no more than so many.",
+    );
+    head.push(out)?;
+    for topic in topics {
+        if let Some(bytes) = topic.bytes {
+            push_start(out, &head, topic.name.as_str())?;
+            push_end(out, Value::Count(bytes))?;
+        }
+    }
+    Ok(())
+}
+
 /// Appends all numbers of all topics.
 pub(crate) fn push_topics(out: &mut String, topics: &[TopicSeen]) -> Result<(), AllocError> {
     for number in ALL.iter() {
         number.push(out, topics)?;
     }
-    Ok(())
+    push_bytes(out, topics)
 }

@@ -115,6 +115,7 @@ fn push_subscriptions(out: &mut String, subs: &[SubscriptionSeen]) -> Result<(),
 
 fn push_topic(out: &mut String, topic: &TopicSeen) -> Result<(), AllocError> {
     out.push_str("{")?;
+    push_known(out, "bytes", topic.bytes)?;
     push_number(out, "duplicates", topic.duplicates)?;
     push_number(out, "durable", topic.durable)?;
     push_number(out, "gone", topic.gone)?;

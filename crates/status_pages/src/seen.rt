@@ -76,6 +76,8 @@ pub struct TopicSeen {
     pub gone: u64,
     /// Messages of the log.
     pub kept: u64,
+    /// How many bytes these have together, where that is counted.
+    pub bytes: Option<u64>,
     /// All messages that are stored, those that are gone among them.
     pub durable: u64,
     /// When the first message of the log was published.

@@ -1,10 +1,22 @@
 // What an administrator is shown of a subscription's next messages.
-ghost use Rattle.std.specs.Prelude.{◌≡◌, [], ◌++◌, codes, if◌then◌else◌, OnOk, string_bytes};
-ghost use Rattle.wire_json.specs.Peeks.{Appends, AppendsAll, IsPeek};
+ghost use Rattle.std.specs.Prelude.{◌≡◌, [], ◌++◌, codes, if◌then◌else◌, IfOk, OnOk, string_bytes};
+ghost use Rattle.wire_json.specs.Peeks.{Appends, BeginsPeek, IsPeek, fits};
 
 use crate::deliveries::delivery_text;
 use delivery_machine::Delivery;
 use std::alloc::AllocError;
+
+/// How many bytes a text of several messages has at most.
+const MOST_TEXT: usize = 2_097_152;
+
+/// How many of them are neither before a message nor its own: the comma before it, and the end.
+const BESIDE_MESSAGE: usize = 17;
+
+fn fits(out: &str, one: &str, is_first: bool) -> bool
+    ensures { result ≡ fits is_first out.now one.now }
+{
+    is_first || out.len().saturating_add(one.len()) <= MOST_TEXT - BESIDE_MESSAGE
+}
 
 fn push_comma(out: &mut String, is_first: bool) -> Result<(), AllocError>
     ensures { OnOk result (string_bytes out.new ≡ string_bytes out.old ++ (if is_first then [] else codes ",")) }
@@ -12,50 +24,61 @@ fn push_comma(out: &mut String, is_first: bool) -> Result<(), AllocError>
     if is_first { Ok(()) } else { out.push_str(",") }
 }
 
-/// Appends the text of a delivery, which is written into `one` before.
+/// Appends the text of a delivery, which is written into `one` before, if it fits, and says whether it did.
 fn push_one(
     out: &mut String,
     one: &mut String,
     delivery: &Delivery,
     is_first: bool,
-) -> Result<(), AllocError>
-    ensures { OnOk result (Appends is_first delivery.now (string_bytes out.old) (string_bytes out.new)) }
+) -> Result<bool, AllocError>
+    ensures { IfOk result (λ has_fit. Appends has_fit is_first delivery.now (string_bytes out.old) (string_bytes out.new)) }
 {
     delivery_text(one, delivery.message.entry(), delivery.count)?;
+    if !fits(out.as_str(), one.as_str(), is_first) {
+        return Ok(false);
+    }
     push_comma(out, is_first)?;
     out.push_str(one.as_str())?;
-    Ok(())
+    Ok(true)
 }
 
-fn push_all(out: &mut String, one: &mut String, deliveries: &[Delivery]) -> Result<(), AllocError>
-    ensures { OnOk result (AppendsAll deliveries.now (string_bytes out.old) (string_bytes out.new)) }
+/// Writes all but the end, in place of what `out` holds, and each text into `one` before.
+fn write_messages(
+    out: &mut String,
+    one: &mut String,
+    deliveries: &[Delivery],
+) -> Result<(), AllocError>
+    ensures { OnOk result (BeginsPeek deliveries.now (string_bytes out.new)) }
 {
+    out.clear();
+    out.push_str("{\"messages\":[")?;
     let mut is_first = true;
     for delivery in deliveries {
-        push_one(out, one, delivery, is_first)?;
+        let has_fit = push_one(out, one, delivery, is_first)?;
+        if !has_fit {
+            return Ok(());
+        }
         is_first = false;
     }
     Ok(())
 }
 
 /// The same, with room of its own for each text.
-fn push_deliveries(out: &mut String, deliveries: &[Delivery]) -> Result<(), AllocError>
-    ensures { OnOk result (AppendsAll deliveries.now (string_bytes out.old) (string_bytes out.new)) }
+fn begin_peek(out: &mut String, deliveries: &[Delivery]) -> Result<(), AllocError>
+    ensures { OnOk result (BeginsPeek deliveries.now (string_bytes out.new)) }
 {
     let mut one = String::new(*out.allocator());
-    let pushed = push_all(out, &mut one, deliveries);
+    let written = write_messages(out, &mut one, deliveries);
     drop(one);
-    pushed
+    written
 }
 
 /// Writes what answers an administrator who looks at messages, each as it is written to a consumer, in place of what `out`
-/// holds.
+/// holds. The first one is shown however long it is, and of those behind it as many as fit.
 pub fn peek_text(out: &mut String, deliveries: &[Delivery]) -> Result<(), AllocError>
     ensures { OnOk result (IsPeek deliveries.now (string_bytes out.new)) }
 {
-    out.clear();
-    out.push_str("{\"messages\":[")?;
-    push_deliveries(out, deliveries)?;
+    begin_peek(out, deliveries)?;
     out.push_str("],\"result\":\"ok\"}")?;
     Ok(())
 }

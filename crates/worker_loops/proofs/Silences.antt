@@ -1,7 +1,6 @@
 -- Who is ended by silence, and who is not.
 use Rattle.std.proofs.Common.{◌≡◌, ℕ, ◌+◌, ◌<◌, Some, None, refl, arith}
 use Rattle.worker_loops.specs.declared.silence.Patience.{Patience}
-use Rattle.worker_loops.specs.declared.silence.Silence.{Silence}
 use Rattle.worker_loops.specs.declared.silence.Silence.TheVariants.{Fine, Ping, End}
 use Rattle.worker_loops.specs.Silence.{awaited_since, silence_of}
 

@@ -1,5 +1,5 @@
 -- Which connections of an address are counted, and as whose.
-use Rattle.std.specs.Prelude.{◌≡◌, ℕ, List, [], ◌∷◌, ◌++◌, take, Option, Some, None, IsSome, Result, Ok, IfOk}
+use Rattle.std.specs.Prelude.{◌≡◌, ℕ, [], ◌∷◌, ◌++◌, take, Option, Some, None, IsSome, Result, Ok, IfOk}
 use Rattle.std.specs.Net.Addr.{IsCanonicalOf, IsLoopbackV4, IsLoopbackV6, IsV6And, MatchIp, ipv6_segments}
 use Rattle.std.specs.declared.net.ip_addr.IpAddr.{IpAddr}
 use Rattle.worker_loops.specs.declared.addresses.Visit.{Visit}
@@ -18,6 +18,11 @@ abbrev pub IsCountedAs : IpAddr → IpAddr → Type 0
 IsCountedAs address counted =
     MatchIp address (λ _. counted ≡ address)
     (λ ip. IsV6And counted (λ network. ipv6_segments network ≡ take 4 (ipv6_segments ip) ++ (0 ∷ 0 ∷ 0 ∷ 0 ∷ [])))
+
+-- the machine's own is not counted
+abbrev pub IsCounted : (plain : IpAddr) → Option IpAddr → Type 0
+IsCounted plain None = IsOwn plain
+IsCounted plain (Some counted) = ¬ (IsOwn plain) × IsCountedAs plain counted
 
 -- whether a connection that may come is counted: where there is a limit, and it is not the machine's own
 abbrev pub Comes : Option ℕ → IpAddr → Result (Option Visit) Trouble → Type 0

@@ -1,18 +1,17 @@
-// Accepting connections.
+// Accepting connections, which the workers serve.
+use crate::alarm::Alarm;
 use crate::crew::Crew;
 use crate::job::Job;
 use crate::troubles::{Trouble, Troubles};
-use crate::worker::WAKER;
 use mio::net::{TcpListener, TcpStream};
-use mio::{Events, Interest, Poll, Token, Waker};
+use mio::{Interest, Poll, Token, Waker};
 use std::alloc::Global;
+use std::io;
 use std::io::Eprint;
 use std::net::{Net, SocketAddr};
-use std::rt::{Clock, Files};
+use std::rt::Clock;
 use std::sync::{Arc, Wait};
-use std::thread::{JoinHandle, Threads};
-use std::time::Duration;
-use std::{io, thread};
+use std::thread::Threads;
 
 /// The token of the listener.
 const LISTENER: Token = Token(0);
@@ -37,35 +36,48 @@ pub enum Ended {
     Failed,
 }
 
-/// The listener, and what wakes the accepting thread. It keeps the waker: a wake is lost where its waker is dropped first.
+/// The listener, and the alarm that it rings.
 #[derive(Drop)]
 struct Entrance {
     listener: TcpListener,
-    poll: Poll,
-    events: Events,
-    waker: Arc<Waker>,
+    alarm: Alarm,
 }
 
-fn waker_for(alloc: Global, poll: &Poll) -> Option<Arc<Waker>> {
-    let waker = Waker::new(poll.registry(), WAKER).ok()?;
-    Arc::new(alloc, waker).ok()
+/// What the accepting thread begins with. The thread that starts it makes the polls, since it alone has the net.
+#[derive(Drop)]
+pub(crate) struct Opening {
+    entrance: Entrance,
+    /// One for each worker.
+    polls: Vec<Poll>,
+    limits: Limits,
 }
 
-impl Entrance {
-    fn new<R: Net>(rt: &R, alloc: Global, listener: std::net::TcpListener) -> Option<Entrance> {
-        listener.set_nonblocking(true).ok()?;
-        let mut listener = TcpListener::from_std(listener);
-        let poll = Poll::new(rt).ok()?;
-        poll.registry()
-            .register(&mut listener, LISTENER, Interest::READABLE)
-            .ok()?;
-        let waker = waker_for(alloc, &poll)?;
-        Some(Entrance {
-            listener,
-            poll,
-            events: Events::with_capacity(alloc, 16).ok()?,
-            waker,
+/// So many polls.
+fn polls_for<R: Net>(rt: &R, alloc: Global, count: u32) -> Option<Vec<Poll>> {
+    let mut polls = Vec::new(alloc);
+    for _ in 0..count {
+        polls.push(Poll::new(rt).ok()?).ok()?;
+    }
+    Some(polls)
+}
+
+impl Opening {
+    pub(crate) fn new<R: Net>(
+        rt: &R,
+        alloc: Global,
+        listener: std::net::TcpListener,
+        limits: Limits,
+    ) -> Option<Opening> {
+        Some(Opening {
+            entrance: Entrance::new(rt, alloc, listener)?,
+            polls: polls_for(rt, alloc, limits.workers)?,
+            limits,
         })
+    }
+
+    /// What wakes the accepting thread.
+    pub(crate) fn waker(&self) -> Option<Arc<Waker>> {
+        self.entrance.alarm.waker()
     }
 }
 
@@ -80,6 +92,17 @@ enum Accepted {
 }
 
 impl Entrance {
+    fn new<R: Net>(rt: &R, alloc: Global, listener: std::net::TcpListener) -> Option<Entrance> {
+        listener.set_nonblocking(true).ok()?;
+        let mut listener = TcpListener::from_std(listener);
+        let alarm = Alarm::new(rt, alloc)?;
+        alarm
+            .registry()
+            .register(&mut listener, LISTENER, Interest::READABLE)
+            .ok()?;
+        Some(Entrance { listener, alarm })
+    }
+
     fn accept(&self) -> Accepted {
         match self.listener.accept() {
             Ok((stream, address)) => Accepted::Stream(stream, address),
@@ -92,15 +115,6 @@ impl Entrance {
             }
         }
     }
-
-    /// Waits until connections come, or the thread is woken; no longer than so many milliseconds, where that is said.
-    fn wait(&mut self, most: Option<u64>) -> bool {
-        let most = match most {
-            Some(millis) => Some(Duration::from_millis(millis)),
-            None => None,
-        };
-        self.poll.poll(&mut self.events, most).is_ok()
-    }
 }
 
 /// How long to wait after a connection could not be accepted, in milliseconds.
@@ -110,7 +124,7 @@ const PAUSE: u64 = 50;
 const ROUND: u64 = 1_000;
 
 /// Takes in connections, until so many have come or the store has failed. False where that could not go on.
-fn welcome<R: Wait + Clock + Eprint + Files, X: Job>(
+fn welcome<R: Wait + Clock + Eprint, X: Job>(
     rt: &R,
     place: &X,
     entrance: &mut Entrance,
@@ -122,16 +136,15 @@ fn welcome<R: Wait + Clock + Eprint + Files, X: Job>(
         if crew.count() >= most || place.has_failed() {
             return true;
         }
-        place.attend(rt);
         troubles.say(rt);
         let goes_on = match entrance.accept() {
             Accepted::Stream(stream, address) => {
                 crew.take_in(rt, &mut troubles, stream, address)
             }
-            Accepted::Nothing => entrance.wait(Some(ROUND)),
+            Accepted::Nothing => entrance.alarm.sleep(ROUND),
             Accepted::Fails => {
                 troubles.note(Trouble::NotAccepted);
-                entrance.wait(Some(PAUSE))
+                entrance.alarm.sleep(PAUSE)
             }
         };
         if !goes_on {
@@ -141,69 +154,19 @@ fn welcome<R: Wait + Clock + Eprint + Files, X: Job>(
     true
 }
 
-/// Stores, in a thread of its own, until nothing is to be stored any more. Then the accepting thread is woken.
-fn store_beside<
-    R: Threads + Wait + Clock + Copy + Send + Sync + Drop + 'static,
-    X: Job + Send + Sync + Drop + 'static,
->(rt: &R, place: &Arc<X>, waker: Arc<Waker>) -> Option<JoinHandle<()>> {
-    let place = Arc::try_clone(place).ok()?;
-    let handle = *rt;
-    let thread = thread::Builder::new().spawn(rt, move || {
-        place.keep(&handle);
-        let _ = waker.wake();
-    });
-    thread.ok()
-}
-
-/// The thread that stores, which wakes the accepting one at its end.
-fn storing_for<
-    R: Threads + Wait + Clock + Copy + Send + Sync + Drop + 'static,
-    X: Job + Send + Sync + Drop + 'static,
->(rt: &R, place: &Arc<X>, entrance: &Entrance) -> Option<JoinHandle<()>> {
-    store_beside(rt, place, Arc::try_clone(&entrance.waker).ok()?)
-}
-
-fn serve_at<
-    R: Threads + Wait + Net + Clock + Eprint + Files + Copy + Send + Sync + Drop + 'static,
-    X: Job + Send + Sync + Drop + 'static,
->(
-    rt: &R,
-    alloc: Global,
-    entrance: &mut Entrance,
-    crew: Crew,
-    place: &Arc<X>,
-    limits: Limits,
-) -> Ended {
-    match storing_for(rt, place, entrance) {
-        Some(storing) => {
-            let ended = serve_by(rt, alloc, entrance, crew, place, limits);
-            place.finish(rt);
-            storing.join(rt);
-            if place.has_failed() {
-                Ended::StoreFailed
-            } else {
-                ended
-            }
-        }
-        None => Ended::Failed,
-    }
-}
-
 /// Serves connections by the crew, until all its workers have ended.
 fn serve_by<
-    R: Threads + Wait + Net + Clock + Eprint + Files + Copy + Send + Sync + Drop + 'static,
+    R: Threads + Wait + Clock + Eprint + Copy + Send + Sync + Drop + 'static,
     X: Job + Send + Sync + Drop + 'static,
->(
-    rt: &R,
-    alloc: Global,
-    entrance: &mut Entrance,
-    mut crew: Crew,
-    place: &Arc<X>,
-    limits: Limits,
-) -> Ended {
+>(rt: &R, alloc: Global, opening: Opening, mut crew: Crew, place: &Arc<X>) -> Ended {
+    let Opening {
+        mut entrance,
+        polls,
+        limits,
+    } = opening;
     let most = limits.connections.unwrap_or(u64::MAX);
-    let has_served = crew.hire_all(rt, alloc, place, limits.workers)
-        && welcome(rt, &**place, entrance, &mut crew, most);
+    let has_served = crew.hire_all(rt, alloc, place, polls)
+        && welcome(rt, &**place, &mut entrance, &mut crew, most);
     let count = crew.count();
     crew.shut(rt);
     let has_worked = crew.join(rt);
@@ -214,24 +177,16 @@ fn serve_by<
     }
 }
 
-/// Serves connections that come to the listener, each by one of the workers, until so many have come and ended, or the
-/// store fails. One thread accepts them, and one stores what is too much for a worker.
-pub fn serve<
-    R: Threads + Wait + Net + Clock + Eprint + Files + Copy + Send + Sync + Drop + 'static,
+/// Serves the connections that come, until so many have come and ended, or the store fails.
+pub(crate) fn accept_all<
+    R: Threads + Wait + Clock + Eprint + Copy + Send + Sync + Drop + 'static,
     X: Job + Send + Sync + Drop + 'static,
->(rt: &R, alloc: Global, listener: std::net::TcpListener, place: Arc<X>, limits: Limits) -> Ended {
-    match (
-        Entrance::new(rt, alloc, listener),
-        Crew::new(alloc, limits.most_per_address),
-    ) {
-        (Some(mut entrance), Some(crew)) => serve_at(
-            rt,
-            alloc,
-            &mut entrance,
-            crew,
-            &place,
-            limits,
-        ),
-        _ => Ended::Failed,
+>(rt: &R, alloc: Global, opening: Opening, place: &Arc<X>) -> Ended {
+    match Crew::new(alloc, opening.limits.most_per_address) {
+        Some(crew) => serve_by(rt, alloc, opening, crew, place),
+        None => {
+            drop(opening);
+            Ended::Failed
+        }
     }
 }

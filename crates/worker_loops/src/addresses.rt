@@ -1,7 +1,7 @@
 // How many connections there are of each address, so that one client does not take the place of all others.
 ghost use Rattle.std.specs.Prelude.{IfOk, IsSome};
 ghost use Rattle.std.specs.declared.net.ip_addr.IpAddr.{IpAddr};
-ghost use Rattle.worker_loops.specs.Addresses.{Comes, IsCountedAs, IsPlainOf};
+ghost use Rattle.worker_loops.specs.Addresses.{Comes, IsCounted, IsCountedAs, IsPlainOf};
 
 use crate::troubles::Trouble;
 use std::alloc::{AllocError, Global};
@@ -36,6 +36,18 @@ pub(crate) struct Addresses {
     many: usize,
 }
 
+/// What the connections of an address are counted as; nothing, where they need no counting, since it is the machine's own.
+pub fn counted(address: IpAddr) -> Option<IpAddr>
+    ensures { (plain : IpAddr) × IsPlainOf address plain × IsCounted plain result }
+{
+    let address = address.to_canonical();
+    if address.is_loopback() {
+        None
+    } else {
+        Some(counted_as(address))
+    }
+}
+
 /// What an address is counted as. Of IPv6 that is the network: whoever has one address of it has them all.
 fn counted_as(address: IpAddr) -> IpAddr
     ensures { IsCountedAs address result }
@@ -63,9 +75,8 @@ impl Addresses {
     pub(crate) fn come(&mut self, address: IpAddr) -> Result<Option<Visit>, Trouble>
         ensures { (plain : IpAddr) × IsPlainOf address plain × Comes self.old.most plain result }
     {
-        let address = address.to_canonical();
-        match self.most {
-            Some(most) if !address.is_loopback() => self.count(counted_as(address), most),
+        match (self.most, counted(address)) {
+            (Some(most), Some(address)) => self.count(address, most),
             _ => Ok(None),
         }
     }

@@ -1,10 +1,9 @@
 // A connection that a worker serves.
 use crate::addresses::Visit;
-use crate::house::{After, Asking, Comer, House, Turned};
+use crate::house::{After, Asking, Comer, House, Time, Turned};
 use crate::post::Doorbell;
 use crate::rounds::SHAKING;
 use crate::silence::{Hearing, Silence};
-use delivery_machine::Moment;
 use mio::net::TcpStream;
 use socket_conn::{Answered, Answering, Asked, Held, Shaken, Shaking, SocketConn};
 use std::alloc::Global;
@@ -34,20 +33,6 @@ pub(crate) enum Look {
     Due,
     /// It is at its end.
     Over,
-}
-
-/// Says whose session ends since nothing came from it for so many milliseconds.
-fn say_silent<R: Eprint>(rt: &R, address: Option<SocketAddr>, silent: u64) {
-    match address {
-        Some(address) => {
-            let _ = eprintln!(rt;
-                "level=info msg=\"ended by silence\" address={address} millis={silent}"
-            );
-        }
-        None => {
-            let _ = eprintln!(rt; "level=info msg=\"ended by silence\" millis={silent}");
-        }
-    }
 }
 
 /// The response has gone whole. Its client hears so before the connection is dropped.
@@ -126,8 +111,7 @@ impl<G: Drop> Client<G> {
                     }
                 }
                 Silence::End => {
-                    say_silent(rt, self.address, self.hearing.silent(now));
-                    house.hang_up(guest);
+                    house.hang_up(rt, guest, self.hearing.silent(now));
                     Look::Due
                 }
             },
@@ -152,7 +136,7 @@ impl<G: Drop> Client<G> {
         rt: &R,
         alloc: Global,
         house: &H,
-        now: Moment,
+        now: Time,
         connections: u64,
     ) -> Turned {
         self.bell.hear();
@@ -171,7 +155,7 @@ impl<G: Drop> Client<G> {
         alloc: Global,
         house: &H,
         shaking: Shaking<TcpStream>,
-        now: Moment,
+        now: Time,
         connections: u64,
     ) -> Turned {
         match shaking.advance() {
@@ -189,7 +173,7 @@ impl<G: Drop> Client<G> {
             Shaken::Plain(stream, request) => {
                 let asking = Asking {
                     request,
-                    now,
+                    now: now.day,
                     connections,
                 };
                 self.answer(rt, alloc, house, stream, asking)
@@ -206,12 +190,12 @@ impl<G: Drop> Client<G> {
         house: &H,
         conn: SocketConn<Held<TcpStream>>,
         asked: Asked,
-        now: Moment,
+        now: Time,
         connections: u64,
     ) -> Turned {
         let comer = Comer {
             address: self.address,
-            came: now,
+            came: now.day,
         };
         let guest = house.enter(rt, alloc, conn, &asked, comer, &self.bell);
         drop(asked);
@@ -267,7 +251,7 @@ impl<G: Drop> Client<G> {
         rt: &R,
         house: &H,
         guest: G,
-        now: Moment,
+        now: Time,
         connections: u64,
     ) -> Turned {
         let (turned, guest) = house.turn(rt, guest, now, connections);

@@ -9,7 +9,7 @@ use mio::net::TcpStream;
 use mio::{Poll, Waker};
 use std::alloc::Global;
 use std::io::Eprint;
-use std::net::{Net, SocketAddr};
+use std::net::SocketAddr;
 use std::rt::Clock;
 use std::sync::atomic::{AtomicUsize, Ordering};
 use std::sync::{Arc, Wait};
@@ -68,21 +68,22 @@ impl Crew {
         }
     }
 
-    /// Starts a worker. None where it could not be.
+    /// Starts a worker at the poll. None where it could not be.
     fn hire<
-        R: Threads + Wait + Net + Clock + Eprint + Copy + Send + Sync + Drop + 'static,
+        R: Threads + Wait + Clock + Eprint + Copy + Send + Sync + Drop + 'static,
         X: Job + Send + Sync + Drop + 'static,
-    >(&mut self, rt: &R, alloc: Global, place: &Arc<X>) -> Option<()> {
+    >(&mut self, rt: &R, alloc: Global, place: &Arc<X>, poll: Poll) -> Option<()> {
         if !self.make_room() {
+            drop(poll);
             return None;
         }
-        let (poll, post) = poll_with_post(rt, alloc, &self.connections)?;
+        let post = post_for(alloc, &poll, &self.connections)?;
         let start = self.start_of(poll, &post)?;
         self.put_to_work(rt, alloc, place, post, start)
     }
 
     fn put_to_work<
-        R: Threads + Wait + Net + Clock + Eprint + Copy + Send + Sync + Drop + 'static,
+        R: Threads + Wait + Clock + Eprint + Copy + Send + Sync + Drop + 'static,
         X: Job + Send + Sync + Drop + 'static,
     >(
         &mut self,
@@ -97,13 +98,13 @@ impl Crew {
         self.threads.push(thread).ok()
     }
 
-    /// Starts so many workers. False where one could not be.
+    /// Starts a worker at each poll. False where one could not be.
     pub(crate) fn hire_all<
-        R: Threads + Wait + Net + Clock + Eprint + Copy + Send + Sync + Drop + 'static,
+        R: Threads + Wait + Clock + Eprint + Copy + Send + Sync + Drop + 'static,
         X: Job + Send + Sync + Drop + 'static,
-    >(&mut self, rt: &R, alloc: Global, place: &Arc<X>, workers: u32) -> bool {
-        for _ in 0..workers {
-            if self.hire(rt, alloc, place).is_none() {
+    >(&mut self, rt: &R, alloc: Global, place: &Arc<X>, polls: Vec<Poll>) -> bool {
+        for poll in polls {
+            if self.hire(rt, alloc, place, poll).is_none() {
                 return false;
             }
         }
@@ -195,17 +196,7 @@ impl Crew {
     }
 }
 
-/// A poll, and the post of a worker, which wakes it.
-fn poll_with_post<R: Net>(
-    rt: &R,
-    alloc: Global,
-    all: &Arc<AtomicUsize>,
-) -> Option<(Poll, Arc<Post>)> {
-    let poll = Poll::new(rt).ok()?;
-    let post = post_for(alloc, &poll, all)?;
-    Some((poll, post))
-}
-
+/// The post of a worker, which wakes it at the poll.
 fn post_for(alloc: Global, poll: &Poll, all: &Arc<AtomicUsize>) -> Option<Arc<Post>> {
     let waker = Waker::new(poll.registry(), WAKER).ok()?;
     let all = Arc::try_clone(all).ok()?;
@@ -214,7 +205,7 @@ fn post_for(alloc: Global, poll: &Poll, all: &Arc<AtomicUsize>) -> Option<Arc<Po
 
 /// A thread in which a worker works.
 fn spawn<
-    R: Threads + Wait + Net + Clock + Eprint + Copy + Send + Sync + Drop + 'static,
+    R: Threads + Wait + Clock + Eprint + Copy + Send + Sync + Drop + 'static,
     X: Job + Send + Sync + Drop + 'static,
 >(rt: &R, alloc: Global, place: &Arc<X>, start: Start) -> Option<JoinHandle<bool>> {
     let place = Arc::try_clone(place).ok()?;

@@ -1,6 +1,6 @@
 // The connections of a worker, and which of them are served next.
 use crate::client::{Client, Look};
-use crate::house::{After, House, Turned};
+use crate::house::{After, House, Time, Turned};
 use crate::post::{Doorbell, Post};
 use crate::putter::Newcomer;
 use crate::rounds::{Now, STEPS};
@@ -186,7 +186,7 @@ impl<G: Drop> Crowd<G> {
         };
         client.is_due = false;
         let connections = post.all_connections() as u64;
-        let turned = client.serve(rt, self.alloc, house, now.moment, connections);
+        let turned = client.serve(rt, self.alloc, house, now.time, connections);
         if turned.heard {
             client.note_heard(now.millis);
         }
@@ -209,12 +209,12 @@ impl<G: Drop> Crowd<G> {
         }
     }
 
-    /// How many milliseconds it is until a moment comes that a connection waits for.
+    /// How many milliseconds it is until a moment of the steady clock comes that a connection waits for.
     pub(crate) fn wait(&self, now: Moment) -> Option<u64> {
         self.timers.wait(now.millis())
     }
 
-    /// Those are due whose moment has come.
+    /// Those are due whose moment has come by the steady clock.
     pub(crate) fn expire(&mut self, now: Moment) {
         for _ in 0..self.clients.len() {
             let Some(token) = self.timers.next(now.millis()) else {
@@ -269,12 +269,12 @@ impl<G: Drop> Crowd<G> {
         rt: &R,
         house: &H,
         post: &Post,
-        now: Moment,
+        now: &Time,
     ) {
         for token in 0..self.clients.capacity() {
             if let Some(client) = self.clients.get_mut(token) {
                 let connections = post.all_connections() as u64;
-                let _ = client.serve(rt, self.alloc, house, now, connections);
+                let _ = client.serve(rt, self.alloc, house, *now, connections);
                 self.remove(post, token);
             }
         }

@@ -30,7 +30,7 @@ pub struct Turned {
     /// How much it may have changed: as many times as it took texts, and at least once where it has a session, since a moment
     /// may have come.
     pub made: u64,
-    /// When the connection is to be looked at again, in milliseconds since 1970.
+    /// When the connection is to be looked at again, by the steady clock, in milliseconds.
     pub due: Option<u64>,
     /// Its silence counts from now on: something whole came from its client, a text or a pong, or its request was accepted.
     pub heard: bool,
@@ -83,14 +83,23 @@ impl Turned {
     }
 }
 
-/// Who comes: where the client is, where the system tells, and when its request had come.
+/// What time it is.
+#[derive(Clone, Copy, Debug, PartialEq, Eq)]
+pub struct Time {
+    /// Of the day, which somebody may set.
+    pub day: Moment,
+    /// By the clock that nobody sets: what waits runs by it.
+    pub steady: Moment,
+}
+
+/// Who comes: where the client is, where the system tells, and at what time of the day its request had come.
 #[derive(Clone, Copy, Debug, PartialEq, Eq)]
 pub struct Comer {
     pub address: Option<SocketAddr>,
     pub came: Moment,
 }
 
-/// A request that asks for no WebSocket: when it had come, and how many connections there are.
+/// A request that asks for no WebSocket: at what time of the day it had come, and how many connections there are.
 #[derive(Drop)]
 pub struct Asking {
     pub request: Request,
@@ -103,8 +112,8 @@ pub trait House {
     /// A connection that was let in, with all that it has there.
     type Guest: Drop;
 
-    /// The moment that it is, or the last one that was told.
-    fn moment<R: Clock>(&self, rt: &R, last: Moment) -> Moment;
+    /// What time it is; where a clock tells nothing, what it told last.
+    fn time<R: Clock>(&self, rt: &R, last: Time) -> Time;
 
     /// How long its guests' clients may be silent.
     fn patience(&self) -> Patience;
@@ -133,15 +142,15 @@ pub trait House {
     /// Asks the guest's client for a sign of life. False where the connection is lost.
     fn ping(&self, guest: &mut Self::Guest) -> bool;
 
-    /// The guest's client has gone, which its next turn tells it.
-    fn hang_up(&self, guest: &mut Self::Guest);
+    /// The guest's client was silent for so many milliseconds, and has gone, which its next turn tells it.
+    fn hang_up<R: Eprint>(&self, rt: &R, guest: &mut Self::Guest, silent: u64);
 
     /// One turn of a guest, of whom there are so many, who is given back where it has not ended.
     fn turn<R: Wait + Eprint>(
         &self,
         rt: &R,
         guest: Self::Guest,
-        now: Moment,
+        now: Time,
         connections: u64,
     ) -> (Turned, Option<Self::Guest>);
 

@@ -27,7 +27,7 @@ pub trait Job {
     /// Serves connections, until no more come or the store has failed. False where it could not.
     fn work<R: Wait + Clock + Eprint>(&self, rt: &R, alloc: Global, start: Start) -> bool;
 
-    /// What needs files is done now, since only the thread that accepts connections has them: after each, and once a second.
+    /// What needs files is done now, since only the thread that began has them: at the start, and once a second.
     fn attend<R: Wait + Clock + Eprint + Files>(&self, rt: &R);
 
     /// Stores all that waits, and then nothing more.

@@ -4,6 +4,8 @@
 
 mod accepting;
 mod addresses;
+mod alarm;
+mod attending;
 mod client;
 mod crew;
 mod crowd;
@@ -19,8 +21,10 @@ mod timers;
 mod troubles;
 mod worker;
 
-pub use accepting::{Ended, Limits, serve};
-pub use house::{After, Asking, Comer, House, Turned};
+pub use accepting::{Ended, Limits};
+pub use addresses::counted;
+pub use attending::serve;
+pub use house::{After, Asking, Comer, House, Time, Turned};
 pub use job::{Job, Start, work_at};
 pub use post::Doorbell;
 pub use silence::Patience;

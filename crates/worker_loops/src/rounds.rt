@@ -1,6 +1,6 @@
 // When connections are looked at.
+use crate::house::Time;
 use crate::stopwatch::Stopwatch;
-use delivery_machine::Moment;
 use std::rt::Clock;
 
 /// How many milliseconds a request may take to come whole.
@@ -12,10 +12,10 @@ pub(crate) const STEPS: usize = 4;
 
 const STEP: u64 = 500;
 
-/// What time it is: of the day, and by the worker's rounds, in milliseconds.
+/// What time it is at the house, and by the worker's rounds, in milliseconds.
 #[derive(Clone, Copy, Debug, PartialEq, Eq)]
 pub(crate) struct Now {
-    pub(crate) moment: Moment,
+    pub(crate) time: Time,
     pub(crate) millis: u64,
 }
 

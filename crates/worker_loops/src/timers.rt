@@ -1,7 +1,7 @@
 // When connections are to be looked at again, since messages of theirs fall due: one moment for each at most.
 use std::alloc::Global;
 
-/// A connection that is to be looked at from a moment on, in milliseconds since 1970.
+/// A connection that is to be looked at from a moment on, by the steady clock, in milliseconds.
 #[derive(Clone, Copy, Debug, PartialEq, Eq)]
 struct Timer {
     millis: u64,

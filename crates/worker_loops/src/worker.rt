@@ -1,6 +1,6 @@
 // The loop of a worker.
 use crate::crowd::Crowd;
-use crate::house::House;
+use crate::house::{House, Time};
 use crate::post::Post;
 use crate::putter::Newcomer;
 use crate::rounds::{Now, Rounds};
@@ -55,7 +55,7 @@ pub(crate) struct Worker<G: Drop> {
     /// Room for tokens that were rung, and for those that are served.
     rung: Vec<usize>,
     served: Vec<usize>,
-    now: Moment,
+    now: Time,
     rounds: Rounds,
 }
 
@@ -67,7 +67,7 @@ impl<G: Drop> Worker<G> {
         taker: Taker<Newcomer>,
     ) -> Option<Self> {
         let events = Events::with_capacity(alloc, EVENTS).ok()?;
-        let now = Moment::new(0)?;
+        let start = Moment::new(0)?;
         Some(Worker {
             poll,
             post,
@@ -76,7 +76,10 @@ impl<G: Drop> Worker<G> {
             events,
             rung: Vec::new(alloc),
             served: Vec::new(alloc),
-            now,
+            now: Time {
+                day: start,
+                steady: start,
+            },
             rounds: Rounds::new(),
         })
     }
@@ -120,7 +123,7 @@ impl<G: Drop> Worker<G> {
 
     fn serve<H: House<Guest = G>, R: Wait + Eprint>(&mut self, rt: &R, house: &H) {
         let now = Now {
-            moment: self.now,
+            time: self.now,
             millis: self.rounds.now(),
         };
         self.crowd
@@ -144,7 +147,7 @@ impl<G: Drop> Worker<G> {
             return None;
         }
         let step = self.rounds.wait();
-        let millis = match self.crowd.wait(self.now) {
+        let millis = match self.crowd.wait(self.now.steady) {
             Some(millis) => millis.min(step),
             None => step,
         };
@@ -153,7 +156,7 @@ impl<G: Drop> Worker<G> {
 
     /// The connections that time has come for.
     fn look<H: House<Guest = G>, R: Eprint>(&mut self, rt: &R, house: &H) {
-        self.crowd.expire(self.now);
+        self.crowd.expire(self.now.steady);
         if let Some(step) = self.rounds.step() {
             self.crowd
                 .look(rt, house, &*self.post, step, self.rounds.now());
@@ -169,7 +172,7 @@ impl<G: Drop> Worker<G> {
         let pause = self.pause(rt);
         self.poll.poll(&mut self.events, pause)?;
         self.post.wakes(rt);
-        self.now = house.moment(rt, self.now);
+        self.now = house.time(rt, self.now);
         self.rounds.look(rt);
         for event in self.events.iter() {
             let token = event.token();
@@ -194,14 +197,14 @@ impl<G: Drop> Worker<G> {
         house: &H,
         door: &Door,
     ) -> io::Result<()> {
-        self.now = house.moment(rt, self.now);
+        self.now = house.time(rt, self.now);
         self.rounds.look(rt);
         for _ in rt.forever() {
             self.welcome(rt);
             self.serve(rt, house);
             self.store(rt, house);
             if house.is_closed() {
-                self.crowd.give_up(rt, house, &*self.post, self.now);
+                self.crowd.give_up(rt, house, &*self.post, &self.now);
                 return Ok(());
             }
             if self.is_over(door) {

@@ -1,1 +1,4 @@
+-- What the contracts of the server cite.
+pub mod Callers
+pub mod Dated
 pub mod Pages

@@ -1,10 +1,10 @@
 // The calls of a session: at its seat, and of the broker that all seats are at.
 ghost use Rattle.std.specs.Prelude.{◌≡◌};
+ghost use Rattle.worker_pool.specs.Dated.{dated};
 
-use crate::pages::overview_in;
 use crate::place::Place;
 use broker_parts::Broker;
-use delivery_machine::{Fault, Moment, Reply};
+use delivery_machine::{Event, Fault, Moment, Reply};
 use session_links::{Caller, Request};
 use std::sync::Wait;
 use worker_loops::Doorbell;
@@ -63,13 +63,35 @@ impl<'a, D: Broker<Doorbell>, R: Wait> Caller for Seated<'a, D, R> {
     }
 }
 
-/// The calls of a session, which sees the broker as it is at the moment, with so many connections.
+/// The request, where a publish is of this time of day. All else that a session asks runs by the clock that nobody sets.
+fn dated(request: Request, day: Moment) -> Request
+    ensures { result ≡ dated day request }
+{
+    match request {
+        Request::Event(
+            Event::Publish {
+                producer,
+                sequence,
+                body,
+                now: _,
+            },
+        ) => Request::Event(Event::Publish {
+            producer,
+            sequence,
+            body,
+            now: day,
+        }),
+        request => request,
+    }
+}
+
+/// The calls of a session, at that time of day, which sees the broker as it is, with so many connections.
 #[derive(Drop)]
 pub(crate) struct Desk<'a, D: Broker<Doorbell>, R: Wait> {
     seated: Seated<'a, D, R>,
     rt: &'a R,
     place: &'a Place<D>,
-    now: Moment,
+    day: Moment,
     connections: u64,
 }
 
@@ -78,14 +100,14 @@ impl<'a, D: Broker<Doorbell>, R: Wait> Desk<'a, D, R> {
         rt: &'a R,
         place: &'a Place<D>,
         seat: &'a D::Seat,
-        now: Moment,
+        day: Moment,
         connections: u64,
     ) -> Self {
         Desk {
             seated: Seated::at(rt, &place.directory, seat),
             rt,
             place,
-            now,
+            day,
             connections,
         }
     }
@@ -97,11 +119,11 @@ impl<'a, D: Broker<Doorbell>, R: Wait> Caller for Desk<'a, D, R> {
     ghost calls = { λ c. None };
 
     fn call(&mut self, request: Request) -> Result<Reply, Fault> {
-        self.seated.call(request)
+        self.seated.call(dated(request, self.day))
     }
 
-    /// No lock is held while the text is written.
+    /// No topic's lock is held while the text is written.
     fn overview(&mut self) -> Result<String, Fault> {
-        overview_in(self.place.seen(self.rt, self.now, self.connections))
+        self.place.overview(self.rt, self.day, self.connections)
     }
 }

@@ -1,12 +1,14 @@
 // From a request to a session: the target is read, a seat is taken, the session begins, and only then the request is
 // accepted. So whoever sees its connection open is subscribed, or is a producer of its topic. One whose topic is being opened
 // waits before that.
+use crate::callers::Presence;
 use crate::desk::Seated;
 use crate::guest::Guest;
 use crate::place::Place;
 use crate::quoted::Quoted;
 use crate::serving::Served;
 use crate::waiting::Waiting;
+use crate::whence::whence_of;
 use broker_parts::{Broker, Coming, Visitor, Waiter};
 use delivery_machine::{Fault, TopicName};
 use endpoint_core::{Endpoint, route};
@@ -27,10 +29,12 @@ pub(crate) struct Wish {
     pub(crate) topic: TopicName,
     creates: bool,
     pub(crate) code: u16,
-    visitor: Visitor,
+    pub(crate) visitor: Visitor,
+    /// It counts as its address's, where it is counted.
+    presence: Option<Presence>,
 }
 
-fn wish_of(endpoint: &Endpoint, comer: Comer, is_handed_on: bool) -> Option<Wish> {
+fn wish_of(endpoint: &Endpoint, comer: Comer, asked: &Asked) -> Option<Wish> {
     let (topic, creates, code, role) = match endpoint {
         Endpoint::Producer(producer) => (&producer.topic, true, 4001, Role::Producer),
         Endpoint::Consumer(consumer) => (&consumer.topic, true, 4002, Role::Consumer),
@@ -41,11 +45,12 @@ fn wish_of(endpoint: &Endpoint, comer: Comer, is_handed_on: bool) -> Option<Wish
         creates,
         code,
         visitor: Visitor {
-            address: comer.address,
-            is_handed_on,
+            whence: whence_of(comer.address, asked),
+            is_handed_on: asked.is_forwarded,
             role,
             since: comer.came,
         },
+        presence: None,
     })
 }
 
@@ -129,7 +134,16 @@ fn begin<D: Broker<Doorbell>, R: Wait>(
     endpoint: Endpoint,
     mut conn: SocketConn<Held<TcpStream>>,
     seat: D::Seat,
+    wish: Wish,
 ) -> Option<Guest<D::Seat>> {
+    let Wish {
+        topic,
+        creates: _,
+        code: _,
+        visitor,
+        presence,
+    } = wish;
+    drop(topic);
     match session_at(rt, alloc, place, endpoint, &mut conn, &seat) {
         Some(session) => {
             accept(&mut conn);
@@ -137,10 +151,13 @@ fn begin<D: Broker<Doorbell>, R: Wait>(
                 conn,
                 session,
                 seat,
+                whence: visitor.whence,
+                presence,
             }))
         }
         None => {
             place.directory.detach(rt, seat);
+            drop(presence);
             accept(&mut conn);
             drop(conn);
             None
@@ -160,7 +177,7 @@ pub(crate) fn enter<D: Broker<Doorbell>, R: Wait + Eprint>(
 ) -> Option<Guest<D::Seat>> {
     match route(alloc, asked.target.as_str(), place.rules.letters) {
         Ok(endpoint) => {
-            let wish = wish_of(&endpoint, comer, asked.is_forwarded);
+            let wish = wish_of(&endpoint, comer, asked);
             enter_at(rt, alloc, place, conn, endpoint, wish, bell)
         }
         Err(fault) => {
@@ -182,12 +199,38 @@ fn enter_at<D: Broker<Doorbell>, R: Wait + Eprint>(
     bell: &Arc<Doorbell>,
 ) -> Option<Guest<D::Seat>> {
     match wish {
-        Some(wish) => enter_with(rt, alloc, place, conn, endpoint, wish, bell),
+        Some(wish) => enter_counted(rt, alloc, place, conn, endpoint, wish, bell),
         None => {
             place.refusals.note(rt, Fault::NoMemory);
             turn_away(&mut conn, 4008, Fault::NoMemory);
             drop(conn);
             drop(endpoint);
+            None
+        }
+    }
+}
+
+/// The connection counts as its address's from now on, unless its address has too much.
+fn enter_counted<D: Broker<Doorbell>, R: Wait + Eprint>(
+    rt: &R,
+    alloc: Global,
+    place: &Place<D>,
+    mut conn: SocketConn<Held<TcpStream>>,
+    endpoint: Endpoint,
+    mut wish: Wish,
+    bell: &Arc<Doorbell>,
+) -> Option<Guest<D::Seat>> {
+    match place.callers.come(rt, &wish.visitor, &wish.topic) {
+        Ok(presence) => {
+            wish.presence = presence;
+            enter_with(rt, alloc, place, conn, endpoint, wish, bell)
+        }
+        Err(fault) => {
+            place.refusals.note(rt, fault);
+            turn_away(&mut conn, wish.code, fault);
+            drop(conn);
+            drop(endpoint);
+            drop(wish);
             None
         }
     }
@@ -206,8 +249,7 @@ pub(crate) fn enter_with<D: Broker<Doorbell>, R: Wait + Eprint>(
     match come_to(rt, place, &wish, bell) {
         Ok(Coming::Seated(seat)) => {
             place.directory.introduce(rt, &seat, wish.visitor);
-            drop(wish);
-            begin(rt, alloc, place, endpoint, conn, seat)
+            begin(rt, alloc, place, endpoint, conn, seat, wish)
         }
         Ok(Coming::Waits(waiter)) => wait(rt, alloc, conn, endpoint, wish, bell, waiter),
         Err(fault) => {

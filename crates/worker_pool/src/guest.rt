@@ -2,11 +2,10 @@
 use crate::place::Place;
 use crate::serving::{Served, serve_turn};
 use crate::waiting::{Waiting, wait_turn};
-use broker_parts::Broker;
-use delivery_machine::Moment;
+use broker_parts::{Broker, Whence};
 use std::io::Eprint;
 use std::sync::Wait;
-use worker_loops::{Doorbell, Turned};
+use worker_loops::{Doorbell, Time, Turned};
 
 /// A connection that was let in.
 #[derive(Drop)]
@@ -33,6 +32,14 @@ impl<X: Drop> Guest<X> {
         }
     }
 
+    /// Where its client is, where that is known.
+    pub(crate) fn whence(&self) -> Option<Whence> {
+        match self {
+            Guest::Serves(served) => served.whence,
+            Guest::Waits(waiting) => waiting.wish.visitor.whence,
+        }
+    }
+
     pub(crate) fn hang_up(&mut self) {
         match self {
             Guest::Serves(served) => served.conn.hang_up(),
@@ -46,7 +53,7 @@ pub(crate) fn turn<D: Broker<Doorbell>, R: Wait + Eprint>(
     rt: &R,
     place: &Place<D>,
     guest: Guest<D::Seat>,
-    now: Moment,
+    now: Time,
     connections: u64,
 ) -> (Turned, Option<Guest<D::Seat>>) {
     match guest {

@@ -1,16 +1,18 @@
 // What all workers share: the directory of topics, to whose sessions connections come.
-ghost use Rattle.std.specs.Prelude.{IfOk, IfSome, option_map};
+ghost use Rattle.std.specs.Prelude.{◌≡◌, IfOk, IfSome, option_map};
 ghost use Rattle.worker_pool.specs.Pages.{IsPage, Refuses, asked_of};
 
+use crate::callers::{Callers, PerAddress};
 use crate::entering::enter;
 use crate::guest::{Guest, turn};
+use crate::log::say_silent;
 use crate::memory::Memory;
 use crate::pages::{
     Page, asked_of, bad_request, comes, forbidden, health, index, metrics_of, not_found,
-    overview_of,
+    overview_in, overview_of,
 };
 use crate::refusals::Refusals;
-use broker_parts::{Broker, moment};
+use broker_parts::{Broker, Steady, moment};
 use delivery_machine::{Fault, Moment};
 use endpoint_core::{Admitted, Letters};
 use mio::net::TcpStream;
@@ -19,8 +21,8 @@ use status_pages::{BrokerSeen, ProgramSeen};
 use std::alloc::{AllocError, Global};
 use std::io::Eprint;
 use std::rt::{Clock, Files};
-use std::sync::{Arc, Wait};
-use worker_loops::{Asking, Comer, Doorbell, House, Job, Patience, Start, Turned, work_at};
+use std::sync::{Arc, Mutex, Wait};
+use worker_loops::{Asking, Comer, Doorbell, House, Job, Patience, Start, Time, Turned, work_at};
 
 /// The program's version, as its package has it too.
 pub const VERSION: &str = "0.9.0";
@@ -28,8 +30,8 @@ pub const VERSION: &str = "0.9.0";
 /// What is said of the program.
 #[derive(Clone, Copy)]
 pub struct About {
-    /// When it was started.
-    pub started: Moment,
+    /// The clock that began with it.
+    pub clock: Steady,
     /// It listens at an address that others than its own machine's may reach, and nobody said that it should.
     pub is_open: bool,
 }
@@ -42,6 +44,7 @@ pub struct Rules {
     pub letters: Letters,
     /// For how long a client may be silent.
     pub patience: Patience,
+    pub per_address: PerAddress,
 }
 
 /// What all workers share: the directory of topics, and what is counted beside it.
@@ -50,6 +53,10 @@ pub struct Place<D: Broker<Doorbell>> {
     about: About,
     pub(crate) rules: Rules,
     pub(crate) refusals: Refusals,
+    pub(crate) callers: Callers,
+    /// Held by whoever writes what is seen of all topics, so that this takes memory for one asker at a time. It comes first in the
+    /// order of locks.
+    looks: Mutex<()>,
     memory: Memory,
 }
 
@@ -60,18 +67,26 @@ impl<D: Broker<Doorbell>> Drop for Place<D> {
             about: _,
             rules: _,
             refusals: _,
+            callers: _,
+            looks: _,
             memory: _,
         } = self;
     }
 }
 
 impl<D: Broker<Doorbell>> Place<D> {
-    pub fn new(directory: D, about: About, rules: Rules) -> Self {
+    pub fn new(alloc: Global, directory: D, about: About, rules: Rules) -> Self
+        ensures rules { result.rules ≡ rules }
+        ensures about { result.about ≡ about }
+    {
+        let callers = Callers::new(alloc, rules.per_address);
         Place {
             directory,
             about,
             rules,
             refusals: Refusals::new(),
+            callers,
+            looks: Mutex::new(()),
             memory: Memory::new(),
         }
     }
@@ -82,7 +97,7 @@ impl<D: Broker<Doorbell>> Place<D> {
     fn program_seen(&self, now: Moment, connections: u64) -> ProgramSeen {
         ProgramSeen {
             version: VERSION,
-            started: self.about.started.millis(),
+            started: self.about.clock.start().millis(),
             now: now.millis(),
             connections,
             memory: self.memory.bytes(),
@@ -91,16 +106,48 @@ impl<D: Broker<Doorbell>> Place<D> {
     }
 
     /// What is seen of the broker at the moment, with so many connections.
-    pub(crate) fn seen<R: Wait>(
+    fn seen<R: Wait>(&self, rt: &R, now: Moment, connections: u64) -> Result<BrokerSeen, Fault> {
+        self.directory.seen(rt, self.program_seen(now, connections))
+    }
+
+    /// The overview, as an administrator gets it in a session.
+    pub(crate) fn overview<R: Wait>(
         &self,
         rt: &R,
         now: Moment,
         connections: u64,
-    ) -> Result<BrokerSeen, Fault> {
-        self.directory.seen(rt, self.program_seen(now, connections))
+    ) -> Result<String, Fault> {
+        let _one = self.looks.lock(rt);
+        overview_in(self.seen(rt, now, connections))
     }
 
-    /// The page that was asked for. No lock is held while it is written.
+    fn metrics_page<R: Wait>(
+        &self,
+        rt: &R,
+        alloc: Global,
+        now: Moment,
+        connections: u64,
+    ) -> Result<Vec<u8>, AllocError>
+        ensures { IfOk result (λ bytes. IsPage Page.Metrics bytes.items) }
+    {
+        let _one = self.looks.lock(rt);
+        metrics_of(alloc, self.seen(rt, now, connections))
+    }
+
+    fn overview_page<R: Wait>(
+        &self,
+        rt: &R,
+        alloc: Global,
+        now: Moment,
+        connections: u64,
+    ) -> Result<Vec<u8>, AllocError>
+        ensures { IfOk result (λ bytes. IsPage Page.Overview bytes.items) }
+    {
+        let _one = self.looks.lock(rt);
+        overview_of(alloc, self.seen(rt, now, connections))
+    }
+
+    /// The page that was asked for. No topic's lock is held while it is written.
     fn page<R: Wait>(
         &self,
         rt: &R,
@@ -113,8 +160,8 @@ impl<D: Broker<Doorbell>> Place<D> {
     {
         match page {
             Page::Health => health(alloc, self.directory.is_closed()),
-            Page::Metrics => metrics_of(alloc, self.seen(rt, now, connections)),
-            Page::Overview => overview_of(alloc, self.seen(rt, now, connections)),
+            Page::Metrics => self.metrics_page(rt, alloc, now, connections),
+            Page::Overview => self.overview_page(rt, alloc, now, connections),
             Page::Index => index(alloc),
             Page::Unknown => not_found(alloc),
             Page::Nothing => bad_request(alloc),
@@ -131,8 +178,11 @@ impl<D: Broker<Doorbell>> Place<D> {
 impl<D: Broker<Doorbell>> House for Place<D> {
     type Guest = Guest<D::Seat>;
 
-    fn moment<R: Clock>(&self, rt: &R, last: Moment) -> Moment {
-        moment(rt, last)
+    fn time<R: Clock>(&self, rt: &R, last: Time) -> Time {
+        Time {
+            day: moment(rt, last.day),
+            steady: self.about.clock.moment(rt, last.steady),
+        }
     }
 
     fn patience(&self) -> Patience {
@@ -184,7 +234,8 @@ impl<D: Broker<Doorbell>> House for Place<D> {
         guest.ping()
     }
 
-    fn hang_up(&self, guest: &mut Guest<D::Seat>) {
+    fn hang_up<R: Eprint>(&self, rt: &R, guest: &mut Guest<D::Seat>, silent: u64) {
+        say_silent(rt, guest.whence(), silent);
         guest.hang_up();
     }
 
@@ -192,7 +243,7 @@ impl<D: Broker<Doorbell>> House for Place<D> {
         &self,
         rt: &R,
         guest: Guest<D::Seat>,
-        now: Moment,
+        now: Time,
         connections: u64,
     ) -> (Turned, Option<Guest<D::Seat>>) {
         turn(rt, self, guest, now, connections)
@@ -219,7 +270,9 @@ impl<D: Broker<Doorbell>> Job for Place<D> {
 
     fn attend<R: Wait + Clock + Eprint + Files>(&self, rt: &R) {
         self.memory.look(rt);
+        self.directory.look_around(rt);
         self.make_backup(rt);
+        self.say_news(rt);
     }
 
     fn finish<R: Wait>(&self, rt: &R) {

@@ -1,16 +1,17 @@
 // A session with its connection, and its turns.
+use crate::callers::Presence;
 use crate::desk::{Desk, Seated};
 use crate::entering::turn_away;
 use crate::guest::Guest;
 use crate::place::Place;
-use broker_parts::Broker;
-use delivery_machine::{Fault, Moment};
+use broker_parts::{Broker, Whence};
+use delivery_machine::Fault;
 use mio::net::TcpStream;
 use session_bells::Rest;
 use session_core::{Session, TextCount, leave, serve};
 use socket_conn::{Held, SocketConn};
 use std::sync::Wait;
-use worker_loops::{After, Doorbell, Turned};
+use worker_loops::{After, Doorbell, Time, Turned};
 
 /// A session with its connection and its seat.
 #[derive(Drop)]
@@ -18,6 +19,10 @@ pub struct Served<X: Drop> {
     pub(crate) conn: SocketConn<Held<TcpStream>>,
     pub(crate) session: Session,
     pub(crate) seat: X,
+    /// Where its client is, where that is known.
+    pub(crate) whence: Option<Whence>,
+    /// It counts as its address's until it ends.
+    pub(crate) presence: Option<Presence>,
 }
 
 /// How many texts of one connection are taken before the next one's turn.
@@ -83,20 +88,22 @@ pub(crate) fn serve_turn<D: Broker<Doorbell>, R: Wait>(
     rt: &R,
     place: &Place<D>,
     served: Served<D::Seat>,
-    now: Moment,
+    now: Time,
     connections: u64,
 ) -> (Turned, Option<Guest<D::Seat>>) {
     let Served {
         mut conn,
         session,
         seat,
+        whence,
+        presence,
     } = served;
     conn.begin_turn();
     let _ = conn.flush();
     let left = {
-        let mut caller = Desk::at(rt, place, &seat, now, connections);
+        let mut caller = Desk::at(rt, place, &seat, now.day, connections);
         if conn.is_open() {
-            serve(session, &mut conn, &mut caller, now, most_texts())
+            serve(session, &mut conn, &mut caller, now.steady, most_texts())
         } else {
             drop(session);
             None
@@ -110,11 +117,14 @@ pub(crate) fn serve_turn<D: Broker<Doorbell>, R: Wait>(
                 conn,
                 session,
                 seat,
+                whence,
+                presence,
             };
             stay(rt, place, served, received)
         }
         None => {
             place.directory.detach(rt, seat);
+            drop(presence);
             see_off(conn);
             (Turned::gone(), None)
         }
@@ -152,12 +162,15 @@ fn dismiss<D: Broker<Doorbell>, R: Wait>(
         mut conn,
         session,
         seat,
+        whence: _,
+        presence,
     } = served;
     {
         let mut caller = Seated::at(rt, &place.directory, &seat);
         leave(session, &mut caller);
     }
     place.directory.detach(rt, seat);
+    drop(presence);
     turn_away(&mut conn, 4008, fault);
     drop(conn);
 }

@@ -3,6 +3,7 @@ use super::broker::Broker;
 use super::letters::{GRAVE, T, check_letters, die, play};
 use super::world::{Scene, asked, open, sit, with_rows};
 use delivery_machine::Reply;
+use session_links::Request;
 use std::process::Abort;
 use std::rt::Clock;
 use std::sync::Wait;
@@ -142,4 +143,35 @@ impl Scene for Taken {
 #[test]
 fn a_letter_whose_courier_is_refused_is_tried_again(rt: HostRuntime) {
     with_rows(&rt, &Taken);
+}
+
+/// The dead-letter topic is deleted after so many tasks of the thread and steps of its courier.
+#[derive(Clone, Copy)]
+struct Deletion {
+    steps: u32,
+}
+
+impl Scene for Deletion {
+    fn play<D: Broker, R: Abort + AllocGlobal + Wait + Clock>(&self, rt: &R, keeper: D::Rows) {
+        let topics: D = open(rt, keeper, 4);
+        die(rt, &topics);
+        let mut errands = D::tasks(rt);
+        for _ in 0..self.steps {
+            topics.keep_once(rt, &mut errands);
+        }
+        let seat = sit(rt, &topics, GRAVE);
+        drop(topics.call(rt, &seat, Request::DeleteTopic));
+        topics.detach(rt, seat);
+        let moves = moves_in_time(rt, &topics, &mut errands);
+        assert!(rt; moves, "the letter lies, after {} steps", self.steps);
+        drop(errands);
+        drop(topics);
+    }
+}
+
+#[test]
+fn a_letter_goes_on_whose_topic_is_deleted_meanwhile(rt: HostRuntime) {
+    for steps in 0..16 {
+        with_rows(&rt, &Deletion { steps });
+    }
 }

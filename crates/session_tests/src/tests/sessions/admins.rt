@@ -1,5 +1,6 @@
 // Administrators' sessions.
 use super::stage::check;
+use crate::tests::joined;
 
 #[test]
 fn commands_are_answered_at_once(rt: HostRuntime) {
@@ -103,6 +104,33 @@ serve 1000",
 open
 ",
     );
+}
+
+/// Of three messages two fit into one text.
+#[test]
+fn as_many_are_shown_as_fit(rt: HostRuntime) {
+    let payload = "AAAA".repeat(rt.alloc(), 200_000).expect(&rt, "no memory");
+    let payload = payload.as_str();
+    let text = joined(&rt, &["text {\"payload\":\"", payload, "\"}\n"]);
+    let text = text.as_str();
+    let first = "open /ws/v2/producer/persistent/public/default/t\n";
+    let later = "serve 1000
+stored
+open /ws/v2/admin/persistent/public/default/t
+text {\"type\":\"createSubscription\",\"subscription\":\"s\",\"position\":\"earliest\"}
+text {\"type\":\"peek\",\"subscription\":\"s\",\"messages\":3}
+serve 1000";
+    let script = joined(&rt, &[first, text, text, text, later]);
+    let start = "{\"result\":\"ok\"}
+{\"messages\":[{\"messageId\":\"CAAQAA==\",\"payload\":\"";
+    let between =
+        "\",\"properties\":{},\"publishTime\":\"1970-01-01T00:00:01.000Z\",\"redeliveryCount\":0},{\"messageId\":\"CAAQAQ==\",\"payload\":\"";
+    let end =
+        "\",\"properties\":{},\"publishTime\":\"1970-01-01T00:00:01.000Z\",\"redeliveryCount\":0}],\"result\":\"ok\"}
+open
+";
+    let want = joined(&rt, &[start, payload, between, payload, end]);
+    check(&rt, script.as_str(), want.as_str());
 }
 
 #[test]

@@ -1,0 +1,188 @@
+// Whether the database's files are there still, as the broker left them.
+ghost use Rattle.std.specs.Prelude.{◌≡◌, if◌then◌else◌, is_some};
+ghost use Rattle.broker_parts.specs.Losses.{first_lost, loss_by, loss_of};
+
+use std::alloc::Global;
+use std::io::ErrorKind;
+use std::os::unix::fs::MetadataExt;
+use std::rt::Files;
+use std::sync::{Mutex, Wait};
+use std::{fmt, fs, io};
+
+/// What is known of a file: which one it is, and how long.
+#[derive(Clone, Copy, Debug, PartialEq, Eq)]
+struct Known {
+    dev: u64,
+    ino: u64,
+    len: u64,
+}
+
+/// What has become of a file that the broker writes.
+#[derive(Clone, Copy, Debug, PartialEq, Eq)]
+pub enum Loss {
+    /// No file has its name.
+    Gone,
+    /// Another file has its name.
+    Replaced,
+    /// It is shorter than it was.
+    Short,
+}
+
+/// A file of the database that was lost.
+#[derive(Clone, Copy, Debug, PartialEq, Eq)]
+pub struct Lost {
+    /// It is the log, and not the database's file.
+    pub is_log: bool,
+    pub loss: Loss,
+}
+
+impl fmt::Display for Lost {
+    fn fmt<W: fmt::Write>(&self, f: &mut fmt::Formatter<W>) -> fmt::Result {
+        f.write_str(if self.is_log {
+            "the database's log "
+        } else {
+            "the database's file "
+        })?;
+        f.write_str(match self.loss {
+            Loss::Gone => "is gone",
+            Loss::Replaced => "is another one",
+            Loss::Short => "is shorter than what was written",
+        })
+    }
+}
+
+/// What has become of the file of which that was known, and this is found now. A file that was never seen is no loss.
+fn loss_of(before: Option<Known>, found: Option<Known>, may_shrink: bool) -> Option<Loss>
+    ensures { result ≡ loss_of before found may_shrink }
+{
+    match (before, found) {
+        (None, _) => None,
+        (Some(_), None) => Some(Loss::Gone),
+        (Some(before), Some(found)) => loss_by(before, found, may_shrink),
+    }
+}
+
+fn loss_by(before: Known, found: Known, may_shrink: bool) -> Option<Loss>
+    ensures { result ≡ loss_by before found may_shrink }
+{
+    if before.dev != found.dev || before.ino != found.ino {
+        Some(Loss::Replaced)
+    } else if !may_shrink && found.len < before.len {
+        Some(Loss::Short)
+    } else {
+        None
+    }
+}
+
+/// The file at the path, where one is there. An error where the system does not tell.
+fn find<R: Files>(rt: &R, path: &str) -> io::Result<Option<Known>> {
+    match fs::metadata(rt, path) {
+        Ok(found) => Ok(Some(Known {
+            dev: found.dev(),
+            ino: found.ino(),
+            len: found.len(),
+        })),
+        Err(error) if error.kind() == ErrorKind::NotFound => Ok(None),
+        Err(error) => Err(error),
+    }
+}
+
+/// What has become of the file since it was last looked at. Where the system does not tell, nothing is concluded.
+fn look_at<R: Files>(
+    rt: &R,
+    path: &str,
+    known: &mut Option<Known>,
+    may_shrink: bool,
+) -> Option<Loss> {
+    match find(rt, path) {
+        Ok(found) => note_found(known, found, may_shrink),
+        Err(_) => None,
+    }
+}
+
+/// This is found now. What was known of a file that is lost stays known, so that it is lost at the next look too.
+fn note_found(known: &mut Option<Known>, found: Option<Known>, may_shrink: bool) -> Option<Loss>
+    ensures loss { result ≡ loss_of known.old found may_shrink }
+    ensures known { known.new ≡ if is_some result then known.old else found }
+{
+    let loss = loss_of(*known, found, may_shrink);
+    if loss.is_none() {
+        *known = found;
+    }
+    loss
+}
+
+/// What is lost of both; of the file first.
+fn first_lost(of_file: Option<Loss>, of_log: Option<Loss>) -> Option<Lost>
+    ensures { result ≡ first_lost of_file of_log }
+{
+    match (of_file, of_log) {
+        (Some(loss), _) => Some(Lost {
+            is_log: false,
+            loss,
+        }),
+        (None, Some(loss)) => Some(Lost { is_log: true, loss }),
+        (None, None) => None,
+    }
+}
+
+/// What was found at the last look, and what is lost since.
+#[derive(Clone, Copy, Debug, PartialEq, Eq)]
+struct Last {
+    database: Option<Known>,
+    log: Option<Known>,
+    lost: Option<Lost>,
+}
+
+/// The database's file and its log, which are to stay what they are while the broker has them. Its lock is a leaf.
+pub struct DataFiles {
+    database: String,
+    log: String,
+    last: Mutex<Last>,
+}
+
+impl Drop for DataFiles {
+    fn drop(self) {
+        let DataFiles {
+            database: _,
+            log: _,
+            last: _,
+        } = self;
+    }
+}
+
+impl DataFiles {
+    /// Those of the database at the path. None for want of memory.
+    pub fn new(alloc: Global, database: &str) -> Option<Self> {
+        let log = format!(in alloc; "{database}-wal").ok()?;
+        let database = String::from_str(alloc, database).ok()?;
+        Some(DataFiles {
+            database,
+            log,
+            last: Mutex::new(Last {
+                database: None,
+                log: None,
+                lost: None,
+            }),
+        })
+    }
+
+    /// Which one was lost since the last look. The file never gets shorter; the log is cut when it begins anew.
+    pub fn look<R: Wait + Files>(&self, rt: &R) -> Option<Lost> {
+        let mut guard = self.last.lock(rt);
+        let last = &mut *guard;
+        let of_file = look_at(rt, self.database.as_str(), &mut last.database, false);
+        let of_log = look_at(rt, self.log.as_str(), &mut last.log, true);
+        let lost = first_lost(of_file, of_log);
+        if lost.is_some() {
+            last.lost = lost;
+        }
+        lost
+    }
+
+    /// Which one was found to be lost.
+    pub fn lost<R: Wait>(&self, rt: &R) -> Option<Lost> {
+        let last = self.last.lock(rt);
+        last.lost
+    }
+}
