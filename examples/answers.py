@@ -29,7 +29,11 @@ def connect(url, timeout=None):
 
 def receive(ws):
     """The next text, as an object."""
-    kind, data = ws.recv_data()
+    return text_of(*ws.recv_data())
+
+
+def text_of(kind, data):
+    """The text that came, as an object."""
     if kind == websocket.ABNF.OPCODE_CLOSE:
         raise Closed(int.from_bytes(data[:2], 'big'), data[2:].decode())
     return json.loads(data)

@@ -1,6 +1,7 @@
 #!/usr/bin/env python3
-# Runs what README.md and docs/GUIDE.md show: the commands of their blocks marked `sh`, and the texts of their blocks that
-# begin with `open`. Each page has a broker of its own, over an empty file.
+# Runs what README.md and docs/GUIDE.md show: the commands of their blocks marked `sh`, the programs of those marked
+# `python` or `js`, and the texts of their blocks that begin with `open`. Each page has a broker of its own, over an empty
+# file.
 # pages.py program port
 import json
 import os
@@ -17,6 +18,7 @@ import websocket
 program, port = os.path.abspath(sys.argv[1]), sys.argv[2]
 root = os.path.dirname(os.path.dirname(os.path.abspath(__file__)))
 PLACE = 'crates/pulsar_broker/out/pulsar_broker'
+CALLS = {'python': ['/usr/bin/python3', '-c'], 'js': ['node', '-e']}      # in the folder of the examples
 PROVES = ('(cd crates/', 'bash .ci/run')      # these want the kit, and an hour
 
 
@@ -30,12 +32,12 @@ class Page:
     def __init__(self, name, room):
         self.name, self.room = name, room
         self.links, self.running = {}, []
-        self.commands = self.texts = 0
+        self.commands = self.programs = self.texts = 0
 
-    def start(self, command):
+    def start(self, command, folder=root):
         said = open(os.path.join(self.room, f'said-{len(self.running)}'), 'w+')
-        process = subprocess.Popen(command, cwd=root, stdin=subprocess.PIPE, stdout=said, stderr=said,
-                                   env=dict(os.environ, NODE_PATH='/usr/share/nodejs'), start_new_session=True)
+        process = subprocess.Popen(command, cwd=folder, stdin=subprocess.PIPE, stdout=said, stderr=said,
+                                   env={'NODE_PATH': '/usr/share/nodejs', **os.environ}, start_new_session=True)
         self.running.append(process)
         return process, said
 
@@ -63,6 +65,20 @@ class Page:
         if status != 0:
             sys.exit(f'{self.name}: {line}\nended with {status}: {said.read()}')
         self.commands += 1
+
+    def example(self, kind, block):
+        """A program that is shown prints something, and ends well or waits for messages."""
+        block = block.replace('127.0.0.1:8080', f'127.0.0.1:{port}')
+        process, said = self.start([*CALLS[kind], block], os.path.join(root, 'examples'))
+        try:
+            status = process.wait(timeout=4)
+        except subprocess.TimeoutExpired:
+            status = 0
+        said.seek(0)
+        text = said.read()
+        if status != 0 or not text:
+            sys.exit(f'{self.name}: a program in {kind} ended with {status}: {text}')
+        self.programs += 1
 
     def step(self, line):
         words = line.split(None, 2)
@@ -93,10 +109,14 @@ class Page:
                 for line in lines:
                     self.command(line)
                 self.rest()
+            elif kind in CALLS:
+                self.example(kind, block)
+                self.rest()
             elif lines and lines[0].startswith('open '):
                 for line in lines:
                     self.step(line)
-        print(f'{self.name}: {self.commands} commands and {self.texts} lines of texts do as they are shown')
+        print(f'{self.name}: {self.commands} commands, {self.programs} programs and {self.texts} lines of texts '
+              'do as they are shown')
 
     def rest(self, broker=False):
         for process in self.running[0 if broker else 1:]:

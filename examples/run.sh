@@ -1,7 +1,7 @@
 #!/usr/bin/env bash
 # Starts the broker, runs the examples against it, kills it in the middle, starts it again, and shows that nothing that
-# was answered ok is lost; then runs the commands and texts of the pages. Debian's packages: python3-websocket node-ws
-# sqlite3.
+# was answered ok is lost, and that workers go on; then runs the commands, texts and programs of the pages. Debian's
+# packages: python3-websocket node-ws sqlite3.
 # examples/run.sh [program] [port] [messages]      It also uses the port after that one.
 set -euo pipefail
 here=$(cd "$(dirname "$0")" && pwd)
@@ -11,9 +11,10 @@ messages=${3:-5000}      # without doubles; fewer where the program was built to
 address=127.0.0.1:$port
 room=$(mktemp -d)
 python=/usr/bin/python3
-export NODE_PATH=/usr/share/nodejs
+export NODE_PATH=${NODE_PATH:-/usr/share/nodejs}
 broker=
 cutter=
+workers=
 
 stop() {
     [ -z "$broker" ] || kill -9 "$broker" 2>/dev/null || true
@@ -22,19 +23,30 @@ stop() {
 }
 finish() {
     stop
-    [ -z "$cutter" ] || kill "$cutter" 2>/dev/null || true
+    [ -z "$cutter$workers" ] || kill $cutter $workers 2>/dev/null || true
     rm -rf "$room"
 }
 trap finish EXIT
 
-start() {
-    "$program" "$room/broker.db" "$address" 4 > "$room/said" &
+start() {                # start [words]
+    : > "$room/said"
+    "$program" "$room/broker.db" "$address" 4 "$@" > "$room/said" &
     broker=$!
     for _ in $(seq 6000); do
         grep -q listening "$room/said" && return
         sleep 0.05
     done
     echo "the broker did not start" >&2
+    exit 1
+}
+
+settled() {              # settled TOPIC COUNT: waits until the workers have acknowledged so many messages, and so all
+    for _ in $(seq 300); do
+        timeout 60 "$python" "$here/admin.py" "$address" "$1" stats workers > "$room/stats" 2> /dev/null || true
+        ! grep "\"acknowledged\": $2,.*\"live\": 0" "$room/stats" || return 0
+        sleep 0.2
+    done
+    echo "not all was acknowledged: $(cat "$room/stats")" >&2
     exit 1
 }
 
@@ -101,8 +113,11 @@ kill "$consumer"
 wait "$consumer" || true
 refused 'closed with 4001 F20' "$python" "$here/producer.py" "$address" a%00b
 refused 'closed with 4001 F20' node "$here/producer.js" "$address" a%00b
-refused 'closed with 4001 F20' "$python" "$here/once.py" "$address" a%00b
-refused 'closed with 4001 F20' node "$here/once.js" "$address" a%00b
+long=$(printf 'n%.0s' $(seq 256))
+refused 'closed with 4001 F20' "$python" "$here/once.py" "$address" "$long"
+refused 'closed with 4001 F20' node "$here/once.js" "$address" "$long"
+refused 'closed with 4002 F20' "$python" "$here/worker.py" "$address" "$long"
+refused 'closed with 4002 F20' node "$here/worker.js" "$address" "$long"
 refused 'closed with 4002 F20' "$python" "$here/key_shared.py" "$address" a%00b
 refused 'closed with 4002 F20' "$python" "$here/sticky.py" "$address" a%00b
 refused 'closed with 4002 F20' "$python" "$here/dead_letters.py" "$address" a%00b
@@ -110,13 +125,47 @@ refused 'closed with 4008 F11' "$python" "$here/admin.py" "$address" not-there s
 timeout 60 "$python" "$here/admin.py" "$address" my-topic delete
 refused 'closed with 4008 F11' "$python" "$here/admin.py" "$address" my-topic stats my-sub
 
-echo "== Without doubles: connections are cut all the time, and the broker is killed"
+echo "== Work that fails is given back"
+timeout 60 "$python" "$here/producer.py" "$address" failing 2 > /dev/null
+PYTHONPATH=$here timeout 60 "$python" - "$address" 2> /dev/null <<'END'
+import sys
+from worker import Worker
+tried = []
+def work(payload, message):
+    tried.append((payload[-1:], message['redeliveryCount']))
+    if len(tried) == 1:
+        raise ValueError('not now')
+    if len(tried) == 3:
+        worker.stop()
+worker = Worker(sys.argv[1], 'failing', 'py', work, negativeAckRedeliveryDelay=100)
+worker.run()
+print('Python:', *tried)
+sys.exit(tried != [(b'1', 0), (b'2', 0), (b'1', 1)])
+END
+timeout 60 node - "$here" "$address" 2> /dev/null <<'END'
+const [here, address] = process.argv.slice(2);
+const { Worker } = require(`${here}/worker.js`);
+const tried = [];
+const worker = new Worker(address, 'failing', 'js', async (payload, message) => {
+  tried.push(`${payload.subarray(-1)} ${message.redeliveryCount}`);
+  if (tried.length === 1) throw new Error('not now');
+  if (tried.length === 3) worker.stop();
+}, { negativeAckRedeliveryDelay: 100 });
+worker.run().then(() => {
+  console.log('Node:', tried.join(', '));
+  process.exit(tried.join() === '1 0,2 0,1 1' ? 0 : 1);
+});
+END
+
+echo "== Without doubles, and worked on: connections are cut all the time, and the broker is killed"
 "$python" "$here/cut.py" $((port + 1)) "$port" $((500 + 8 * messages)) &
 cutter=$!
 for language in py js; do
     if [ $language = py ]; then runs=$python; else runs=node; fi
     timeout 300 "$runs" "$here/once.$language" 127.0.0.1:$((port + 1)) "numbers-$language" counter "$messages" > "$room/once" &
     producer=$!
+    "$runs" "$here/worker.$language" 127.0.0.1:$((port + 1)) "numbers-$language" workers 0 > "$room/worked" 2> /dev/null &
+    workers=$!
     for _ in 1 2; do
         sleep 0.7
         stop
@@ -131,9 +180,74 @@ for language in py js; do
     timeout 60 "$python" "$here/admin.py" "$address" "numbers-$language" stats all > "$room/stats"
     grep -q "\"acknowledged\": $messages.*\"live\": 0" "$room/stats"
     echo "the log has each number from 0 to $((messages - 1)) once, in order, and no other message"
+    settled "numbers-$language" "$messages"
+    kill "$workers"
+    wait "$workers" || true
+    workers=
+    sed -n 's/^Done \([0-9]*\) as.*/\1/p' "$room/worked" | sort -n > "$room/numbers"
+    uniq "$room/numbers" | cmp - <(seq 0 $((messages - 1)))
+    echo "the worker did each at least once, $(uniq -d "$room/numbers" | wc -l) again, and acknowledged all"
 done
 kill "$cutter"
 cutter=
+
+echo "== Only connections are cut: each is worked on once"
+"$python" "$here/cut.py" $((port + 1)) "$port" 2000 &
+cutter=$!
+until timeout 1 bash -c "< /dev/tcp/127.0.0.1/$((port + 1))" 2> /dev/null; do sleep 0.05; done
+for language in py js; do
+    if [ $language = py ]; then runs=$python; else runs=node; fi
+    timeout 60 "$runs" "$here/once.$language" "$address" "cut-$language" counter 100 > /dev/null
+    timeout 120 "$runs" "$here/worker.$language" 127.0.0.1:$((port + 1)) "cut-$language" workers 0 100 2> /dev/null |
+        sed -n 's/^Done \([0-9]*\) as.*/\1/p' | sort -n > "$room/numbers"
+    seq 0 99 | cmp - "$room/numbers"
+    settled "cut-$language" 100
+done
+echo "100 messages each were done and acknowledged"
+kill "$cutter"
+cutter=
+
+echo "== Work takes longer than the broker waits for a silent client"
+stop
+start silence=1000ms,1000ms 2> "$room/log"
+timeout 60 "$python" "$here/once.py" "$address" long-py counter 2
+timeout 60 node "$here/once.js" "$address" long-js counter 2
+timeout 60 "$python" "$here/worker.py" "$address" long-py workers 8 > "$room/worked-py" 2> /dev/null &
+workers=$!
+timeout 60 node "$here/worker.js" "$address" long-js workers 8 > "$room/worked-js" 2> /dev/null &
+workers="$workers $!"
+"$python" - "$address" <<'END'
+# one that is silent for as long is gone
+import sys, time, websocket
+ws = websocket.create_connection(f'ws://{sys.argv[1]}/ws/v2/consumer/persistent/public/default/long-py/silent', timeout=2)
+time.sleep(7)
+try:
+    while ws.recv_data(control_frame=True)[0] != websocket.ABNF.OPCODE_CLOSE:
+        pass
+except websocket.WebSocketTimeoutException:
+    sys.exit('the silent client was not ended')
+except (OSError, websocket.WebSocketException):
+    pass
+END
+for language in py js; do
+    until grep -q '^Begun 1' "$room/worked-$language"; do sleep 0.05; done
+done
+grep 'ended by silence' "$room/log" > "$room/silent"
+[ "$(wc -l < "$room/silent")" = 1 ] || { echo "a worker was ended too: $(cat "$room/silent")" >&2; exit 1; }
+sleep 1
+stop                     # each has its second message in hand
+start silence=1000ms,1000ms
+for language in py js; do
+    settled "long-$language" 2
+done
+sleep 0.5                # one that began a message again would have done so by now
+kill $workers
+wait $workers || true
+workers=
+for language in py js; do
+    sed 's/ as .*//' "$room/worked-$language" | diff - <(printf '%s\n' 'Begun 0' 'Done 0' 'Begun 1' 'Done 1')
+done
+echo "each of them did both messages once, the second one over a kill of the broker"
 
 echo "== The broker is killed while a producer publishes"
 "$python" "$here/producer.py" "$address" killed 100000 > "$room/published" 2> /dev/null &
