@@ -91,9 +91,12 @@ grep -q '  worker  *Exclusive  *1 ' "$room/topics"
 ctl seek errands worker earliest
 ctl skip errands worker 1
 ctl consume errands worker --wait 1 | diff - <(printf 'two\nthree\n')
-ctl dead list my-topic-2 none > "$room/dead" && [ ! -s "$room/dead" ]
-ctl drop errands worker
-ctl delete errands
+ctl dead list errands worker 2> "$room/dead" && exit 1
+grep -q 'errands-worker-DLQ: no such topic' "$room/dead"
+seq 100 | ctl publish errands --name counter > /dev/null
+seq 100 | ctl publish errands --name counter | grep -c duplicate | grep -qx 100
+ctl drop errands worker --yes
+ctl delete errands --yes
 
 echo "== Each is refused with one line"
 refused() {

@@ -90,7 +90,7 @@ echo "== Who has no right is turned away"
 owner=bills refused 'turned away with 401' ctl orders publish shop/orders/new third
 refused 'turned away with 401' ctl bills publish shop/orders/new third
 refused 'turned away with 404' ctl bills publish public/default/mine third
-refused 'turned away with 401' ctl orders delete shop/orders/new
+refused 'turned away with 401' ctl orders delete shop/orders/new --yes
 
 echo "== A path that nginx and the broker might read in two ways is turned away"
 path=/ws/v2/producer/persistent/shop/bills
