@@ -11,7 +11,7 @@ import sys
 import tempfile
 import time
 
-from client import Client
+from client import Client, frame
 from said import Said
 
 program = sys.argv[1]
@@ -26,14 +26,11 @@ def of(address, topic='t', path=None):
 
 
 def is_in(client):
-    """Whether its session goes on: a consumer of a topic without messages hears nothing."""
-    client.sock.settimeout(0.3)
-    try:
-        said = client.receive()
-    except TimeoutError:
-        return True
-    assert said == (4002, 'F7'), said
-    return False
+    """Whether its session goes on: then a ping is answered, and else it is closed before that."""
+    client.sock.sendall(frame(9, ''))
+    kind, body = client.frame()
+    assert kind == 10 or (kind, body) == (8, b'\x0f\xa2F7'), (kind, body)
+    return kind == 10
 
 
 def sessions():
@@ -108,15 +105,11 @@ def begun():
     end, refused, came = time.time() + 3, 0, 0
     while time.time() < end:
         client = of('192.0.2.30')
-        client.sock.settimeout(5)
-        client.sock.sendall(b'\x89\x80\0\0\0\0')
-        kind, body = client.frame()
-        if kind == 8:
-            assert body[2:] == b'F7', body
-            refused += 1
-        else:
+        if is_in(client):
             came += 1
             client.leave()
+        else:
+            refused += 1
         client.close()
     assert refused > 0 and 20 <= came <= 4 * 20, (came, refused)
     print(f'ok of one address {came} sessions began in 3 s, and {refused} were refused')
