@@ -8,6 +8,8 @@ package=$(realpath "$1")
 room=${2:-$(mktemp -d)}
 here=$(cd "$(dirname "$0")" && pwd)
 [ -d "$room/usr" ] || debootstrap --variant=minbase bookworm "$room" > "$room.log"
+# The broker's own user comes in too.
+chmod 755 "$room"
 cp "$package" "$room/tmp/broker.deb"
 inside=(chroot "$room" /usr/bin/env -i PATH=/usr/sbin:/usr/bin:/sbin:/bin DEBIAN_FRONTEND=noninteractive)
 within() { "${inside[@]}" "$@"; }
