@@ -1,9 +1,9 @@
 // Whether the database's files are there still, as the broker left them.
 ghost use Rattle.std.specs.Prelude.{◌≡◌, if◌then◌else◌, is_some};
-ghost use Rattle.broker_parts.specs.Losses.{first_lost, loss_by, loss_of};
+ghost use Rattle.broker_parts.specs.Losses.{first_lost, is_cut, loss_by, loss_of};
 
 use std::alloc::Global;
-use std::io::ErrorKind;
+use std::io::{ErrorKind, Read};
 use std::os::unix::fs::MetadataExt;
 use std::rt::Files;
 use std::sync::{Mutex, Wait};
@@ -15,6 +15,8 @@ struct Known {
     dev: u64,
     ino: u64,
     len: u64,
+    /// How often it has begun anew: a log says so in its head, and has none where it was cut. The database's file never does.
+    round: Option<u64>,
 }
 
 /// What has become of a file that the broker writes.
@@ -24,7 +26,7 @@ pub enum Loss {
     Gone,
     /// Another file has its name.
     Replaced,
-    /// It is shorter than it was.
+    /// It is shorter than it was, and did not begin anew.
     Short,
 }
 
@@ -52,35 +54,78 @@ impl fmt::Display for Lost {
 }
 
 /// What has become of the file of which that was known, and this is found now. A file that was never seen is no loss.
-fn loss_of(before: Option<Known>, found: Option<Known>, may_shrink: bool) -> Option<Loss>
-    ensures { result ≡ loss_of before found may_shrink }
+fn loss_of(before: Option<Known>, found: Option<Known>) -> Option<Loss>
+    ensures { result ≡ loss_of before found }
 {
     match (before, found) {
         (None, _) => None,
         (Some(_), None) => Some(Loss::Gone),
-        (Some(before), Some(found)) => loss_by(before, found, may_shrink),
+        (Some(before), Some(found)) => loss_by(before, found),
     }
 }
 
-fn loss_by(before: Known, found: Known, may_shrink: bool) -> Option<Loss>
-    ensures { result ≡ loss_by before found may_shrink }
+fn loss_by(before: Known, found: Known) -> Option<Loss>
+    ensures { result ≡ loss_by before found }
 {
     if before.dev != found.dev || before.ino != found.ino {
         Some(Loss::Replaced)
-    } else if !may_shrink && found.len < before.len {
+    } else if is_cut(before, found) {
         Some(Loss::Short)
     } else {
         None
     }
 }
 
+/// The length of a log with nothing in it, to which it is cut where it is empty.
+const EMPTY: u64 = 41;
+
+/// Whether the file was cut: its head is gone, or it is shorter although it did not begin anew.
+fn is_cut(before: Known, found: Known) -> bool
+    ensures { result ≡ is_cut before found }
+{
+    match (before.round, found.round) {
+        (None, _) => false,
+        (Some(_), None) => true,
+        (Some(round), Some(now)) => round == now && found.len < before.len && found.len != EMPTY,
+    }
+}
+
+/// How often the log has begun anew: the fourth number of its head, which has 32 bytes. None where it has no head.
+fn round_of<R: Files>(rt: &R, log: &str) -> io::Result<Option<u64>> {
+    let mut head = [0; 32];
+    let mut file = fs::open(rt, log)?;
+    match file.read_exact(&mut head) {
+        Ok(()) => {
+            let [_, _, _, _, _, _, _, _, _, _, _, _, a, b, c, d, ..] = head;
+            Ok(Some(u64::from(u32::from_be_bytes([a, b, c, d]))))
+        }
+        Err(error) if error.kind() == ErrorKind::UnexpectedEof => Ok(None),
+        Err(error) => Err(error),
+    }
+}
+
+/// Which of the two a file is.
+#[derive(Clone, Copy, Debug, PartialEq, Eq)]
+enum Part {
+    Database,
+    Log,
+}
+
+fn round_in<R: Files>(rt: &R, path: &str, part: Part) -> io::Result<Option<u64>> {
+    match part {
+        Part::Database => Ok(Some(0)),
+        Part::Log => round_of(rt, path),
+    }
+}
+
 /// The file at the path, where one is there. An error where the system does not tell.
-fn find<R: Files>(rt: &R, path: &str) -> io::Result<Option<Known>> {
+fn find<R: Files>(rt: &R, path: &str, part: Part) -> io::Result<Option<Known>> {
     match fs::metadata(rt, path) {
         Ok(found) => Ok(Some(Known {
             dev: found.dev(),
             ino: found.ino(),
             len: found.len(),
+            round: round_in(rt, path, part)?,
         })),
         Err(error) if error.kind() == ErrorKind::NotFound => Ok(None),
         Err(error) => Err(error),
@@ -88,24 +133,19 @@ fn find<R: Files>(rt: &R, path: &str) -> io::Result<Option<Known>> {
 }
 
 /// What has become of the file since it was last looked at. Where the system does not tell, nothing is concluded.
-fn look_at<R: Files>(
-    rt: &R,
-    path: &str,
-    known: &mut Option<Known>,
-    may_shrink: bool,
-) -> Option<Loss> {
-    match find(rt, path) {
-        Ok(found) => note_found(known, found, may_shrink),
+fn look_at<R: Files>(rt: &R, path: &str, part: Part, known: &mut Option<Known>) -> Option<Loss> {
+    match find(rt, path, part) {
+        Ok(found) => note_found(known, found),
         Err(_) => None,
     }
 }
 
 /// This is found now. What was known of a file that is lost stays known, so that it is lost at the next look too.
-fn note_found(known: &mut Option<Known>, found: Option<Known>, may_shrink: bool) -> Option<Loss>
-    ensures loss { result ≡ loss_of known.old found may_shrink }
+fn note_found(known: &mut Option<Known>, found: Option<Known>) -> Option<Loss>
+    ensures loss { result ≡ loss_of known.old found }
     ensures known { known.new ≡ if is_some result then known.old else found }
 {
-    let loss = loss_of(*known, found, may_shrink);
+    let loss = loss_of(*known, found);
     if loss.is_none() {
         *known = found;
     }
@@ -167,12 +207,17 @@ impl DataFiles {
         })
     }
 
-    /// Which one was lost since the last look. The file never gets shorter; the log is cut when it begins anew.
+    /// Which one was lost since the last look. Nothing is stored meanwhile: whoever stores cuts a log that begins anew.
     pub fn look<R: Wait + Files>(&self, rt: &R) -> Option<Lost> {
         let mut guard = self.last.lock(rt);
         let last = &mut *guard;
-        let of_file = look_at(rt, self.database.as_str(), &mut last.database, false);
-        let of_log = look_at(rt, self.log.as_str(), &mut last.log, true);
+        let of_file = look_at(
+            rt,
+            self.database.as_str(),
+            Part::Database,
+            &mut last.database,
+        );
+        let of_log = look_at(rt, self.log.as_str(), Part::Log, &mut last.log);
         let lost = first_lost(of_file, of_log);
         if lost.is_some() {
             last.lost = lost;
