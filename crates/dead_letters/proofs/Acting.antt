@@ -17,14 +17,15 @@ use Rattle.delivery_machine.specs.declared.event.Event.{Event}
 use Rattle.delivery_machine.specs.declared.reply.Reply.{Reply}
 use Rattle.delivery_machine.proofs.RunSteps.{split}
 use Rattle.delivery_machine.proofs.Behind.{is_same_name}
+use Rattle.topic_lives.specs.Deleting.{IsDeserted, IsDeletable}
 use Rattle.dead_letters.specs.declared.route.Route.{Route}
-use Rattle.dead_letters.specs.Worlds.{Topic, everything, in_state, new_topic, World, is_for, first_letter, done_with, says_stored, leaves_letters, leaves_couriers, gone_on, idle, opened, IsDeserted}
-use Rattle.dead_letters.proofs.Fronts.{front_same, front_trans, front_length, front_filtered, front_mapped, filtered_append, all_filtered, all_front}
+use Rattle.dead_letters.specs.Worlds.{Topic, everything, in_state, new_topic, World, is_for, first_letter, done_with, says_stored, leaves_letters, leaves_couriers, gone_on, begun_again, idle, opened}
+use Rattle.dead_letters.proofs.Fronts.{front_same, front_trans, front_pushed, front_length, front_filtered, front_mapped, filtered_append, all_filtered, all_front}
 use Rattle.dead_letters.proofs.Tags.{Tag, letter_tags, copy_tags, AreKnown, tags_kept}
 use Rattle.dead_letters.proofs.TargetSteps.{copies, IsApart, StaysConnected, target_apart, apart_itself}
-use Rattle.dead_letters.proofs.Topics.{all_kept, answer_goes, all_go_on, all_had, same_copies, topic_after, topic_gone, topic_new}
+use Rattle.dead_letters.proofs.Topics.{all_kept, answer_goes, all_go_on, all_had, same_copies, topic_after, topic_gone, topic_again, topic_new, IsTopic}
 use Rattle.dead_letters.proofs.Outcomes.{IsDone, Outcome, outcome}
-use Rattle.dead_letters.proofs.Deaths.{safe_deaths, Stands, WasKept, behind_viewed, behind_itself, kept_gone, safe_stored, safe_gone, safe_most, safe_known}
+use Rattle.dead_letters.proofs.Deaths.{safe_deaths, Stands, WasKept, behind_viewed, behind_itself, kept_gone, kept_again, safe_stored, safe_gone, safe_again, safe_most, safe_known}
 use Rattle.dead_letters.proofs.Hands.{wanted, SourceGoes, hand_source, hand_target, hand_stored, copy_kept}
 use Rattle.dead_letters.proofs.Invariant.{IsUnder, under_after, says_later, Holds as Stays, source_moves, with_source, with_target, copied_goes}
 
@@ -225,37 +226,59 @@ module _ (route : Route) (target : TopicName) where
     alone = holds.alone;
   }
 
-  -- ---- a topic goes on from a snapshot
+  -- ---- a topic goes on from what is stored of it then: from a snapshot, or from what is left of it once it is deleted
+
+  -- it goes on with the deaths and the messages that it had
+  record SourceGoesOn (w : World) (t : Topic) : Type 0 where
+    kept : WasKept n t w.moved
+    is : IsTopic route.name t
+    goes : SourceGoes n w.source w.moved t w.moved
+
+  source_goes_on : (w : World) (t : Topic) → SourceGoesOn w t → Is w → Is (record w { source = t; source_viewed = t; source_stored = t; moved_viewed = w.moved; moved_stored = w.moved })
+  source_goes_on w t on holds = record {
+    named = holds.named;
+    now = (on.kept).stands;
+    kept_viewed = on.kept;
+    kept_stored = on.kept;
+    behind_viewed = behind_itself n t w.moved on.kept;
+    behind_stored = behind_itself n t w.moved on.kept;
+    ordinals = omega arith;
+    source_is = on.is;
+    source_viewed_is = on.is;
+    source_stored_is = on.is;
+    target_is = holds.target_is;
+    target_viewed_is = holds.target_viewed_is;
+    target_stored_is = holds.target_stored_is;
+    under_viewed = holds.under_viewed;
+    under_stored = holds.under_stored;
+    target_lengths = holds.target_lengths;
+    target_ordinals = holds.target_ordinals;
+    copied = copied_goes route target w.source w.moved t w.moved (copy_tags (copies route.name (everything w.target))) on.goes (safe_known n w.source w.moved holds.now) holds.copied;
+    in_viewed = holds.in_viewed;
+    in_stored = holds.in_stored;
+    hands = λ number. hand_source route target w.source w.moved t w.moved w.target w.target_stored w.target_viewed (w.hands number) on.goes (holds.hands number);
+    alone = holds.alone;
+  }
 
   pub reopen_source_holds : (w : World) → Is w
       → Is (record w { source = gone_on w.source; source_viewed = gone_on w.source; source_stored = gone_on w.source; moved_viewed = w.moved; moved_stored = w.moved })
   reopen_source_holds w holds =
-      let kept = kept_gone n w.source w.moved holds.now in
-      let goes : SourceGoes n w.source w.moved (gone_on w.source) w.moved = record { safe = safe_gone n w.source w.moved; done = front_same w.moved; log = front_same (everything w.source) } in
-      record {
-        named = holds.named;
-        now = kept.stands;
-        kept_viewed = kept;
-        kept_stored = kept;
-        behind_viewed = behind_itself n (gone_on w.source) w.moved kept;
-        behind_stored = behind_itself n (gone_on w.source) w.moved kept;
-        ordinals = omega arith;
-        source_is = topic_gone route.name w.source holds.source_is;
-        source_viewed_is = topic_gone route.name w.source holds.source_is;
-        source_stored_is = topic_gone route.name w.source holds.source_is;
-        target_is = holds.target_is;
-        target_viewed_is = holds.target_viewed_is;
-        target_stored_is = holds.target_stored_is;
-        under_viewed = holds.under_viewed;
-        under_stored = holds.under_stored;
-        target_lengths = holds.target_lengths;
-        target_ordinals = holds.target_ordinals;
-        copied = copied_goes route target w.source w.moved (gone_on w.source) w.moved (copy_tags (copies route.name (everything w.target))) goes (safe_known n w.source w.moved holds.now) holds.copied;
-        in_viewed = holds.in_viewed;
-        in_stored = holds.in_stored;
-        hands = λ number. hand_source route target w.source w.moved (gone_on w.source) w.moved w.target w.target_stored w.target_viewed (w.hands number) goes (holds.hands number);
-        alone = holds.alone;
-      }
+      source_goes_on w (gone_on w.source)
+      (record {
+        kept = kept_gone n w.source w.moved holds.now;
+        is = topic_gone route.name w.source holds.source_is;
+        goes = record { safe = safe_gone n w.source w.moved; done = front_same w.moved; log = front_same (everything w.source) };
+      }) holds
+
+  pub delete_source_holds : (w : World) → IsDeletable w.source.state → Is w
+      → Is (record w { source = begun_again w.source; source_viewed = begun_again w.source; source_stored = begun_again w.source; moved_viewed = w.moved; moved_stored = w.moved })
+  delete_source_holds w may holds =
+      source_goes_on w (begun_again w.source)
+      (record {
+        kept = kept_again n w.source w.moved may.letters holds.now;
+        is = topic_again route.name holds.named w.source may holds.source_is;
+        goes = record { safe = safe_again n w.source w.moved may.letters; done = front_same w.moved; log = front_pushed (everything w.source) [] };
+      }) holds
 
   under_itself : (past : Topic) → past.state.gone + past.state.durable ≤ had past.state → IsUnder past past
   under_itself past low = record { log = front_same (everything past); durable = low; settled = low; ordinal = omega arith }
@@ -264,12 +287,20 @@ module _ (route : Route) (target : TopicName) where
   nobody : (before after : List Producer) → before ≡ [] → StaysConnected route.name before after
   nobody before after none number p found named = let e = sym (ap (find (is_producer number)) none) ∙ found in cc
 
-  pub reopen_target_holds : (w : World) → IsDeserted w.target.state → Is w → Is (record w { target = gone_on w.target; target_viewed = gone_on w.target; target_stored = gone_on w.target })
-  reopen_target_holds w deserted holds =
-      let gone = gone_on w.target in
+  -- it goes on with the messages that it had, of which none is durable that is not there
+  record TargetGoesOn (w : World) (u : Topic) : Type 0 where
+    deserted : IsDeserted w.target.state
+    is : IsTopic route.name u
+    same : everything u ≡ everything w.target
+    durable : u.state.gone + u.state.durable ≤ had u.state
+
+  target_goes_on : (w : World) (u : Topic) → TargetGoesOn w u → Is w → Is (record w { target = u; target_viewed = u; target_stored = u })
+  target_goes_on w u on holds =
       let more = copies_more w.target_stored w.target holds.under_stored in
       let had = holds.in_stored in
-      let now : length (wanted target w.moved) ≤ length (copies route.name (everything w.target)) = omega arith in
+      let was : length (wanted target w.moved) ≤ length (copies route.name (everything w.target)) = omega arith in
+      let now : length (wanted target w.moved) ≤ length (copies route.name (everything u)) = subst (λ (es : List Entry). length (wanted target w.moved) ≤ length (copies route.name es)) (sym on.same) was in
+      let begins : IsPrefix (everything w.target_stored) (everything u) = subst (IsPrefix (everything w.target_stored)) (sym on.same) (holds.under_stored).log in
       record {
         named = holds.named;
         now = holds.now;
@@ -281,22 +312,32 @@ module _ (route : Route) (target : TopicName) where
         source_is = holds.source_is;
         source_viewed_is = holds.source_viewed_is;
         source_stored_is = holds.source_stored_is;
-        target_is = topic_gone route.name w.target holds.target_is;
-        target_viewed_is = topic_gone route.name w.target holds.target_is;
-        target_stored_is = topic_gone route.name w.target holds.target_is;
-        under_viewed = under_itself gone (omega arith);
-        under_stored = under_itself gone (omega arith);
+        target_is = on.is;
+        target_viewed_is = on.is;
+        target_stored_is = on.is;
+        under_viewed = under_itself u on.durable;
+        under_stored = under_itself u on.durable;
         target_lengths = omega arith;
         target_ordinals = omega arith;
-        copied = holds.copied;
+        copied = subst (λ (es : List Entry). IsPrefix (copy_tags (copies route.name es)) (letter_tags (everything w.source) (wanted target (safe_deaths n w.source.state w.moved)))) (sym on.same) holds.copied;
         in_viewed = now;
         in_stored = now;
         hands = λ number.
-            hand_stored route target w.source w.moved gone w.target_stored w.target_viewed gone gone (w.hands number)
-            (λ before a b. let copy = copy_kept route target before (everything w.target_stored) (everything w.target) (holds.under_stored).log a in (copy, copy))
-            (hand_target route target w.source w.moved w.target gone w.target_stored w.target_viewed (w.hands number) (front_same (everything w.target)) (λ _. nobody w.target.state.producers gone.state.producers deserted.0) (holds.hands number));
+            hand_stored route target w.source w.moved u w.target_stored w.target_viewed u u (w.hands number)
+            (λ before a b. let copy = copy_kept route target before (everything w.target_stored) (everything u) begins a in (copy, copy))
+            (hand_target route target w.source w.moved w.target u w.target_stored w.target_viewed (w.hands number) (subst (IsPrefix (everything w.target)) (sym on.same) (front_same (everything w.target)))
+            (λ _. nobody w.target.state.producers u.state.producers on.deserted.0) (holds.hands number));
         alone = holds.alone;
       }
+
+  pub reopen_target_holds : (w : World) → IsDeserted w.target.state → Is w → Is (record w { target = gone_on w.target; target_viewed = gone_on w.target; target_stored = gone_on w.target })
+  reopen_target_holds w deserted holds =
+      target_goes_on w (gone_on w.target) (record { deserted = deserted; is = topic_gone route.name w.target holds.target_is; same = refl; durable = omega arith }) holds
+
+  pub delete_target_holds : (w : World) → IsDeletable w.target.state → Is w → Is (record w { target = begun_again w.target; target_viewed = begun_again w.target; target_stored = begun_again w.target })
+  delete_target_holds w may holds =
+      target_goes_on w (begun_again w.target)
+      (record { deserted = may.deserted; is = topic_again route.name holds.named w.target may holds.target_is; same = append-nil (everything w.target); durable = omega arith }) holds
 
   -- ---- everything that is not stored is gone
 

@@ -8,10 +8,10 @@ use Rattle.dead_letters.specs.declared.route.Route.{Route}
 use Rattle.dead_letters.specs.declared.hand.Hand.{Hand}
 use Rattle.dead_letters.specs.declared.hand.Hand.TheVariants.{Empty, Holds, Joined, Copied, Leaves, Waits, Moved}
 use Rattle.dead_letters.specs.Moving.{after, move_of}
-use Rattle.dead_letters.specs.Worlds.{World, Act, at_source, at_target, view_source, view_target, store_source, store_target, reopen_source, reopen_target, courier, turned_away, let_go, crash, Happens, AnswersAt, AllHappen, opened, kept_for, with_hand}
+use Rattle.dead_letters.specs.Worlds.{World, Act, at_source, at_target, view_source, view_target, store_source, store_target, reopen_source, reopen_target, delete_source, delete_target, courier, turned_away, let_go, crash, Happens, AnswersAt, AllHappen, opened, kept_for, with_hand}
 use Rattle.dead_letters.proofs.Hands.{HandHolds, IsInside}
 use Rattle.dead_letters.proofs.Invariant.{Holds as Stays}
-use Rattle.dead_letters.proofs.Acting.{at_source_holds, at_target_holds, view_source_holds, store_source_holds, view_target_holds, store_target_holds, reopen_source_holds, reopen_target_holds, crash_holds, opened_holds}
+use Rattle.dead_letters.proofs.Acting.{at_source_holds, at_target_holds, view_source_holds, store_source_holds, view_target_holds, store_target_holds, reopen_source_holds, reopen_target_holds, delete_source_holds, delete_target_holds, crash_holds, opened_holds}
 use Rattle.dead_letters.proofs.CourierMoves.{empty_moves, holds_moves, copied_moves, leaves_moves, waits_moves, turned_away_holds, let_go_holds}
 use Rattle.dead_letters.proofs.Copying.{joined_moves, moved_moves}
 
@@ -45,6 +45,8 @@ module _ (route : Route) (target : TopicName) where
   acts_hold w store_target v h holds = settled _ v h (store_target_holds route target w holds)
   acts_hold w reopen_source v h holds = settled _ v h.1 (reopen_source_holds route target w holds)
   acts_hold w reopen_target v h holds = settled _ v h.1 (reopen_target_holds route target w h.0 holds)
+  acts_hold w delete_source v h holds = settled _ v h.1 (delete_source_holds route target w h.0 holds)
+  acts_hold w delete_target v h holds = settled _ v h.1 (delete_target_holds route target w h.0 holds)
   acts_hold w (courier number now reply) v h holds = courier_moves w number now reply v (w.hands number) holds (holds.hands number) (λ x. x) h
   acts_hold w (turned_away number fault) v h holds = settled _ v h (turned_away_holds route target w number fault holds)
   acts_hold w (let_go number) v h holds = settled _ v h (let_go_holds route target w number holds)

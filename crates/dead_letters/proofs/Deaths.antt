@@ -1,9 +1,10 @@
 -- The deaths of a subscription: those that were done with and those that are left, now and in what was viewed or stored.
-use Rattle.std.proofs.Common.{◌≡◌, ℕ, ◌<◌, ◌≤◌, List, [], ◌∷◌, ◌++◌, map, length, take, Some, Bool, true, false, cond, refl, ap, ◌∙◌, sym, subst, arith, append_assoc, length-append}
+use Rattle.std.proofs.Common.{◌≡◌, ℕ, zero, suc, ◌<◌, ◌≤◌, List, [], ◌∷◌, ◌++◌, map, length, take, Some, Bool, true, false, cond, refl, ap, ◌∙◌, sym, subst, arith, append_assoc, length-append}
 use Rattle.std.specs.Prelude.{nat_lt, max}
 use Rattle.std.specs.List.{AllByRecursion, find, count_by}
 use Rattle.std.proofs.lemmas.Bool.Decides.{nat_tests}
 use Rattle.std.proofs.lemmas.List.{append-nil}
+use Rattle.std.proofs.lemmas.List.Elements.{recursion_from_All}
 use Rattle.std.proofs.lemmas.List.Sums.{sum_by-cons}
 use mathlib.Core.List.{IsPrefix}
 use Rattle.delivery_machine.specs.State.{State, Subscription, DeadLetter}
@@ -12,7 +13,8 @@ use Rattle.delivery_machine.specs.Producing.{stored_to, storing_below}
 use Rattle.delivery_machine.specs.Snapshot.{subscription_from, kept_of}
 use Rattle.delivery_machine.specs.declared.event.Event.{Event}
 use Rattle.delivery_machine.specs.declared.reply.Reply.{Reply}
-use Rattle.dead_letters.specs.Worlds.{Topic, everything, gone_on}
+use Rattle.topic_lives.specs.Deleting.{HasNoLetter}
+use Rattle.dead_letters.specs.Worlds.{Topic, everything, gone_on, begun_again}
 use Rattle.dead_letters.proofs.Fronts.{front_same, front_trans, front_pushed, front_before, front_taken, front_within, front_of_taken, taken_whole, all_front, all_append, all_weaker}
 use Rattle.dead_letters.proofs.Tags.{AreKnown, known_kept, AreBelow, Rise, rise_pushed}
 use Rattle.dead_letters.proofs.LettersAt.{Letters, letters_found, letters_in}
@@ -288,6 +290,33 @@ module _ (n : List ℕ) where
       subst (λ (l : Letters). IsPrefix (safe_deaths n s.state moved) (moved ++ take l.1 l.0)) (sym (gone_letters s.state.subscriptions))
       (front_before moved (take (safe_at s.state n) (dead_at s.state n)) (take (length (dead_at s.state n)) (dead_at s.state n))
       (subst (λ (ds : List DeadLetter). IsPrefix (take (safe_at s.state n) (dead_at s.state n)) ds) (sym (taken_whole (dead_at s.state n))) (front_of_taken (safe_at s.state n) (dead_at s.state n))))
+
+  -- ---- a deletion: no letter is left
+
+  none_left : (subs : List Subscription) → AllByRecursion (λ (sub : Subscription). sub.dead ≡ []) subs → (letters_in subs n).0 ≡ []
+  none_left [] none = refl
+  none_left (sub ∷ subs) none = by (is_named n sub) (none_left subs none.1)
+    where
+      by : (b : Bool) → (letters_in subs n).0 ≡ [] → (letters_found (cond b (Some sub) (find (is_named n) subs))).0 ≡ []
+      by true rest = none.0
+      by false rest = rest
+
+  no_letter : (s : State) → HasNoLetter s → dead_at s n ≡ []
+  no_letter s none = none_left s.subscriptions (recursion_from_All _ s.subscriptions none)
+
+  pub kept_again : (s : Topic) (moved : List DeadLetter) → HasNoLetter s.state → Stands n s moved → WasKept n (begun_again s) moved
+  kept_again s moved none stands = record {
+    stands = stands_still s moved (begun_again s) moved (ap (λ (ds : List DeadLetter). moved ++ ds) (sym (no_letter s.state none))) (omega arith) (front_pushed (everything s) []) stands;
+    all_safe = refl;
+  }
+
+  -- all that is safe was done with before
+  pub safe_again : (s : Topic) (moved : List DeadLetter) → HasNoLetter s.state → IsPrefix (safe_deaths n s.state moved) (safe_deaths n (begun_again s).state moved)
+  safe_again s moved none = subst (λ (ds : List DeadLetter). IsPrefix (moved ++ take (safe_at s.state n) ds) (moved ++ [])) (sym (no_letter s.state none)) (by (safe_at s.state n))
+    where
+      by : (k : ℕ) → IsPrefix (moved ++ take k []) (moved ++ [])
+      by zero = front_same (moved ++ [])
+      by (suc k) = front_same (moved ++ [])
 
   pub safe_known : (s : Topic) (moved : List DeadLetter) → Stands n s moved → AreKnown (everything s) (safe_deaths n s.state moved)
   safe_known s moved stands =

@@ -17,6 +17,7 @@ pub mod Copying
 pub mod AllActs
 pub mod Standing
 pub mod Result
+pub mod DyingExample
 pub mod Example
 pub mod Together
 pub mod CourierNames
@@ -25,4 +26,5 @@ pub mod SafeByStores
 pub mod SafeStored
 pub mod TogetherExample
 pub mod TrimExample
+pub mod DeletedExample
 mod StoredExample

@@ -12,7 +12,7 @@ use Rattle.dead_letters.specs.declared.route.Route.{Route}
 use Rattle.dead_letters.specs.declared.hand.Hand.{Hand}
 use Rattle.dead_letters.specs.declared.moving.Side.{Side}
 use Rattle.dead_letters.specs.declared.moving.Side.TheVariants.{Source, Target}
-use Rattle.dead_letters.specs.Worlds.{Topic, everything, World, Act, at_source, at_target, view_source, view_target, store_source, store_target, reopen_source, reopen_target, courier, turned_away, let_go, crash, Happens, AnswersAt, is_for}
+use Rattle.dead_letters.specs.Worlds.{Topic, everything, World, Act, at_source, at_target, view_source, view_target, store_source, store_target, reopen_source, reopen_target, delete_source, delete_target, courier, turned_away, let_go, crash, Happens, AnswersAt, is_for}
 use Rattle.dead_letters.specs.Laws.{MovedOnce, AreMoved, moved_to}
 use Rattle.dead_letters.proofs.Fronts.{front_same, front_trans, front_pushed, front_before, front_length, front_filtered, front_mapped, front_of_taken, all_front, all_filtered, all_weaker}
 use Rattle.dead_letters.proofs.Tags.{Rise, rise_front, AreBelow, letter_tags, copy_tag, copy_tags}
@@ -86,6 +86,9 @@ module _ (route : Route) (target : TopicName) where
   was_before w store_target v before after h = subst (Before w) (sym h) (record { log = (before.under_stored).log; copies = before.in_stored })
   was_before w reopen_source v before after h = unstored w v after (subst (λ (x : World). IsPrefix (everything w.target_stored) (everything x.target)) (sym h.1) (before.under_stored).log) (ap (λ (x : World). x.target_stored) h.1)
   was_before w reopen_target v before after h = subst (Before w) (sym h.1) (record { log = (before.under_stored).log; copies = before.in_stored })
+  was_before w delete_source v before after h = unstored w v after (subst (λ (x : World). IsPrefix (everything w.target_stored) (everything x.target)) (sym h.1) (before.under_stored).log) (ap (λ (x : World). x.target_stored) h.1)
+  was_before w delete_target v before after h =
+      subst (Before w) (sym h.1) (record { log = front_trans (everything w.target_stored) (everything w.target) _ (before.under_stored).log (front_pushed (everything w.target) []); copies = before.in_stored })
   was_before w (courier number now reply) v before after h = from_side _ w _ reply _ v before after h
   was_before w (turned_away number fault) v before after h = unstored w v after (subst (λ (x : World). IsPrefix (everything w.target_stored) (everything x.target)) (sym h) (before.under_stored).log) (ap (λ (x : World). x.target_stored) h)
   was_before w (let_go number) v before after h = unstored w v after (subst (λ (x : World). IsPrefix (everything w.target_stored) (everything x.target)) (sym h) (before.under_stored).log) (ap (λ (x : World). x.target_stored) h)

@@ -1,5 +1,5 @@
 -- All subscriptions at once: a message of one of them that dies and is moved.
-use Rattle.std.proofs.Common.{◌≡◌, ℕ, List, [], ◌∷◌, ◌++◌, map, Some, Bool, true, false, refl, ap, ap₂, ◌∙◌, sym, subst, true≢false}
+use Rattle.std.proofs.Common.{◌≡◌, ℕ, List, [], ◌∷◌, map, Some, Bool, true, false, refl, ap, ap₂, ◌∙◌, sym, subst, true≢false}
 use Rattle.std.specs.Prelude.{◌&&◌, if◌then◌else◌}
 use Rattle.std.specs.Str.{bytes_eq}
 use Rattle.std.proofs.Math.Path.{fun_ext}
@@ -11,9 +11,10 @@ use Rattle.delivery_machine.specs.declared.reply.Reply.{Reply}
 use Rattle.delivery_machine.proofs.Behind.{same_name, is_same_name}
 use Rattle.delivery_machine.proofs.Deciding.{and_first, and_second}
 use Rattle.dead_letters.specs.declared.hand.Hand.{Hand}
-use Rattle.dead_letters.specs.Worlds.{in_state, new_topic, World, Act, at_source, at_target, view_source, view_target, store_source, store_target, reopen_source, reopen_target, courier, turned_away, let_go, crash, Happens, AllHappen, opened, idle, leaves_letters, leaves_couriers, done_with}
+use Rattle.dead_letters.specs.Worlds.{in_state, new_topic, World, Act, at_source, at_target, view_source, view_target, store_source, store_target, reopen_source, reopen_target, delete_source, delete_target, courier, turned_away, let_go, crash, Happens, AllHappen, opened, idle, leaves_letters, leaves_couriers, done_with}
 use Rattle.dead_letters.specs.Together.{TwoTopics, seen_by, route_of, begun, Deed, all_see, courier_of, turned_away_of, let_go_of, Stays, Does, DoesAll, AllMayBeMoved}
-use Rattle.dead_letters.proofs.Example.{a, b, name, deaths, moves, all_happen, last_world, letter, message}
+use Rattle.dead_letters.proofs.DyingExample.{a, b, name, letter, message}
+use Rattle.dead_letters.proofs.Example.{acts_of, all_happen, last_world}
 
 -- a name that is left alone, and no letter is done with
 abbrev is_plain : Act → Bool
@@ -93,6 +94,8 @@ module _ (source target : TopicName) (name : List ℕ) where
   others_see m w store_target v plain all h = ap (seen_as false) h
   others_see m w reopen_source v plain all h = (h.0, ap (seen_as false) h.1)
   others_see m w reopen_target v plain all h = (h.0, ap (seen_as false) h.1)
+  others_see m w delete_source v plain all h = (h.0, ap (seen_as false) h.1)
+  others_see m w delete_target v plain all h = (h.0, ap (seen_as false) h.1)
   others_see m w crash v plain all h = ap (seen_as false) h
   others_see m w (courier number now reply) v plain all h = absurd (true≢false (sym all))
   others_see m w (turned_away number fault) v plain all h = absurd (true≢false (sym all))
@@ -163,13 +166,13 @@ pub all_may_be_moved : AllMayBeMoved
 all_may_be_moved body = (
   a,
   b,
-  map (deed_of a b name) (deaths body ++ moves body),
+  map (deed_of a b name) (acts_of body),
   lifted a b name (last_world body),
-  subst (λ (t : TwoTopics). DoesAll a b t (map (deed_of a b name) (deaths body ++ moves body)) (lifted a b name (last_world body))) (begins a b name 1)
-      (does_all a b name (opened a b 1) (deaths body ++ moves body) (last_world body) refl (all_happen body)),
+  subst (λ (t : TwoTopics). DoesAll a b t (map (deed_of a b name) (acts_of body)) (lifted a b name (last_world body))) (begins a b name 1)
+      (does_all a b name (opened a b 1) (acts_of body) (last_world body) refl (all_happen body)),
   name,
-  letter body,
-  message body,
+  letter body 0,
+  message body 0,
   refl,
   refl,
   refl,

@@ -1,8 +1,7 @@
 -- All messages that a topic has had: an answer adds to them, a snapshot keeps them, and none that went comes back.
 use Rattle.std.proofs.Common.{◌≡◌, ℕ, ◌+◌, ◌-◌, ◌≤◌, zero, suc, List, [], ◌∷◌, ◌++◌, map, length, take, drop, Some, Option, Bool, true, false, cond, refl, ap, ap₂, ◌∙◌, sym, subst, arith, append_assoc, length-append, true≢false, ◌⊎◌, inl, inr}
-use Rattle.std.specs.Prelude.{◌^◌, ◌||◌, min, ℤ, nat_eq, codes}
+use Rattle.std.specs.Prelude.{◌^◌, ◌||◌, ℤ, nat_eq, codes}
 use Rattle.std.specs.List.{AllByRecursion, find, filter, list_any, starts_with}
-use Rattle.std.proofs.lemmas.Bool.Decides.{nat_tests}
 use Rattle.std.proofs.lemmas.List.{append-nil, map-append, take-append-drop, length-take}
 use Rattle.std.proofs.lemmas.List.Elements.{recursion_from_All}
 use mathlib.Core.List.{IsPrefix}
@@ -21,7 +20,7 @@ use Rattle.delivery_machine.specs.Run.{Answers}
 use Rattle.delivery_machine.specs.declared.event.Event.{Event}
 use Rattle.delivery_machine.specs.declared.reply.Reply.{Reply}
 use Rattle.delivery_machine.proofs.RunSteps.{split}
-use Rattle.delivery_machine.proofs.Rising.{IsRising, is_below, used_dropped, ledgers_below}
+use Rattle.delivery_machine.proofs.Rising.{IsRising, is_below, used_dropped}
 use Rattle.machine_laws.proofs.Past.{IsPast, went, step_past}
 use Rattle.delivery_machine.proofs.Trimmed.{IsGoing, others_stay, positions_gone}
 use Rattle.delivery_machine.proofs.Deciding.{or_false, or_second}
@@ -30,7 +29,10 @@ use Rattle.delivery_machine.proofs.Messages.{position_itself}
 use Rattle.machine_laws.proofs.ReachedOn.{reached_fresh, reached_step, reached_restarted, reached_sound}
 use Rattle.machine_laws.proofs.WellReached.{IsAllKept, reached_all}
 use Rattle.delivery_machine.proofs.LastNumbers.{merge, top_append, last_numbers}
-use Rattle.dead_letters.specs.Worlds.{Topic, everything, in_state, MessagesGoOn, new_topic, gone_on}
+use Rattle.topic_lives.specs.Deleting.{IsDeletable}
+use Rattle.topic_lives.proofs.Past.{past_made_again}
+use Rattle.topic_lives.proofs.MadeAgain.{made_again_reached, made_again_couriers, later_ledger}
+use Rattle.dead_letters.specs.Worlds.{Topic, everything, in_state, MessagesGoOn, new_topic, gone_on, begun_again}
 use Rattle.dead_letters.specs.Laws.{is_from}
 use Rattle.dead_letters.proofs.Fronts.{front_same, all_append, filtered_append}
 use Rattle.dead_letters.proofs.TargetSteps.{copies, IsAdded, IsTrimmed, Goes, taken_goes}
@@ -46,7 +48,7 @@ answer_goes s e r t h = elim (split s e r t h) [
   | inr taken ↦ taken_goes s e r t taken.1
 ]
 
-none_went : (a : Topic) (t : State) → t.gone ≡ a.state.gone → (in_state a t).past ≡ a.past
+pub none_went : (a : Topic) (t : State) → t.gone ≡ a.state.gone → (in_state a t).past ≡ a.past
 none_went a t same =
     let none : t.gone - a.state.gone ≡ 0 = omega (arith, same) in
     ap (λ (k : ℕ). a.past ++ take k a.state.log) none ∙ append-nil a.past
@@ -245,15 +247,6 @@ module _ (name : List ℕ) where
 
   -- ---- a snapshot
 
-  later_ledger : (ledger used used' : ℕ) (p : Position) → is_below ledger used p ≡ true → p.ledger ≤ 2 ^ 62 → is_below (min (ledger + 1) (2 ^ 62 + 1)) used' p ≡ true
-  later_ledger ledger used used' p low room =
-      let under = ledgers_below ledger used p low in
-      let less : p.ledger + 1 ≤ min (ledger + 1) (2 ^ 62 + 1) = omega (arith, under, room) in
-      above (min (ledger + 1) (2 ^ 62 + 1)) less
-    where
-      above : (l : ℕ) → p.ledger + 1 ≤ l → is_below l used' p ≡ true
-      above l less = grind (arith, nat_tests)
-
   pub topic_gone : (a : Topic) → IsTopic name a → IsTopic name (gone_on a)
   topic_gone a at = record {
     reached = reached_restarted _ (reached_sound a.state at.reached);
@@ -265,6 +258,28 @@ module _ (name : List ℕ) where
       by : (es : List Entry) → AllByRecursion (Went a.state) es → AllByRecursion (Went (gone_on a).state) es
       by [] all = tt
       by (e ∷ es) all = (((all.0.0.0, later_ledger a.state.ledger _ _ e.position all.0.0.1 all.0.1), all.0.1), by es all.1)
+
+  -- ---- a deletion
+
+  pub topic_again : starts_with nat_eq name (codes "dlq/") ≡ true → (a : Topic) → IsDeletable a.state → IsTopic name a → IsTopic name (begun_again a)
+  topic_again lasts a may at = record {
+    reached = made_again_reached a.state at.reached may;
+    many = all_had name a at;
+    past = all_append (Went (begun_again a).state) a.past a.state.log (gone_before a.past at.past) (gone_now a.state.log (recursion_from_All _ a.state.log rising.below) (recursion_from_All _ a.state.log rising.bounded));
+    numbers = made_again_couriers a.state at.reached name lasts ∙ at.numbers ∙ ap (λ (log : List Entry). top (map signed log)) (sym (append-nil (everything a)));
+  }
+    where
+      rising : IsRising a.state.log a.state.ledger
+      rising = (all_kept a.state at.reached).order.kept.rising
+
+      gone_before : (es : List Entry) → AllByRecursion (Went a.state) es → AllByRecursion (Went (begun_again a).state) es
+      gone_before [] all = tt
+      gone_before (e ∷ es) all = ((past_made_again e.position all.0.1 a.state all.0.0.1, all.0.1), gone_before es all.1)
+
+      gone_now : (es : List Entry) → AllByRecursion (λ (e : Entry). is_below a.state.ledger (used_after a.state.ledger a.state.log) e.position ≡ true) es → AllByRecursion (λ (e : Entry). e.position.ledger ≤ 2 ^ 62) es
+          → AllByRecursion (Went (begun_again a).state) es
+      gone_now [] below bounded = tt
+      gone_now (e ∷ es) below bounded = ((past_made_again e.position bounded.0 a.state below.0, bounded.0), gone_now es below.1 bounded.1)
 
   pub topic_new : (topic : TopicName) (ledger_size : ℕ) → IsTopic name (new_topic topic ledger_size)
   topic_new topic ledger_size = record { reached = reached_fresh topic ledger_size; many = refl; past = tt; numbers = refl }

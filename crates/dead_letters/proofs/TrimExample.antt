@@ -32,18 +32,23 @@ use Rattle.dead_letters.specs.declared.hand.Hand.{Hand}
 use Rattle.dead_letters.specs.declared.hand.Hand.TheVariants.{Empty, Holds, Joined, Copied, Waits, Moved}
 use Rattle.dead_letters.specs.Worlds.{Topic, World, Act, at_target, view_target, store_target, courier, in_state, gone_on, AllHappen, opened, idle, with_hand}
 use Rattle.dead_letters.specs.Laws.{MayGo}
-use Rattle.dead_letters.proofs.Example.{a, b, name, way, deaths, moves, all_happen, last_world, letter, taken, k8, s10, t4, k3, copy, whole, world, h6, goes_on}
-use Rattle.dead_letters.proofs.Example.{message as message_of_death}
+use Rattle.dead_letters.proofs.DyingExample.{a, b, name, way, letter, taken, k3, k8, t4, copy}
+use Rattle.dead_letters.proofs.DyingExample.{message as message_of_death}
+use Rattle.dead_letters.proofs.Example.{acts_of, all_happen, last_world, goes_on}
 
 abbrev place : ℕ → Position
 place k = record { ledger = suc k; entry = 0 }
+
+-- no message went
+abbrev whole : State → Topic
+whole s = record { state = s; past = [] }
 
 module _ (body : Content) where
   abbrev message : ℕ → Entry
   message k = record { position = place k; producer = codes "p"; sequence = pos (k + 1); time = 0; body = body }
 
   abbrev messages : ℕ → List Entry
-  messages zero = copy body ∷ []
+  messages zero = copy body 0 ∷ []
   messages (suc k) = messages k ++ message k ∷ []
 
   abbrev producer : Producer
@@ -51,11 +56,11 @@ module _ (body : Content) where
 
   -- so many after the copy
   abbrev so_many : ℕ → State
-  so_many k = record (with_producer (t4 body) producer) { log = messages k; ledger = k }
+  so_many k = record (with_producer (t4 body 0 []) producer) { log = messages k; ledger = k }
 
   -- the other topic is so, and nobody moves a letter
   abbrev at : State → State → World
-  at t kept = world body (s10 body) t kept kept (letter body ∷ []) (h6 body)
+  at t kept = record (last_world body) { target = whole t; target_viewed = whole kept; target_stored = whole kept }
 
   -- the next ones may be published in turn
   abbrev may_come : ℕ → ℕ → Bool
@@ -82,13 +87,13 @@ module _ (body : Content) where
     ),
   )
 
-  all_published : (k n : ℕ) (acts : List Act) (v : World) → may_come k n ≡ true → AllHappen way b (at (so_many (end k n)) (k3 body)) acts v → AllHappen way b (at (so_many k) (k3 body)) (published k n acts) v
+  all_published : (k n : ℕ) (acts : List Act) (v : World) → may_come k n ≡ true → AllHappen way b (at (so_many (end k n)) (k3 body 0 [])) acts v → AllHappen way b (at (so_many k) (k3 body 0 [])) (published k n acts) v
   all_published k zero acts v may rest = rest
   all_published k (suc n) acts v may rest =
       let both = and_first (not (is_duplicate (so_many k) producer (pos (k + 1))) && not (is_full (so_many k))) _ may in
       let later = and_second (not (is_duplicate (so_many k) producer (pos (k + 1))) && not (is_full (so_many k))) _ may in
       let answer = publishes k (turned _ (and_first _ _ both)) (turned _ (and_second (not (is_duplicate (so_many k) producer (pos (k + 1)))) _ both)) (position_is (next_position (so_many k)) (place k) (and_first _ (may_come (suc k) n) later)) in (
-        at (so_many (suc k)) (k3 body),
+        at (so_many (suc k)) (k3 body 0 []),
         (refl, refl, (so_many (suc k), answer, refl)),
         all_published (suc k) n acts v (and_second (same_position (next_position (so_many k)) (place k)) _ later) rest,
       )
@@ -127,7 +132,7 @@ module _ (body : Content) where
   trims = (refl, (subst (λ (n : ℕ). 0 < n) (sym sixty_four) (omega arith), ap (λ (n : ℕ). 0 + n) (sym sixty_four), ap (λ n. trimmed n joined) (sym sixty_four)))
 
   abbrev short : Topic
-  short = in_state (whole body joined) (trimmed 64 joined)
+  short = in_state (whole joined) (trimmed 64 joined)
 
   abbrev without : World
   without = record (at joined kept) { target = short; target_viewed = gone_on short; target_stored = gone_on short }
@@ -138,9 +143,9 @@ module _ (body : Content) where
       ∷ at_target (Subscribe (codes "s") Shared 0 (Window 1) 0 0 0 a Latest None) (Subscribed 1) ∷ at_target (Trim 0 0 64) (Trimmed 64)
       ∷ view_target ∷ store_target ∷ []
 
-  goes_last : AllHappen way b (at full (k3 body)) last_acts without
+  goes_last : AllHappen way b (at full (k3 body 0 [])) last_acts without
   goes_last = (
-    record (at full (k3 body)) { target_viewed = whole body kept },
+    record (at full (k3 body 0 [])) { target_viewed = whole kept },
     refl,
     (
       at full kept,
@@ -165,26 +170,26 @@ module _ (body : Content) where
   later_acts = at_target (AddProducer (Some (codes "p")) (pos 0)) (ProducerAdded 2 None (pos 0)) ∷ published 0 64 last_acts
 
   abbrev all_acts : List Act
-  all_acts = (deaths body ++ moves body) ++ later_acts
+  all_acts = acts_of body ++ later_acts
 
   goes_later : AllHappen way b (last_world body) later_acts without
   goes_later = (
-    at (so_many 0) (k3 body),
+    at (so_many 0) (k3 body 0 []),
     (refl, refl, (so_many 0, (refl, (codes "p", None, (refl, refl), (refl, refl))), refl)),
     all_published 0 64 last_acts without refl goes_last,
   )
 
   goes_all : AllHappen way b (opened a b 1) all_acts without
-  goes_all = goes_on way b (opened a b 1) (deaths body ++ moves body) (last_world body) later_acts without (all_happen body) goes_later
+  goes_all = goes_on way b (opened a b 1) (acts_of body) (last_world body) later_acts without (all_happen body) goes_later
 
   -- ---- it is moved again
 
   -- after the crash the other topic is so
   abbrev again : State → List DeadLetter → State → (ℕ → Hand) → World
   again s done t hands = record {
-    source = whole body s;
-    source_viewed = whole body (k8 body);
-    source_stored = whole body (k8 body);
+    source = whole s;
+    source_viewed = whole (k8 body 0);
+    source_stored = whole (k8 body 0);
     target = record { state = t; past = short.past };
     target_viewed = gone_on short;
     target_stored = gone_on short;
@@ -204,48 +209,48 @@ module _ (body : Content) where
   t7 = record t6 { producers = [] }
 
   abbrev s11 : State
-  s11 = moved (k8 body) name (letter body)
+  s11 = moved (k8 body 0) name (letter body 0)
 
   abbrev g1 : ℕ → Hand
-  g1 = with_hand 0 (Holds (taken body)) idle
+  g1 = with_hand 0 (Holds (taken body 0)) idle
 
   abbrev g2 : ℕ → Hand
-  g2 = with_hand 0 (Joined (taken body) 1) g1
+  g2 = with_hand 0 (Joined (taken body 0) 1) g1
 
   abbrev g3 : ℕ → Hand
-  g3 = with_hand 0 (Copied (taken body) 1 65) g2
+  g3 = with_hand 0 (Copied (taken body 0) 1 65) g2
 
   abbrev g4 : ℕ → Hand
-  g4 = with_hand 0 (Waits (taken body) 65) g3
+  g4 = with_hand 0 (Waits (taken body 0) 65) g3
 
   abbrev g5 : ℕ → Hand
-  g5 = with_hand 0 (Moved (taken body)) g4
+  g5 = with_hand 0 (Moved (taken body 0)) g4
 
   abbrev g6 : ℕ → Hand
   g6 = with_hand 0 Empty g5
 
   abbrev acts_again : List Act
   acts_again =
-      courier 0 0 (Dead (message_of_death body) b 0) ∷ courier 0 0 (ProducerAdded 1 None (pos 0)) ∷ courier 0 0 (Duplicate 65) ∷ courier 0 0 Done
+      courier 0 0 (Dead (message_of_death body 0) b 0) ∷ courier 0 0 (ProducerAdded 1 None (pos 0)) ∷ courier 0 0 (Duplicate 65) ∷ courier 0 0 Done
       ∷ courier 0 0 (Progress 65 65) ∷ courier 0 0 Done ∷ []
 
-  goes_again : AllHappen way b (again (k8 body) [] t5 idle) acts_again (again s11 (letter body ∷ []) t7 g6)
+  goes_again : AllHappen way b (again (k8 body 0) [] t5 idle) acts_again (again s11 (letter body 0 ∷ []) t7 g6)
   goes_again = (
-    again (k8 body) [] t5 g1,
-    (k8 body, (refl, (refl, refl)), refl),
+    again (k8 body 0) [] t5 g1,
+    (k8 body 0, (refl, (refl, refl)), refl),
     (
-      again (k8 body) [] t6 g2,
+      again (k8 body 0) [] t6 g2,
       (t6, (refl, (way.name, None, (refl, refl), (refl, refl))), refl),
       (
-        again (k8 body) [] t6 g3,
+        again (k8 body 0) [] t6 g3,
         (t6, (refl, (refl, refl)), refl),
         (
-          again (k8 body) [] t7 g4,
+          again (k8 body 0) [] t7 g4,
           (t7, (refl, (refl, refl)), refl),
           (
-            again (k8 body) [] t7 g5,
+            again (k8 body 0) [] t7 g5,
             (t7, (refl, (refl, refl)), refl),
-            (again s11 (letter body ∷ []) t7 g6, (s11, (refl, (refl, refl)), refl), refl),
+            (again s11 (letter body 0 ∷ []) t7 g6, (s11, (refl, (refl, refl)), refl), refl),
           ),
         ),
       ),
@@ -260,13 +265,13 @@ may_go_then body = (
   all_acts body,
   without body,
   goes_all body,
-  again body (k8 body) [] (t5 body) idle,
+  again body (k8 body 0) [] (t5 body) idle,
   refl,
   acts_again body,
-  again body (s11 body) (letter body ∷ []) (t7 body) (g6 body),
+  again body (s11 body) (letter body 0 ∷ []) (t7 body) (g6 body),
   goes_again body,
-  letter body,
-  copy body,
+  letter body 0,
+  copy body 0,
   refl,
   refl,
   refl,

@@ -1,5 +1,5 @@
 -- Laws over moves: what holds of the letters that were moved.
-use Rattle.std.specs.Prelude.{◌≡◌, ℕ, ◌+◌, codes, nat_eq, IsTrue, ◌&&◌, Bool, List, [], ◌∷◌, ◌++◌, map, take, Some, ℤ, int_le}
+use Rattle.std.specs.Prelude.{◌≡◌, ℕ, ◌+◌, codes, nat_eq, IsTrue, ◌&&◌, Bool, List, [], ◌∷◌, ◌++◌, map, take, Some, None, ℤ, int_le}
 use Rattle.std.specs.List.{filter, find, starts_with, All}
 use Rattle.std.specs.List.Sorted.{IsStrictlyIncreasing}
 use mathlib.Core.List.{IsPrefix}
@@ -10,7 +10,7 @@ use Rattle.delivery_machine.specs.State.{DeadLetter}
 use Rattle.delivery_machine.specs.Words.{is_by, signed, has_position}
 use Rattle.dead_letters.specs.declared.route.Route.{Route}
 use Rattle.dead_letters.specs.Moving.{sequence_of}
-use Rattle.dead_letters.specs.Worlds.{World, everything, Act, crash, Happens, AllHappen, opened, is_for}
+use Rattle.dead_letters.specs.Worlds.{World, everything, Act, delete_source, delete_target, crash, Happens, AllHappen, opened, is_for}
 use Rattle.dead_letters.specs.Letters.{dead_of, safe_of}
 
 abbrev pub same_sequence : ℤ → ℤ → Bool
@@ -52,6 +52,7 @@ IsNamed route = IsTrue (starts_with nat_eq route.name (codes "dlq/"))
 -- topic has had, one is of each death of a subscription that was done with and went there, by the couriers' name and under its
 -- ordinal, with the body of what died, and in the order of dying. So it is of what is stored of that topic, and was before the last
 -- act: before the death was done with. A message that every subscription has done with may go from either topic; its topic has had it.
+-- Either topic may be deleted and made again: a message of a deleted topic went like one that was trimmed.
 abbrev pub MovedOnce : Type 0
 MovedOnce =
     (route : Route) (target : TopicName) (ledger_size : ℕ) (acts : List Act) (w : World) (act : Act) (v : World) → IsNamed route
@@ -88,3 +89,16 @@ MayGo =
     × (d : DeadLetter) × (copy : Entry) × (copy.body ≡ body)
     × (moved_to target u ≡ d ∷ []) × (moved_to target w ≡ []) × (moved_to target v ≡ d ∷ [])
     × (filter (is_copy route d.ordinal) w.target.state.log ≡ []) × (filter (is_copy route d.ordinal) (everything v.target) ≡ copy ∷ [])
+
+-- It speaks of deletions: whatever a message holds, it may die and be moved, both topics are deleted and made again, and a message
+-- that came later dies and is moved. Both deaths are done with, and the couriers' messages are one copy of each, with that body.
+abbrev pub MayGoOn : Type 0
+MayGoOn =
+    (body : Content)
+    → (route : Route) × IsNamed route × (target : TopicName)
+    × (acts : List Act) × (u : World) × AllHappen route target (opened route.source target 1) acts u
+    × (w : World) × AllHappen route target u (delete_source ∷ delete_target ∷ []) w × (more : List Act) × (v : World) × AllHappen route target w more v
+    × (d : DeadLetter) × (e : DeadLetter) × (copy : Entry) × (other : Entry) × (copy.body ≡ body) × (other.body ≡ body)
+    × (moved_to target u ≡ d ∷ []) × (moved_to target v ≡ d ∷ e ∷ []) × (find (has_position e.position) (everything w.source) ≡ None)
+    × (filter (is_from route.name) (everything v.target) ≡ copy ∷ other ∷ [])
+    × IsTrue (is_copy route d.ordinal copy) × IsTrue (is_copy route e.ordinal other)

@@ -7,7 +7,6 @@ use Rattle.session_links.specs.Links.{Call, Tells, event_call, with_call}
 use Rattle.dead_letters.specs.declared.route.Route.{Route}
 use Rattle.dead_letters.specs.declared.hand.Hand.{Hand}
 use Rattle.dead_letters.specs.declared.hand.Hand.TheVariants.{Empty, Holds, Joined, Copied, Leaves, Waits as Waiting, Moved}
-use Rattle.dead_letters.specs.declared.moving.Move.{Move}
 use Rattle.dead_letters.specs.declared.moving.Side.{Side}
 use Rattle.dead_letters.specs.declared.moving.Side.TheVariants.{Source, Target}
 use Rattle.dead_letters.specs.declared.stepping.Stepped.{Stepped}

@@ -96,7 +96,7 @@ abbrev pub DoesAll : TopicName → TopicName → TwoTopics → List Deed → Two
 DoesAll source target b [] c = c ≡ b
 DoesAll source target b (deed ∷ deeds) c = (mid : TwoTopics) × Does source target b deed mid × DoesAll source target mid deeds c
 
--- so it is for all subscriptions at once
+-- So it is for all subscriptions at once, also where either topic is deleted and made again.
 abbrev pub AllMovedOnce : Type 0
 AllMovedOnce =
     (source target : TopicName) (ledger_size : ℕ) (deeds : List Deed) (b : TwoTopics) (deed : Deed) (c : TwoTopics)

@@ -18,6 +18,7 @@ use Rattle.delivery_machine.specs.declared.event.Event.{Event}
 use Rattle.delivery_machine.specs.declared.event.Event.TheVariants.{AddProducer, DropProducer, Publish, Stored, StoredTo, DeadDone}
 use Rattle.delivery_machine.specs.declared.reply.Reply.{Reply}
 use Rattle.delivery_machine.specs.declared.reply.Reply.TheVariants.{Done, Refused}
+use Rattle.topic_lives.specs.Deleting.{IsDeserted, IsDeletable, made_again}
 use Rattle.dead_letters.specs.declared.route.Route.{Route}
 use Rattle.dead_letters.specs.declared.hand.Hand.{Hand}
 use Rattle.dead_letters.specs.declared.hand.Hand.TheVariants.{Empty}
@@ -52,6 +53,10 @@ new_topic name ledger_size = record { state = fresh name ledger_size; past = [] 
 -- the topic as it goes on from its snapshot of this moment
 abbrev pub gone_on : Topic → Topic
 gone_on a = record { state = restarted (snapshot_of a.state); past = a.past }
+
+-- the topic as it begins again from what is left of it once it is deleted: all its messages went
+abbrev pub begun_again : Topic → Topic
+begun_again a = record { state = made_again a.state; past = everything a }
 
 -- ---- the world
 
@@ -142,6 +147,9 @@ pub data Act : Type 0 where
   -- a topic at which nobody is goes on from a snapshot of this moment, which is stored
   reopen_source : Act
   reopen_target : Act
+  -- a topic that may be deleted is deleted, what is left of it is stored in the same moment, and it begins again from that
+  delete_source : Act
+  delete_target : Act
   -- a courier of the number makes its next move, at a moment
   courier : ℕ → ℕ → Reply → Act
   -- it is refused before it comes to the topic, which could not be opened, or had no seat, no room or no memory for it
@@ -171,10 +179,6 @@ abbrev pub AnswersAt : Route → Side → World → Event → Reply → (ℕ →
 AnswersAt route Source w event reply hands v = AnswersAtSource route w event reply hands v
 AnswersAt route Target w event reply hands v = AnswersAtTarget w event reply hands v
 
--- nobody is at the topic
-abbrev pub IsDeserted : State → Type 0
-IsDeserted s = (s.producers ≡ []) × (s.members ≡ [])
-
 -- what the act makes of the world
 abbrev pub Happens : Route → TopicName → World → Act → World → Type 0
 Happens route target w (at_source event reply) v =
@@ -198,6 +202,18 @@ Happens route target w reopen_source v =
     })
 Happens route target w reopen_target v =
     IsDeserted w.target.state × (v ≡ record w { target = gone_on w.target; target_viewed = gone_on w.target; target_stored = gone_on w.target })
+Happens route target w delete_source v =
+    IsDeletable w.source.state
+    × (v ≡ record w {
+      source = begun_again w.source;
+      source_viewed = begun_again w.source;
+      source_stored = begun_again w.source;
+      moved_viewed = w.moved;
+      moved_stored = w.moved;
+    })
+Happens route target w delete_target v =
+    IsDeletable w.target.state
+    × (v ≡ record w { target = begun_again w.target; target_viewed = begun_again w.target; target_stored = begun_again w.target })
 Happens route target w (courier number now reply) v =
     let next = move_of route (w.hands number) now in
     AnswersAt route next.side w next.event reply (with_hand number (kept_for target (after (w.hands number) reply)) w.hands) v

@@ -1,17 +1,22 @@
 // Laws over everything that may happen at two topics and at the couriers between them.
 ghost use Rattle.dead_letters.specs.Couriers.{CouriersDiffer, CouriersAreApart, CopiesBearOrdinals};
 ghost use Rattle.dead_letters.specs.Letters.{LettersLeaveByMoves, OnlyStoresMakeSafe, OrdinalsRise};
-ghost use Rattle.dead_letters.specs.Laws.{MovedOnce, MayBeMoved, MayGo, SafeIsStored};
+ghost use Rattle.dead_letters.specs.Laws.{MovedOnce, MayBeMoved, MayGo, MayGoOn, SafeIsStored};
 ghost use Rattle.dead_letters.specs.Worlds.{MessagesGoOn};
 ghost use Rattle.dead_letters.specs.Together.{AllMovedOnce, AllMayBeMoved};
 
 /// Of all messages that a topic has had, one is of each moved death of a subscription that went there: by the couriers'
 /// name, under its ordinal and with its body; so it is of what is stored of that topic, and was before the death was done
 /// with. Those of one subscription are in the order of dying. So it is whatever happens: any events at both topics, stores,
-/// any number of couriers, refusals on the way, trims, and crashes, after which all goes on from what is stored.
+/// any number of couriers, refusals on the way, trims, deletions of either topic, and crashes, after which all goes on from
+/// what is stored.
 ///
 /// A copy, and the message that died, may go from their topics once every subscription has done with them. They count as
 /// before: a courier that comes with the letter again is answered `Duplicate`.
+///
+/// A topic may be deleted where nobody is at it and none of its letters waits to be moved. What is left of it is stored in
+/// the same moment, and under its name it goes on from that: its messages went like those that were trimmed, and ordinals
+/// and the couriers' last numbers go on. So the copy of a death after the deletion is never taken for one from before it.
 ///
 /// A death is moved once its topic answered `Done` to the `DeadDone` that names it; after a crash those are moved that were
 /// so when their topic was stored last. Nothing says that a letter is ever moved, or when.
@@ -32,6 +37,12 @@ pub fn moved_once_example()
 /// a crash takes back that the death was done with, it is moved again, and no second copy comes.
 pub fn trimmed_copy_example()
     ensures { MayGo }
+{}
+
+/// It speaks of deletions too: any message may die and be moved, both topics may be deleted and made again, and then another
+/// message may die and be moved: its copy comes beside the first.
+pub fn deleted_topics_example()
+    ensures { MayGoOn }
 {}
 
 /// So it is for all subscriptions of a topic at once, each with couriers of its own.

@@ -63,11 +63,6 @@ pub record HaveOrdinals (next : ℕ) (dead : List DeadLetter) : Type 0 where
 abbrev pub NamesRise : List (List ℕ) → Type 0
 NamesRise names = IsStrictlySortedBy name_order names
 
--- at most 2^62 messages are gone, and where any is, another stays
-pub record IsGoneWell (gone : ℕ) (log : List Entry) : Type 0 where
-  pub at_most : gone ≤ 2 ^ 62
-  pub another : 0 < gone → 0 < length log
-
 -- ---- states
 
 -- numbers that were given in turn: each is above those before it, and the next above them all
@@ -99,9 +94,10 @@ pub record IsWellFormedIn (s : State) (sub : Subscription) : Type 0 where
 abbrev pub IsSentWell : State → Member → Type 0
 IsSentWell s m = All (λ d. Contains s.log d.message × IsTrue (is_held_at s m.subscription m.number d.message.position)) m.out
 
+-- at most 2^62 messages are gone
 pub record IsWellFormed (s : State) : Type 0 where
   pub log : IsWellFormedLog s.ledger_size s.ledger s.log
-  pub gone : IsGoneWell s.gone s.log
+  pub gone : s.gone ≤ 2 ^ 62
   pub authors : AreAuthors s.gone s.authors
   pub durable : s.durable ≤ length s.log
   pub producers : AreGiven s.next_producer (map (λ p. p.number) s.producers)
@@ -122,7 +118,7 @@ pub record IsSoundSubscription (log : List Entry) (sub : KeptSubscription) : Typ
 
 pub record IsSound (kept : Snapshot) : Type 0 where
   pub log : IsWellFormedLog kept.ledger_size kept.ledger kept.log
-  pub gone : IsGoneWell kept.gone kept.log
+  pub gone : kept.gone ≤ 2 ^ 62
   pub authors : AreAuthors kept.gone kept.authors
   pub names : NamesRise (map (λ sub. sub.name) kept.subscriptions)
   pub subscriptions : All (IsSoundSubscription kept.log) kept.subscriptions

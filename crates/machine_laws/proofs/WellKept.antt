@@ -12,7 +12,7 @@ use Rattle.delivery_machine.specs.Words.{changed, removed, is_named, is_connecte
 use Rattle.delivery_machine.specs.Refusals.{is_full}
 use Rattle.delivery_machine.specs.Producing.{with_message, with_producer}
 use Rattle.delivery_machine.specs.declared.retention.Retention.{Retention}
-use Rattle.delivery_machine.specs.WellFormed.{AreGiven, AreAuthors, IsGoneWell}
+use Rattle.delivery_machine.specs.WellFormed.{AreGiven, AreAuthors}
 use Rattle.delivery_machine.proofs.Deciding.{or_false, within}
 use Rattle.delivery_machine.proofs.Firsts.{any_changed, any_mapped, any_pushed}
 use Rattle.delivery_machine.specs.Words.{used_after}
@@ -46,7 +46,7 @@ letters sub = sub.dead
 
 pub record IsWellKept (s : State) : Type 0 where
   pub ledgered : IsLedgered s.ledger_size s.ledger s.log
-  pub gone : IsGoneWell s.gone s.log
+  pub gone : s.gone ≤ 2 ^ 62
   pub authors : AreAuthors s.gone s.authors
   pub connected : AreConnected s.next_producer s.producers
   pub members : AreGiven s.next_consumer (numbers_of s.members)
@@ -135,7 +135,7 @@ well_published s e is room low well = record {
     last_ledger = let at_most = within (2 ^ 62) e.position.ledger (ap (λ (p : Position). nat_lt (2 ^ 62) p.ledger) is ∙ (or_false (nat_le 1048576 (length s.log)) (nat_lt (2 ^ 62) (next_position s).ledger) room).1) in omega arith;
   };
   authors = well.authors;
-  gone = record { at_most = well.gone.at_most; another = λ _. let longer = length-append s.log (e ∷ []) in omega (arith, longer) };
+  gone = well.gone;
   connected = well.connected;
   members = well.members;
   there = well.there;

@@ -218,7 +218,7 @@ unfolding IsStrictlySortedBy IsDistinct
 well_fresh name ledger_size = record {
   ledgered = record { entries = λ some. All-nil (λ e. e.position.entry < ledger_size); last_ledger = omega arith };
   authors = record { names = tt; indexes = none_given 0 };
-  gone = record { at_most = omega arith; another = λ some. absurd (omega (arith, some)) };
+  gone = omega arith;
   connected = record { numbers = none_given 1; names = tt };
   members = none_given 1;
   there = tt;

@@ -93,7 +93,7 @@ well_trimmed s n are well =
         entries = λ some. all_dropped (λ e. e.position.entry < s.ledger_size) n s.log (well.ledgered.entries some);
         last_ledger = well.ledgered.last_ledger;
       };
-      gone = record { at_most = are.room; another = λ _. let low = are.within in let shorter = length-drop n s.log in omega (arith, low, shorter) };
+      gone = are.room;
       authors = authors_trimmed s n are.within well.authors;
       connected = well.connected;
       members = well.members;

@@ -64,7 +64,7 @@ trim_within s keep before most Untrimmed t h keeps = settled t s h.1 keeps
 trim_within s keep before most reply t h keeps = absurd h
 
 takes_within : (s : State) (event : Event) (reply : Reply) (t : State) → refusal_of s event ≡ None → Takes s event reply t → IsWithinLimits event → IsAllKept s → KeepsLimits s → KeepsLimits t
-takes_within s (AddProducer name base) reply t allowed h within all keeps = settled t _ h.3.1 (limits_connected s name h.0 h.1 base allowed h.2 within.0 within.1 all.well.gone.at_most all.well.authors keeps)
+takes_within s (AddProducer name base) reply t allowed h within all keeps = settled t _ h.3.1 (limits_connected s name h.0 h.1 base allowed h.2 within.0 within.1 all.well.gone all.well.authors keeps)
 takes_within s (DropProducer producer) reply t allowed h within all keeps = settled t _ h.1 (limits_disconnected s (is_producer producer) keeps)
 takes_within s (Publish producer sequence body now) reply t allowed h within all keeps =
     some_elim (find (is_producer producer) s.producers) _ (KeepsLimits t) h (λ p found h.

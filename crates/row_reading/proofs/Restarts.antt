@@ -1,5 +1,5 @@
 -- What is read is a snapshot that a topic may go on from.
-use Rattle.std.proofs.Common.{◌≡◌, ℕ, ◌≤◌, false, List, [], ◌∷◌, map, length, refl, ap, sym, subst, ◌∙◌}
+use Rattle.std.proofs.Common.{◌≡◌, ℕ, ◌≤◌, ◌^◌, false, List, [], ◌∷◌, map, length, refl, ap, sym, subst, ◌∙◌}
 use Rattle.std.specs.List.{All}
 use Rattle.std.specs.FinSet as set
 use Rattle.std.specs.Ordering.{nat_cmp}
@@ -13,7 +13,7 @@ use Rattle.position_core.specs.TopicName.{same_topic, topic_text}
 use Rattle.delivery_machine.specs.State.{Author, DeadLetter}
 use Rattle.delivery_machine.specs.Snapshot.{KeptSubscription}
 use Rattle.delivery_machine.specs.Places.{AreBelow, KeptPlaces, KeptTopic, MayRestart, kept_in, positions_at, positions_from}
-use Rattle.delivery_machine.specs.WellFormed.{AreAuthors, AreMessagesOf, HaveOrdinals, IsGoneWell, IsSoundSubscription, IsWellFormedLog, NamesRise}
+use Rattle.delivery_machine.specs.WellFormed.{AreAuthors, AreMessagesOf, HaveOrdinals, IsSoundSubscription, IsWellFormedLog, NamesRise}
 use Rattle.machine_laws.proofs.Ordinals.{letters_mapped}
 use Rattle.row_tables.specs.declared.side_rows.SideRows.{SideRows}
 use Rattle.row_forms.specs.Forms.{AreAckRows, AreRowsOf, Span, author_rows, count_rows, dead_rows, sub_rows}
@@ -34,7 +34,7 @@ pub same_names : (log : List Entry) (subs : List KeptPlaces) → map (λ (sub : 
 same_names log [] = refl
 same_names log (sub ∷ subs) = ap (λ names. sub.name ∷ names) (same_names log subs)
 
-pub may_restart : (own : TopicName) (kept : KeptTopic) → IsWellFormedLog kept.ledger_size kept.ledger kept.log → IsGoneWell kept.gone kept.log → AreAuthors kept.gone kept.authors → length kept.log ≤ 1048576 → AreSubsOf own kept.log kept.next_ordinal kept.subscriptions → MayRestart kept
+pub may_restart : (own : TopicName) (kept : KeptTopic) → IsWellFormedLog kept.ledger_size kept.ledger kept.log → kept.gone ≤ 2 ^ 62 → AreAuthors kept.gone kept.authors → length kept.log ≤ 1048576 → AreSubsOf own kept.log kept.next_ordinal kept.subscriptions → MayRestart kept
 may_restart own kept log gone authors short subs = record {
   sound = record {
     log = log;

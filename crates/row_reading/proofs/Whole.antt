@@ -162,7 +162,7 @@ retentions_move t u gone rule rows are = by (gone == 0 && is_none rule) rows are
 pub has_front : (kept : KeptTopic) (topic : List ℕ) (rows : List Row) → IsReadBack kept → put topic rows ≡ retention_rows topic kept.gone kept.retention → IsFrontIn rows (record { gone = kept.gone; retention = kept.retention })
 has_front kept topic rows back are = record {
   shown = λ t. retentions_move topic t kept.gone kept.retention rows are;
-  at_most = back.may.sound.gone.at_most;
+  at_most = back.may.sound.gone;
   rule = back.rule;
 }
 

@@ -6,7 +6,7 @@ ghost use Rattle.position_core.specs.TopicName.{topic_text};
 ghost use Rattle.log_pieces.specs.Pieces.{joined};
 ghost use Rattle.delivery_machine.specs.Places.{KeptPlaces, KeptTopic, MayRestart};
 ghost use Rattle.delivery_machine.specs.State.{Author};
-ghost use Rattle.delivery_machine.specs.WellFormed.{AreAuthors, IsGoneWell, IsWellFormedLog};
+ghost use Rattle.delivery_machine.specs.WellFormed.{AreAuthors, IsWellFormedLog};
 ghost use Rattle.row_forms.specs.Forms.{AreAckRows, AreRowsOf, author_rows, count_rows, dead_rows, entry_rows, sub_rows};
 ghost use Rattle.row_forms.specs.Parts.{IsRising};
 ghost use Rattle.row_reading.specs.declared.topic_row.Head.{Head};
@@ -58,14 +58,6 @@ fn subs_with(
     subs_in(alloc, &sides.subs, others, deaths)
 }
 
-/// Whether another message stays where any is gone.
-fn keeps_one(kept: Kept<'_>) -> bool
-    ensures sound { IsTrue result → 0 < kept.entry.gone → 0 < length (seen kept.entry).log }
-    ensures all { (0 < kept.entry.gone → 0 < length (seen kept.entry).log) → IsTrue result }
-{
-    kept.gone == 0 || kept.log.count() > 0
-}
-
 /// The producers of messages that are gone, and the subscriptions.
 #[derive(Drop)]
 struct Parts {
@@ -84,7 +76,6 @@ fn parts_with(
     requires rising { IsRising (seen kept).log }
     requires short { length (seen kept).log ≤ 1048576 }
     requires last { next_ordinal ≤ 2 ^ 62 }
-    ensures another { IfOk result (λ found. IfSome found (λ _. 0 < kept.entry.gone → 0 < length (seen kept.entry).log)) }
     ensures authors { IfOk result (λ found. IfSome found (λ p. (topic : List ℕ) → put topic sides.now.authors.items ≡ author_rows topic p.authors.items)) }
     ensures remembered { IfOk result (λ found. IfSome found (λ p. AreAuthors kept.entry.gone p.authors.items)) }
     ensures from_zero { IfOk result (λ found. IfSome found (λ p. RememberFromZero p.authors.items)) }
@@ -94,12 +85,9 @@ fn parts_with(
     ensures counts { IfOk result (λ found. IfSome found (λ p. (topic : List ℕ) → put topic sides.now.counts.items ≡ count_rows topic (seen kept.entry) p.subs.items)) }
     ensures sound { IfOk result (λ found. IfSome found (λ p. AreSubsOf name.now (seen kept.entry).log next_ordinal p.subs.items)) }
     ensures few { IfOk result (λ found. IfSome found (λ p. length p.subs.items ≤ 64)) }
-    ensures all_read { IfOk result (λ found. IfNone found ((topic : List ℕ) (authors : List Author) (all : List KeptPlaces) → (0 < kept.entry.gone → 0 < length (seen kept.entry).log) → ShowAuthors kept.entry.gone topic authors sides.now.authors.items
+    ensures all_read { IfOk result (λ found. IfNone found ((topic : List ℕ) (authors : List Author) (all : List KeptPlaces) → ShowAuthors kept.entry.gone topic authors sides.now.authors.items
         → length all ≤ 64 → ShowSubs name.now (seen kept.entry) next_ordinal topic all sides.now.subs.items sides.now.acks.items sides.now.deads.items sides.now.counts.items → ⊥)) }
 {
-    if !keeps_one(kept) {
-        return Ok(None);
-    }
     let Some(authors) = authors_in(alloc, &sides.authors, kept.gone)? else {
         return Ok(None);
     };

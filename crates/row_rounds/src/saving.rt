@@ -93,7 +93,7 @@ fn write_all<S: Alter>(
 }
 
 /// Asks for a row. It fails where the connection was shut: over such a one nobody knows what a commit leaves.
-pub(crate) fn ask<S: Alter>(tx: &mut Transaction<'_, S>) -> Result<(), Error>
+fn ask<S: Alter>(tx: &mut Transaction<'_, S>) -> Result<(), Error>
     ensures same_reference { tx.new.conn.ghost_name ≡ tx.old.conn.ghost_name }
     ensures survives { Survives (state S.Store tx.old.conn.now) (state S.Store tx.new.conn.now) (λ _. ⊥) }
     ensures done { HasCleanDisk (state S.Store tx.new.conn.now) → OnOk result (Goes Stays (state S.Store tx.old.conn.now) (state S.Store tx.new.conn.now)) }

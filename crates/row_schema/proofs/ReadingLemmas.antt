@@ -11,7 +11,8 @@ use Rattle.sqlite_trees.specs.View.{View, IsClean, IsShaped, IsOrdered, IsRolled
 use Rattle.sqlite_trees.specs.Objects.{IsListed, catalog_tree}
 use Rattle.sqlite_trees.specs.declared.store.Shape.TheVariants.{Table}
 use Rattle.sqlite_trees.proofs.ListLemmas.{all_weaker}
-use Rattle.sqlite_catalog.specs.Listing.{AreListed, IsTableRow, is_table_row}
+use Rattle.sqlite_catalog.specs.Listing.{AreListed, IsTableRow, is_table_row, Lists}
+use Rattle.sqlite_catalog.proofs.ReadLemmas.{lists_once}
 use Rattle.sqlite_catalog.proofs.LayoutLemmas.{laid_out, objects_rise}
 use Rattle.row_tables.specs.Ready.{AreKeyed}
 
@@ -41,3 +42,10 @@ fresh_from old v u clean sound shut numbered =
 -- what was committed is what stands after all else was undone
 pub committed_from : (old v : View) → IsRolledBack old v → v.is_broken ≡ false → (v.is_open ≡ false → IsTrue v.is_broken) → v.trees ≡ old.committed
 committed_from old v u sound shut = (u.undone (open_if v sound shut)).0
+
+pub was_open_from : (old v : View) → IsRolledBack old v → IsClean v → v.is_broken ≡ false → (v.is_open ≡ false → IsTrue v.is_broken) → IsTrue old.is_open
+was_open_from old v u clean sound shut = (u.kept clean).was_open (open_if v sound shut)
+
+-- two databases with the same rows have one schema
+pub one_schema : (a b : Database) → a.trees ≡ b.trees → IsDatabase a → IsDatabase b → a.schema ≡ b.schema
+one_schema a b same p q = lists_once (b.trees catalog_tree) a.schema b.schema (subst (λ (t : Trees). Lists (t catalog_tree) a.schema) same p.lists) q.lists

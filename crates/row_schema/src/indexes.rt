@@ -1,5 +1,5 @@
 // Whether the indexes are those of a version, one by one.
-ghost use Rattle.std.specs.Prelude.{◌≡◌, drop, IsTrue};
+ghost use Rattle.std.specs.Prelude.{◌≡◌, ◌↔◌, drop, IsTrue};
 ghost use Rattle.row_forms.specs.Schema.{index_of};
 ghost use Rattle.row_schema.specs.Versions.{schema_of};
 
@@ -7,7 +7,7 @@ use crate::version::Version;
 use sqlite_schema::schema::Index;
 
 fn is_index(index: &Index, name: &str, tree: u32, table: u32, key: &[usize]) -> bool
-    ensures { IsTrue result → index.now ≡ index_of name.now tree table key.now }
+    ensures { IsTrue result ↔ (index.now ≡ index_of name.now tree table key.now) }
 {
     index.name.as_slice() == name.as_bytes()
         && index.tree == tree
@@ -19,7 +19,7 @@ fn is_index(index: &Index, name: &str, tree: u32, table: u32, key: &[usize]) -> 
 
 /// Whether the version has these indexes after the first five.
 fn are_after(indexes: &[Index], version: Version) -> bool
-    ensures { IsTrue result → indexes.now ≡ drop 5 (schema_of version).indexes }
+    ensures { IsTrue result ↔ (indexes.now ≡ drop 5 (schema_of version).indexes) }
 {
     match (version, indexes) {
         (Version::One, []) => true,
@@ -45,7 +45,7 @@ fn are_after(indexes: &[Index], version: Version) -> bool
 }
 
 fn has_last_indexes(indexes: &[Index], version: Version) -> bool
-    ensures { IsTrue result → indexes.now ≡ drop 3 (schema_of version).indexes }
+    ensures { IsTrue result ↔ (indexes.now ≡ drop 3 (schema_of version).indexes) }
 {
     let [ack, dead, rest @ ..] = indexes else {
         return false;
@@ -56,7 +56,7 @@ fn has_last_indexes(indexes: &[Index], version: Version) -> bool
 }
 
 fn has_subscription_indexes(indexes: &[Index], version: Version) -> bool
-    ensures { IsTrue result → indexes.now ≡ drop 2 (schema_of version).indexes }
+    ensures { IsTrue result ↔ (indexes.now ≡ drop 2 (schema_of version).indexes) }
 {
     let [sub, rest @ ..] = indexes else {
         return false;
@@ -66,7 +66,7 @@ fn has_subscription_indexes(indexes: &[Index], version: Version) -> bool
 
 /// Whether the version has these indexes, and no other.
 pub(crate) fn are_indexes_of(indexes: &[Index], version: Version) -> bool
-    ensures { IsTrue result → indexes.now ≡ (schema_of version).indexes }
+    ensures { IsTrue result ↔ (indexes.now ≡ (schema_of version).indexes) }
 {
     let [topic, entry, rest @ ..] = indexes else {
         return false;

@@ -1,5 +1,5 @@
 // Whether the tables after the first six are those of a version.
-ghost use Rattle.std.specs.Prelude.{◌≡◌, [], ◌∷◌, drop, IfSome, IsTrue};
+ghost use Rattle.std.specs.Prelude.{◌≡◌, ◌↔◌, [], ◌∷◌, drop, Some, IfSome, IsTrue};
 ghost use Rattle.row_forms.specs.Schema.{redelivery_table, author_table, retention_table};
 ghost use Rattle.row_schema.specs.Versions.{schema_of};
 
@@ -8,7 +8,7 @@ use crate::version::Version;
 use sqlite_schema::schema::{Column, Kind, Table};
 
 fn has_count_columns(columns: &[Column]) -> bool
-    ensures { IsTrue result → columns.now ≡ (redelivery_table 11).columns }
+    ensures { IsTrue result ↔ (columns.now ≡ (redelivery_table 11).columns) }
 {
     let [topic, sub, place, times] = columns else {
         return false;
@@ -20,13 +20,13 @@ fn has_count_columns(columns: &[Column]) -> bool
 }
 
 fn is_redelivery(table: &Table) -> bool
-    ensures { IsTrue result → table.now ≡ redelivery_table 11 }
+    ensures { IsTrue result ↔ (table.now ≡ redelivery_table 11) }
 {
     is_named(table, "redelivery", 11, &[1, 2, 3]) && has_count_columns(table.columns.as_slice())
 }
 
 fn is_author(table: &Table) -> bool
-    ensures { IsTrue result → table.now ≡ author_table 13 }
+    ensures { IsTrue result ↔ (table.now ≡ author_table 13) }
 {
     let [topic, place, producer, sequence] = table.columns.as_slice() else {
         return false;
@@ -39,7 +39,7 @@ fn is_author(table: &Table) -> bool
 }
 
 fn is_retention(table: &Table) -> bool
-    ensures { IsTrue result → table.now ≡ retention_table 15 }
+    ensures { IsTrue result ↔ (table.now ≡ retention_table 15) }
 {
     let [topic, gone, kind, amount] = table.columns.as_slice() else {
         return false;
@@ -53,7 +53,8 @@ fn is_retention(table: &Table) -> bool
 
 /// Which version has these tables after the first six.
 pub(crate) fn version_after(tables: &[Table]) -> Option<Version>
-    ensures { IfSome result (λ version. tables.now ≡ drop 6 (schema_of version).tables) }
+    ensures found { IfSome result (λ version. tables.now ≡ drop 6 (schema_of version).tables) }
+    ensures known { (version : Version) → tables.now ≡ drop 6 (schema_of version).tables → result ≡ Some version }
 {
     match tables {
         [] => Some(Version::One),

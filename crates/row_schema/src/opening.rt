@@ -1,9 +1,14 @@
 // A database is opened once: what was read then says too that in each of its tables no rowid comes twice.
-ghost use Rattle.std.specs.Prelude.{IfOk, IsTrue};
+ghost use Rattle.std.specs.Prelude.{◌≡◌, codes, Err, IfOk, IfErr, IsTrue};
+ghost use Rattle.sqlite.specs.declared.error.ErrorCode.TheVariants.{CannotOpen};
+ghost use Rattle.sqlite.specs.declared.error.Error.TheVariants.{SqliteFailure};
+ghost use Rattle.sqlite_wal.specs.Files.{image_at};
+ghost use Rattle.sqlite.specs.Opening.{is_open_error};
+ghost use Rattle.sqlite.specs.Start.{FindsIn};
 ghost use Rattle.sqlite.specs.State.{HasCleanDisk};
 ghost use Rattle.sqlite.specs.Held.{state};
 ghost use Rattle.sqlite.specs.Steps.{IsEmpty, over_memory};
-ghost use Rattle.sqlite.specs.Files.{file_state, IsOpened};
+ghost use Rattle.sqlite.specs.Files.{file_state, Finds, FailsToOpenFiles, IsCleanLeft, IsOpened, LeavesFiles};
 ghost use Rattle.row_tables.specs.Ready.{AreKeyed};
 
 use sqlite::{Connection, Error, FileFrom, FileStore, Files, Leftover, MemStore, Options, Start};
@@ -17,7 +22,10 @@ pub fn open<S: Start>(
     path: &str,
     start: S,
 ) -> Result<Connection<FileStore<FileFrom<S>>>, Error>
+    ensures memory { path.now ≡ codes ":memory:" → result ≡ Err (SqliteFailure CannotOpen) }
+    ensures named { IfErr result (λ e. IsTrue (is_open_error e)) }
     ensures opened { IfOk result (λ c. HasCleanDisk (file_state c) → IsOpened c) }
+    ensures found { IfOk result (λ c. HasCleanDisk (file_state c) → FindsIn (image_at S.Start) (file_state c)) }
     ensures keyed { IfOk result (λ c. HasCleanDisk (file_state c) → AreKeyed (file_state c).now) }
 {
     match Connection::open_from(rt, path, false, start) {
@@ -46,8 +54,12 @@ pub fn open_files<D: Disk + Drop>(
 ) -> Result<Connection<FileStore<D>>, (Error, Leftover<D>)>
     requires log { IsTrue (D.Disk.is_usable files.log) }
     requires db { IsTrue (D.Disk.is_usable files.db) }
+    ensures named { IfErr result (λ e. IsTrue (is_open_error e.0)) }
     ensures opened { IfOk result (λ c. HasCleanDisk (file_state c) → IsOpened c) }
+    ensures found { IfOk result (λ c. HasCleanDisk (file_state c) → Finds files c) }
     ensures keyed { IfOk result (λ c. HasCleanDisk (file_state c) → AreKeyed (file_state c).now) }
+    ensures cause { IfErr result (λ e. IsCleanLeft e.1 → FailsToOpenFiles files e.1 e.0) }
+    ensures unharmed { IfErr result (λ e. IsCleanLeft e.1 → LeavesFiles files e.1) }
 {
     match Connection::open_files(alloc, files, options) {
         Ok(conn) => Ok(conn),

@@ -1,5 +1,5 @@
 // Whether the tables are those of a version, one by one.
-ghost use Rattle.std.specs.Prelude.{◌≡◌, [], ◌∷◌, drop, IfSome, IsTrue};
+ghost use Rattle.std.specs.Prelude.{◌≡◌, ◌↔◌, [], ◌∷◌, drop, Some, IfSome, IsTrue};
 ghost use Rattle.sqlite_value.specs.Keys.{plain};
 ghost use Rattle.row_forms.specs.Schema.{required, table_of, meta_table, topic_table, entry_table, sub_table, ack_table, dead_table};
 ghost use Rattle.row_schema.specs.Comparing.{IsBare, IsByRowid, IsKeyed};
@@ -13,7 +13,7 @@ use sqlite_value::keys::{Collation, Order};
 use sqlite_value::value::Value;
 
 pub(crate) fn is_required(column: &Column, name: &str, kind: Kind) -> bool
-    ensures { IsTrue result → column.now ≡ required name.now kind }
+    ensures { IsTrue result ↔ (column.now ≡ required name.now kind) }
 {
     column.name.as_slice() == name.as_bytes()
         && column.kind == kind
@@ -24,7 +24,7 @@ pub(crate) fn is_required(column: &Column, name: &str, kind: Kind) -> bool
 }
 
 fn has_no_rules(table: &Table) -> bool
-    ensures { IsTrue result → IsBare table.now }
+    ensures { IsTrue result ↔ IsBare table.now }
 {
     table.checks.roots.is_empty()
         && table.references.is_empty()
@@ -36,13 +36,13 @@ fn has_no_rules(table: &Table) -> bool
 }
 
 fn are_places(places: &Items<usize>, key: &[usize]) -> bool
-    ensures { IsTrue result → places.now ≡ key.now }
+    ensures { IsTrue result ↔ (places.now ≡ key.now) }
 {
     places.as_slice() == key
 }
 
 fn is_only(uniques: &[Items<usize>], key: &[usize]) -> bool
-    ensures { IsTrue result → uniques.now ≡ key.now ∷ [] }
+    ensures { IsTrue result ↔ (uniques.now ≡ key.now ∷ []) }
 {
     match uniques {
         [unique] => are_places(unique, key),
@@ -51,7 +51,7 @@ fn is_only(uniques: &[Items<usize>], key: &[usize]) -> bool
 }
 
 fn are_plain(orders: &[Order]) -> bool
-    ensures { IsTrue result → orders.now ≡ plain ∷ [] }
+    ensures { IsTrue result ↔ (orders.now ≡ plain ∷ []) }
 {
     match orders {
         [order] => order.digits == 0,
@@ -60,7 +60,7 @@ fn are_plain(orders: &[Order]) -> bool
 }
 
 fn has_one_key(table: &Table, key: &[usize]) -> bool
-    ensures { IsTrue result → IsKeyed key.now table.now }
+    ensures { IsTrue result ↔ IsKeyed key.now table.now }
 {
     table.key.is_none()
         && table.primary.as_slice() == key
@@ -69,7 +69,7 @@ fn has_one_key(table: &Table, key: &[usize]) -> bool
 }
 
 pub(crate) fn is_named(table: &Table, name: &str, tree: u32, key: &[usize]) -> bool
-    ensures { IsTrue result → table.now ≡ table_of name.now tree table.now.columns key.now }
+    ensures { IsTrue result ↔ (table.now ≡ table_of name.now tree table.now.columns key.now) }
 {
     table.name.as_slice() == name.as_bytes()
         && table.tree == tree
@@ -78,7 +78,7 @@ pub(crate) fn is_named(table: &Table, name: &str, tree: u32, key: &[usize]) -> b
 }
 
 fn has_rowid(table: &Table) -> bool
-    ensures { IsTrue result → IsByRowid table.now }
+    ensures { IsTrue result ↔ IsByRowid table.now }
 {
     table.key == Some(0)
         && table.primary.as_slice() == [0].as_slice()
@@ -87,7 +87,7 @@ fn has_rowid(table: &Table) -> bool
 }
 
 fn has_meta_columns(columns: &[Column]) -> bool
-    ensures { IsTrue result → columns.now ≡ (meta_table 0).columns }
+    ensures { IsTrue result ↔ (columns.now ≡ (meta_table 0).columns) }
 {
     let [id, version] = columns else {
         return false;
@@ -96,7 +96,7 @@ fn has_meta_columns(columns: &[Column]) -> bool
 }
 
 fn is_meta(table: &Table) -> bool
-    ensures { IsTrue result → table.now ≡ meta_table 0 }
+    ensures { IsTrue result ↔ (table.now ≡ meta_table 0) }
 {
     table.name.as_slice() == "meta".as_bytes()
         && table.tree == 0
@@ -106,7 +106,7 @@ fn is_meta(table: &Table) -> bool
 }
 
 fn has_ledger_columns(columns: &[Column]) -> bool
-    ensures { IsTrue result → columns.now ≡ drop 2 (topic_table 1).columns }
+    ensures { IsTrue result ↔ (columns.now ≡ drop 2 (topic_table 1).columns) }
 {
     let [ledger, ordinal] = columns else {
         return false;
@@ -115,7 +115,7 @@ fn has_ledger_columns(columns: &[Column]) -> bool
 }
 
 fn has_topic_columns(columns: &[Column]) -> bool
-    ensures { IsTrue result → columns.now ≡ (topic_table 1).columns }
+    ensures { IsTrue result ↔ (columns.now ≡ (topic_table 1).columns) }
 {
     let [name, size, rest @ ..] = columns else {
         return false;
@@ -126,13 +126,13 @@ fn has_topic_columns(columns: &[Column]) -> bool
 }
 
 fn is_topic(table: &Table) -> bool
-    ensures { IsTrue result → table.now ≡ topic_table 1 }
+    ensures { IsTrue result ↔ (table.now ≡ topic_table 1) }
 {
     is_named(table, "topic", 1, &[1]) && has_topic_columns(table.columns.as_slice())
 }
 
 fn has_last_columns(columns: &[Column]) -> bool
-    ensures { IsTrue result → columns.now ≡ drop 9 (entry_table 3).columns }
+    ensures { IsTrue result ↔ (columns.now ≡ drop 9 (entry_table 3).columns) }
 {
     let [properties, payload] = columns else {
         return false;
@@ -141,7 +141,7 @@ fn has_last_columns(columns: &[Column]) -> bool
 }
 
 fn has_body_columns(columns: &[Column]) -> bool
-    ensures { IsTrue result → columns.now ≡ drop 7 (entry_table 3).columns }
+    ensures { IsTrue result ↔ (columns.now ≡ drop 7 (entry_table 3).columns) }
 {
     let [has_key, key, rest @ ..] = columns else {
         return false;
@@ -152,7 +152,7 @@ fn has_body_columns(columns: &[Column]) -> bool
 }
 
 fn has_message_columns(columns: &[Column]) -> bool
-    ensures { IsTrue result → columns.now ≡ drop 4 (entry_table 3).columns }
+    ensures { IsTrue result ↔ (columns.now ≡ drop 4 (entry_table 3).columns) }
 {
     let [producer, sequence, time, rest @ ..] = columns else {
         return false;
@@ -164,7 +164,7 @@ fn has_message_columns(columns: &[Column]) -> bool
 }
 
 fn has_place_columns(columns: &[Column]) -> bool
-    ensures { IsTrue result → columns.now ≡ drop 2 (entry_table 3).columns }
+    ensures { IsTrue result ↔ (columns.now ≡ drop 2 (entry_table 3).columns) }
 {
     let [ledger, entry, rest @ ..] = columns else {
         return false;
@@ -175,7 +175,7 @@ fn has_place_columns(columns: &[Column]) -> bool
 }
 
 fn has_entry_columns(columns: &[Column]) -> bool
-    ensures { IsTrue result → columns.now ≡ (entry_table 3).columns }
+    ensures { IsTrue result ↔ (columns.now ≡ (entry_table 3).columns) }
 {
     let [topic, place, rest @ ..] = columns else {
         return false;
@@ -186,13 +186,13 @@ fn has_entry_columns(columns: &[Column]) -> bool
 }
 
 fn is_entry(table: &Table) -> bool
-    ensures { IsTrue result → table.now ≡ entry_table 3 }
+    ensures { IsTrue result ↔ (table.now ≡ entry_table 3) }
 {
     is_named(table, "entry", 3, &[1, 2]) && has_entry_columns(table.columns.as_slice())
 }
 
 fn is_sub(table: &Table) -> bool
-    ensures { IsTrue result → table.now ≡ sub_table 5 }
+    ensures { IsTrue result ↔ (table.now ≡ sub_table 5) }
 {
     let [topic, name, kind] = table.columns.as_slice() else {
         return false;
@@ -204,7 +204,7 @@ fn is_sub(table: &Table) -> bool
 }
 
 fn is_ack(table: &Table) -> bool
-    ensures { IsTrue result → table.now ≡ ack_table 7 }
+    ensures { IsTrue result ↔ (table.now ≡ ack_table 7) }
 {
     let [topic, sub, first, last] = table.columns.as_slice() else {
         return false;
@@ -217,7 +217,7 @@ fn is_ack(table: &Table) -> bool
 }
 
 fn has_death_columns(columns: &[Column]) -> bool
-    ensures { IsTrue result → columns.now ≡ drop 3 (dead_table 9).columns }
+    ensures { IsTrue result ↔ (columns.now ≡ drop 3 (dead_table 9).columns) }
 {
     let [place, target] = columns else {
         return false;
@@ -226,7 +226,7 @@ fn has_death_columns(columns: &[Column]) -> bool
 }
 
 fn has_dead_columns(columns: &[Column]) -> bool
-    ensures { IsTrue result → columns.now ≡ (dead_table 9).columns }
+    ensures { IsTrue result ↔ (columns.now ≡ (dead_table 9).columns) }
 {
     let [topic, sub, ordinal, rest @ ..] = columns else {
         return false;
@@ -238,14 +238,15 @@ fn has_dead_columns(columns: &[Column]) -> bool
 }
 
 fn is_dead(table: &Table) -> bool
-    ensures { IsTrue result → table.now ≡ dead_table 9 }
+    ensures { IsTrue result ↔ (table.now ≡ dead_table 9) }
 {
     is_named(table, "dead", 9, &[1, 2, 3]) && has_dead_columns(table.columns.as_slice())
 }
 
 /// Which version has these tables, and no other.
 pub(crate) fn version_with(tables: &[Table]) -> Option<Version>
-    ensures { IfSome result (λ version. tables.now ≡ (schema_of version).tables) }
+    ensures found { IfSome result (λ version. tables.now ≡ (schema_of version).tables) }
+    ensures known { (version : Version) → tables.now ≡ (schema_of version).tables → result ≡ Some version }
 {
     let [meta, topic, entry, sub, ack, dead, rest @ ..] = tables else {
         return None;

@@ -4,6 +4,7 @@ ghost use Rattle.sqlite.specs.State.{HasCleanDisk, Survives};
 ghost use Rattle.sqlite.specs.Held.{state};
 ghost use Rattle.row_tables.specs.Ready.{AreKeyed, IsReady};
 ghost use Rattle.row_schema.specs.Upgrading.{MayBecome, Remains, IsUpgraded};
+ghost use Rattle.row_schema.specs.Versions.{HasNoVersion};
 
 use crate::looking::version_of;
 use crate::raising::{from_version_1, from_version_2};
@@ -18,6 +19,7 @@ pub fn upgrade<S: Alter>(conn: &mut Connection<S>) -> Result<bool, Error>
     ensures autocommit { conn.new.in_transaction ≡ false }
     ensures upgraded { HasCleanDisk (state S.Store conn.new) → IfOk result (λ yes. IsTrue yes → IsUpgraded (state S.Store conn.old) (state S.Store conn.new)) }
     ensures ready { HasCleanDisk (state S.Store conn.new) → IsTrue (state S.Store conn.new).is_open → IfOk result (λ yes. IsTrue yes → IsReady (state S.Store conn.new).now) }
+    ensures foreign { HasCleanDisk (state S.Store conn.new) → IfOk result (λ yes. yes ≡ false → HasNoVersion (state S.Store conn.old).now) }
     ensures kept { HasCleanDisk (state S.Store conn.new) → IfOk result (λ yes. yes ≡ false → Remains (state S.Store conn.old) (state S.Store conn.new)) }
     ensures crash { Survives (state S.Store conn.old) (state S.Store conn.new) (MayBecome (state S.Store conn.old)) }
 {

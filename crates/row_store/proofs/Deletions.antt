@@ -1,44 +1,30 @@
--- What a deletion leads to, for any connection.
-use Rattle.std.proofs.Common.{◌≡◌, ◌≢◌, ◌≤◌, ◌⊎◌, inl, inr, ℕ, Bool, true, false, not, List, [], ◌∷◌, refl, subst, arith}
+-- A deletion writes what is left of one topic, alone; and what stands of the others then.
+use Rattle.std.proofs.Common.{◌≡◌, ◌≢◌, ℕ, Bool, true, false, not, List, [], ◌∷◌, refl, subst, arith}
 use Rattle.std.specs.Prelude.{All, IsTrue, ◌&&◌, filter}
 use Rattle.std.specs.Str.{bytes_eq}
 use Rattle.std.proofs.lemmas.Slice.Eq.{bytes_eq-Decides}
-use Rattle.std.proofs.lemmas.List.Elements.{filter_passes}
+use Rattle.std.proofs.lemmas.List.Elements.{All-cons, All-nil, filter_passes}
 use Rattle.position_core.specs.Name.{is_name}
 use Rattle.position_core.specs.TopicName.{same_topic, topic_text}
 use Rattle.position_core.specs.declared.topic_name.TopicName.{TopicName}
 use Rattle.value_texts.proofs.TopicNames.{one_topic}
-use Rattle.sqlite_trees.specs.declared.store.Store.{Ghosts}
-use Rattle.sqlite_trees.specs.View.{doubt}
 use Rattle.sqlite.specs.Tree.{Trees}
-use Rattle.sqlite.specs.State.{HasCleanDisk, Survives}
-use Rattle.sqlite.specs.Held.{Held, state}
 use Rattle.delivery_machine.specs.Places.{KeptTopic}
 use Rattle.row_forms.specs.Standing.{KeepsOthers, Stands}
-use Rattle.row_tables.specs.Goes.{Saves}
-use Rattle.row_tables.specs.Ready.{IsReady}
-use Rattle.row_rounds.specs.Rounds.{Empties}
-use Rattle.row_store.specs.Keeping.{Deletes, IsKept}
+use Rattle.row_rounds.specs.declared.saving.Write.{Write}
+use Rattle.row_rounds.specs.Rounds.{AreApart, Fits, IsNamed}
 use Rattle.row_store.proofs.Standing.{same_stands}
 
-module _ {S : Type 0} (g : Ghosts S) (old new : Held S) (failed : Bool) (known : List KeptTopic) (topic : List ℕ)
-    (kept : IsKept g old failed known) (working : failed ≡ false)
-    (less : doubt (state g old).is_clean ≤ doubt (state g new).is_clean) where
-  -- a committed deletion
-  pub deleted : Saves (Empties topic) (state g old) (state g new) → HasCleanDisk (state g new) → IsReady (state g new).now × Deletes topic (state g old).now.trees (state g new).now.trees
-  deleted saves clean =
-      let early : HasCleanDisk (state g old) = omega (arith, less, clean) in
-      saves.does (kept.ready working early saves.was_shown)
+-- a write is alone
+module _ (w : Write) where
+  pub alone_named : IsNamed w → All IsNamed (w ∷ [])
+  alone_named named = All-cons IsNamed w [] named (All-nil IsNamed)
 
-  -- and what a crash leaves of one
-  pub leaves : Survives (state g old) (state g new) (λ db. IsTrue (state g old).is_open × (IsReady (state g old).now → Empties topic (state g old).now.trees db))
-      → IsTrue (state g old).is_open → HasCleanDisk (state g new) → (db : Trees) → (state g new).may_leave db → (db ≡ (state g old).now.trees) ⊎ Deletes topic (state g old).now.trees db
-  leaves left shown clean db may =
-      let early : HasCleanDisk (state g old) = omega (arith, less, clean) in
-      elim (left.crash clean db may) [
-        | inl was ↦ inl (kept.settled working early shown db was)
-        | inr made ↦ inr (made.1 (kept.ready working early shown))
-      ]
+  pub alone_apart : AreApart (w ∷ [])
+  alone_apart i j d below within = absurd (omega (arith, below, within))
+
+  pub alone_fits : ((db : Trees) → Fits db w) → (known : List KeptTopic) (db : Trees) → All (λ (kept : KeptTopic). Stands kept db) known → All (Fits db) (w ∷ [])
+  alone_fits fits known db all = All-cons (Fits db) w [] (fits db) (All-nil (Fits db))
 
 -- what stood of the other topics stands
 pub others_stand : (topic : List ℕ) (old new : Trees) (known : List KeptTopic) → KeepsOthers (topic ∷ []) old new → All (λ (kept : KeptTopic). topic_text kept.name ≢ topic) known

@@ -8,3 +8,4 @@ pub mod Unfound
 pub mod Messages
 pub mod Upgrading
 pub mod Taking
+pub mod Promising

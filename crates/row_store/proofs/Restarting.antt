@@ -11,13 +11,14 @@ use Rattle.delivery_machine.specs.Snapshot.{restarted}
 use Rattle.delivery_machine.specs.Places.{KeptTopic, snapshot_in}
 use Rattle.row_forms.specs.Cells.{TOPIC, ENTRY, SUB, ACK, DEAD, REDELIVERY, AUTHOR, RETENTION, bodies, of_topic}
 use Rattle.row_forms.specs.Standing.{Stands, HasNone}
+use Rattle.topic_lives.specs.Deleting.{is_bare}
 use Rattle.stored_cell.specs.Noted.{Noted, all_rows}
 use Rattle.stored_cell.specs.Held.{Held}
 use Rattle.stored_cell.specs.declared.opening.Loaded.{Loaded}
 use Rattle.stored_cell.specs.declared.opening.Terms.{Terms}
 use Rattle.stored_cell.specs.Opening.{GoesOn, Opens, opened}
 use Rattle.row_store.specs.Keeping.{IsTakenFrom, MayLeave, stored_in}
-use Rattle.row_store.specs.Opened.{IsOpenedFrom, Loading, OpenedFrom, StandsIn, count_of, has_origin}
+use Rattle.row_store.specs.Opened.{IsOpenedFrom, KeepsNothing, Loading, OpenedFrom, StandsIn, count_of, has_origin}
 
 going_on : (name : TopicName) (terms : Terms) (db : Trees) (cell : Held) (kept : KeptTopic) (stored : Noted) → stored.kept ≡ kept → kept.name ≡ name → Stands kept db → cell ≡ opened (restarted (snapshot_in kept)) terms (Some stored) → GoesOn name terms db cell
 going_on name terms db cell kept stored is its stands e = record {
@@ -36,6 +37,13 @@ pub opens_found : {J : Type 0} (name : TopicName) (terms : Terms) (db : Trees) (
 opens_found name terms db s None (Ok cell) none kept e = inr (record { has_none = none; nothing = e })
 opens_found name terms db s (Some l) (Ok cell) stands kept e = inl (going_on name terms db cell l.snapshot l.kept (ap (λ (n : Noted). n.kept) kept) stands.0 stands.1 e)
 opens_found name terms db s found (Err fault) stands kept e = tt
+
+-- where nothing is in what was loaded, nothing is kept of the topic in the rows
+pub keeps_nothing : {J : Type 0} (name : TopicName) (db : Trees) (found : Option (Loaded J))
+    → MatchOption found (HasNone (topic_text name) db) (λ l. (l.snapshot.name ≡ name) × Stands l.snapshot db)
+    → IfSome found (λ l. is_bare (snapshot_in l.snapshot) ≡ true) → KeepsNothing name db
+keeps_nothing name db None none bare = inl none
+keeps_nothing name db (Some l) stands bare = inr (l.snapshot, stands.0, stands.1, bare)
 
 -- what a database may leave that is opened again is among what a start may leave
 pub left_again : (s : State) (db : Trees) → s.may_leave db ⊎ IsTakenFrom s.committed.trees db → MayLeave s db

@@ -17,7 +17,7 @@ use Rattle.row_tables.specs.Pieces.{is_within, messages_of}
 use Rattle.position_core.specs.declared.topic_name.TopicName.{TopicName}
 use Rattle.row_store.specs.declared.pace.Pace.{Pace}
 use Rattle.row_store.specs.declared.pace.Pace.TheVariants.{AtOnce, Pieces}
-use Rattle.row_store.specs.Begun.{Begun, HasSpan, IsUnread, ReadTo, StandsSoFar, begun_by, begun_of, count_for, kept_by, left_by, read_without, span_to}
+use Rattle.row_store.specs.Begun.{Begun, HasSpan, IsUnread, ReadTo, StandsSoFar, begun_by, begun_of, begun_without, count_for, kept_by, left_by, read_without, span_to}
 use Rattle.row_store.specs.Found.{HasMany}
 use Rattle.row_store.specs.Keeping.{StoresAll, is_of_one, known_after}
 use Rattle.row_store.proofs.Lists.{or_false}
@@ -140,6 +140,15 @@ read_beside topic old new (Some q) (Some r) keeps is other stands = read_stands_
     by : (b : Bool) → Some r ≡ (if b then None else Some q) → StandsSoFar old r
     by true e = cc
     by false e = subst (λ o. IfSome o (StandsSoFar old)) (sym e) stands
+
+-- what is told of that
+pub begun_left : (topic : List ℕ) (reading : Option ReadTo) → option_map begun_of (read_without topic reading) ≡ begun_without topic (option_map begun_of reading)
+begun_left topic None = refl
+begun_left topic (Some r) = by (bytes_eq (topic_text r.name) topic)
+  where
+    by : (b : Bool) → option_map begun_of (if b then None else Some r) ≡ (if b then None else Some (begun_of r))
+    by true = refl
+    by false = refl
 
 -- ---- a topic of which more is to be read
 

@@ -1,5 +1,5 @@
--- What a keeper holds true, and what a store of several snapshots and a deletion do.
-use Rattle.std.specs.Prelude.{ℕ, ◌≡◌, ◌⊎◌, ◌↔◌, ◌++◌, Bool, false, not, List, [], ◌∷◌, All, Contains, filter, map, reverse, IsTrue, Option, IfSome}
+-- What a keeper holds true, and what a store of several snapshots does.
+use Rattle.std.specs.Prelude.{ℕ, ◌≡◌, ◌⊎◌, ◌↔◌, ◌++◌, Bool, false, true, not, List, [], ◌∷◌, All, Contains, filter, map, reverse, IsTrue, Option, IfSome}
 use Rattle.std.specs.List.{list_any}
 use Rattle.std.specs.Str.{bytes_eq}
 use Rattle.position_core.specs.declared.topic_name.TopicName.{TopicName}
@@ -15,7 +15,7 @@ use Rattle.delivery_machine.specs.Snapshot.{snapshot_of}
 use Rattle.delivery_machine.specs.Places.{KeptTopic, snapshot_in}
 use Rattle.row_forms.specs.Cells.{TOPIC, ENTRY, SUB, ACK, DEAD, REDELIVERY}
 use Rattle.row_forms.specs.Forms.{AreRowsOf, TopicRows}
-use Rattle.row_forms.specs.Standing.{HasIn, HasNone, Stands, KeepsOthers}
+use Rattle.row_forms.specs.Standing.{HasIn, Stands, KeepsOthers}
 use Rattle.row_forms.specs.Schema.{schema_0, schema_9}
 use Rattle.row_tables.specs.Ready.{IsReady, IsBlank, IsRaised, IsVersion1, IsVersion2}
 use Rattle.row_reading.specs.Reading.{IsReadBack}
@@ -80,10 +80,6 @@ pub record StoresAll (kepts : List KeptTopic) (old new : Trees) : Type 0 where
   pub each : All (λ (kept : KeptTopic). Stands kept new) kepts
   pub others : KeepsOthers (map (λ (kept : KeptTopic). topic_text kept.name) kepts) old new
 
--- the topic with this text has no rows any more, and those of all others are as they were
-abbrev pub Deletes : List ℕ → Trees → Trees → Type 0
-Deletes topic old new = HasNone topic new × KeepsOthers (topic ∷ []) old new
-
 -- no snapshot of the topic stands in the database that is read back where it stands
 abbrev pub NoneStands : TopicName → Trees → Type 0
 NoneStands name db = (kept : KeptTopic) → IsReadBack kept → kept.name ≡ name → Stands kept db → ⊥
@@ -133,11 +129,12 @@ known_without name known = filter (λ (kept : KeptTopic). not (same_topic kept.n
 abbrev pub kepts : List ToStore → List KeptTopic
 kepts parts = map (λ (part : ToStore). part.kept) parts
 
--- the part goes on from a snapshot that is known to stand, or nothing is known of its topic
+-- the part goes on from a snapshot that is known to stand; or no store of its topic was confirmed when it was viewed, and nothing is known
+-- of the topic
 abbrev pub GoesForward : List KeptTopic → ToStore → Type 0
 GoesForward known part =
     ((base : KeptTopic) × Contains known base × Contains part.bases base × GoesOn base part.kept)
-    ⊎ All (λ (kept : KeptTopic). same_topic kept.name part.kept.name ≡ false) known
+    ⊎ ((part.is_first ≡ true) × All (λ (kept : KeptTopic). same_topic kept.name part.kept.name ≡ false) known)
 
 -- whether one of these is of the topic
 abbrev pub is_of_one : List KeptTopic → KeptTopic → Bool

@@ -5,3 +5,5 @@ pub mod Found
 pub mod Counting
 pub mod Lives
 pub mod Opened
+pub mod Unstored
+pub mod Promise

@@ -1,68 +1,47 @@
--- What stands after a list of stores and deletions, and what a crash leaves then.
-use Rattle.std.specs.Prelude.{◌≡◌, ◌⊎◌, ◌++◌, ℕ, List, [], ◌∷◌, if◌then◌else◌, find}
-use Rattle.std.specs.Option.{option_map_or}
+-- What stands after a list of stores, and what a crash leaves then.
+use Rattle.std.specs.Prelude.{◌≡◌, ◌⊎◌, ◌++◌, ℕ, List, [], ◌∷◌, Option, None, Some, find}
 use Rattle.std.specs.Str.{bytes_eq}
 use Rattle.position_core.specs.TopicName.{topic_text}
 use Rattle.sqlite.specs.Tree.{Trees}
 use Rattle.delivery_machine.specs.Places.{KeptTopic}
-use Rattle.row_forms.specs.Standing.{HasNone, Same, Stands}
-use Rattle.row_store.specs.Keeping.{Deletes, StoresAll}
+use Rattle.row_forms.specs.Standing.{Same, Stands}
+use Rattle.row_store.specs.Keeping.{StoresAll}
 
--- what is done with a database: these are stored, or the topic with this text is deleted
-pub data Act : Type 0 where
-  store : List KeptTopic → Act
-  delete : List ℕ → Act
-
--- it leads from the one database to the other
-abbrev pub Does : Act → Trees → Trees → Type 0
-Does (store kepts) old new = StoresAll kepts old new
-Does (delete topic) old new = Deletes topic old new
-
--- these, one after the other, lead from the one database to the other; a load, and what was refused with nothing changed,
--- is a store of no topic
-abbrev pub AllDone : List Act → Trees → Trees → Type 0
+-- these stores, one after the other, lead from the one database to the other; a deletion is a store of what is left of its topic, and a
+-- load, and what was refused with nothing changed, is a store of no topic
+abbrev pub AllDone : List (List KeptTopic) → Trees → Trees → Type 0
 AllDone [] old new = new ≡ old
-AllDone (act ∷ acts) old new = (mid : Trees) × Does act old mid × AllDone acts mid new
+AllDone (kepts ∷ stores) old new = (mid : Trees) × StoresAll kepts old mid × AllDone stores mid new
 
--- what is left of a topic: what was there, nothing, or what was stored
-pub data Left : Type 0 where
-  untouched : Left
-  gone : Left
-  stored : KeptTopic → Left
+-- what one store stores of the topic with this text
+abbrev pub stored_by : List ℕ → List KeptTopic → Option KeptTopic
+stored_by text kepts = find (λ (kept : KeptTopic). bytes_eq (topic_text kept.name) text) kepts
 
--- what one act leaves of the topic with this text
-abbrev pub left_by : List ℕ → Act → Left
-left_by text (store kepts) = option_map_or stored (find (λ (kept : KeptTopic). bytes_eq (topic_text kept.name) text) kepts) untouched
-left_by text (delete topic) = if bytes_eq topic text then gone else untouched
+abbrev pub later_of : Option KeptTopic → Option KeptTopic → Option KeptTopic
+later_of None earlier = earlier
+later_of (Some kept) earlier = Some kept
 
-abbrev pub later_of : Left → Left → Left
-later_of untouched earlier = earlier
-later_of gone earlier = gone
-later_of (stored kept) earlier = stored kept
+-- what was stored last of the topic with this text, if anything was
+abbrev pub last_stored : List ℕ → List (List KeptTopic) → Option KeptTopic
+last_stored text [] = None
+last_stored text (kepts ∷ stores) = later_of (last_stored text stores) (stored_by text kepts)
 
--- what was done last with the topic with this text, if anything was
-abbrev pub last_left : List ℕ → List Act → Left
-last_left text [] = untouched
-last_left text (act ∷ acts) = later_of (last_left text acts) (left_by text act)
+-- the topic's rows are those of what was stored last of it; and if nothing was, they are as they were
+abbrev pub IsStoredLast : List ℕ → Option KeptTopic → Trees → Trees → Type 0
+IsStoredLast text None old db = Same text old db
+IsStoredLast text (Some kept) old db = (topic_text kept.name ≡ text) × Stands kept db
 
--- the topic's rows are what is so left of it
-abbrev pub IsLeft : List ℕ → Left → Trees → Trees → Type 0
-IsLeft text untouched old db = Same text old db
-IsLeft text gone old db = HasNone text db
-IsLeft text (stored kept) old db = (topic_text kept.name ≡ text) × Stands kept db
-
--- each topic's rows are those of what was stored last of it, or none if it was deleted after that; and if nothing was done with
--- it, they are as they were
-abbrev pub StandsLast : List Act → Trees → Trees → Type 0
-StandsLast acts old db = (text : List ℕ) → IsLeft text (last_left text acts) old db
+-- so it is of each topic
+abbrev pub StandsLast : List (List KeptTopic) → Trees → Trees → Type 0
+StandsLast stores old db = (text : List ℕ) → IsStoredLast text (last_stored text stores) old db
 
 -- After any stores and deletions that answered `Ok`, and while one more is under way or has failed: whatever a crash leaves, it
--- is of all topics what was left last of them, or of all what it is with that one act more. What `Keeper::store` and
+-- is of all topics what was stored last of them, or of all what it is with that one store more. What `Keeper::store` and
 -- `Keeper::delete` say of one of theirs (`rows`, `shown`, `left`), and `Keeper::rests` between two, is what is taken for
 -- granted here.
 abbrev pub CrashesCompose : Type 0
 CrashesCompose =
-    (acts : List Act) (under_way : Act) (old now left : Trees)
-    → AllDone acts old now
-    → (left ≡ now) ⊎ Does under_way now left
-    → StandsLast acts old left ⊎ StandsLast (acts ++ under_way ∷ []) old left
+    (stores : List (List KeptTopic)) (under_way : List KeptTopic) (old now left : Trees)
+    → AllDone stores old now
+    → (left ≡ now) ⊎ StoresAll under_way now left
+    → StandsLast stores old left ⊎ StandsLast (stores ++ under_way ∷ []) old left

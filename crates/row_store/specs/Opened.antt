@@ -8,8 +8,9 @@ use Rattle.delivery_machine.specs.Snapshot.{restarted, snapshot_of}
 use Rattle.delivery_machine.specs.Places.{KeptTopic, snapshot_in}
 use Rattle.row_forms.specs.Cells.{of_topic}
 use Rattle.row_forms.specs.Forms.{TopicRows}
-use Rattle.row_forms.specs.Standing.{Stands}
+use Rattle.row_forms.specs.Standing.{HasNone, Stands}
 use Rattle.row_reading.specs.Telling.{IsTold}
+use Rattle.topic_lives.specs.Deleting.{is_bare}
 use Rattle.stored_cell.specs.Noted.{Noted, all_rows}
 use Rattle.stored_cell.specs.Held.{Held, IsAtRest}
 use Rattle.stored_cell.specs.Opening.{Opens}
@@ -34,6 +35,10 @@ pub record Loading : Type 0 where
 -- what is stored of it stands in the database whose rows were noted
 abbrev pub StandsIn : Loading → Type 0
 StandsIn l = (db : Trees) × (l.rows.rows ≡ all_rows db) × Stands l.stored.kept db
+
+-- it has no rows, or those of what is bare: there is no message, no subscription, and no rule of its own
+abbrev pub KeepsNothing : TopicName → Trees → Type 0
+KeepsNothing name db = HasNone (topic_text name) db ⊎ ((kept : KeptTopic) × (kept.name ≡ name) × Stands kept db × (is_bare (snapshot_in kept) ≡ true))
 
 -- how many rows the topic has among those of all topics
 abbrev pub count_of : List ℕ → TopicRows → ℕ

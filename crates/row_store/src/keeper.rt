@@ -1,20 +1,20 @@
 // The keeper, and a store of several snapshots in one transaction.
-ghost use Rattle.std.specs.Prelude.{◌≡◌, ◌⊎◌, All, map, true, false, is_some, IfOk, IfErr, IsSome, OnOk, OnErr, Err, IsTrue};
-ghost use Rattle.position_core.specs.declared.fault.Fault.TheVariants.{NoMemory, StoreFailed};
+ghost use Rattle.std.specs.Prelude.{◌≡◌, ◌⊎◌, All, map, true, false, is_some, IfOk, IsSome, OnOk, OnErr, Err, IsTrue};
 ghost use Rattle.sqlite.specs.State.{HasCleanDisk, Survives};
 ghost use Rattle.sqlite.specs.Held.{state};
 ghost use Rattle.row_tables.specs.Ready.{IsReady};
 ghost use Rattle.row_store.specs.Counting.{Counts};
 ghost use Rattle.row_store.specs.Begun.{IsUnread};
 ghost use Rattle.row_store.specs.Keeping.{GoesForward, IsSettled, LeavesOne, StoresAll, kepts, known_after, known_without, stored_in};
+ghost use Rattle.row_store.specs.Unstored.{HasFailed};
 
 use crate::cause::Cause;
 use crate::finding::Reading;
 use crate::knowing::{forget, forget_topic, keep_all, marks_of, reads_one_of, remember};
 use crate::known::Known;
 use crate::planning::plan_all;
+use crate::unstored::Unstored;
 use crate::written::Written;
-use delivery_machine::Fault;
 use marks::Naming;
 use position_core::TopicName;
 use row_rounds::{room_for, save};
@@ -92,18 +92,20 @@ impl<S: Alter, J: Naming> Keeper<S, J> {
     /// Makes the rows of each of these topics those of its snapshot, in one transaction, and leaves all others.
     /// Refused (F1) for want of memory, with nothing changed; (F16) where the store failed, now or before; and
     /// (F16), with nothing changed, where a topic comes twice, or is being loaded, or where a part goes on from nothing that
-    /// is known to stand of its topic: so rows never go back.
-    pub fn store(&mut self, parts: Vec<Part<J>>) -> Result<Vec<Kept<J>>, Fault>
+    /// is known to stand of its topic, unless no store of that was confirmed when it was viewed, and nothing is known of it.
+    /// So no part that was viewed after a store of its topic was confirmed takes rows back: it goes over rows that stand, from
+    /// which events alone led to it. Who begins a topic anew has seen that it has no rows, as `open_cell` does, and who forgets
+    /// it holds no earlier part of it.
+    pub fn store(&mut self, parts: Vec<Part<J>>) -> Result<Vec<Kept<J>>, Unstored>
         ensures rows { HasCleanDisk (state S.Store self.new.conn) → OnOk result (StoresAll (kepts parts.items) (state S.Store self.old.conn).now.trees (state S.Store self.new.conn).now.trees) }
         ensures durable { HasCleanDisk (state S.Store self.new.conn) → OnOk result ((db : _) → (state S.Store self.new.conn).may_leave db → db ≡ (state S.Store self.new.conn).now.trees) }
         ensures kept { IfOk result (λ kept. kept.items ≡ map (stored_in (state S.Store self.new.conn)) (kepts parts.items)) }
         ensures crash { Survives (state S.Store self.old.conn) (state S.Store self.new.conn) (λ db. IsTrue (state S.Store self.old.conn).is_open × StoresAll (kepts parts.items) (state S.Store self.old.conn).now.trees db) }
         ensures ok { OnOk result (self.new.failed ≡ false) }
         ensures written { HasCleanDisk (state S.Store self.new.conn) → OnOk result (Counts self.new.written (kepts parts.items) (state S.Store self.old.conn).now.trees) }
-        ensures failed { self.old.failed ≡ true → (result ≡ Err StoreFailed) × (self.new ≡ self.old) }
-        ensures memory { result ≡ Err NoMemory → self.new ≡ self.old }
-        ensures stuck { result ≡ Err StoreFailed → (self.new.failed ≡ true) ⊎ (self.new ≡ self.old) }
-        ensures faults { IfErr result (λ fault. (fault ≡ NoMemory) ⊎ (fault ≡ StoreFailed)) }
+        ensures failed { self.old.failed ≡ true → HasFailed result × (self.new ≡ self.old) }
+        ensures memory { result ≡ Err Unstored.NoMemory → self.new ≡ self.old }
+        ensures stuck { HasFailed result → (self.new.failed ≡ true) ⊎ (self.new ≡ self.old) }
         ensures forward { OnOk result (All (GoesForward self.old.known) parts.items) }
         ensures known { OnOk result (self.new.known ≡ known_after (kepts parts.items) self.old.known) }
         ensures unread { OnOk result (All (IsUnread self.old.reading) (kepts parts.items)) }
@@ -116,17 +118,16 @@ impl<S: Alter, J: Naming> Keeper<S, J> {
     }
 
     /// `store`, by the parts of its contract.
-    fn write(&mut self, parts: Vec<Part<J>>) -> Result<Vec<Kept<J>>, Fault>
+    fn write(&mut self, parts: Vec<Part<J>>) -> Result<Vec<Kept<J>>, Unstored>
         ensures rows { HasCleanDisk (state S.Store self.new.conn) → OnOk result (StoresAll (kepts parts.items) (state S.Store self.old.conn).now.trees (state S.Store self.new.conn).now.trees) }
         ensures durable { HasCleanDisk (state S.Store self.new.conn) → OnOk result ((db : _) → (state S.Store self.new.conn).may_leave db → db ≡ (state S.Store self.new.conn).now.trees) }
         ensures kept { IfOk result (λ kept. kept.items ≡ map (stored_in (state S.Store self.new.conn)) (kepts parts.items)) }
         ensures crash { Survives (state S.Store self.old.conn) (state S.Store self.new.conn) (λ db. IsTrue (state S.Store self.old.conn).is_open × StoresAll (kepts parts.items) (state S.Store self.old.conn).now.trees db) }
         ensures ok { OnOk result (self.new.failed ≡ false) }
         ensures written { HasCleanDisk (state S.Store self.new.conn) → OnOk result (Counts self.new.written (kepts parts.items) (state S.Store self.old.conn).now.trees) }
-        ensures failed { self.old.failed ≡ true → (result ≡ Err StoreFailed) × (self.new ≡ self.old) }
-        ensures memory { result ≡ Err NoMemory → self.new ≡ self.old }
-        ensures stuck { result ≡ Err StoreFailed → (self.new.failed ≡ true) ⊎ (self.new ≡ self.old) }
-        ensures faults { IfErr result (λ fault. (fault ≡ NoMemory) ⊎ (fault ≡ StoreFailed)) }
+        ensures failed { self.old.failed ≡ true → HasFailed result × (self.new ≡ self.old) }
+        ensures memory { result ≡ Err Unstored.NoMemory → self.new ≡ self.old }
+        ensures stuck { HasFailed result → (self.new.failed ≡ true) ⊎ (self.new ≡ self.old) }
         ensures forward { OnOk result (All (GoesForward self.old.known) parts.items) }
         ensures known { OnOk result (self.new.known ≡ known_after (kepts parts.items) self.old.known) }
         ensures unread { OnOk result (All (IsUnread self.old.reading) (kepts parts.items)) }
@@ -134,33 +135,33 @@ impl<S: Alter, J: Naming> Keeper<S, J> {
         ensures shown { HasCleanDisk (state S.Store self.new.conn) → OnOk result (IsTrue (state S.Store self.old.conn).is_open × IsTrue (state S.Store self.new.conn).is_open) }
     {
         if self.failed {
-            return Err(Fault::StoreFailed);
+            return Err(Unstored::failed());
         }
         let Ok(mut kept) = Vec::with_capacity(self.alloc, parts.len()) else {
-            return Err(Fault::NoMemory);
+            return Err(Unstored::NoMemory);
         };
         let Ok(mut marks) = Vec::with_capacity(self.alloc, parts.len()) else {
-            return Err(Fault::NoMemory);
+            return Err(Unstored::NoMemory);
         };
         marks_of(&parts, &mut marks);
         let mut writes = match plan_all(self.alloc, &self.known, parts) {
             Ok(writes) => writes,
-            Err(None) => return Err(Fault::NoMemory),
+            Err(None) => return Err(Unstored::NoMemory),
             Err(cause) => {
                 self.refusal = cause;
-                return Err(Fault::StoreFailed);
+                return Err(Unstored::failed());
             }
         };
         if reads_one_of(&self.reading, &writes) {
             drop(writes);
             self.refusal = Some(Cause::BeingLoaded);
-            return Err(Fault::StoreFailed);
+            return Err(Unstored::failed());
         }
         let Ok(()) = room_for(&writes, &mut self.scratch) else {
-            return Err(Fault::NoMemory);
+            return Err(Unstored::NoMemory);
         };
         let Ok(()) = self.known.reserve(writes.len()) else {
-            return Err(Fault::NoMemory);
+            return Err(Unstored::NoMemory);
         };
         let written = Written::by(&writes);
         self.failed = true;
@@ -168,12 +169,12 @@ impl<S: Alter, J: Naming> Keeper<S, J> {
             Ok(()) => {}
             Err(error) => {
                 self.cause = Some(Cause::of(error, self.refusal));
-                return Err(Fault::StoreFailed);
+                return Err(Unstored::failed());
             }
         }
         let Some(rows) = self.notes.commit(&self.conn) else {
             self.cause = Some(Cause::NoMark);
-            return Err(Fault::StoreFailed);
+            return Err(Unstored::failed());
         };
         keep_all(&rows, &marks, &mut kept);
         forget(&mut self.known, &writes);
@@ -190,8 +191,8 @@ impl<S: Alter, J: Naming> Keeper<S, J> {
         self.written
     }
 
-    /// Lets go of what is known of the topic. Its rows stay; the next store of it writes all of them anew,
-    /// unless it is loaded before.
+    /// Lets go of what is known of the topic. Its rows stay, and no part that was viewed after a store of the topic was
+    /// confirmed passes before it is loaded: so rows that are forgotten are not taken back.
     pub fn forget(&mut self, name: &TopicName)
         ensures { self.new ≡ record self.old { known = known_without name.now self.old.known } }
     {

@@ -99,6 +99,18 @@ pub fn forget_reading(reading: &mut Option<Reading>, topic: &str)
     }
 }
 
+/// What was known of the topic that is written is known no more, and what was read of it is let go of.
+pub fn let_go<J: Naming>(known: &mut Vec<Known<J>>, reading: &mut Option<Reading>, write: &Write)
+    requires { IsNamed write.now }
+    ensures left { known.new.items ≡ known_without write.now.snapshot.name known.old.items }
+    ensures others { All (λ kept. topic_text kept.name ≢ topic_text write.now.snapshot.name) known.new.items }
+    ensures reading { reading.new ≡ read_without (topic_text write.now.snapshot.name) reading.old }
+    ensures unread { IfSome reading.new (λ r. topic_text r.name ≢ topic_text write.now.snapshot.name) }
+{
+    forget_topic(known, write.snapshot.name());
+    forget_reading(reading, write.topic.as_str());
+}
+
 /// What was read of the topic so far, where its load goes on. By pieces what was read of another is let go of.
 pub fn reading_for(reading: &mut Option<Reading>, name: &TopicName, pace: Pace) -> Option<Reading>
     ensures left { option_map begun_of reading.new ≡ left_by pace (option_map begun_of reading.old) }

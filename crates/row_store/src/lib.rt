@@ -3,6 +3,7 @@
 #![tactic(auto)]
 
 mod cause;
+mod counting;
 mod deleting;
 mod finding;
 mod keeper;
@@ -16,12 +17,15 @@ mod planning;
 mod reading;
 mod rounds;
 mod topics;
+mod unstored;
 mod written;
 
 pub use cause::Cause;
+pub use counting::{SubscriptionCount, TopicCount};
 pub use keeper::Keeper;
 pub use loading::Unread;
 pub use opening::Refused;
 pub use pace::Pace;
 pub use topics::{LoadedTopic, OpenCell, load_topic, open_cell};
+pub use unstored::{Failed, Unmade, Unstored};
 pub use written::Written;

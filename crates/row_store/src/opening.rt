@@ -1,13 +1,15 @@
 // How a keeper comes by its database: it makes the tables, or takes those that are there.
 ghost use Rattle.std.specs.Prelude.{[], ◌≡◌, ◌≢◌, ◌⊎◌, ◌↔◌, true, false, None, IfOk, IfErr, IsTrue};
 ghost use Rattle.position_core.specs.declared.fault.Fault.TheVariants.{StoreFailed};
+ghost use Rattle.sqlite.specs.declared.error.Error.{Error};
 ghost use Rattle.sqlite.specs.Tree.{Trees};
 ghost use Rattle.sqlite.specs.State.{HasCleanDisk};
 ghost use Rattle.sqlite.specs.Held.{state};
 ghost use Rattle.sqlite_trees.specs.View.{IsClean};
 ghost use Rattle.row_forms.specs.Schema.{schema_0};
 ghost use Rattle.row_tables.specs.Ready.{AreKeyed, IsReady, IsBlank};
-ghost use Rattle.row_store.specs.declared.cause.Cause.TheVariants.{NotOurs, UnderWay};
+ghost use Rattle.row_schema.specs.Versions.{HasNoVersion};
+ghost use Rattle.row_store.specs.declared.cause.Cause.TheVariants.{NotOurs, UnderWay, Store};
 ghost use Rattle.row_store.specs.Keeping.{IsSettled, IsTakenFrom, LeavesOne, MayLeave};
 
 use crate::cause::Cause;
@@ -96,6 +98,7 @@ impl<S: Alter + Drop, J: Naming> Keeper<S, J> {
         ensures crash { IfOk result (λ k. HasCleanDisk (state S.Store k.conn) → (db : Trees) → (state S.Store k.conn).may_leave db → MayLeave (state S.Store conn) db) }
         ensures given_back { IfErr result (λ e. IsClean (S.Store.view e.store) → (db : Trees) → S.Store.recovers e.store db → MayLeave (state S.Store conn) db) }
         ensures fault { IfErr result (λ e. e.fault ≡ StoreFailed) }
+        ensures cause { IfErr result (λ e. (e.cause ≡ UnderWay) ⊎ ((e.cause ≡ NotOurs) ⊎ ((error : Error) × (e.cause ≡ Store error)))) }
         ensures not_ours { IfErr result (λ e. e.cause ≡ NotOurs → (state S.Store conn).now.schema ≢ schema_0) }
         ensures under_way { IfErr result (λ e. (e.cause ≡ UnderWay) ↔ (conn.in_transaction ≡ true)) }
     {
@@ -121,6 +124,8 @@ impl<S: Alter + Drop, J: Naming> Keeper<S, J> {
         ensures crash { IfOk result (λ k. HasCleanDisk (state S.Store k.conn) → (db : Trees) → (state S.Store k.conn).may_leave db → IsTakenFrom (state S.Store conn).committed.trees db) }
         ensures given_back { IfErr result (λ e. IsClean (S.Store.view e.store) → (db : Trees) → S.Store.recovers e.store db → (state S.Store conn).may_leave db ⊎ IsTakenFrom (state S.Store conn).committed.trees db) }
         ensures fault { IfErr result (λ e. e.fault ≡ StoreFailed) }
+        ensures cause { IfErr result (λ e. (e.cause ≡ NotOurs) ⊎ ((error : Error) × (e.cause ≡ Store error))) }
+        ensures foreign { IfErr result (λ e. e.cause ≡ NotOurs → IsClean (S.Store.view e.store) → IsTrue (state S.Store conn).is_open → HasNoVersion (state S.Store conn).committed) }
     {
         let mut conn = match settle(alloc, conn) {
             Ok(conn) => conn,
@@ -150,6 +155,8 @@ impl<S: Alter + Drop, J: Naming> Keeper<S, J> {
         ensures crash { IfOk result (λ k. HasCleanDisk (state S.Store k.conn) → (db : Trees) → (state S.Store k.conn).may_leave db → MayLeave (state S.Store conn) db) }
         ensures given_back { IfErr result (λ e. IsClean (S.Store.view e.store) → (db : Trees) → S.Store.recovers e.store db → MayLeave (state S.Store conn) db) }
         ensures fault { IfErr result (λ e. e.fault ≡ StoreFailed) }
+        ensures cause { IfErr result (λ e. (e.cause ≡ NotOurs) ⊎ ((error : Error) × (e.cause ≡ Store error))) }
+        ensures foreign { IfErr result (λ e. e.cause ≡ NotOurs → IsClean (S.Store.view e.store) → IsTrue (state S.Store conn).is_open → HasNoVersion (state S.Store conn).committed) }
         ensures not_ours { conn.in_transaction ≡ false → IfErr result (λ e. e.cause ≡ NotOurs → (state S.Store conn).now.schema ≢ schema_0) }
     {
         if is_empty(&conn) {

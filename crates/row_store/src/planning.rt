@@ -1,5 +1,5 @@
 // What has to be written for snapshots to stand, before anything is.
-ghost use Rattle.std.specs.Prelude.{◌≡◌, ◌⊎◌, ◌<◌, ◌+◌, All, Contains, false, length, map, IfOk, IfErr, IfSome, IsTrue, OnOk, string_bytes};
+ghost use Rattle.std.specs.Prelude.{◌≡◌, ◌⊎◌, ◌<◌, ◌+◌, All, Contains, false, true, length, map, [], ◌∷◌, IfOk, IfErr, IfSome, IsTrue, OnOk, string_bytes};
 ghost use Rattle.std.specs.List.{list_any};
 ghost use Rattle.std.specs.Str.{bytes_eq};
 ghost use Rattle.sqlite.specs.Tree.{Trees};
@@ -49,7 +49,7 @@ fn text_of(alloc: Global, snapshot: &Snapshot) -> Result<String, Fault>
 }
 
 /// The snapshot's rows in place of whatever rows the topic has.
-fn plan_whole(alloc: Global, snapshot: Snapshot) -> Result<Write, Fault>
+pub fn plan_whole(alloc: Global, snapshot: Snapshot) -> Result<Write, Fault>
     ensures snapshot { IfOk result (λ write. write.snapshot ≡ snapshot) }
     ensures named { IfOk result IsNamed }
     ensures fits { IfOk result (λ write. (db : Trees) → Fits db write) }
@@ -146,7 +146,14 @@ fn is_unknown<J: Naming>(known: &[Known<J>], name: &TopicName) -> bool
     true
 }
 
-/// All rows of a part whose base is not known to stand. None where something else is known of its topic.
+/// Whether the part may be the first that is stored of its topic: no store of that was confirmed, and nothing is known of it.
+fn may_begin<J: Naming>(known: &[Known<J>], part: &Part<J>) -> bool
+    ensures { IsTrue result → (part.now.is_first ≡ true) × All (λ kept. same_topic kept.name part.now.kept.name ≡ false) known.now }
+{
+    part.is_first() && is_unknown(known, part.snapshot().name())
+}
+
+/// All rows of a part whose base is not known to stand. None where it is not the first of its topic.
 fn plan_anew<J: Naming>(
     alloc: Global,
     known: &[Known<J>],
@@ -157,7 +164,7 @@ fn plan_anew<J: Naming>(
     ensures fits { IfOk result (λ write. (db : Trees) → Fits db write) }
     ensures forward { OnOk result (GoesForward known.now part) }
 {
-    if !is_unknown(known, part.snapshot().name()) {
+    if !may_begin(known, &part) {
         drop(part);
         return Err(Some(Cause::Behind));
     }

@@ -13,7 +13,8 @@ ghost use Rattle.stored_cell.specs.declared.opening.Terms.{Terms};
 ghost use Rattle.row_store.specs.Begun.{begun_by};
 ghost use Rattle.row_store.specs.Found.{HasMany};
 ghost use Rattle.row_store.specs.Keeping.{NoneStands};
-ghost use Rattle.row_store.specs.Opened.{OpenedFrom, has_origin};
+ghost use Rattle.topic_lives.specs.Deleting.{is_bare};
+ghost use Rattle.row_store.specs.Opened.{KeepsNothing, OpenedFrom, has_origin};
 
 use crate::cause::Cause;
 use crate::keeper::Keeper;
@@ -189,8 +190,8 @@ pub fn load_topic<S: Alter, J: Naming>(
 }
 
 /// Opens the topic: from the rows that stand there, or, where it has none and is to be made, with nothing in it. Refused
-/// (F16) where its rows are none, or the store answers an error; (F11) where it has no rows and is not to be made; (F1)
-/// for want of memory. None where it has more messages than are read at a time: `load_topic` loads it. No row changes.
+/// (F16) where its rows are none, or the store answers an error; (F11) where it is not to be made, and has no rows or such as keep
+/// nothing, as where it was deleted; (F1) for want of memory. None where it has more messages than are read at a time: `load_topic` loads it. No row changes.
 pub fn open_cell<T: Opened + Drop, S: Alter, J: Naming>(
     alloc: Global,
     keeper: &mut Keeper<S, J>,
@@ -206,7 +207,8 @@ pub fn open_cell<T: Opened + Drop, S: Alter, J: Naming>(
     ensures word { IfOk result (λ found. IfSome found (λ cell. cell.by_word ≡ false)) }
     ensures many { HasCleanDisk (state S.Store keeper.new.conn) → IfOk result (λ found. IfNone found (HasMany name.now (state S.Store keeper.old.conn).now.trees)) }
     ensures others { keeper.new.reading ≡ keeper.old.reading }
-    ensures unknown { HasCleanDisk (state S.Store keeper.new.conn) → result ≡ Err NoSuchSubscription → (create ≡ false) × HasNone (topic_text name.now) (state S.Store keeper.old.conn).now.trees }
+    ensures something { create ≡ false → IfOk result (λ found. IfSome found (λ cell. IfSome cell.stored (λ n. is_bare (snapshot_in n.kept) ≡ false))) }
+    ensures unknown { HasCleanDisk (state S.Store keeper.new.conn) → result ≡ Err NoSuchSubscription → (create ≡ false) × KeepsNothing name.now (state S.Store keeper.old.conn).now.trees }
     ensures same { HasCleanDisk (state S.Store keeper.new.conn) → IsTrue (state S.Store keeper.new.conn).is_open → (state S.Store keeper.new.conn).now ≡ (state S.Store keeper.old.conn).now }
     ensures crash { Survives (state S.Store keeper.old.conn) (state S.Store keeper.new.conn) (λ _. ⊥) }
     ensures failed { keeper.new.failed ≡ keeper.old.failed }

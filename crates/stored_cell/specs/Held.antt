@@ -1,7 +1,7 @@
 -- A topic with its journal and with what of it is stored, and why what it calls durable, or safe to be moved, is stored.
 use Rattle.std.specs.Prelude.{◌≡◌, ℕ, ◌≤◌, ◌+◌, ◌-◌, ◌⊎◌, ◌++◌, Bool, true, false, List, [], ◌∷◌, Option, None, Some, IfSome, IsSome, MatchOption, length, drop, All, Contains}
 use mathlib.Core.List.{IsPrefix}
-use Rattle.delivery_machine.specs.State.{State, Subscription, fresh}
+use Rattle.delivery_machine.specs.State.{State, fresh}
 use Rattle.delivery_machine.specs.Places.{KeptTopic, snapshot_in}
 use Rattle.delivery_machine.specs.Snapshot.{snapshot_of}
 use Rattle.delivery_machine.specs.Laws.{IsReached}
@@ -64,14 +64,6 @@ pub record IsAtRest (h : Held) : Type 0 where
   pub confirmed : h.outstanding ≡ None
   pub saved : h.cell.unsaved ≡ false
   pub rows : MatchOption h.stored (HasNothing h.cell.state) (λ n. IsOfNow h.cell.state n.kept)
-
--- no dead letter waits to be moved
-abbrev pub HasNoLetter : State → Type 0
-HasNoLetter s = All (λ (sub : Subscription). sub.dead ≡ []) s.subscriptions
-
--- it may be deleted: nobody is connected, and no dead letter waits to be moved
-abbrev pub IsDeletable : State → Type 0
-IsDeletable s = IsVacant s × HasNoLetter s
 
 -- what every such cell keeps
 pub record IsSound (h : Held) : Type 0 where

@@ -73,10 +73,11 @@ marked None = []
 marked (Some n) = n.kept ∷ []
 
 -- a snapshot that is to be stored, with those that the topic goes on from: of which it was confirmed last that they are
--- stored, or which were viewed since
+-- stored, or which were viewed since; `is_first` is whether no store of the topic was confirmed then, so that this may be its first
 pub record ToStore : Type 0 where
   pub kept : KeptTopic
   pub bases : List KeptTopic
+  pub is_first : Bool
 
 -- it is kept of this state, or this is the state in which the topic went on from it
 abbrev pub IsOfView : Machine → KeptTopic → Type 0

@@ -1,5 +1,5 @@
 // The three steps of a store, as a topic takes part in them: it is viewed, and later what was stored is confirmed.
-ghost use Rattle.std.specs.Prelude.{ℕ, ◌≡◌, ◌+◌, ◌++◌, ◌⊎◌, ◌≤◌, ◌↔◌, Err, None, Some, IfOk, IfErr, IfSome, OnOk, OnErr, IsTrue, IsFalse, length, false, true};
+ghost use Rattle.std.specs.Prelude.{ℕ, ◌≡◌, ◌+◌, ◌++◌, ◌⊎◌, ◌≤◌, ◌↔◌, Err, None, Some, IfOk, IfErr, IfSome, OnOk, OnErr, IsTrue, IsFalse, is_none, length, false, true};
 ghost use Rattle.position_core.specs.declared.fault.Fault.TheVariants.{NoMemory, JournalFull, StoreFailed};
 ghost use Rattle.delivery_machine.specs.Snapshot.{snapshot_of};
 ghost use Rattle.delivery_machine.specs.Places.{snapshot_in};
@@ -54,6 +54,7 @@ impl<T: Opened + Drop, J: Naming> StoredCell<T, J> {
     /// where not even the last line is left, (F16) where 2^62 marks were drawn, or for want of memory.
     pub fn ready_view(&mut self, notes: &mut Notes<J>) -> Result<Part<J>, Fault>
         ensures part { IfOk result (λ part. (snapshot_in part.kept ≡ snapshot_of self.old.cell.state) × (part.bases ≡ bases_of self.old)) }
+        ensures first { IfOk result (λ part. part.is_first ≡ is_none self.old.stored) }
         ensures ok { IfOk result (λ part. self.new ≡ record self.old { cell = record (with_promise self.old.cell) { viewed = self.old.cell.state; unsaved = false }; outstanding = Some part.kept }) }
         ensures err { OnErr result (SameButPromise self.old self.new) }
         ensures full { (result ≡ Err JournalFull) ↔ HasNoLine self.old.cell }
@@ -72,9 +73,10 @@ impl<T: Opened + Drop, J: Naming> StoredCell<T, J> {
             return Err(Fault::StoreFailed);
         };
         let bases = bases_of(&self.stored, &self.outstanding);
+        let is_first = self.stored.is_none();
         self.cell.view_taken();
         self.outstanding = Some(Viewed::new(&snapshot, mark.again()));
-        Ok(Part::new(snapshot, mark, bases))
+        Ok(Part::new(snapshot, mark, bases, is_first))
     }
 
     /// Makes durable what was stored, if it is what was viewed last: the store holds its messages and its

@@ -5,7 +5,7 @@
 mod bases;
 mod cell;
 mod confirming;
-mod deleting;
+pub mod deleting;
 pub mod kept;
 pub mod notes;
 pub mod opening;
@@ -15,6 +15,7 @@ mod viewed;
 
 pub use bases::Bases;
 pub use cell::StoredCell;
+pub use deleting::Deletion;
 pub use kept::Kept;
 pub use notes::{Note, Notes};
 pub use opening::{Loaded, Terms, opened_cell, restarted_cell};

@@ -1,9 +1,10 @@
 // How a topic comes to be open: from what its rows keep, or with nothing in it.
-ghost use Rattle.std.specs.Prelude.{◌≡◌, ◌⊎◌, ◌↔◌, false, None, Some, IfOk, IfErr, IfSome, MatchOption, Err};
+ghost use Rattle.std.specs.Prelude.{◌≡◌, ◌⊎◌, ◌↔◌, true, false, None, Some, IfOk, IfErr, IfSome, MatchOption, Err};
 ghost use Rattle.position_core.specs.declared.fault.Fault.TheVariants.{NoMemory, NoSuchSubscription};
 ghost use Rattle.delivery_machine.specs.State.{fresh};
 ghost use Rattle.delivery_machine.specs.Snapshot.{restarted};
 ghost use Rattle.delivery_machine.specs.Places.{snapshot_in};
+ghost use Rattle.topic_lives.specs.Deleting.{is_bare};
 ghost use Rattle.stored_cell.specs.Opening.{begins, opened};
 
 use crate::cell::StoredCell;
@@ -12,6 +13,7 @@ use delivery_machine::{Fault, Opened, Snapshot, TopicName};
 use marks::Naming;
 use position_core::LedgerSize;
 use std::alloc::Global;
+use topic_lives::is_bare;
 use topic_shared::{Cell, LineLimit, SeatCount};
 
 /// How large a topic's ledgers are, how long its journal may be, and how many may sit at it.
@@ -91,8 +93,20 @@ pub fn restarted_cell<T: Opened + Drop, J: Naming>(
     }
 }
 
+/// Whether something is kept of the topic: a message, a subscription, or a rule of its own. It has none of these where it was
+/// deleted.
+fn is_something<J: Naming>(loaded: &Option<Loaded<J>>) -> bool
+    ensures { (result ≡ false) ↔ IfSome loaded.now (λ l. is_bare (snapshot_in l.snapshot) ≡ true) }
+{
+    match loaded {
+        Some(loaded) => !is_bare(&loaded.snapshot),
+        None => false,
+    }
+}
+
 /// The topic, from what was loaded of it, or, where nothing is kept of it and it is to be made, with nothing in it.
-/// Refused (F11) where nothing is kept of it and it is not to be made; (F1) for want of memory.
+/// Refused (F11) where it is not to be made, and nothing is kept of it, or nothing is in what is kept, as where it was deleted;
+/// (F1) for want of memory.
 pub fn opened_cell<T: Opened + Drop, J: Naming>(
     alloc: Global,
     loaded: Option<Loaded<J>>,
@@ -103,17 +117,15 @@ pub fn opened_cell<T: Opened + Drop, J: Naming>(
     requires { IfSome loaded (λ l. l.kept.kept ≡ l.snapshot) }
     ensures opens { IfOk result (λ cell. MatchOption loaded (cell ≡ opened (fresh name.now terms.ledger_size) terms None) (λ l. cell ≡ opened (restarted (snapshot_in l.snapshot)) terms (Some l.kept))) }
     ensures word { IfOk result (λ cell. cell.by_word ≡ false) }
-    ensures unknown { (result ≡ Err NoSuchSubscription) ↔ (loaded ≡ None) × (create ≡ false) }
+    ensures unknown { (result ≡ Err NoSuchSubscription) ↔ (create ≡ false) × IfSome loaded (λ l. is_bare (snapshot_in l.snapshot) ≡ true) }
     ensures faults { IfErr result (λ fault. (fault ≡ NoMemory) ⊎ (fault ≡ NoSuchSubscription)) }
 {
+    if !create && !is_something(&loaded) {
+        drop(loaded);
+        return Err(Fault::NoSuchSubscription);
+    }
     match loaded {
         Some(loaded) => restarted_cell(alloc, loaded, terms),
-        None => {
-            if create {
-                fresh_cell(alloc, name, terms)
-            } else {
-                Err(Fault::NoSuchSubscription)
-            }
-        }
+        None => fresh_cell(alloc, name, terms),
     }
 }

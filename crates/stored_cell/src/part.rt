@@ -9,11 +9,13 @@ use delivery_machine::Snapshot;
 use marks::{Mark, Naming};
 use std::marker::Model;
 
-/// A snapshot that is to be stored, under its own mark, with those that it goes on from. Contracts see all of these.
+/// A snapshot that is to be stored, under its own mark, with those that it goes on from, and whether no store of the topic was
+/// confirmed. Contracts see all of these.
 pub struct Part<J: Naming> {
     snapshot: Snapshot,
     mark: Mark<Note, J>,
     bases: Bases<J>,
+    is_first: bool,
 }
 
 impl<J: Naming> Drop for Part<J> {
@@ -22,6 +24,7 @@ impl<J: Naming> Drop for Part<J> {
             snapshot: _,
             mark: _,
             bases: _,
+            is_first: _,
         } = self;
     }
 }
@@ -36,21 +39,22 @@ impl<J: Naming> Model for Part<J> {
 
     ghost coded = { Prim.hlevel (codes, coded_places, coded_counts) };
 
-    ghost view = { λ p. record { kept = p.snapshot; bases = p.bases } };
+    ghost view = { λ p. record { kept = p.snapshot; bases = p.bases; is_first = p.is_first } };
 
     ghost invariant = { λ p. (p.mark.kept ≡ p.snapshot) × All (λ base. GoesOn base p.snapshot) p.bases };
 }
 
 impl<J: Naming> Part<J> {
-    pub fn new(snapshot: Snapshot, mark: Mark<Note, J>, bases: Bases<J>) -> Part<J>
+    pub fn new(snapshot: Snapshot, mark: Mark<Note, J>, bases: Bases<J>, is_first: bool) -> Part<J>
         requires mark { mark.kept ≡ snapshot }
         requires bases { All (λ base. GoesOn base snapshot) bases }
-        ensures { result ≡ record { kept = snapshot; bases = bases } }
+        ensures { result ≡ record { kept = snapshot; bases = bases; is_first = is_first } }
     {
         Part {
             snapshot,
             mark,
             bases,
+            is_first,
         }
     }
 
@@ -76,6 +80,7 @@ impl<J: Naming> Part<J> {
             snapshot,
             mark,
             bases: _,
+            is_first: _,
         } = self;
         (snapshot, mark)
     }
@@ -85,6 +90,13 @@ impl<J: Naming> Part<J> {
         ensures { result.kept ≡ self.now.kept }
     {
         self.mark.again()
+    }
+
+    /// Whether no store of the topic was confirmed, so that it may be the first one.
+    pub fn is_first(&self) -> bool
+        ensures { result ≡ self.now.is_first }
+    {
+        self.is_first
     }
 
     /// Whether it goes on from the snapshot of this mark.

@@ -1,5 +1,5 @@
 // A stored cell as what a keeper makes a round of, under one hold of its lock.
-ghost use Rattle.std.specs.Prelude.{◌≡◌, ◌+◌, ◌⊎◌, ◌↔◌, All, IfErr, OnOk, OnErr, Err, None, Some, length, true, false};
+ghost use Rattle.std.specs.Prelude.{◌≡◌, ◌+◌, ◌⊎◌, ◌↔◌, All, IfErr, OnOk, OnErr, Err, None, Some, is_none, length, true, false};
 ghost use Rattle.position_core.specs.declared.fault.Fault.TheVariants.{NoMemory, JournalFull};
 ghost use Rattle.delivery_machine.specs.Snapshot.{snapshot_of};
 ghost use Rattle.delivery_machine.specs.Places.{snapshot_in};
@@ -45,6 +45,13 @@ impl<T: Opened + Drop, J: Naming> StoredCell<T, J> {
         ensures begins { All (IsBeginning self.now.cell.state) result }
     {
         bases_of(&self.stored, &self.outstanding)
+    }
+
+    /// Whether no store of the topic was confirmed.
+    pub fn is_unstored(&self) -> bool
+        ensures { result ≡ is_none self.now.stored }
+    {
+        self.stored.is_none()
     }
 
     /// Keeps a line for what a round is about to make durable, as `Cell::promise` does.

@@ -1,10 +1,11 @@
-use Rattle.std.proofs.Common.{Ok, sym, subst}
+use Rattle.std.proofs.Common.{◌≡◌, Ok, Err, ap, sym, subst}
+use Rattle.position_core.specs.declared.fault.Fault.TheVariants.{NoSuchSubscription}
 use Rattle.sqlite.specs.Effect.{Database}
 use Rattle.sqlite.specs.Held.{state}
 use Rattle.sqlite.specs.State.{HasCleanDisk}
 use Rattle.stored_cell.specs.Opening.{Opens}
 use Rattle.row_store.specs.Keeping.{Keeping}
-use Rattle.row_store.proofs.Restarting.{opens_found, opens_itself}
+use Rattle.row_store.proofs.Restarting.{keeps_nothing, opens_found, opens_itself}
 use Rattle.row_store.proofs.topics.open_cell.Goals as goal
 
 pub noted-requires-clause-opens : goal.noted-requires-clause-opens
@@ -25,3 +26,9 @@ returns-in-Ok-noted-clause-opens g c = λ clean.
     let early = subst (λ (k : Keeping _). HasCleanDisk (state g.S.Store k.conn)) c.noted.ensures.same clean in
     let opens = opens_found c.args.name.now c.args.terms old.now.trees new c.in-Ok.loaded (Ok c.in-Ok-opened_cell.cell) (c.in-Ok.ensures.rows early) c.in-Ok.ensures.kept c.in-Ok-opened_cell.ensures.opens in
     subst (Opens c.args.name.now c.args.terms old.now.trees) (sym c.in-Ok-noted.ensures.cell) opens
+
+pub returns-in-Err-opened_cell-clause-unknown : goal.returns-in-Err-opened_cell-clause-unknown
+returns-in-Err-opened_cell-clause-unknown g c = λ clean refused.
+    let fault : c.in-Err-opened_cell.fault ≡ NoSuchSubscription = cc in
+    let why = c.in-Err-opened_cell.ensures.unknown.0 (ap Err fault) in
+    (why.0, keeps_nothing c.args.name.now (state g.S.Store c.args.keeper.now.conn).now.trees c.in-Ok.loaded (c.in-Ok.ensures.rows clean) why.1)

@@ -19,7 +19,7 @@ snapshot_of-requires c =
     let own : TopicName = c.args.name.now in
     let found = rw c.in-Ok-Some.field-0-is at c.in-Ok-Some.ensures in
     may_restart own (of_parts own before.head before.front c.in-Ok-Some.parts.authors.items (joined before.log) c.in-Ok-Some.parts.subs.items) c.self.invariant.sound
-    (record { at_most = c.self.invariant.gone; another = found.another }) found.remembered c.self.invariant.short found.sound
+    c.self.invariant.gone found.remembered c.self.invariant.short found.sound
 
 pub returns-in_ok-snapshot_of-in-Ok-Some-clause-rows : goal.returns-in_ok-snapshot_of-in-Ok-Some-clause-rows
 returns-in_ok-snapshot_of-in-Ok-Some-clause-rows c =
@@ -56,7 +56,6 @@ returns-in-Ok-None-clause-whole c =
     let next : before.head.next_ordinal ≡ kept.next_ordinal = sym (ap (λ (r : ReadSoFar). r.head.next_ordinal) view) ∙ one.2 in
     let none = rw c.in-Ok-None.field-0-is at c.in-Ok-None.ensures.all_read in
     none topic kept.authors kept.subscriptions
-    (λ some. subst (λ (s : Span). 0 < length s.log) (sym is) (back.may.sound.gone.another (subst (λ n. 0 < n) gone some)))
     (subst (λ n. ShowAuthors n topic kept.authors sides.authors.items) (sym gone) (show_authors kept own sides.authors.items back name rows.authors))
     back.told.few
     (subst (λ (s : Span). ShowSubs own s before.head.next_ordinal topic kept.subscriptions sides.subs.items sides.acks.items sides.deads.items sides.counts.items) (sym is)

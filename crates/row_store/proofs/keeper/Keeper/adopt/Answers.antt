@@ -1,6 +1,7 @@
 use Rattle.std.proofs.Common.{arith, rules}
 use Rattle.sqlite.specs.State.{State, HasCleanDisk}
 use Rattle.sqlite.specs.Held.{state}
+use Rattle.row_schema.proofs.VersionLemmas.{foreign_as}
 use Rattle.row_store.proofs.Taking.{rows_taken, crash_taken, left_refused}
 use Rattle.row_store.proofs.keeper.Keeper.adopt.Goals as goal
 
@@ -24,3 +25,11 @@ returns-in-Err-upgrade-clause-given_back g c clean db left =
     let late : HasCleanDisk (state g.S.Store c.upgrade.new.conn) = c.given_back-in-Err-upgrade.ensures.clean clean in
     let early : HasCleanDisk settled = omega (arith, c.upgrade.ensures.crash.clean, late) in
     left_refused _ settled (c.in-Ok.ensures.same early) (state g.S.Store c.args.conn) (c.in-Ok.ensures.left early) db (c.upgrade.ensures.crash.crash late db (c.given_back-in-Err-upgrade.ensures.left db left))
+
+pub returns-in-Ok-false-clause-foreign : goal.returns-in-Ok-false-clause-foreign
+returns-in-Ok-false-clause-foreign g c _ clean was_open =
+    let settled : State = state g.S.Store c.in-Ok.conn in
+    let late : HasCleanDisk (state g.S.Store c.upgrade.new.conn) = c.given_back.ensures.clean clean in
+    let early : HasCleanDisk settled = omega (arith, c.upgrade.ensures.crash.clean, late) in
+    let shown = c.in-Ok.ensures.open early was_open in
+    foreign_as settled.now (state g.S.Store c.args.conn).committed (c.in-Ok.ensures.schema early shown) (c.in-Ok.ensures.same early shown) (c.in-Ok-false.ensures.foreign late (search rules))
