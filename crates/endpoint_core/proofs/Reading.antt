@@ -7,6 +7,7 @@ use Rattle.std.proofs.lemmas.List.Folds.{list_all-append}
 use Rattle.form_urlencoded.specs.Form.{decode, parse, raw_pairs}
 use Rattle.endpoint_core.specs.declared.faults.Cause.{Cause}
 use Rattle.endpoint_core.specs.declared.faults.Cause.TheVariants.{BadParameter, NoMemory}
+use Rattle.endpoint_core.specs.declared.fields.Field.TheVariants.{Query}
 use Rattle.endpoint_core.specs.Queries.{Parameter, is_text, word_of, parameters_of}
 
 abbrev pub decoded : Parameter → Parameter
@@ -25,11 +26,11 @@ ended text query left read none =
     let same : parse text ≡ query = rw (none, append-nil) at read.whole in
     rw (same, read.all) refl
 
-word : (b : Bool) (bytes said : List ℕ) → ok_or (cond b (Some bytes) None) BadParameter ≡ Ok said → (b ≡ true) × (said ≡ bytes)
+word : (b : Bool) (bytes said : List ℕ) → ok_or (cond b (Some bytes) None) (BadParameter Query) ≡ Ok said → (b ≡ true) × (said ≡ bytes)
 word true bytes said e = (refl, cc e)
 word false bytes said e = cc e
 
-no_word : (b : Bool) (bytes : List ℕ) (cause : Cause) → ok_or (cond b (Some bytes) None) BadParameter ≡ Err cause → (b ≡ false) × (cause ≡ BadParameter)
+no_word : (b : Bool) (bytes : List ℕ) (cause : Cause) → ok_or (cond b (Some bytes) None) (BadParameter Query) ≡ Err cause → (b ≡ false) × (cause ≡ BadParameter Query)
 no_word true bytes cause e = cc e
 no_word false bytes cause e = (refl, cc e)
 
@@ -46,7 +47,7 @@ went text query left rest after n v name value read is a b grown =
       whole = rw (grown, x.1, y.1, read.whole, is) (append_one query (map decoded rest) (decoded (n, v)));
     }
 
-not_all : (text : List ℕ) (query left rest : List Parameter) (p : Parameter) → IsRead text query left → left ≡ p ∷ rest → is_text (decoded p) ≡ false → parameters_of text ≡ Err BadParameter
+not_all : (text : List ℕ) (query left rest : List Parameter) (p : Parameter) → IsRead text query left → left ≡ p ∷ rest → is_text (decoded p) ≡ false → parameters_of text ≡ Err (BadParameter Query)
 not_all text query left rest p read is not =
     let bad : list_all is_text (parse text) ≡ false = rw (read.whole, is, list_all-append, read.all, not) refl in
     rw bad refl

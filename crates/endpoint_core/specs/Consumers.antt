@@ -1,5 +1,5 @@
 -- A consumer's endpoint.
-use Rattle.std.specs.Prelude.{ℕ, ◌==◌, Bool, false, List, codes, Result, Ok, if◌then◌else◌}
+use Rattle.std.specs.Prelude.{ℕ, ◌==◌, Bool, false, List, Result, Ok, if◌then◌else◌}
 use Rattle.position_core.specs.declared.topic_name.TopicName.{TopicName}
 use Rattle.position_core.specs.declared.kind.Kind.{Kind}
 use Rattle.position_core.specs.declared.kind.Kind.TheVariants.{Exclusive}
@@ -10,6 +10,7 @@ use Rattle.delivery_machine.specs.declared.event.Initial.TheVariants.{Latest}
 use Rattle.endpoint_core.specs.declared.faults.Cause.{Cause}
 use Rattle.endpoint_core.specs.declared.consumers.ConsumerEndpoint.{ConsumerEndpoint}
 use Rattle.endpoint_core.specs.declared.consumers.Settings.{Settings}
+use Rattle.endpoint_core.specs.declared.fields.Field.TheVariants.{SubscriptionType, PriorityLevel, PullMode, ReceiverQueueSize, AckTimeoutMillis, NegativeAckRedeliveryDelay, SubscriptionInitialPosition}
 use Rattle.endpoint_core.specs.Faults.{and_then}
 use Rattle.endpoint_core.specs.Queries.{Parameter, said}
 use Rattle.endpoint_core.specs.Numbers.{number_up_to}
@@ -18,10 +19,10 @@ use Rattle.endpoint_core.specs.DeadLetters.{death_in}
 use Rattle.endpoint_core.specs.Ranges.{ranges_in}
 
 abbrev pub kind_said : List Parameter → Result Kind Cause
-kind_said query = said (codes "subscriptionType") Exclusive kind_of query
+kind_said query = said SubscriptionType Exclusive kind_of query
 
 abbrev pub level_said : List Parameter → Result ℕ Cause
-level_said query = said (codes "priorityLevel") 0 (number_up_to 2147483647) query
+level_said query = said PriorityLevel 0 (number_up_to 2147483647) query
 
 -- a window of 0 counts as 1
 abbrev pub window_of : ℕ → Flow
@@ -29,10 +30,10 @@ window_of size = if size == 0 then Window 1 else Window size
 
 abbrev pub window_said : List Parameter → Result Flow Cause
 window_said query =
-    and_then (said (codes "receiverQueueSize") 1000 (number_up_to 100000) query) (λ size. Ok (window_of size))
+    and_then (said ReceiverQueueSize 1000 (number_up_to 100000) query) (λ size. Ok (window_of size))
 
 abbrev pub pulls_said : List Parameter → Result Bool Cause
-pulls_said query = said (codes "pullMode") false truth_of query
+pulls_said query = said PullMode false truth_of query
 
 -- a consumer that pulls begins without credit, and has no window
 abbrev pub flow_said : List Parameter → Result Flow Cause
@@ -40,13 +41,13 @@ flow_said query = and_then (pulls_said query) (λ pulls. if pulls then Ok (Credi
 
 -- in milliseconds
 abbrev pub ack_timeout_said : List Parameter → Result ℕ Cause
-ack_timeout_said query = said (codes "ackTimeoutMillis") 0 (number_up_to 2147483647) query
+ack_timeout_said query = said AckTimeoutMillis 0 (number_up_to 2147483647) query
 
 abbrev pub nack_delay_said : List Parameter → Result ℕ Cause
-nack_delay_said query = said (codes "negativeAckRedeliveryDelay") 60000 (number_up_to 2147483647) query
+nack_delay_said query = said NegativeAckRedeliveryDelay 60000 (number_up_to 2147483647) query
 
 abbrev pub initial_said : List Parameter → Result Initial Cause
-initial_said query = said (codes "subscriptionInitialPosition") Latest initial_of query
+initial_said query = said SubscriptionInitialPosition Latest initial_of query
 
 -- the consumer of the topic and the subscription that has these settings
 abbrev pub with_settings : TopicName → List ℕ → Settings → ConsumerEndpoint

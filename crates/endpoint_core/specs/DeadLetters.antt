@@ -6,6 +6,8 @@ use Rattle.position_core.specs.declared.kind.Kind.{Kind}
 use Rattle.position_core.specs.declared.topic_name.TopicName.{TopicName}
 use Rattle.endpoint_core.specs.declared.faults.Cause.{Cause}
 use Rattle.endpoint_core.specs.declared.faults.Cause.TheVariants.{BadParameter}
+use Rattle.endpoint_core.specs.Fields.{name_of}
+use Rattle.endpoint_core.specs.declared.fields.Field.TheVariants.{MaxRedeliverCount, DeadLetterTopic}
 use Rattle.endpoint_core.specs.Faults.{and_then}
 use Rattle.endpoint_core.specs.Segments.{segments_of}
 use Rattle.endpoint_core.specs.Paths.{after}
@@ -32,18 +34,18 @@ dead_topic_of text = dead_topic_by (after scheme text) text
 
 -- the topic that is named, or the default, which may be too long
 abbrev pub dead_topic_said : TopicName → List ℕ → Option (List ℕ) → Result TopicName Cause
-dead_topic_said this subscription None = ok_or (dead_letter_default this subscription) BadParameter
-dead_topic_said this subscription (Some text) = ok_or (dead_topic_of text) BadParameter
+dead_topic_said this subscription None = ok_or (dead_letter_default this subscription) (BadParameter DeadLetterTopic)
+dead_topic_said this subscription (Some text) = ok_or (dead_topic_of text) (BadParameter DeadLetterTopic)
 
 -- where no message dies, the topic is this one, whatever is named
 abbrev pub dead_topic_in : TopicName → List ℕ → ℕ → List Parameter → Result TopicName Cause
 dead_topic_in this subscription limit query =
-    if limit == 0 then Ok this else dead_topic_said this subscription (value_at (codes "deadLetterTopic") query)
+    if limit == 0 then Ok this else dead_topic_said this subscription (value_at (name_of DeadLetterTopic) query)
 
 -- after how many redeliveries a message dies, and where it goes
 abbrev pub said_death : TopicName → List ℕ → List Parameter → Result (ℕ × TopicName) Cause
 said_death this subscription query =
-    and_then (said (codes "maxRedeliverCount") 0 (number_up_to 1000000) query) (λ limit.
+    and_then (said MaxRedeliverCount 0 (number_up_to 1000000) query) (λ limit.
     and_then (dead_topic_in this subscription limit query) (λ topic.
     Ok (limit, topic)))
 

@@ -1,3 +1,4 @@
+pub mod Fields
 pub mod Faults
 pub mod Texts
 pub mod Segments

@@ -5,6 +5,7 @@ use Rattle.endpoint_core.specs.declared.faults.Role.{Role}
 use Rattle.endpoint_core.specs.declared.faults.Role.TheVariants.{Unknown, Producer, Consumer, Admin}
 use Rattle.endpoint_core.specs.declared.faults.Cause.{Cause}
 use Rattle.endpoint_core.specs.declared.faults.Cause.TheVariants.{UnknownPath, BadParameter}
+use Rattle.endpoint_core.specs.declared.fields.Field.TheVariants.{DeadLetterTopic}
 use Rattle.endpoint_core.specs.declared.faults.RouteFault.{RouteFault}
 use Rattle.endpoint_core.specs.declared.consumers.ConsumerEndpoint.{ConsumerEndpoint}
 use Rattle.endpoint_core.specs.declared.letters.Letters.{Letters}
@@ -29,7 +30,7 @@ producer_at segments query =
 -- the consumer, unless its dead letters would go where they may not
 abbrev pub if_kept : Letters → ConsumerEndpoint → Result Endpoint Cause
 if_kept letters consumer =
-    if keeps_letters letters consumer.topic consumer.dead_topic then Ok (endpoints.Consumer consumer) else Err BadParameter
+    if keeps_letters letters consumer.topic consumer.dead_topic then Ok (endpoints.Consumer consumer) else Err (BadParameter DeadLetterTopic)
 
 abbrev pub consumer_at : Letters → List (List ℕ) → List ℕ → Result Endpoint Cause
 consumer_at letters segments query =

@@ -5,6 +5,7 @@ ghost use Rattle.endpoint_core.specs.Consumers.{consumer_of, flow_said, initial_
 
 use crate::dead_letters::death_in;
 use crate::faults::Cause;
+use crate::fields::Field;
 use crate::numbers::number_said;
 use crate::queries::Query;
 use crate::ranges::ranges_in;
@@ -39,8 +40,8 @@ pub struct ConsumerEndpoint {
 fn kind_said(query: &Query) -> Result<Kind, Cause>
     ensures { result ≡ kind_said query.now }
 {
-    match query.value_at("subscriptionType") {
-        Some(text) => kind_of(text).ok_or(Cause::BadParameter),
+    match query.value_at(Field::SubscriptionType.name()) {
+        Some(text) => kind_of(text).ok_or(Cause::BadParameter(Field::SubscriptionType)),
         None => Ok(Kind::Exclusive),
     }
 }
@@ -48,8 +49,10 @@ fn kind_said(query: &Query) -> Result<Kind, Cause>
 fn initial_said(query: &Query) -> Result<Initial, Cause>
     ensures { result ≡ initial_said query.now }
 {
-    match query.value_at("subscriptionInitialPosition") {
-        Some(text) => initial_of(text).ok_or(Cause::BadParameter),
+    match query.value_at(Field::SubscriptionInitialPosition.name()) {
+        Some(text) => initial_of(text).ok_or(Cause::BadParameter(
+            Field::SubscriptionInitialPosition,
+        )),
         None => Ok(Initial::Latest),
     }
 }
@@ -58,8 +61,8 @@ fn initial_said(query: &Query) -> Result<Initial, Cause>
 fn pulls(query: &Query) -> Result<bool, Cause>
     ensures { result ≡ pulls_said query.now }
 {
-    match query.value_at("pullMode") {
-        Some(text) => truth_of(text).ok_or(Cause::BadParameter),
+    match query.value_at(Field::PullMode.name()) {
+        Some(text) => truth_of(text).ok_or(Cause::BadParameter(Field::PullMode)),
         None => Ok(false),
     }
 }
@@ -76,7 +79,7 @@ fn window_of(size: Bounded<0, 100_000>) -> Flow
 fn window_said(query: &Query) -> Result<Flow, Cause>
     ensures { result ≡ window_said query.now }
 {
-    match number_said(query, "receiverQueueSize", 1000) {
+    match number_said(query, Field::ReceiverQueueSize, 1000) {
         Ok(size) => Ok(window_of(size)),
         Err(cause) => Err(cause),
     }
@@ -124,10 +127,10 @@ fn settings_in(
     ensures { Gives (map_ok (with_settings topic.now subscription.now) result) (consumer_of topic.now subscription.now query.now) }
 {
     let kind = kind_said(query)?;
-    let level = number_said(query, "priorityLevel", 0)?;
+    let level = number_said(query, Field::PriorityLevel, 0)?;
     let flow = flow_said(query)?;
-    let ack_timeout = number_said(query, "ackTimeoutMillis", 0)?;
-    let nack_delay = number_said(query, "negativeAckRedeliveryDelay", 60_000)?;
+    let ack_timeout = number_said(query, Field::AckTimeoutMillis, 0)?;
+    let nack_delay = number_said(query, Field::NegativeAckRedeliveryDelay, 60_000)?;
     let (max_redeliver, dead_topic) = death_in(alloc, topic, subscription, kind, query)?;
     let initial = initial_said(query)?;
     let ranges = ranges_in(alloc, kind, query)?;

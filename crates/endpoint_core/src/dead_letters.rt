@@ -5,6 +5,7 @@ ghost use Rattle.endpoint_core.specs.Faults.{Gives};
 ghost use Rattle.endpoint_core.specs.DeadLetters.{dead_topic_in, dead_topic_of, dead_topic_said, death_in, said_death, short_topic, whole_topic};
 
 use crate::faults::Cause;
+use crate::fields::Field;
 use crate::numbers::number_said;
 use crate::paths::{after, segments_of};
 use crate::queries::Query;
@@ -60,7 +61,7 @@ fn dead_topic_said(
     };
     match found {
         Ok(Some(topic)) => Ok(topic),
-        Ok(None) => Err(Cause::BadParameter),
+        Ok(None) => Err(Cause::BadParameter(Field::DeadLetterTopic)),
         Err(_) => Err(Cause::NoMemory),
     }
 }
@@ -77,7 +78,12 @@ fn dead_topic_in(
     if limit.get() == 0 {
         return Ok(this.clone()?);
     }
-    dead_topic_said(alloc, this, subscription, query.value_at("deadLetterTopic"))
+    dead_topic_said(
+        alloc,
+        this,
+        subscription,
+        query.value_at(Field::DeadLetterTopic.name()),
+    )
 }
 
 fn said_death(
@@ -88,7 +94,7 @@ fn said_death(
 ) -> Result<(RedeliverLimit, TopicName), Cause>
     ensures { Gives result (said_death this.now subscription.now query.now) }
 {
-    let limit = number_said(query, "maxRedeliverCount", 0)?;
+    let limit = number_said(query, Field::MaxRedeliverCount, 0)?;
     let topic = dead_topic_in(alloc, this, subscription, limit, query)?;
     Ok((limit, topic))
 }

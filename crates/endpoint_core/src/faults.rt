@@ -1,7 +1,8 @@
 // Why a target is refused, and how its handshake is closed.
-ghost use Rattle.std.specs.Prelude.{◌≡◌};
-ghost use Rattle.endpoint_core.specs.Faults.{code_of, close_code, fault_by, refusal};
+ghost use Rattle.std.specs.Prelude.{◌≡◌, option_map};
+ghost use Rattle.endpoint_core.specs.Faults.{code_of, close_code, fault_by, refusal, wrong_by};
 
+use crate::fields::Field;
 use position_core::Fault;
 use std::alloc::AllocError;
 
@@ -22,8 +23,8 @@ pub enum Cause {
     UnknownPath,
     /// A name in the path is none.
     BadName,
-    /// A part of the query is not UTF-8, a parameter is beyond its values, or a dead-letter topic has no name.
-    BadParameter,
+    /// A part of the query is not UTF-8, this parameter is beyond its values, or a dead-letter topic has no name.
+    BadParameter(Field),
     /// The producer would send encrypted messages, which this broker does not keep keys for.
     Encryption,
     /// A growth was refused. It says nothing of the target.
@@ -65,7 +66,7 @@ impl RouteFault {
     {
         let role = match cause {
             Cause::UnknownPath => Role::Unknown,
-            Cause::BadName | Cause::BadParameter | Cause::Encryption | Cause::NoMemory => role,
+            Cause::BadName | Cause::BadParameter(_) | Cause::Encryption | Cause::NoMemory => role,
         };
         RouteFault { role, cause }
     }
@@ -76,7 +77,7 @@ impl RouteFault {
     {
         match self.cause {
             Cause::UnknownPath | Cause::NoMemory => 4008,
-            Cause::BadName | Cause::BadParameter | Cause::Encryption => code_of(self.role),
+            Cause::BadName | Cause::BadParameter(_) | Cause::Encryption => code_of(self.role),
         }
     }
 
@@ -86,8 +87,21 @@ impl RouteFault {
     {
         match self.cause {
             Cause::NoMemory => Fault::NoMemory,
-            Cause::UnknownPath | Cause::BadName | Cause::BadParameter | Cause::Encryption =>
+            Cause::UnknownPath | Cause::BadName | Cause::BadParameter(_) | Cause::Encryption =>
                 Fault::BadRoute,
+        }
+    }
+
+    /// What of the target is wrong: its path, a name in that, or a parameter. Nothing, where memory was wanted.
+    pub fn wrong(self) -> Option<&'static str>
+        ensures { option_map (λ word. word.now) result ≡ wrong_by self.cause }
+    {
+        match self.cause {
+            Cause::UnknownPath => Some("path"),
+            Cause::BadName => Some("name"),
+            Cause::BadParameter(field) => Some(field.name()),
+            Cause::Encryption => Some("encryptionKeys"),
+            Cause::NoMemory => None,
         }
     }
 }

@@ -6,6 +6,7 @@ ghost use Rattle.endpoint_core.specs.Numbers.{base_of, negative_base, number_of,
 ghost use Rattle.endpoint_core.specs.Queries.{said};
 
 use crate::faults::Cause;
+use crate::fields::Field;
 use crate::paths::after;
 use crate::queries::Query;
 use position_core::{Base, Bounded};
@@ -43,17 +44,17 @@ pub fn number_up_to<const MOST: u32>(text: &str) -> Option<Bounded<0, MOST>>
 /// The number that a parameter says, or the default where it is absent.
 pub fn number_said<const MOST: u32>(
     query: &Query,
-    name: &str,
+    field: Field,
     default: u32,
 ) -> Result<Bounded<0, MOST>, Cause>
     requires { default ≤ MOST }
-    ensures { result ≡ said name.now default (number_up_to MOST) query.now }
+    ensures { result ≡ said field default (number_up_to MOST) query.now }
 {
-    let number = match query.value_at(name) {
+    let number = match query.value_at(field.name()) {
         Some(text) => number_up_to(text),
         None => Bounded::new(default),
     };
-    number.ok_or(Cause::BadParameter)
+    number.ok_or(Cause::BadParameter(field))
 }
 
 fn positive_base(number: u64) -> Option<Base>

@@ -4,6 +4,7 @@ ghost use Rattle.endpoint_core.specs.Faults.{Gives};
 ghost use Rattle.endpoint_core.specs.Producers.{base_said, name_said, producer_of};
 
 use crate::faults::Cause;
+use crate::fields::Field;
 use crate::numbers::base_of;
 use crate::queries::Query;
 use crate::words::producer_name_of;
@@ -22,7 +23,7 @@ pub struct ProducerEndpoint {
 fn name_said(alloc: Global, query: &Query) -> Result<Option<ProducerName>, Cause>
     ensures { Gives result (name_said query.now) }
 {
-    match query.value_at("producerName") {
+    match query.value_at(Field::ProducerName.name()) {
         Some(text) => match producer_name_of(alloc, text) {
             Ok(name) => Ok(Some(name)),
             Err(cause) => Err(cause),
@@ -34,10 +35,10 @@ fn name_said(alloc: Global, query: &Query) -> Result<Option<ProducerName>, Cause
 fn base_said(query: &Query) -> Result<Option<Base>, Cause>
     ensures { result ≡ base_said query.now }
 {
-    match query.value_at("initialSequenceId") {
+    match query.value_at(Field::InitialSequenceId.name()) {
         Some(text) => match base_of(text) {
             Some(base) => Ok(Some(base)),
-            None => Err(Cause::BadParameter),
+            None => Err(Cause::BadParameter(Field::InitialSequenceId)),
         },
         None => Ok(None),
     }

@@ -5,6 +5,7 @@ ghost use Rattle.endpoint_core.specs.Faults.{Gives, map_ok};
 ghost use Rattle.endpoint_core.specs.Queries.{word_of};
 
 use crate::faults::Cause;
+use crate::fields::Field;
 use crate::texts::text_of;
 use form_urlencoded::raw_pairs;
 use std::alloc::{AllocError, Global};
@@ -27,7 +28,7 @@ fn word_of(alloc: Global, bytes: &[u8]) -> Result<String, Cause>
     let bytes = spaced(alloc, bytes)?;
     match text_of(alloc, &bytes)? {
         Some(text) => Ok(String::from_str(alloc, text.as_str())?),
-        None => Err(Cause::BadParameter),
+        None => Err(Cause::BadParameter(Field::Query)),
     }
 }
 

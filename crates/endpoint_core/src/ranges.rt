@@ -3,6 +3,7 @@ ghost use Rattle.endpoint_core.specs.Faults.{Gives};
 ghost use Rattle.endpoint_core.specs.Ranges.{ranges_in, ranges_said};
 
 use crate::faults::Cause;
+use crate::fields::Field;
 use crate::queries::Query;
 use position_core::{Kind, Ranges};
 use std::alloc::Global;
@@ -11,12 +12,12 @@ use value_texts::{LeadingZeros, read_ranges};
 fn ranges_said(alloc: Global, query: &Query) -> Result<Option<Ranges>, Cause>
     ensures { Gives result (ranges_said query.now) }
 {
-    let Some(text) = query.value_at("keySharedRanges") else {
+    let Some(text) = query.value_at(Field::KeySharedRanges.name()) else {
         return Ok(None);
     };
     match read_ranges(alloc, LeadingZeros::Allowed, text.as_bytes()) {
         Ok(Some(ranges)) => Ok(Some(ranges)),
-        Ok(None) => Err(Cause::BadParameter),
+        Ok(None) => Err(Cause::BadParameter(Field::KeySharedRanges)),
         Err(_) => Err(Cause::NoMemory),
     }
 }

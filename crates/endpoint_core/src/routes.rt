@@ -6,6 +6,7 @@ ghost use Rattle.endpoint_core.specs.Routes.{admin_at, consumer_at, endpoint_at,
 
 use crate::consumers::{ConsumerEndpoint, consumer_of};
 use crate::faults::{Cause, Role, RouteFault};
+use crate::fields::Field;
 use crate::letters::{Letters, keeps_letters};
 use crate::paths::{asked, segments_of, subscription_in, topic_in, url_of};
 use crate::producers::{ProducerEndpoint, producer_of};
@@ -44,7 +45,7 @@ fn if_kept(letters: Letters, consumer: ConsumerEndpoint) -> Result<Endpoint, Cau
         return Ok(Endpoint::Consumer(consumer));
     }
     drop(consumer);
-    Err(Cause::BadParameter)
+    Err(Cause::BadParameter(Field::DeadLetterTopic))
 }
 
 fn consumer_at(

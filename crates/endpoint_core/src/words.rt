@@ -2,9 +2,11 @@
 ghost use Rattle.std.specs.Prelude.{◌≡◌, ok_or};
 ghost use Rattle.endpoint_core.specs.Words.{initial_of, is_producer_name, kind_of, producer_name_of, truth_of};
 ghost use Rattle.endpoint_core.specs.declared.faults.Cause.TheVariants.{BadParameter};
+ghost use Rattle.endpoint_core.specs.declared.fields.Field.TheVariants.{ProducerName};
 ghost use Rattle.endpoint_core.specs.Faults.{Gives};
 
 use crate::faults::Cause;
+use crate::fields::Field;
 use delivery_machine::Initial;
 use position_core::{Kind, ProducerName};
 use std::alloc::Global;
@@ -61,13 +63,13 @@ fn is_producer_name(text: &str) -> bool
 
 /// The name of a client's producer.
 pub fn producer_name_of(alloc: Global, text: &str) -> Result<ProducerName, Cause>
-    ensures { Gives result (ok_or (producer_name_of text.now) BadParameter) }
+    ensures { Gives result (ok_or (producer_name_of text.now) (BadParameter ProducerName)) }
 {
     if !is_producer_name(text) {
-        return Err(Cause::BadParameter);
+        return Err(Cause::BadParameter(Field::ProducerName));
     }
     match ProducerName::new(ArcStr::from_str(alloc, text)?) {
         Some(name) => Ok(name),
-        None => Err(Cause::BadParameter),
+        None => Err(Cause::BadParameter(Field::ProducerName)),
     }
 }

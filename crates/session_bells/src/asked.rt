@@ -1,4 +1,6 @@
 // What an event may do to those who wait at a topic.
+ghost use Rattle.std.specs.Prelude.{◌≡◌, IfErr};
+
 use delivery_machine::{ConsumerNumber, Event, Fault, SubscriptionName};
 
 /// What an event may do to those who wait.
@@ -18,7 +20,9 @@ pub enum Asked {
     Nothing,
 }
 
-fn frees_in(subscription: &SubscriptionName) -> Result<Asked, Fault> {
+fn frees_in(subscription: &SubscriptionName) -> Result<Asked, Fault>
+    ensures { IfErr result (λ fault. fault ≡ Fault.NoMemory) }
+{
     match subscription.clone() {
         Ok(name) => Ok(Asked::FreesIn(name)),
         Err(_) => Err(Fault::NoMemory),
@@ -27,7 +31,9 @@ fn frees_in(subscription: &SubscriptionName) -> Result<Asked, Fault> {
 
 impl Asked {
     /// Only want of memory is a refusal (F1).
-    pub fn of(event: &Event) -> Result<Asked, Fault> {
+    pub fn of(event: &Event) -> Result<Asked, Fault>
+        ensures { IfErr result (λ fault. fault ≡ Fault.NoMemory) }
+    {
         match event {
             Event::Subscribe { subscription, .. } => match subscription.clone() {
                 Ok(name) => Ok(Asked::Joins(name)),

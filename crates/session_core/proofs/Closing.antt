@@ -99,10 +99,10 @@ fails_last t texts reason durable left last is_open has_room (inl (closes, o, bl
 fails_last t texts reason durable left last is_open has_room (inr (ready, why)) e = inr ready
 
 -- The session sent what is ready before its close.
-pub closing_with : (s t u : Session) (now most : ℕ) (e f h : Option Exchange) (c d : Option (List Call)) (reason : Close) (last : Stop) (was_open had_room is_open has_room : Bool)
-    → ServesOpen s now most e c (Some (Closed reason)) t f d was_open had_room → SendsSome t f u h → EndsLast reason t.durable (unsent_of u) last is_open has_room
-    → ServesLast s now most e c (Some last) u h d is_open has_room
-closing_with s t u now most e f h c d reason last was_open had_room is_open has_room first sends ends =
+pub closing_with : (s t u : Session) (now most : ℕ) (e f h : Option Exchange) (c d : Option (List Call)) (reason : Close) (last : Stop) (was_open had_room is_open has_room : Bool) (told : Option Exchange) (found : Bool)
+    → ServesOpen s now most e c (Some (Closed reason)) t f d was_open had_room told found → SendsSome t f u h → EndsLast reason t.durable (unsent_of u) last is_open has_room
+    → ServesLast s now most e c (Some last) u h d is_open has_room told found
+closing_with s t u now most e f h c d reason last was_open had_room is_open has_room told found first sends ends =
     let k = first.serves in
     let texts : List (List ℕ) = map (λ (g : Gone). g.text) sends.gone in
     let opened : k.turn.is_open ≡ true = k.opens ∙ k.can_close reason refl in
@@ -123,6 +123,16 @@ closing_with s t u now most e f h c d reason last was_open had_room is_open has_
         receives = receives_last k.turn reason texts (answered s.party now s.next (unsent_of s) k.turn.taken) (unsent_of u) u.durable last is_open has_room k.receives opened k.is_stop later;
         asks = k.asks;
         is_over = k.is_over;
+        heard = k.heard;
+        first = record {
+          gone = k.first.gone;
+          texts = k.first.texts;
+          ready = k.first.ready;
+          all = k.first.all;
+          later = k.first.later ++ texts;
+          parts = sym (append_assoc k.turn.sent_first k.first.later texts) ∙ ap (λ l. l ++ texts) k.first.parts;
+        };
+        finds = record { exchange = k.finds.exchange; roomy = k.finds.roomy };
         party = sends.keeps.party ∙ k.party;
         next = sends.keeps.next ∙ k.next;
         durable = sends.keeps.durable ∙ k.durable;
@@ -147,20 +157,20 @@ closing_with s t u now most e f h c d reason last was_open had_room is_open has_
     }
 
 -- what a session does before its end
-pub closing : (s t u : Session) (now most : ℕ) (e f h : Option Exchange) (c d : Option (List Call)) (stop last : Stop) (was_open had_room is_open has_room : Bool)
-    → ServesOpen s now most e c (Some stop) t f d was_open had_room → SendsLast t stop f was_open had_room last u h is_open has_room → ServesLast s now most e c (Some last) u h d is_open has_room
-closing s t u now most e f h c d Left last was_open had_room is_open has_room first (left, same, told, o, r) =
-    let stands : ServesLast s now most e c (Some Left) t f d was_open had_room = record {
+pub closing : (s t u : Session) (now most : ℕ) (e f h : Option Exchange) (c d : Option (List Call)) (stop last : Stop) (was_open had_room is_open has_room : Bool) (told : Option Exchange) (found : Bool)
+    → ServesOpen s now most e c (Some stop) t f d was_open had_room told found → SendsLast t stop f was_open had_room last u h is_open has_room → ServesLast s now most e c (Some last) u h d is_open has_room told found
+closing s t u now most e f h c d Left last was_open had_room is_open has_room told found first (left, same, stays, o, r) =
+    let stands : ServesLast s now most e c (Some Left) t f d was_open had_room told found = record {
       serves = first.serves;
       stops = stops_still (close_of first.serves.turn) first.serves.turn t.durable (unsent_of t) first.stops;
       closes = λ close is. absurd (other close (sym first.serves.is_stop ∙ is));
     } in
-    subst (λ (x : Stop × Session × Option Exchange × Bool × Bool). ServesLast s now most e c (Some x.0) x.1 x.2 d x.3 x.4) (λ i. (sym left i, sym same i, sym told i, sym o i, sym r i)) stands
+    subst (λ (x : Stop × Session × Option Exchange × Bool × Bool). ServesLast s now most e c (Some x.0) x.1 x.2 d x.3 x.4 told found) (λ i. (sym left i, sym same i, sym stays i, sym o i, sym r i)) stands
   where
     other : (close : Close) → Some Left ≡ Some (Closed close) → ⊥
     other close e = cc
-closing s t u now most e f h c d (Closed reason) last was_open had_room is_open has_room first (sends, ends) =
-    closing_with s t u now most e f h c d reason last was_open had_room is_open has_room first sends ends
+closing s t u now most e f h c d (Closed reason) last was_open had_room is_open has_room told found first (sends, ends) =
+    closing_with s t u now most e f h c d reason last was_open had_room is_open has_room told found first sends ends
 
 -- a session that is to be closed can be
 pub can_close : (stop : Stop) (is_open : Bool) → ((close : Close) → Some stop ≡ Some (Closed close) → is_open ≡ true) → CanClose stop is_open

@@ -1,5 +1,5 @@
 -- A turn goes on with the session's run.
-use Rattle.std.proofs.Common.{◌≡◌, ℕ, ◌≤◌, ℤ, List, [], ◌∷◌, ◌++◌, length, map, All, Bool, false, Option, Some, None, IsSome, is_some, option_map, refl, sym, ap, ◌∙◌, subst, append_assoc}
+use Rattle.std.proofs.Common.{◌≡◌, ℕ, ◌≤◌, ℤ, List, [], ◌∷◌, ◌++◌, length, map, All, Bool, false, Option, Some, None, IsSome, is_some, option_map, refl, sym, ap, ◌∙◌, subst, append-nil, append_assoc, ◌⊎◌}
 use Rattle.std.proofs.lemmas.List.{map-append}
 use Rattle.std.proofs.lemmas.List.Elements.{All-append}
 use Rattle.session_links.specs.declared.request.Request.TheVariants.{Event as OfEvent}
@@ -15,9 +15,9 @@ use Rattle.session_core.specs.declared.stop.Stop.TheVariants.{Gone as Left, Clos
 use Rattle.session_core.specs.Held.{unsent_of}
 use Rattle.session_core.specs.Turns.{Taken, Turn, receipt_of_silence, and_one, calls_of_asked, calls_of_texts, closed, exchanged, texts_received, without_stop}
 use Rattle.session_core.specs.Texts.{AreFew, AreTaken, IsRoomy, answered, answer_to, next_after}
-use Rattle.session_core.specs.Asking.{AsksAs, copies_of, durable_after}
+use Rattle.session_core.specs.Asking.{AsksAs, asked_nothing, copies_of, durable_after}
 use Rattle.session_core.specs.Sending.{Gone, IsSent, Sends}
-use Rattle.session_core.specs.Runs.{FailsAt, GoesOn, IsRun, IsServed, IsSession, IsTurn, Leaves, ReceivesNoMore, SaysFarewell, SendsBeforeClose, StopsBy, all_of, close_of, durable_of, next_of, sent_of}
+use Rattle.session_core.specs.Runs.{FailsAt, Finds, GoesOn, HasReceived, IsRun, IsServed, IsSession, IsTurn, Leaves, ReceivesNoMore, SaysFarewell, SendsBeforeClose, StopsBy, all_of, close_of, durable_of, next_of, sent_of}
 use Rattle.session_core.specs.Steps.{ClosesBy, Rests, SaysLast}
 use Rattle.session_core.specs.Closing.{ServesLast, ServesOpen}
 use Rattle.session_core.proofs.Closing.{stops_still}
@@ -40,9 +40,9 @@ stops_same None t farewell durable left k = k
 stops_same (Some close) t farewell durable left k = k
 
 -- a turn of a session is the next turn of its run
-pub is_turn : (s t : Session) (before : List Turn) (now most : ℕ) (e f : Option Exchange) (c d : Option (List Call)) (stop : Option Stop) (is_open has_room : Bool) (farewell : Option Call)
-    → (run : IsSession s before) → (all : ServesLast s now most e c stop t f d is_open has_room) → SaysFarewell s.party stop farewell → IsTurn s.party before (with_farewell all.serves.turn farewell)
-is_turn s t before now most e f c d stop is_open has_room farewell run all last = let k = all.serves in record {
+pub is_turn : (s t : Session) (before : List Turn) (now most : ℕ) (e f : Option Exchange) (c d : Option (List Call)) (stop : Option Stop) (is_open has_room : Bool) (told : Option Exchange) (had_room : Bool) (farewell : Option Call)
+    → (run : IsSession s before) → (all : ServesLast s now most e c stop t f d is_open has_room told had_room) → SaysFarewell s.party stop farewell → IsTurn s.party before (with_farewell all.serves.turn farewell)
+is_turn s t before now most e f c d stop is_open has_room told had_room farewell run all last = let k = all.serves in record {
   texts = subst (λ (x : ℕ × Option ℤ). AreTaken s.party x.0 x.1 k.turn.taken) (λ i. (sym k.is_now i, run.next i)) k.texts;
   most = subst (λ n. length k.turn.taken ≤ n) (sym k.is_most) k.at_most;
   held = unsent_of s;
@@ -50,8 +50,20 @@ is_turn s t before now most e f c d stop is_open has_room farewell run all last 
   few = subst (λ (x : ℕ × Option ℤ). AreFew s.party x.0 x.1 (unsent_of s) k.turn.taken) (λ i. (sym k.is_now i, run.next i)) k.few;
   silent = subst (λ (x : ℕ × Option ℤ). IsSome k.turn.silence → IsRoomy (answered s.party x.0 x.1 (unsent_of s) k.turn.taken)) (λ i. (sym k.is_now i, run.next i)) k.silent;
   receives = subst (λ (x : ℕ × Option ℤ). ReceivesNoMore (with_farewell k.turn farewell) (answered s.party x.0 x.1 (unsent_of s) k.turn.taken)) (λ i. (sym k.is_now i, run.next i)) k.receives;
-  asks = subst (λ n. AsksAs s.party n k.turn.asked) (sym k.is_now) k.asks;
+  asks = subst (λ n. AsksAs s.party n k.turn.was_free k.turn.asked) (sym k.is_now) k.asks;
   is_over = k.is_over;
+  heard = subst (λ (x : ℕ × Option ℤ). (k.turn.asked ≡ asked_nothing) ⊎ HasReceived (with_farewell k.turn farewell) (answered s.party x.0 x.1 (unsent_of s) k.turn.taken)) (λ i. (sym k.is_now i, run.next i)) k.heard;
+  free = λ free. record {
+    gone = run.sends.gone ++ k.first.gone;
+    parts = append-nil (map (λ (g : Gone). g.item) (run.sends.gone ++ k.first.gone))
+        ∙ map-append (λ (g : Gone). g.item) run.sends.gone k.first.gone
+        ∙ ap (λ l. map (λ (g : Gone). g.item) run.sends.gone ++ l) (k.first.all free)
+        ∙ answers_after;
+    texts = map-append (λ (g : Gone). g.text) run.sends.gone k.first.gone ∙ ap (λ l. l ++ map (λ (g : Gone). g.text) k.first.gone) run.sends.texts ∙ ap (λ l. sent_of before ++ l) k.first.texts;
+    ready = All-append (IsSent (durable_of s.party before)) run.sends.gone k.first.gone run.sends.ready (subst (λ n. All (IsSent n) k.first.gone) run.durable k.first.ready);
+  };
+  sent_then = k.first.later;
+  sent_parts = k.first.parts;
   left = unsent_of t;
   sends = record {
     gone = run.sends.gone ++ k.gone;
@@ -60,10 +72,7 @@ is_turn s t before now most e f c d stop is_open has_room farewell run all last 
         ∙ ap (λ l. map (λ (g : Gone). g.item) run.sends.gone ++ l) k.parts
         ∙ sym (append_assoc (map (λ (g : Gone). g.item) run.sends.gone) (answered s.party now s.next (unsent_of s) k.turn.taken) (copies_of s.party k.turn.asked.last))
         ∙ ap (λ l. l ++ copies_of s.party k.turn.asked.last)
-        (sym (answered-append s.party now s.next (map (λ (g : Gone). g.item) run.sends.gone) (unsent_of s) k.turn.taken)
-        ∙ ap (λ l. answered s.party now s.next l k.turn.taken) run.sends.parts
-        ∙ ap (λ n. answered s.party n s.next (all_of s.party before) k.turn.taken) (sym k.is_now)
-        ∙ ap (λ n. answered s.party k.turn.now n (all_of s.party before) k.turn.taken) run.next);
+        answers_after;
     texts = map-append (λ (g : Gone). g.text) run.sends.gone k.gone ∙ ap (λ l. l ++ map (λ (g : Gone). g.text) k.gone) run.sends.texts ∙ ap (λ l. sent_of before ++ l) k.sent;
     ready = All-append (IsSent (durable_of s.party (k.turn ∷ before))) run.sends.gone k.gone
         (ready_later (durable_of s.party before) (durable_of s.party (k.turn ∷ before)) run.sends.gone (durable_grows s.party (durable_of s.party before) k.turn.asked.last) run.sends.ready)
@@ -80,10 +89,18 @@ is_turn s t before now most e f c d stop is_open has_room farewell run all last 
     durable : t.durable ≡ durable_of s.party (all.serves.turn ∷ before)
     durable = all.serves.durable ∙ ap (λ n. durable_after s.party n all.serves.turn.asked.last) run.durable
 
+    answers_after : map (λ (g : Gone). g.item) run.sends.gone ++ answered s.party now s.next (unsent_of s) all.serves.turn.taken
+        ≡ answered s.party all.serves.turn.now (next_of s.party before) (all_of s.party before) all.serves.turn.taken
+    answers_after =
+        sym (answered-append s.party now s.next (map (λ (g : Gone). g.item) run.sends.gone) (unsent_of s) all.serves.turn.taken)
+        ∙ ap (λ l. answered s.party now s.next l all.serves.turn.taken) run.sends.parts
+        ∙ ap (λ n. answered s.party n s.next (all_of s.party before) all.serves.turn.taken) (sym all.serves.is_now)
+        ∙ ap (λ n. answered s.party all.serves.turn.now n (all_of s.party before) all.serves.turn.taken) run.next
+
 -- a session at rest was served as well
-pub rested : (s t u : Session) (now most : ℕ) (e f : Option Exchange) (c d : Option (List Call)) (is_open has_room : Bool)
-    → ServesOpen s now most e c None t f d is_open has_room → Rests t u → ServesLast s now most e c None u f d is_open has_room
-rested s t u now most e f c d is_open has_room first r = let k = first.serves in record {
+pub rested : (s t u : Session) (now most : ℕ) (e f : Option Exchange) (c d : Option (List Call)) (is_open has_room : Bool) (told : Option Exchange) (had_room : Bool)
+    → ServesOpen s now most e c None t f d is_open has_room told had_room → Rests t u → ServesLast s now most e c None u f d is_open has_room told had_room
+rested s t u now most e f c d is_open has_room told had_room first r = let k = first.serves in record {
   serves = record {
     turn = k.turn;
     is_now = k.is_now;
@@ -99,6 +116,9 @@ rested s t u now most e f c d is_open has_room first r = let k = first.serves in
     receives = k.receives;
     asks = k.asks;
     is_over = k.is_over;
+    heard = k.heard;
+    first = k.first;
+    finds = k.finds;
     party = r.keeps.party ∙ k.party;
     next = r.keeps.next ∙ k.next;
     durable = r.keeps.durable ∙ k.durable;
@@ -122,14 +142,14 @@ rested s t u now most e f c d is_open has_room first r = let k = first.serves in
     other close e = cc
 
 -- A session that goes on.
-pub goes_on : (s t : Session) (before : List Turn) (now most : ℕ) (e f : Option Exchange) (c d : Option (List Call)) (is_open has_room : Bool)
-    → IsSession s before → ServesLast s now most e c None t f d is_open has_room → t.had_room ≡ has_room → (given : ℕ) → most ≡ given
-    → (served : IsServed s now given before e c (Some t) f d is_open has_room) × Leaves served.turn e f is_open has_room
+pub goes_on : (s t : Session) (before : List Turn) (now most : ℕ) (e f : Option Exchange) (c d : Option (List Call)) (is_open has_room : Bool) (told : Option Exchange) (had_room : Bool)
+    → IsSession s before → ServesLast s now most e c None t f d is_open has_room told had_room → t.had_room ≡ has_room → (given : ℕ) → most ≡ given
+    → (served : IsServed s now given before e c (Some t) f d is_open has_room) × Finds served.turn e told had_room × Leaves served.turn e f is_open has_room
 unfolding is_turn
-goes_on s t before now most e f c d is_open has_room run all had given same =
+goes_on s t before now most e f c d is_open has_room told had_room run all had given same =
     let k = all.serves in
     let turn : Turn = with_farewell k.turn None in
-    let is : IsTurn s.party before turn = is_turn s t before now most e f c d None is_open has_room None run all refl in
+    let is : IsTurn s.party before turn = is_turn s t before now most e f c d None is_open has_room told had_room None run all refl in
     let none : turn.stop ≡ None = k.is_stop in (
       record {
         turn = turn;
@@ -154,26 +174,28 @@ goes_on s t before now most e f c d is_open has_room run all had given same =
           had,
         );
       },
+      record { exchange = k.finds.exchange; roomy = k.finds.roomy },
       record { exchange = k.exchange; opens = k.opens; roomy = k.roomy },
     )
 
 -- A session that has ended.
-pub ends : (s t : Session) (before : List Turn) (now most : ℕ) (e f h : Option Exchange) (c d i : Option (List Call)) (stop : Stop) (was room is_open has_room : Bool)
-    → IsSession s before → ServesLast s now most e c (Some stop) t f d was room → ClosesBy stop f h → (was ≡ false → is_open ≡ false) → SaysLast t.party d i
-    → (given : ℕ) → most ≡ given → (served : IsServed s now given before e c None h i is_open has_room) × Leaves served.turn e f was room
-ends s t before now most e f h c d i stop was room is_open has_room run all closes fails last given same =
+pub ends : (s t : Session) (before : List Turn) (now most : ℕ) (e f h : Option Exchange) (c d i : Option (List Call)) (stop : Stop) (was room is_open has_room : Bool) (told : Option Exchange) (had_room : Bool)
+    → IsSession s before → ServesLast s now most e c (Some stop) t f d was room told had_room → ClosesBy stop f h → (was ≡ false → is_open ≡ false) → SaysLast t.party d i
+    → (given : ℕ) → most ≡ given → (served : IsServed s now given before e c None h i is_open has_room) × Finds served.turn e told had_room × Leaves served.turn e f was room
+ends s t before now most e f h c d i stop was room is_open has_room told had_room run all closes fails last given same =
     let k = all.serves in
     let turn : Turn = with_farewell k.turn last.farewell in (
       record {
         turn = turn;
         is_now = k.is_now;
         is_most = k.is_most ∙ same;
-        is_turn = is_turn s t before now most e f c d (Some stop) was room last.farewell run all (last.event ∙ ap (λ p. option_map OfEvent (farewell_of p)) k.party);
+        is_turn = is_turn s t before now most e f c d (Some stop) was room told had_room last.farewell run all (last.event ∙ ap (λ p. option_map OfEvent (farewell_of p)) k.party);
         exchange = by_stop stop k.is_stop closes;
         calls = tells_then _ _ _ c d i (subst (λ x. Tells (λ calls. and_one (calls_of_asked (calls_of_texts calls k.turn.taken) k.turn.asked) x) c d) k.no_farewell k.calls) last.calls (λ x. refl);
         fails = λ failed. fails (sym k.opens ∙ failed);
         session = ap is_some k.is_stop;
       },
+      record { exchange = k.finds.exchange; roomy = k.finds.roomy },
       record { exchange = k.exchange; opens = k.opens; roomy = k.roomy },
     )
   where

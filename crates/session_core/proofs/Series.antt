@@ -134,6 +134,7 @@ both_end_first subscription now is_free c d stop k = record {
   dispatches_are = tt;
   tells = k.tells;
   ticks_first = inl refl;
+  held = λ e. refl;
   ends = subst (λ x. StopsSo x stop) (sym (or_none (close_after k.calls))) (series_stops (close_after k.calls) k.calls stop k.ends);
 }
 
@@ -147,19 +148,24 @@ both_held subscription now is_free c d held k = let w = series_whole (close_afte
   dispatches_are = tt;
   tells = k.tells;
   ticks_first = inl refl;
+  held = λ e. refl;
   ends = (held, refl, w.1, w.0);
 }
 
+pub is_not_free : (is_free : Bool) → is_free ≡ true → is_free ≡ false → ⊥
+is_not_free is_free e f = cc
+
 -- the second series ended the session
-pub both_end_second : (subscription : List ℕ) (now : ℕ) (is_free : Bool) (c d e : Option (List Call)) (stop : Stop)
+pub both_end_second : (subscription : List ℕ) (now : ℕ) (is_free : Bool) (c d e : Option (List Call)) (stop : Stop) → is_free ≡ true
     → AsksSeries (Tick subscription now) c None d → AsksSeries (Dispatch subscription now) d (Some stop) e → AsksBoth subscription now is_free c (Err stop) e
-both_end_second subscription now is_free c d e stop k l = let w = series_whole (close_after k.calls) k.calls k.ends in record {
+both_end_second subscription now is_free c d e stop free k l = let w = series_whole (close_after k.calls) k.calls k.ends in record {
   ticks = k.calls;
   dispatches = l.calls;
   ticks_are = k.series;
   dispatches_are = l.series;
   tells = tells_then _ _ _ c d e k.tells l.tells (λ x. refl);
   ticks_first = inr (w.1, w.0);
+  held = λ not_free. absurd (is_not_free is_free free not_free);
   ends = subst (λ x. StopsSo (option_or x (close_after l.calls)) stop) (sym w.0) (series_stops (close_after l.calls) l.calls stop l.ends);
 }
 
@@ -174,6 +180,7 @@ both_whole subscription now is_free c d e free k l =
       dispatches_are = l.series;
       tells = tells_then _ _ _ c d e k.tells l.tells (λ x. refl);
       ticks_first = inr (w.1, w.0);
+      held = λ not_free. absurd (is_not_free is_free free not_free);
       ends = (free, w.1, w.0, v.1, v.0);
     }
 
@@ -197,7 +204,7 @@ own_progress s t now producer first has_room c d is k =
     let call : Call = event_call Progress k.reply in
     record {
       asked = record { ticks = []; dispatches = []; last = Some call };
-      asks = subst (λ p. AsksAs p now (record { ticks = []; dispatches = []; last = Some call })) (sym is) (refl, refl, refl);
+      asks = subst (λ p. AsksAs p now (holds_nothing s && has_room) (record { ticks = []; dispatches = []; last = Some call })) (sym is) (refl, refl, refl);
       calls = k.calls;
       party = k.party;
       next = k.next;
@@ -213,7 +220,7 @@ own_progress_ends s t now producer first has_room c d stop is k =
     let call : Call = event_call Progress k.reply in
     record {
       asked = record { ticks = []; dispatches = []; last = Some call };
-      asks = subst (λ p. AsksAs p now (record { ticks = []; dispatches = []; last = Some call })) (sym is) (refl, refl, refl);
+      asks = subst (λ p. AsksAs p now (holds_nothing s && has_room) (record { ticks = []; dispatches = []; last = Some call })) (sym is) (refl, refl, refl);
       calls = k.calls;
       party = k.party;
       next = k.next;
@@ -226,7 +233,7 @@ own_progress_ends s t now producer first has_room c d stop is k =
 pub own_nothing : (s : Session) (now : ℕ) (has_room : Bool) (c : Option (List Call)) → s.party ≡ Admin → AsksOwn s now has_room c (Ok false) s c
 own_nothing s now has_room c is = record {
   asked = asked_nothing;
-  asks = subst (λ p. AsksAs p now asked_nothing) (sym is) refl;
+  asks = subst (λ p. AsksAs p now (holds_nothing s && has_room) asked_nothing) (sym is) refl;
   calls = tells_nothing _ c (λ x. refl);
   party = refl;
   next = refl;
@@ -240,15 +247,15 @@ pub other_dues : (s : Session) (dues : Dues) → Rests s (record s { dues = dues
 other_dues s dues = record { keeps = record { party = refl; next = refl; durable = refl }; unsent = refl }
 
 -- ticks and dispatches alone were asked
-pub own_both : (s t : Session) (now consumer : ℕ) (subscription : List ℕ) (has_room is_free : Bool) (c d : Option (List Call)) (result : Result Bool Stop) → s.party ≡ Consumer consumer subscription → Rests s t
+pub own_both : (s t : Session) (now consumer : ℕ) (subscription : List ℕ) (has_room is_free : Bool) (c d : Option (List Call)) (result : Result Bool Stop) → s.party ≡ Consumer consumer subscription → is_free ≡ (holds_nothing s && has_room) → Rests s t
     → (k : AsksBoth subscription now is_free c result d)
     → EndsAsking s.party s has_room (record { ticks = k.ticks; dispatches = k.dispatches; last = None }) (close_of_asked (record { ticks = k.ticks; dispatches = k.dispatches; last = None })) result
     → AsksOwn s now has_room c result t d
-own_both s t now consumer subscription has_room is_free c d result is rests k ends =
+own_both s t now consumer subscription has_room is_free c d result is free rests k ends =
     let asked : Asked = record { ticks = k.ticks; dispatches = k.dispatches; last = None } in
     record {
       asked = asked;
-      asks = subst (λ p. AsksAs p now asked) (sym is) (record { ticks = k.ticks_are; dispatches = k.dispatches_are; last = tt; ticks_first = k.ticks_first; dispatches_first = inl refl });
+      asks = subst (λ p. AsksAs p now (holds_nothing s && has_room) asked) (sym is) (record { ticks = k.ticks_are; dispatches = k.dispatches_are; last = tt; ticks_first = k.ticks_first; dispatches_first = inl refl; held = λ e. (k.held (free ∙ e), refl) });
       calls = k.tells;
       party = rests.keeps.party;
       next = rests.keeps.next;
@@ -261,7 +268,7 @@ own_both s t now consumer subscription has_room is_free c d result is rests k en
 pub own_held : (s t : Session) (now consumer : ℕ) (subscription : List ℕ) (has_room is_free : Bool) (c d : Option (List Call)) → s.party ≡ Consumer consumer subscription → is_free ≡ (holds_nothing s && has_room) → Rests s t
     → AsksBoth subscription now is_free c (Ok false) d → AsksOwn s now has_room c (Ok false) t d
 own_held s t now consumer subscription has_room is_free c d is free rests k =
-    own_both s t now consumer subscription has_room is_free c d (Ok false) is rests k ends
+    own_both s t now consumer subscription has_room is_free c d (Ok false) is free rests k ends
   where
     ends : EndsAsking s.party s has_room (record { ticks = k.ticks; dispatches = k.dispatches; last = None }) (close_of_asked (record { ticks = k.ticks; dispatches = k.dispatches; last = None })) (Ok false)
     ends = (
@@ -275,7 +282,7 @@ own_held s t now consumer subscription has_room is_free c d is free rests k =
 pub own_both_ends : (s t : Session) (now consumer : ℕ) (subscription : List ℕ) (has_room is_free : Bool) (c d : Option (List Call)) (stop : Stop) → s.party ≡ Consumer consumer subscription → is_free ≡ (holds_nothing s && has_room) → Rests s t
     → AsksBoth subscription now is_free c (Err stop) d → AsksOwn s now has_room c (Err stop) t d
 own_both_ends s t now consumer subscription has_room is_free c d stop is free rests k =
-    own_both s t now consumer subscription has_room is_free c d (Err stop) is rests k
+    own_both s t now consumer subscription has_room is_free c d (Err stop) is free rests k
     (subst (λ x. StopsSo (option_or (close_after k.ticks) x) stop) (sym (or_none (close_after k.dispatches))) k.ends)
 
 -- a consumer's session asked all
@@ -290,7 +297,7 @@ own_collected s u t now consumer subscription has_room is_free c d e stop result
     let nothing : unsent_of s ≡ [] = nothing_unsent s (both_true (holds_nothing s) has_room (sym free ∙ k.ends.0)).0 in
     record {
       asked = asked;
-      asks = subst (λ p. AsksAs p now asked) (sym is) (record { ticks = k.ticks_are; dispatches = k.dispatches_are; last = refl; ticks_first = k.ticks_first; dispatches_first = inr (k.ends.3, k.ends.4) });
+      asks = subst (λ p. AsksAs p now (holds_nothing s && has_room) asked) (sym is) (record { ticks = k.ticks_are; dispatches = k.dispatches_are; last = refl; ticks_first = k.ticks_first; dispatches_first = inr (k.ends.3, k.ends.4); held = λ e. absurd (is_not_free is_free k.ends.0 (free ∙ e)) });
       calls = tells_then _ _ _ c d e k.tells l.calls (λ x. refl);
       party = l.keeps.party ∙ rests.keeps.party;
       next = l.keeps.next ∙ rests.keeps.next;

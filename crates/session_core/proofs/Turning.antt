@@ -18,19 +18,22 @@ use Rattle.session_core.specs.Texts.{IsRoomy, answered, closed_by}
 use Rattle.session_core.specs.Asking.{Asked, AsksAll, AsksAs, asked_nothing, close_of_asked, copies_of, durable_after}
 use Rattle.session_core.specs.Sending.{Gone, IsBlocked, IsReady, IsSent}
 use Rattle.session_core.specs.Closing.{ServesOpen, StopsAtOnce}
-use Rattle.session_core.specs.Runs.{EndsWithClient, FailsAt, GoesOn, IsFull, ReceivesNoMore, close_of, is_free}
+use Rattle.session_core.specs.Runs.{EndsWithClient, FailsAt, GoesOn, HasReceived, IsFull, ReceivesNoMore, close_of, is_free}
 use Rattle.session_core.specs.Steps.{AsksOwn, EndsSending, EndsTextsBy, SendsReady, SendsSome, StopsSo, TakesAll, TakesTexts, may_send, received_with, sent_with, wanting_memory}
+use Rattle.session_core.proofs.Series.{both_true, nothing_unsent}
 use Rattle.session_core.proofs.Telling.{tells_nothing, tells_then}
 
 -- the turn of its parts
-abbrev pub turn_of : ℕ → ℕ → List Taken → Option Silence → Asked → List (List ℕ) → Bool → Bool → Option Stop → Turn
-turn_of now most taken silence asked sent is_open has_room stop = record {
+abbrev pub turn_of : ℕ → ℕ → List Taken → Option Silence → Asked → Bool → List (List ℕ) → List (List ℕ) → Bool → Bool → Option Stop → Turn
+turn_of now most taken silence asked was_free sent_first sent is_open has_room stop = record {
   now = now;
   most = most;
   taken = taken;
   silence = silence;
   asked = asked;
+  was_free = was_free;
   sent = sent;
+  sent_first = sent_first;
   is_open = is_open;
   has_room = has_room;
   stop = stop;
@@ -49,18 +52,18 @@ durable_grows (Consumer consumer subscription) durable last = omega arith
 durable_grows Admin durable last = omega arith
 
 -- A turn of texts, of what was sent, of what was asked, and of what was sent then.
-pub served : (s s1 s2 s3 s4 : Session) (now most : ℕ) (e e1 e2 e3 : Option Exchange) (c c1 c2 : Option (List Call)) (taken : List Taken) (silence : Option Silence) (asked : Asked) (stop : Option Stop) (is_open has_room : Bool)
+pub served : (s s1 s2 s3 s4 : Session) (now most : ℕ) (e e1 e2 e3 : Option Exchange) (c c1 c2 : Option (List Call)) (taken : List Taken) (silence : Option Silence) (asked : Asked) (was_free : Bool) (stop : Option Stop) (is_open has_room had_room : Bool)
     → (k : TakesAll s now taken silence e c s1 e1 c1) → length taken ≤ most
     → (first : SendsSome s1 e1 s2 e2)
-    → AsksAs s.party now asked → Tells (λ all. calls_of_asked all asked) c1 c2 → s3.party ≡ s2.party → s3.next ≡ s2.next
+    → AsksAs s.party now was_free asked → (was_free ≡ true → (unsent_of s2 ≡ []) × (had_room ≡ true)) → Tells (λ all. calls_of_asked all asked) c1 c2 → s3.party ≡ s2.party → s3.next ≡ s2.next
     → s3.durable ≡ durable_after s.party s2.durable asked.last → unsent_of s3 ≡ unsent_of s2 ++ copies_of s.party asked.last
     → (second : SendsSome s3 e2 s4 e3)
-    → (let t : Turn = turn_of now most taken silence asked (map (λ (g : Gone). g.text) (first.gone ++ second.gone)) is_open has_room stop in
-    ReceivesNoMore t (answered s.party now s.next (unsent_of s) taken) → ((closed_by taken ≡ None) ⊎ (asked ≡ asked_nothing)) → StopsAtOnce (close_of t) t
+    → (let t : Turn = turn_of now most taken silence asked was_free (map (λ (g : Gone). g.text) first.gone) (map (λ (g : Gone). g.text) (first.gone ++ second.gone)) is_open has_room stop in
+    ReceivesNoMore t (answered s.party now s.next (unsent_of s) taken) → ((closed_by taken ≡ None) ⊎ (asked ≡ asked_nothing)) → ((asked ≡ asked_nothing) ⊎ HasReceived t (answered s.party now s.next (unsent_of s) taken)) → StopsAtOnce (close_of t) t
     → (IsSome silence → IsRoomy (answered s.party now s.next (unsent_of s) taken)) → EndsWithClient t → FailsAt t s4.durable (unsent_of s4)
     → (stop ≡ None → GoesOn s.party t s4.durable (unsent_of s4)) → (stop ≡ None → is_open ≡ true) → ((close : Close) → stop ≡ Some (Closed close) → is_open ≡ true)
-    → ServesOpen s now most e c stop s4 e3 c2 is_open has_room)
-served s s1 s2 s3 s4 now most e e1 e2 e3 c c1 c2 taken silence asked stop is_open has_room k few first asks calls party next durable unsent second receives over stops silent lost fails goes stays can =
+    → ServesOpen s now most e c stop s4 e3 c2 is_open has_room e2 had_room)
+served s s1 s2 s3 s4 now most e e1 e2 e3 c c1 c2 taken silence asked was_free stop is_open has_room had_room k few first asks free calls party next durable unsent second receives over heard stops silent lost fails goes stays can =
     let at_first : s1.durable ≡ s.durable = k.keeps.durable in
     let at_second : s2.durable ≡ s.durable = first.keeps.durable ∙ at_first in
     let later : s3.durable ≡ durable_after s.party s.durable asked.last = durable ∙ ap (λ d. durable_after s.party d asked.last) at_second in
@@ -68,7 +71,7 @@ served s s1 s2 s3 s4 now most e e1 e2 e3 c c1 c2 taken silence asked stop is_ope
     let last : s4.durable ≡ s3.durable = second.keeps.durable in
     record {
       serves = record {
-        turn = turn_of now most taken silence asked (map (λ (g : Gone). g.text) (first.gone ++ second.gone)) is_open has_room stop;
+        turn = turn_of now most taken silence asked was_free (map (λ (g : Gone). g.text) first.gone) (map (λ (g : Gone). g.text) (first.gone ++ second.gone)) is_open has_room stop;
         is_now = refl;
         is_most = refl;
         is_stop = refl;
@@ -82,6 +85,19 @@ served s s1 s2 s3 s4 now most e e1 e2 e3 c c1 c2 taken silence asked stop is_ope
         receives = receives;
         asks = asks;
         is_over = over;
+        heard = heard;
+        first = record {
+          gone = first.gone;
+          texts = refl;
+          ready = subst (λ n. All (IsSent n) first.gone) at_first first.ready;
+          all = λ e. sym (append-nil (map (λ (g : Gone). g.item) first.gone)) ∙ ap (λ l. map (λ (g : Gone). g.item) first.gone ++ l) (sym (free e).0) ∙ first.parts ∙ k.unsent;
+          later = map (λ (g : Gone). g.text) second.gone;
+          parts = sym (map-append (λ (g : Gone). g.text) first.gone second.gone);
+        };
+        finds = record {
+          exchange = tells_then (received_with taken silence) (sent_with (map (λ (g : Gone). g.text) first.gone)) _ e e1 e2 k.exchange first.exchange (λ x. refl);
+          roomy = λ e. (free e).1;
+        };
         party = second.keeps.party ∙ party ∙ first.keeps.party ∙ k.keeps.party;
         next = second.keeps.next ∙ next ∙ first.keeps.next ∙ k.next;
         durable = last ∙ later;
@@ -120,10 +136,10 @@ sends_nothing s e = record {
 }
 
 -- nothing is asked of any party
-pub asks_nothing : (party : Party) (now : ℕ) → AsksAs party now asked_nothing
-asks_nothing (Producer producer first) now = (refl, refl, tt)
-asks_nothing (Consumer consumer subscription) now = record { ticks = tt; dispatches = tt; last = tt; ticks_first = inl refl; dispatches_first = inl refl }
-asks_nothing Admin now = refl
+pub asks_nothing : (party : Party) (now : ℕ) (is_free : Bool) → AsksAs party now is_free asked_nothing
+asks_nothing (Producer producer first) now is_free = (refl, refl, tt)
+asks_nothing (Consumer consumer subscription) now is_free = record { ticks = tt; dispatches = tt; last = tt; ticks_first = inl refl; dispatches_first = inl refl; held = λ e. (refl, refl) }
+asks_nothing Admin now is_free = refl
 
 pub durable_stays : (party : Party) (durable : ℕ) → durable ≡ durable_after party durable None
 durable_stays (Producer producer first) durable = refl
@@ -141,22 +157,22 @@ closed_is_open stop is_open (inl (left, o)) close e = absurd (cc)
 closed_is_open stop is_open (inr (wants, o)) close e = o
 
 -- The texts ended the turn.
-pub ends_with_texts : (s t : Session) (now most : ℕ) (e f : Option Exchange) (c d : Option (List Call)) (stop : Stop) (is_open has_room : Bool)
-    → TakesTexts s now most e c (Some stop) t f d is_open → ServesOpen s now most e c (Some stop) t f d is_open has_room
+pub ends_with_texts : (s t : Session) (now most : ℕ) (e f : Option Exchange) (c d : Option (List Call)) (stop : Stop) (is_open has_room had_room : Bool)
+    → TakesTexts s now most e c (Some stop) t f d is_open → ServesOpen s now most e c (Some stop) t f d is_open has_room f had_room
 unfolding sends_nothing
-ends_with_texts s t now most e f c d stop is_open has_room k =
-    served s t t t t now most e f f f c d d k.taken k.silence asked_nothing (Some stop) is_open has_room k.all k.at_most (sends_nothing t f) (asks_nothing s.party now) (tells_nothing _ d (λ x. refl)) refl refl
-    (durable_stays s.party t.durable) (no_copies s.party (unsent_of t)) (sends_nothing t f) (receives (closed_by k.taken) refl k.ends) (inr refl) (stops (closed_by k.taken) k.ends)
+ends_with_texts s t now most e f c d stop is_open has_room had_room k =
+    served s t t t t now most e f f f c d d k.taken k.silence asked_nothing false (Some stop) is_open has_room had_room k.all k.at_most (sends_nothing t f) (asks_nothing s.party now false) (λ e. absurd (cc)) (tells_nothing _ d (λ x. refl)) refl refl
+    (durable_stays s.party t.durable) (no_copies s.party (unsent_of t)) (sends_nothing t f) (receives (closed_by k.taken) refl k.ends) (inr refl) (inl refl) (stops (closed_by k.taken) k.ends)
     (λ some. subst IsRoomy k.all.unsent (k.silent some)) (λ e. (refl, refl, (k.gone e).0, (k.gone e).1)) (λ e. inl refl) (λ e. absurd (cc)) (λ e. absurd (cc)) (can (closed_by k.taken) k.ends)
   where
     receives : (close : Option Close) → closed_by k.taken ≡ close → EndsTextsBy close k.taken k.silence most (unsent_of t) (Some stop) is_open
-        → ReceivesNoMore (turn_of now most k.taken k.silence asked_nothing [] is_open has_room (Some stop)) (answered s.party now s.next (unsent_of s) k.taken)
+        → ReceivesNoMore (turn_of now most k.taken k.silence asked_nothing false [] [] is_open has_room (Some stop)) (answered s.party now s.next (unsent_of s) k.taken)
     receives None is (inl (none, o, why)) = absurd (cc)
     receives None is (inr (inl (left, o))) = inr (inr (inr (inr (inl o))))
     receives None is (inr (inr (wants, o))) = inr (inr (inr (inr (inr wants))))
     receives (Some close) is (closes, o) = inr (inl (ap is_some is))
 
-    stops : (close : Option Close) → EndsTextsBy close k.taken k.silence most (unsent_of t) (Some stop) is_open → StopsAtOnce (option_or close None) (turn_of now most k.taken k.silence asked_nothing [] is_open has_room (Some stop))
+    stops : (close : Option Close) → EndsTextsBy close k.taken k.silence most (unsent_of t) (Some stop) is_open → StopsAtOnce (option_or close None) (turn_of now most k.taken k.silence asked_nothing false [] [] is_open has_room (Some stop))
     stops None (inl (none, o, why)) = absurd (cc)
     stops None (inr (inl (left, o))) = inr (inl (left, o))
     stops None (inr (inr (wants, o))) = inr (inr wants)
@@ -184,6 +200,9 @@ pub received_so : (t : Turn) (unanswered unsent : List Unsent) → unsent ≡ un
 received_so t unanswered unsent is (inl some) = inl some
 received_so t unanswered unsent is (inr (inl all)) = inr (inr (inl all))
 received_so t unanswered unsent is (inr (inr full)) = inr (inr (inr (inl (subst IsFull is full))))
+
+pub has_received : (t : Turn) (unanswered unsent : List Unsent) → unsent ≡ unanswered → (IsSome t.silence ⊎ ((length t.taken ≡ t.most) ⊎ IsFull unsent)) → HasReceived t unanswered
+has_received t unanswered unsent is why = subst (HasReceived t) is why
 
 -- a sending that did not end the session
 pub sending_goes_on : (durable : ℕ) (left : List Unsent) (is_open has_room : Bool) → EndsSending durable left None is_open has_room → (is_open ≡ true) × (has_room ≡ true → IsBlocked durable left)
@@ -217,18 +236,22 @@ pub is_not_open : (is_open : Bool) → is_open ≡ true → is_open ≡ false �
 is_not_open is_open o f = cc
 
 -- The first sending ended the turn.
-pub ends_with_first : (s s1 t : Session) (now most : ℕ) (e e1 f : Option Exchange) (c d : Option (List Call)) (stop : Stop) (was is_open has_room : Bool)
-    → TakesTexts s now most e c None s1 e1 d was → SendsReady s1 e1 (Some stop) t f is_open has_room → ServesOpen s now most e c (Some stop) t f d is_open has_room
+pub ends_with_first : (s s1 t : Session) (now most : ℕ) (e e1 f : Option Exchange) (c d : Option (List Call)) (stop : Stop) (was is_open has_room had_room : Bool)
+    → TakesTexts s now most e c None s1 e1 d was → SendsReady s1 e1 (Some stop) t f is_open has_room → ServesOpen s now most e c (Some stop) t f d is_open has_room f had_room
 unfolding sends_nothing
-ends_with_first s s1 t now most e e1 f c d stop was is_open has_room k first =
+ends_with_first s s1 t now most e e1 f c d stop was is_open has_room had_room k first =
     let goes = texts_go_on (closed_by k.taken) k.taken k.silence most (unsent_of s1) was k.ends in
     let fails = sending_stops s1.durable (unsent_of t) stop is_open has_room first.ends in
-    let turn : Turn = turn_of now most k.taken k.silence asked_nothing (map (λ (g : Gone). g.text) (first.sends.gone ++ [])) is_open has_room (Some stop) in
-    served s s1 t t t now most e e1 f f c d d k.taken k.silence asked_nothing (Some stop) is_open has_room k.all k.at_most first.sends (asks_nothing s.party now) (tells_nothing _ d (λ x. refl)) refl refl
+    let turn : Turn = turn_of now most k.taken k.silence asked_nothing false (map (λ (g : Gone). g.text) first.sends.gone) (map (λ (g : Gone). g.text) (first.sends.gone ++ [])) is_open has_room (Some stop) in
+    served s s1 t t t now most e e1 f f c d d k.taken k.silence asked_nothing false (Some stop) is_open has_room had_room k.all k.at_most first.sends (asks_nothing s.party now false) (λ e. absurd (cc)) (tells_nothing _ d (λ x. refl)) refl refl
     (durable_stays s.party t.durable) (no_copies s.party (unsent_of t)) (sends_nothing t f)
-    (received_so turn (answered s.party now s.next (unsent_of s) k.taken) (unsent_of s1) k.all.unsent goes.2) (inl goes.0)
+    (received_so turn (answered s.party now s.next (unsent_of s) k.taken) (unsent_of s1) k.all.unsent goes.2) (inl goes.0) (inl refl)
     (subst (λ x. StopsAtOnce (option_or x None) turn) (sym goes.0) (stops_sending turn stop is_open refl refl fails))
     (λ some. subst IsRoomy k.all.unsent (k.silent some)) (λ e. absurd (goes_on_still k.silence was (k.gone e))) (λ e. inl refl) (λ e. absurd (cc)) (λ e. absurd (cc)) (closed_is_open stop is_open fails)
+
+-- a session that is free to send more has sent all, and its connection has room
+pub found_free : (s : Session) (room had_room : Bool) → room ≡ had_room → (holds_nothing s && room) ≡ true → (unsent_of s ≡ []) × (had_room ≡ true)
+found_free s room had_room same e = let k = both_true (holds_nothing s) room e in (nothing_unsent s k.0, sym same ∙ k.1)
 
 -- the asking closes the session, or wants memory
 pub stops_asking : (t : Turn) (close : Option Close) (stop : Stop) → t.stop ≡ Some stop → StopsSo close stop → StopsAtOnce close t
@@ -236,16 +259,17 @@ stops_asking t None stop is wants = inr (inr (is ∙ ap Some wants))
 stops_asking t (Some close) stop is closes = is ∙ ap Some closes
 
 -- The asking ended the turn.
-pub ends_with_asking : (s s1 s2 t : Session) (now most : ℕ) (e e1 f : Option Exchange) (c c1 d : Option (List Call)) (stop : Stop) (was is_open has_room room : Bool)
-    → TakesTexts s now most e c None s1 e1 c1 was → SendsReady s1 e1 None s2 f is_open has_room → AsksOwn s2 now room c1 (Err stop) t d → ServesOpen s now most e c (Some stop) t f d is_open has_room
+pub ends_with_asking : (s s1 s2 t : Session) (now most : ℕ) (e e1 f : Option Exchange) (c c1 d : Option (List Call)) (stop : Stop) (was is_open has_room room : Bool) → room ≡ has_room
+    → TakesTexts s now most e c None s1 e1 c1 was → SendsReady s1 e1 None s2 f is_open has_room → AsksOwn s2 now room c1 (Err stop) t d → ServesOpen s now most e c (Some stop) t f d is_open has_room f has_room
 unfolding sends_nothing
-ends_with_asking s s1 s2 t now most e e1 f c c1 d stop was is_open has_room room k first own =
+ends_with_asking s s1 s2 t now most e e1 f c c1 d stop was is_open has_room room same k first own =
     let goes = texts_go_on (closed_by k.taken) k.taken k.silence most (unsent_of s1) was k.ends in
     let party : s2.party ≡ s.party = first.sends.keeps.party ∙ k.all.keeps.party in
-    let turn : Turn = turn_of now most k.taken k.silence own.asked (map (λ (g : Gone). g.text) (first.sends.gone ++ [])) is_open has_room (Some stop) in
-    served s s1 s2 t t now most e e1 f f c c1 d k.taken k.silence own.asked (Some stop) is_open has_room k.all k.at_most first.sends (subst (λ p. AsksAs p now own.asked) party own.asks) own.calls own.party own.next
+    let was_free : Bool = holds_nothing s2 && room in
+    let turn : Turn = turn_of now most k.taken k.silence own.asked was_free (map (λ (g : Gone). g.text) first.sends.gone) (map (λ (g : Gone). g.text) (first.sends.gone ++ [])) is_open has_room (Some stop) in
+    served s s1 s2 t t now most e e1 f f c c1 d k.taken k.silence own.asked was_free (Some stop) is_open has_room has_room k.all k.at_most first.sends (subst (λ p. AsksAs p now was_free own.asked) party own.asks) (found_free s2 room has_room same) own.calls own.party own.next
     (subst (λ p. t.durable ≡ durable_after p s2.durable own.asked.last) party own.durable) (subst (λ p. unsent_of t ≡ unsent_of s2 ++ copies_of p own.asked.last) party own.unsent) (sends_nothing t f)
-    (received_so turn (answered s.party now s.next (unsent_of s) k.taken) (unsent_of s1) k.all.unsent goes.2) (inl goes.0)
+    (received_so turn (answered s.party now s.next (unsent_of s) k.taken) (unsent_of s1) k.all.unsent goes.2) (inl goes.0) (inr (has_received turn (answered s.party now s.next (unsent_of s) k.taken) (unsent_of s1) k.all.unsent goes.2))
     (subst (λ x. StopsAtOnce (option_or x (close_of_asked own.asked)) turn) (sym goes.0) (stops_asking turn (close_of_asked own.asked) stop refl own.ends))
     (λ some. subst IsRoomy k.all.unsent (k.silent some)) (λ e. absurd (goes_on_still k.silence was (k.gone e))) (λ e. absurd (is_not_open is_open (sends_open s1 s2 e1 f is_open has_room first) e)) (λ e. absurd (cc)) (λ e. absurd (cc)) (λ close e. sends_open s1 s2 e1 f is_open has_room first)
 
@@ -257,29 +281,31 @@ asks_less (Consumer consumer subscription) asked false all = all.0
 asks_less Admin asked b all = tt
 
 -- The turn went on to its second sending.
-pub goes_on_sent : (s s1 s2 s3 t : Session) (now most : ℕ) (e e1 e2 f : Option Exchange) (c c1 d : Option (List Call)) (stop : Option Stop) (was open1 room1 room is_open has_room : Bool)
+pub goes_on_sent : (s s1 s2 s3 t : Session) (now most : ℕ) (e e1 e2 f : Option Exchange) (c c1 d : Option (List Call)) (stop : Option Stop) (was open1 room1 room is_open has_room : Bool) → room ≡ room1
     → TakesTexts s now most e c None s1 e1 c1 was → SendsReady s1 e1 None s2 e2 open1 room1 → AsksOwn s2 now room c1 (Ok true) s3 d → SendsReady s3 e2 stop t f is_open has_room
-    → ServesOpen s now most e c stop t f d is_open has_room
-goes_on_sent s s1 s2 s3 t now most e e1 e2 f c c1 d None was open1 room1 room is_open has_room k first own second =
+    → ServesOpen s now most e c stop t f d is_open has_room e2 room1
+goes_on_sent s s1 s2 s3 t now most e e1 e2 f c c1 d None was open1 room1 room is_open has_room same k first own second =
     let goes = texts_go_on (closed_by k.taken) k.taken k.silence most (unsent_of s1) was k.ends in
     let on = sending_goes_on s3.durable (unsent_of t) is_open has_room second.ends in
     let party : s2.party ≡ s.party = first.sends.keeps.party ∙ k.all.keeps.party in
-    let turn : Turn = turn_of now most k.taken k.silence own.asked (map (λ (g : Gone). g.text) (first.sends.gone ++ second.sends.gone)) is_open has_room None in
-    served s s1 s2 s3 t now most e e1 e2 f c c1 d k.taken k.silence own.asked None is_open has_room k.all k.at_most first.sends (subst (λ p. AsksAs p now own.asked) party own.asks) own.calls own.party own.next
+    let was_free : Bool = holds_nothing s2 && room in
+    let turn : Turn = turn_of now most k.taken k.silence own.asked was_free (map (λ (g : Gone). g.text) first.sends.gone) (map (λ (g : Gone). g.text) (first.sends.gone ++ second.sends.gone)) is_open has_room None in
+    served s s1 s2 s3 t now most e e1 e2 f c c1 d k.taken k.silence own.asked was_free None is_open has_room room1 k.all k.at_most first.sends (subst (λ p. AsksAs p now was_free own.asked) party own.asks) (found_free s2 room room1 same) own.calls own.party own.next
     (subst (λ p. s3.durable ≡ durable_after p s2.durable own.asked.last) party own.durable) (subst (λ p. unsent_of s3 ≡ unsent_of s2 ++ copies_of p own.asked.last) party own.unsent) second.sends
-    (received_so turn (answered s.party now s.next (unsent_of s) k.taken) (unsent_of s1) k.all.unsent goes.2) (inl goes.0)
+    (received_so turn (answered s.party now s.next (unsent_of s) k.taken) (unsent_of s1) k.all.unsent goes.2) (inl goes.0) (inr (has_received turn (answered s.party now s.next (unsent_of s) k.taken) (unsent_of s1) k.all.unsent goes.2))
     (subst (λ x. StopsAtOnce (option_or x (close_of_asked own.asked)) turn) (sym goes.0) (subst (λ x. StopsAtOnce x turn) (sym own.ends.0) (inl refl)))
     (λ some. subst IsRoomy k.all.unsent (k.silent some)) (λ e. absurd (goes_on_still k.silence was (k.gone e))) (λ e. absurd (is_not_open is_open on.0 e))
     (λ none. (asks_less s.party own.asked (is_free turn (unsent_of t)) (subst (λ p. AsksAll p true own.asked) party own.ends.2), λ room. subst (λ d. IsBlocked d (unsent_of t)) (sym second.sends.keeps.durable) (on.1 room)))
     (λ e. on.0) (λ close e. absurd (cc))
-goes_on_sent s s1 s2 s3 t now most e e1 e2 f c c1 d (Some stop) was open1 room1 room is_open has_room k first own second =
+goes_on_sent s s1 s2 s3 t now most e e1 e2 f c c1 d (Some stop) was open1 room1 room is_open has_room same k first own second =
     let goes = texts_go_on (closed_by k.taken) k.taken k.silence most (unsent_of s1) was k.ends in
     let fails = sending_stops s3.durable (unsent_of t) stop is_open has_room second.ends in
     let party : s2.party ≡ s.party = first.sends.keeps.party ∙ k.all.keeps.party in
-    let turn : Turn = turn_of now most k.taken k.silence own.asked (map (λ (g : Gone). g.text) (first.sends.gone ++ second.sends.gone)) is_open has_room (Some stop) in
-    served s s1 s2 s3 t now most e e1 e2 f c c1 d k.taken k.silence own.asked (Some stop) is_open has_room k.all k.at_most first.sends (subst (λ p. AsksAs p now own.asked) party own.asks) own.calls own.party own.next
+    let was_free : Bool = holds_nothing s2 && room in
+    let turn : Turn = turn_of now most k.taken k.silence own.asked was_free (map (λ (g : Gone). g.text) first.sends.gone) (map (λ (g : Gone). g.text) (first.sends.gone ++ second.sends.gone)) is_open has_room (Some stop) in
+    served s s1 s2 s3 t now most e e1 e2 f c c1 d k.taken k.silence own.asked was_free (Some stop) is_open has_room room1 k.all k.at_most first.sends (subst (λ p. AsksAs p now was_free own.asked) party own.asks) (found_free s2 room room1 same) own.calls own.party own.next
     (subst (λ p. s3.durable ≡ durable_after p s2.durable own.asked.last) party own.durable) (subst (λ p. unsent_of s3 ≡ unsent_of s2 ++ copies_of p own.asked.last) party own.unsent) second.sends
-    (received_so turn (answered s.party now s.next (unsent_of s) k.taken) (unsent_of s1) k.all.unsent goes.2) (inl goes.0)
+    (received_so turn (answered s.party now s.next (unsent_of s) k.taken) (unsent_of s1) k.all.unsent goes.2) (inl goes.0) (inr (has_received turn (answered s.party now s.next (unsent_of s) k.taken) (unsent_of s1) k.all.unsent goes.2))
     (subst (λ x. StopsAtOnce (option_or x (close_of_asked own.asked)) turn) (sym goes.0) (subst (λ x. StopsAtOnce x turn) (sym own.ends.0) (stops_sending turn stop is_open refl refl fails)))
     (λ some. subst IsRoomy k.all.unsent (k.silent some)) (λ e. absurd (goes_on_still k.silence was (k.gone e)))
     (λ e. inr (subst (λ n. IsReady n (unsent_of t)) (sym second.sends.keeps.durable) (sending_left s3.durable (unsent_of t) stop is_open has_room second.ends)))
@@ -311,19 +337,20 @@ asks_held Admin s t room may is all = tt
 
 -- The turn ended with its asking.
 pub goes_on_held : (s s1 s2 t : Session) (now most : ℕ) (e e1 f : Option Exchange) (c c1 d : Option (List Call)) (was is_open has_room room : Bool) → room ≡ has_room
-    → TakesTexts s now most e c None s1 e1 c1 was → SendsReady s1 e1 None s2 f is_open has_room → AsksOwn s2 now room c1 (Ok false) t d → ServesOpen s now most e c None t f d is_open has_room
+    → TakesTexts s now most e c None s1 e1 c1 was → SendsReady s1 e1 None s2 f is_open has_room → AsksOwn s2 now room c1 (Ok false) t d → ServesOpen s now most e c None t f d is_open has_room f has_room
 unfolding sends_nothing
 goes_on_held s s1 s2 t now most e e1 f c c1 d was is_open has_room room same k first own =
     let goes = texts_go_on (closed_by k.taken) k.taken k.silence most (unsent_of s1) was k.ends in
     let on = sending_goes_on s1.durable (unsent_of s2) is_open has_room first.ends in
     let party : s2.party ≡ s.party = first.sends.keeps.party ∙ k.all.keeps.party in
-    let turn : Turn = turn_of now most k.taken k.silence own.asked (map (λ (g : Gone). g.text) (first.sends.gone ++ [])) is_open has_room None in
+    let was_free : Bool = holds_nothing s2 && room in
+    let turn : Turn = turn_of now most k.taken k.silence own.asked was_free (map (λ (g : Gone). g.text) first.sends.gone) (map (λ (g : Gone). g.text) (first.sends.gone ++ [])) is_open has_room None in
     let none : own.asked.last ≡ None = no_last own.ends.3 in
     let unsent : unsent_of t ≡ unsent_of s2 = own.unsent ∙ ap (λ l. unsent_of s2 ++ copies_of s2.party l) none ∙ sym (no_copies s2.party (unsent_of s2)) in
     let durable : t.durable ≡ s1.durable = own.durable ∙ ap (durable_after s2.party s2.durable) none ∙ sym (durable_stays s2.party s2.durable) ∙ first.sends.keeps.durable in
-    served s s1 s2 t t now most e e1 f f c c1 d k.taken k.silence own.asked None is_open has_room k.all k.at_most first.sends (subst (λ p. AsksAs p now own.asked) party own.asks) own.calls own.party own.next
+    served s s1 s2 t t now most e e1 f f c c1 d k.taken k.silence own.asked was_free None is_open has_room has_room k.all k.at_most first.sends (subst (λ p. AsksAs p now was_free own.asked) party own.asks) (found_free s2 room has_room same) own.calls own.party own.next
     (subst (λ p. t.durable ≡ durable_after p s2.durable own.asked.last) party own.durable) (subst (λ p. unsent_of t ≡ unsent_of s2 ++ copies_of p own.asked.last) party own.unsent) (sends_nothing t f)
-    (received_so turn (answered s.party now s.next (unsent_of s) k.taken) (unsent_of s1) k.all.unsent goes.2) (inl goes.0)
+    (received_so turn (answered s.party now s.next (unsent_of s) k.taken) (unsent_of s1) k.all.unsent goes.2) (inl goes.0) (inr (has_received turn (answered s.party now s.next (unsent_of s) k.taken) (unsent_of s1) k.all.unsent goes.2))
     (subst (λ x. StopsAtOnce (option_or x (close_of_asked own.asked)) turn) (sym goes.0) (subst (λ x. StopsAtOnce x turn) (sym own.ends.0) (inl refl)))
     (λ some. subst IsRoomy k.all.unsent (k.silent some)) (λ e. absurd (goes_on_still k.silence was (k.gone e))) (λ e. absurd (is_not_open is_open on.0 e))
     (λ going. (

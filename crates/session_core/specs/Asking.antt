@@ -56,22 +56,24 @@ abbrev pub asked_nothing : Asked
 asked_nothing = record { ticks = []; dispatches = []; last = None }
 
 -- A consumer's session asks for ticks until nothing is due, then for dispatches until nobody can be served, then for what it
--- was sent itself. A session that ends may have asked for a beginning of this.
-pub record ConsumerAsks (consumer : ℕ) (subscription : List ℕ) (now : ℕ) (asked : Asked) : Type 0 where
+-- was sent itself. A session that ends may have asked for a beginning of this. One that is not free to send more asks for ticks alone:
+-- nothing is dispatched to it, and it collects nothing.
+pub record ConsumerAsks (consumer : ℕ) (subscription : List ℕ) (now : ℕ) (is_free : Bool) (asked : Asked) : Type 0 where
   pub ticks : IsSeries (Tick subscription now) asked.ticks
   pub dispatches : IsSeries (Dispatch subscription now) asked.dispatches
   pub last : IfSome asked.last (λ call. call.request ≡ OfEvent (Collect consumer))
   -- in this order, and nothing after what closes the session
   pub ticks_first : (asked.dispatches ≡ []) ⊎ (IsWhole asked.ticks × (close_after asked.ticks ≡ None))
   pub dispatches_first : (asked.last ≡ None) ⊎ (IsWhole asked.dispatches × (close_after asked.dispatches ≡ None))
+  pub held : is_free ≡ false → (asked.dispatches ≡ []) × (asked.last ≡ None)
 
--- what the party's session asks
-abbrev pub AsksAs : Party → ℕ → Asked → Type 0
-AsksAs (Producer producer first) now asked = (asked.ticks ≡ []) × (asked.dispatches ≡ []) × IfSome asked.last (λ call. call.request ≡ OfEvent Progress)
-AsksAs (Consumer consumer subscription) now asked = ConsumerAsks consumer subscription now asked
-AsksAs Admin now asked = asked ≡ asked_nothing
+-- what the party's session asks, where it is free to send more, or is not
+abbrev pub AsksAs : Party → ℕ → Bool → Asked → Type 0
+AsksAs (Producer producer first) now is_free asked = (asked.ticks ≡ []) × (asked.dispatches ≡ []) × IfSome asked.last (λ call. call.request ≡ OfEvent Progress)
+AsksAs (Consumer consumer subscription) now is_free asked = ConsumerAsks consumer subscription now is_free asked
+AsksAs Admin now is_free asked = asked ≡ asked_nothing
 
--- all that it asks in a turn that goes on; a consumer's asks for dispatches and copies only while it is free to send them
+-- all that it asks in a turn that goes on; a consumer's asks for dispatches and copies where it is free to send them, and only there
 abbrev pub AsksAll : Party → Bool → Asked → Type 0
 AsksAll (Producer producer first) is_free asked = IsSome asked.last
 AsksAll (Consumer consumer subscription) false asked = IsWhole asked.ticks

@@ -29,13 +29,13 @@ abbrev pub StopsAtOnce : Option Close → Turn → Type 0
 StopsAtOnce (Some close) t = t.stop ≡ Some (Closed close)
 StopsAtOnce None t = StopsItself t
 
--- a turn but for what is sent before a close
-pub record ServesOpen (s : Session) (now most : ℕ) (e : Option Exchange) (c : Option (List Call)) (stop : Option Stop) (t : Session) (f : Option Exchange) (d : Option (List Call)) (is_open has_room : Bool) : Type 0 where
-  pub serves : Serves s now most e c stop t f d is_open has_room
+-- a turn but for what is sent before a close; what the connection had told when the session asked, and whether it had room then
+pub record ServesOpen (s : Session) (now most : ℕ) (e : Option Exchange) (c : Option (List Call)) (stop : Option Stop) (t : Session) (f : Option Exchange) (d : Option (List Call)) (is_open has_room : Bool) (told : Option Exchange) (had_room : Bool) : Type 0 where
+  pub serves : Serves s now most e c stop t f d is_open has_room told had_room
   pub stops : StopsAtOnce (close_of serves.turn) serves.turn
 
 -- a turn, with what is sent before a close
-pub record ServesLast (s : Session) (now most : ℕ) (e : Option Exchange) (c : Option (List Call)) (stop : Option Stop) (t : Session) (f : Option Exchange) (d : Option (List Call)) (is_open has_room : Bool) : Type 0 where
-  pub serves : Serves s now most e c stop t f d is_open has_room
+pub record ServesLast (s : Session) (now most : ℕ) (e : Option Exchange) (c : Option (List Call)) (stop : Option Stop) (t : Session) (f : Option Exchange) (d : Option (List Call)) (is_open has_room : Bool) (told : Option Exchange) (had_room : Bool) : Type 0 where
+  pub serves : Serves s now most e c stop t f d is_open has_room told had_room
   pub stops : StopsBy (close_of serves.turn) serves.turn t.durable (unsent_of t)
   pub closes : SendsBeforeClose serves.turn t.durable (unsent_of t)

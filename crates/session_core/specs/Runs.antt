@@ -11,7 +11,7 @@ use Rattle.session_texts.specs.Outcomes.{farewell_of, first_of}
 use Rattle.session_texts.specs.Unsent.{Unsent, is_answer}
 use Rattle.session_core.specs.declared.stop.Stop.{Stop}
 use Rattle.session_core.specs.declared.stop.Stop.TheVariants.{Gone, Closed}
-use Rattle.session_core.specs.Turns.{Turn, ended, called, exchanged, without_stop}
+use Rattle.session_core.specs.Turns.{Turn, ended, called, exchanged, until_asking, without_stop}
 use Rattle.session_core.specs.Texts.{AreFew, AreTaken, IsRoomy, answered, closed_by, next_after}
 use Rattle.session_core.specs.Asking.{AsksAll, AsksAs, asked_nothing, close_of_asked, copies_of, durable_after}
 use Rattle.session_core.specs.Sending.{IsBlocked, IsReady, Sends}
@@ -47,6 +47,10 @@ IsFull left = 1000 ≤ count_by is_answer left
 abbrev pub ReceivesNoMore : Turn → List Unsent → Type 0
 ReceivesNoMore t unanswered =
     IsSome t.silence ⊎ (IsSome (closed_by t.taken) ⊎ ((length t.taken ≡ t.most) ⊎ (IsFull unanswered ⊎ ((t.is_open ≡ false) ⊎ (t.stop ≡ Some (Closed (refusing NoMemory)))))))
+
+-- it received all that it should: nothing more came, it took as many as it should, or too many are not answered
+abbrev pub HasReceived : Turn → List Unsent → Type 0
+HasReceived t unanswered = IsSome t.silence ⊎ ((length t.taken ≡ t.most) ⊎ IsFull unanswered)
 
 -- the close that the turn's texts or calls lead to
 abbrev pub close_of : Turn → Option Close
@@ -95,7 +99,12 @@ SendsBeforeClose t durable left =
 abbrev pub EndsWithClient : Turn → Type 0
 EndsWithClient t = t.silence ≡ Some ended → (t.asked ≡ asked_nothing) × (t.sent ≡ []) × (t.stop ≡ Some Gone) × (t.is_open ≡ false)
 
--- a connection that fails did so before anything was asked, or in the sending of what is left
+-- all that there was to be sent after the texts of the turn was sent before it asked
+abbrev pub HasSentAll : Party → List Turn → Turn → Type 0
+HasSentAll party before t =
+    Sends (durable_of party before) (answered party t.now (next_of party before) (all_of party before) t.taken) (sent_of before ++ t.sent_first) []
+
+-- a connection that fails did so before anything was asked, or with something left that is ready to be sent
 abbrev pub FailsAt : Turn → ℕ → List Unsent → Type 0
 FailsAt t durable left = t.is_open ≡ false → (t.asked ≡ asked_nothing) ⊎ IsReady durable left
 
@@ -110,9 +119,14 @@ pub record IsTurn (party : Party) (before : List Turn) (t : Turn) : Type 0 where
   pub few : AreFew party t.now (next_of party before) held t.taken
   pub silent : IsSome t.silence → IsRoomy (answered party t.now (next_of party before) held t.taken)
   pub receives : ReceivesNoMore t (answered party t.now (next_of party before) held t.taken)
-  -- what it asks of its own accord
-  pub asks : AsksAs party t.now t.asked
+  -- what it asks of its own accord, once it has received all that it should; where its connection failed in the receiving, nothing
+  pub asks : AsksAs party t.now t.was_free t.asked
   pub is_over : (closed_by t.taken ≡ None) ⊎ (t.asked ≡ asked_nothing)
+  pub heard : (t.asked ≡ asked_nothing) ⊎ HasReceived t (answered party t.now (next_of party before) held t.taken)
+  -- free to send more then is only one that has sent all (and whose connection has room: `Finds`)
+  pub free : t.was_free ≡ true → HasSentAll party before t
+  pub sent_then : List (List ℕ)
+  pub sent_parts : t.sent_first ++ sent_then ≡ t.sent
   -- what it sends
   pub left : List Unsent
   pub sends : Sends (durable_of party (t ∷ before)) (all_of party (t ∷ before)) (sent_of (t ∷ before)) left
@@ -159,3 +173,9 @@ pub record Leaves (t : Turn) (e f : Option Exchange) (is_open has_room : Bool) :
   pub exchange : Tells (exchanged (without_stop t)) e f
   pub opens : t.is_open ≡ is_open
   pub roomy : t.has_room ≡ has_room
+
+-- How a turn found its connection when it asked: what the connection told by then, and that it had room, where the session was free to
+-- send more.
+pub record Finds (t : Turn) (e f : Option Exchange) (has_room : Bool) : Type 0 where
+  pub exchange : Tells (exchanged (until_asking t)) e f
+  pub roomy : t.was_free ≡ true → has_room ≡ true

@@ -27,7 +27,7 @@ use Rattle.session_core.specs.Turns.{Silence, ended, Taken, Turn, receipt_of_sil
 use Rattle.session_core.specs.Texts.{AreFew, AreTaken, IsRoomy, IsTakenAs, IsUnread, answer_in, answer_to, answered, close_in, closed_by, next_after, number_after_call}
 use Rattle.session_core.specs.Asking.{AllLeftMore, Asked, AsksAll, AsksAs, IsSeries, IsWhole, asked_nothing, close_after, close_of_asked, copies_in, copies_of, durable_after, durable_in, leaves_more}
 use Rattle.session_core.specs.Sending.{Gone, IsBlocked, IsReady, IsSent}
-use Rattle.session_core.specs.Runs.{EndsWithClient, FailsAt, GoesOn, IsFull, ReceivesNoMore}
+use Rattle.session_core.specs.Runs.{EndsWithClient, FailsAt, Finds, GoesOn, HasReceived, IsFull, ReceivesNoMore}
 use Rattle.session_core.specs.Held.{holds_nothing, unsent_of}
 
 -- memory is wanted
@@ -176,6 +176,7 @@ pub record AsksBoth (subscription : List ℕ) (now : ℕ) (is_free : Bool) (c : 
   pub dispatches_are : IsSeries (Dispatch subscription now) dispatches
   pub tells : Tells (λ all. and_then (and_then all ticks) dispatches) c d
   pub ticks_first : (dispatches ≡ []) ⊎ (IsWhole ticks × (close_after ticks ≡ None))
+  pub held : is_free ≡ false → dispatches ≡ []
   pub ends : EndsBoth is_free ticks dispatches result
 
 -- whether a session that asked all may have more to send
@@ -193,7 +194,7 @@ EndsAsking party s has_room asked close (Err stop) = StopsSo close stop
 -- what the session asks of its own accord was asked
 pub record AsksOwn (s : Session) (now : ℕ) (has_room : Bool) (c : Option (List Call)) (result : Result Bool Stop) (t : Session) (d : Option (List Call)) : Type 0 where
   pub asked : Asked
-  pub asks : AsksAs s.party now asked
+  pub asks : AsksAs s.party now (holds_nothing s && has_room) asked
   pub calls : Tells (λ all. calls_of_asked all asked) c d
   pub party : t.party ≡ s.party
   pub next : t.next ≡ s.next
@@ -231,8 +232,17 @@ pub record SendsReady (s : Session) (e : Option Exchange) (stop : Option Stop) (
   pub sends : SendsSome s e t f
   pub ends : EndsSending s.durable (unsent_of t) stop is_open has_room
 
--- a turn but for its end, and for why it stops
-pub record Serves (s : Session) (now most : ℕ) (e : Option Exchange) (c : Option (List Call)) (stop : Option Stop) (t : Session) (f : Option Exchange) (d : Option (List Call)) (is_open has_room : Bool) : Type 0 where
+-- what was sent before the session asked: all that there was, where it was free to send more
+pub record SendsFirst (durable : ℕ) (unsent : List Unsent) (t : Turn) : Type 0 where
+  pub gone : List Gone
+  pub texts : map (λ (g : Gone). g.text) gone ≡ t.sent_first
+  pub ready : All (IsSent durable) gone
+  pub all : t.was_free ≡ true → map (λ (g : Gone). g.item) gone ≡ unsent
+  pub later : List (List ℕ)
+  pub parts : t.sent_first ++ later ≡ t.sent
+
+-- a turn but for its end, and for why it stops; what the connection had told when the session asked, and whether it had room then
+pub record Serves (s : Session) (now most : ℕ) (e : Option Exchange) (c : Option (List Call)) (stop : Option Stop) (t : Session) (f : Option Exchange) (d : Option (List Call)) (is_open has_room : Bool) (told : Option Exchange) (had_room : Bool) : Type 0 where
   pub turn : Turn
   pub is_now : turn.now ≡ now
   pub is_most : turn.most ≡ most
@@ -245,8 +255,11 @@ pub record Serves (s : Session) (now most : ℕ) (e : Option Exchange) (c : Opti
   pub few : AreFew s.party now s.next (unsent_of s) turn.taken
   pub silent : IsSome turn.silence → IsRoomy (answered s.party now s.next (unsent_of s) turn.taken)
   pub receives : ReceivesNoMore turn (answered s.party now s.next (unsent_of s) turn.taken)
-  pub asks : AsksAs s.party now turn.asked
+  pub asks : AsksAs s.party now turn.was_free turn.asked
   pub is_over : (closed_by turn.taken ≡ None) ⊎ (turn.asked ≡ asked_nothing)
+  pub heard : (turn.asked ≡ asked_nothing) ⊎ HasReceived turn (answered s.party now s.next (unsent_of s) turn.taken)
+  pub first : SendsFirst s.durable (answered s.party now s.next (unsent_of s) turn.taken) turn
+  pub finds : Finds turn e told had_room
   pub party : t.party ≡ s.party
   pub next : t.next ≡ next_after s.next turn.taken
   pub durable : t.durable ≡ durable_after s.party s.durable turn.asked.last

@@ -33,10 +33,12 @@ pub record Turn : Type 0 where
   pub taken : List Taken
   -- what came that was no text
   pub silence : Option Silence
-  -- what the session asked of its own accord
+  -- what the session asked of its own accord, and whether it was free to send more then
   pub asked : Asked
-  -- what was sent, in order
+  pub was_free : Bool
+  -- what was sent, in order, and what of it before the session asked
   pub sent : List (List ℕ)
+  pub sent_first : List (List ℕ)
   -- whether the connection may be called afterwards, and whether it has room
   pub is_open : Bool
   pub has_room : Bool
@@ -81,6 +83,10 @@ closed (Some (Closed close)) closes = closes ++ (record { code = close.code; rea
 -- without its stop, a turn tells the connection nothing of a close
 abbrev pub without_stop : Turn → Turn
 without_stop t = record t { stop = None }
+
+-- a turn as far as its asking
+abbrev pub until_asking : Turn → Turn
+until_asking t = record t { sent = t.sent_first; stop = None }
 
 -- what the connection was told, and what the turn told it
 abbrev pub exchanged : Turn → Exchange → Exchange

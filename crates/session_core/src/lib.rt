@@ -4,6 +4,7 @@
 
 mod asking;
 mod dues;
+mod ending;
 pub mod laws;
 mod opening;
 mod sending;

@@ -44,6 +44,7 @@ impl Session {
     fn send_copy<C: Conn>(&mut self, conn: &mut C) -> Result<(), Stop>
         requires some { has_copies self.old ≡ true }
         requires open { C.is_open conn.old ≡ true }
+        requires room { C.has_room conn.old ≡ true }
         ensures { SendsOne self.old (C.exchange conn.old) (C.has_room conn.old) (result_err result) self.new (C.exchange conn.new) (C.is_open conn.new) (C.has_room conn.new) }
     {
         let delivery = &self.copies.as_slice()[self.copies_sent];
@@ -65,6 +66,7 @@ impl Session {
         requires none { has_copies self.old ≡ false }
         requires ready { is_ready self.old ≡ true }
         requires open { C.is_open conn.old ≡ true }
+        requires room { C.has_room conn.old ≡ true }
         ensures { SendsOne self.old (C.exchange conn.old) (C.has_room conn.old) (result_err result) self.new (C.exchange conn.new) (C.is_open conn.new) (C.has_room conn.new) }
     {
         match self.waiting.front() {
@@ -86,6 +88,7 @@ impl Session {
     fn send_next<C: Conn>(&mut self, conn: &mut C) -> Result<(), Stop>
         requires some { can_send self.old ≡ true }
         requires open { C.is_open conn.old ≡ true }
+        requires room { C.has_room conn.old ≡ true }
         ensures { SendsOne self.old (C.exchange conn.old) (C.has_room conn.old) (result_err result) self.new (C.exchange conn.new) (C.is_open conn.new) (C.has_room conn.new) }
     {
         if self.has_copies() {

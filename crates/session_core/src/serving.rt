@@ -3,16 +3,16 @@ ghost use Rattle.std.specs.Prelude.{◌≡◌, List, OnSome, true, false};
 ghost use Rattle.std.specs.Result.{result_err};
 ghost use Rattle.session_core.specs.Closing.{SendsLast, ServesOpen};
 ghost use Rattle.session_core.specs.Lives.{KeepsLife};
-ghost use Rattle.session_core.specs.Runs.{IsServed, IsSession, Leaves};
-ghost use Rattle.session_core.specs.Steps.{CanClose, ClosesBy, SaysLast};
+ghost use Rattle.session_core.specs.Runs.{Finds, IsServed, IsSession, Leaves};
+ghost use Rattle.session_core.specs.Steps.{CanClose, SaysLast};
 ghost use Rattle.session_core.specs.Turns.{Turn};
 
+use crate::ending::{close_conn, say_last};
 use crate::session::Session;
 use crate::stop::Stop;
 use delivery_machine::Moment;
 use position_core::Bounded;
-use session_links::{Caller, Conn, ask};
-use session_texts::{Party, reason};
+use session_links::{Caller, Conn};
 
 /// How many texts a turn takes at most.
 pub type TextCount = Bounded<1, 64>;
@@ -27,7 +27,7 @@ impl Session {
         most: u32,
     ) -> Result<(), Stop>
         requires { C.is_open conn.old ≡ true }
-        ensures { ServesOpen self.old now most (C.exchange conn.old) (K.calls caller.old) (result_err result) self.new (C.exchange conn.new) (K.calls caller.new) (C.is_open conn.new) (C.has_room conn.new) }
+        ensures { (asking : C) × ServesOpen self.old now most (C.exchange conn.old) (K.calls caller.old) (result_err result) self.new (C.exchange conn.new) (K.calls caller.new) (C.is_open conn.new) (C.has_room conn.new) (C.exchange asking) (C.has_room asking) }
     {
         match self.take_texts(conn, caller, now, most) {
             Ok(()) => {}
@@ -60,34 +60,12 @@ impl Session {
     }
 }
 
-/// Closes the connection, where there is a reason to.
-fn close_conn<C: Conn>(conn: &mut C, stop: Stop)
-    requires { CanClose stop (C.is_open conn.old) }
-    ensures closes { ClosesBy stop (C.exchange conn.old) (C.exchange conn.new) }
-    ensures fails { C.is_open conn.old ≡ false → C.is_open conn.new ≡ false }
-{
-    match stop {
-        Stop::Gone => {}
-        Stop::Closed(close) => conn.close(close.code, reason(close.fault)),
-    }
-}
-
-/// Calls the event with which the session ends, where it has one. What it is answered is passed over.
-fn say_last<K: Caller>(party: &Party, caller: &mut K)
-    ensures { SaysLast party.now (K.calls caller.old) (K.calls caller.new) }
-{
-    match party.farewell() {
-        Some(event) => drop(ask(caller, event)),
-        None => {}
-    }
-}
-
 /// Ends a session that its keeper may not let stay, between two turns: the event with which it ends is called, where it has one.
 /// Its connection is not called.
 pub fn leave<K: Caller>(session: Session, caller: &mut K)
     ensures { SaysLast session.party (K.calls caller.old) (K.calls caller.new) }
 {
-    say_last(&session.party, caller);
+    drop(say_last(&session.party, caller));
     drop(session);
 }
 
@@ -96,7 +74,8 @@ pub fn leave<K: Caller>(session: Session, caller: &mut K)
 ///
 /// None where the session has ended. The connection is closed then, or is gone, and is not called again. Before a close
 /// what is ready is sent, as long as the connection has room, and the last event is said: whoever sees the close may come
-/// again at once under the same name.
+/// again at once under the same name. A consumer's session whose connection has no room, or that has something left to be
+/// sent, has nothing dispatched to it and collects nothing.
 ///
 /// Where all that the connection and the caller told so far is the life of the session at its endpoint, it is so afterwards,
 /// up to its end: with `open`, this says of a session's whole life what was received and sent, what was asked, and how it
@@ -110,7 +89,7 @@ pub fn serve<C: Conn, K: Caller>(
 ) -> Option<Session>
     requires { C.is_open conn.old ≡ true }
     ensures stays { OnSome result (C.is_open conn.new ≡ true) }
-    ensures run { (before : List Turn) → IsSession session before → (served : IsServed session now most before (C.exchange conn.old) (K.calls caller.old) result (C.exchange conn.new) (K.calls caller.new) (C.is_open conn.new) (C.has_room conn.new)) × (last : C) × Leaves served.turn (C.exchange conn.old) (C.exchange last) (C.is_open last) (C.has_room last) }
+    ensures run { (before : List Turn) → IsSession session before → (served : IsServed session now most before (C.exchange conn.old) (K.calls caller.old) result (C.exchange conn.new) (K.calls caller.new) (C.is_open conn.new) (C.has_room conn.new)) × (asking : C) × Finds served.turn (C.exchange conn.old) (C.exchange asking) (C.has_room asking) × (last : C) × Leaves served.turn (C.exchange conn.old) (C.exchange last) (C.is_open last) (C.has_room last) }
     ensures lives { KeepsLife session (C.exchange conn.old) (K.calls caller.old) result (C.exchange conn.new) (K.calls caller.new) }
 {
     let mut session = session;
@@ -121,8 +100,8 @@ pub fn serve<C: Conn, K: Caller>(
         }
         Err(stop) => {
             let last = session.send_last(conn, stop);
-            say_last(&session.party, caller);
-            close_conn(conn, last);
+            let said = say_last(&session.party, caller);
+            close_conn(conn, last, said);
             drop(session);
             None
         }
@@ -138,7 +117,7 @@ pub fn turn<C: Conn, K: Caller>(
 ) -> Option<Session>
     requires { C.is_open conn.old ≡ true }
     ensures stays { OnSome result (C.is_open conn.new ≡ true) }
-    ensures run { (before : List Turn) → IsSession session before → (served : IsServed session now 1 before (C.exchange conn.old) (K.calls caller.old) result (C.exchange conn.new) (K.calls caller.new) (C.is_open conn.new) (C.has_room conn.new)) × (last : C) × Leaves served.turn (C.exchange conn.old) (C.exchange last) (C.is_open last) (C.has_room last) }
+    ensures run { (before : List Turn) → IsSession session before → (served : IsServed session now 1 before (C.exchange conn.old) (K.calls caller.old) result (C.exchange conn.new) (K.calls caller.new) (C.is_open conn.new) (C.has_room conn.new)) × (asking : C) × Finds served.turn (C.exchange conn.old) (C.exchange asking) (C.has_room asking) × (last : C) × Leaves served.turn (C.exchange conn.old) (C.exchange last) (C.is_open last) (C.has_room last) }
     ensures lives { KeepsLife session (C.exchange conn.old) (K.calls caller.old) result (C.exchange conn.new) (K.calls caller.new) }
 {
     match TextCount::new(1) {

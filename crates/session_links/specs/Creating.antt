@@ -5,6 +5,8 @@ use Rattle.position_core.specs.declared.fault.Fault.TheVariants.{NoMemory, Subsc
 use Rattle.position_core.specs.declared.flow.Flow.TheVariants.{Window}
 use Rattle.position_core.specs.declared.kind.Kind.TheVariants.{Exclusive}
 use Rattle.delivery_machine.specs.State.{State}
+use Rattle.delivery_machine.specs.Words.{has_member}
+use Rattle.delivery_machine.specs.Run.{Answers, Step}
 use Rattle.delivery_machine.specs.declared.event.Event.{Event}
 use Rattle.delivery_machine.specs.declared.event.Event.TheVariants.{Stats, Subscribe, Seek, Leave, DropSubscription}
 use Rattle.delivery_machine.specs.declared.event.Initial.TheVariants.{Earliest}
@@ -33,35 +35,43 @@ abbrev pub is_done : Result Reply Fault → Bool
 is_done (Ok Done) = true
 is_done answer = false
 
+-- somebody leaves who is there
+abbrev pub is_leave : State → Event → Bool
+is_leave s (Leave consumer) = has_member s consumer
+is_leave s event = false
+
+-- it is the machine's reply, or its want of memory
+abbrev pub Hears : State → Event → Reply → State → Type 0
+Hears s event reply t = Step s event reply t ⊎ Answers s event reply t
+
 -- the events by which a subscription is made; by the last one it goes
 abbrev pub making_of : List ℕ → Target → Making
 making_of name target = record { looks = Stats name; joins = joins name; seeks = Seek name target; drops = DropSubscription name }
 
-module _ (Answers : State → Event → Result Reply Fault → State → Type 0) where
-  -- The subscription goes on from its target, and its consumer leaves. It is answered as the seek was: where that was done the
-  -- subscription stays, and else it is dropped.
+module _ (Answered : State → Event → Result Reply Fault → State → Type 0) where
+  -- The subscription goes on from its target, and its consumer leaves, which is done. It is answered as the seek was: where that was
+  -- done the subscription stays, and else it is asked that it be dropped.
   pub record MovesOn (seeks drops : Event) (consumer : ℕ) (s : State) (answer : Result Reply Fault) (t : State) : Type 0 where
     pub sought : State
-    pub left : Result Reply Fault
     pub alone : State
-    pub moves : Answers s seeks answer sought
-    pub leaves : Answers sought (Leave consumer) left alone
-    pub stays : MatchBool (is_done answer) (t ≡ alone) ((gone : Result Reply Fault) × Answers alone drops gone t)
+    pub moves : Answered s seeks answer sought
+    pub leaves : Answered sought (Leave consumer) (Ok Done) alone
+    pub stays : MatchBool (is_done answer) (t ≡ alone) ((gone : Result Reply Fault) × Answered alone drops gone t)
 
   -- its consumer joins; where it may not, that is the answer
   pub record Makes (joining seeks drops : Event) (s : State) (answer : Result Reply Fault) (t : State) : Type 0 where
     pub joined : Result Reply Fault
     pub made : State
-    pub asks : Answers s joining joined made
+    pub asks : Answered s joining joined made
     pub goes_on : MatchOption (consumer_by joined) ((answer ≡ joined) × (t ≡ made)) (λ consumer. MovesOn seeks drops consumer made answer t)
 
   -- it is made where it is not there
   pub record Creates (making : Making) (s : State) (answer : Result Reply Fault) (t : State) : Type 0 where
     pub shown : Result Reply Fault
     pub seen : State
-    pub looks : Answers s making.looks shown seen
+    pub looks : Answered s making.looks shown seen
     pub makes : MatchOption (refusal_by shown) (Makes making.joins making.seeks making.drops seen answer t) (λ fault. (answer ≡ Err fault) × (t ≡ seen))
 
 -- the subscription is made where it is not there; or there was no memory for the events, and none was handed over
 unfoldable pub MayCreate : (State → Event → Result Reply Fault → State → Type 0) → List ℕ → Target → State → Result Reply Fault → State → Type 0
-MayCreate Answers name target s answer t = ((answer ≡ Err NoMemory) × (t ≡ s)) ⊎ Creates Answers (making_of name target) s answer t
+MayCreate Answered name target s answer t = ((answer ≡ Err NoMemory) × (t ≡ s)) ⊎ Creates Answered (making_of name target) s answer t

@@ -70,6 +70,7 @@ impl<T: Opened + Drop> Alone<T> {
 }
 
 impl<T: Opened + Drop> Hold for Alone<T> {
+    ghost use Rattle.std.proofs.Common.{inr};
     ghost use Rattle.session_links.specs.Lists.{Handed};
 
     ghost state = { λ a. T.state a.topic };
@@ -83,4 +84,8 @@ impl<T: Opened + Drop> Hold for Alone<T> {
     }
 
     fn spare(&mut self) {}
+
+    ghost hears = { λ s event reply t answers. inr answers };
+
+    ghost refuses = { λ s event fault t never. absurd never };
 }

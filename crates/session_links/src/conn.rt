@@ -40,9 +40,11 @@ pub trait Conn {
     fn has_room(&self) -> bool
         ensures { result ≡ has_room self.now };
 
-    /// Takes a whole text, which it may send later.
+    /// Takes a whole text, which it may send later. It is given one only where it takes a text: so what waits for its
+    /// client stays within its room, and one text more.
     fn send(&mut self, text: &str) -> Result<(), ConnFault>
-        requires { is_open self.old ≡ true }
+        requires open { is_open self.old ≡ true }
+        requires room { has_room self.old ≡ true }
         ensures ok { OnOk result ((is_open self.new ≡ true) × Tells (with_sent text.now) (exchange self.old) (exchange self.new)) }
         ensures err { OnErr result ((is_open self.new ≡ false) × Tells same (exchange self.old) (exchange self.new)) };
 

@@ -1,6 +1,8 @@
 // Making a subscription, by events that there are.
-ghost use Rattle.std.specs.Prelude.{◌≡◌, IfOk};
-ghost use Rattle.session_links.specs.Creating.{Creates, Makes, MayCreate, MovesOn, consumer_by, is_done, joins, making_of, refusal_by};
+ghost use Rattle.std.specs.Prelude.{◌≡◌, IfOk, List, true, ℕ};
+ghost use Rattle.delivery_machine.specs.Words.{has_member};
+ghost use Rattle.delivery_machine.specs.declared.event.Target.{Target};
+ghost use Rattle.session_links.specs.Creating.{Creates, Makes, MayCreate, MovesOn, consumer_by, is_done, joins as join_of, making_of, refusal_by};
 
 use crate::hold::Hold;
 use delivery_machine::{
@@ -69,7 +71,7 @@ fn nowhere(name: &SubscriptionName) -> Result<TopicName, AllocError>
 }
 
 fn joining(name: &SubscriptionName) -> Result<Event, AllocError>
-    ensures { IfOk result (λ event. event ≡ joins name.now) }
+    ensures { IfOk result (λ event. event ≡ join_of name.now) }
 {
     let subscription = name.clone()?;
     let dead_topic = nowhere(name)?;
@@ -144,6 +146,8 @@ fn move_on<H: Hold>(
     seeks: Event,
     drops: Event,
 ) -> Result<Reply, Fault>
+    requires there { has_member (H.state hold.old) consumer ≡ true }
+    requires seeks { (name : List ℕ) × (target : Target) × (seeks ≡ Event.Seek name target) }
     ensures { MovesOn H.answers seeks drops consumer (H.state hold.old) result (H.state hold.new) }
 {
     let sought = hold.hand(seeks);
@@ -158,6 +162,8 @@ fn move_on<H: Hold>(
 }
 
 fn make<H: Hold>(hold: &mut H, joins: Event, seeks: Event, drops: Event) -> Result<Reply, Fault>
+    requires joins { (name : List ℕ) × (joins ≡ join_of name) }
+    requires seeks { (name : List ℕ) × (target : Target) × (seeks ≡ Event.Seek name target) }
     ensures { Makes H.answers joins seeks drops (H.state hold.old) result (H.state hold.new) }
 {
     let joined = hold.hand(joins);
@@ -175,6 +181,7 @@ fn make<H: Hold>(hold: &mut H, joins: Event, seeks: Event, drops: Event) -> Resu
 }
 
 fn create_by<H: Hold>(hold: &mut H, making: Making) -> Result<Reply, Fault>
+    requires { (name : List ℕ) × (target : Target) × (making ≡ making_of name target) }
     ensures { Creates H.answers making (H.state hold.old) result (H.state hold.new) }
 {
     let Making {

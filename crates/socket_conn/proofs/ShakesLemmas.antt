@@ -1,11 +1,11 @@
 -- What came of a request.
-use Rattle.std.proofs.Common.{◌≡◌, ◌≤◌, ◌+◌, ◌++◌, ◌∙◌, [], ◌∷◌, ℕ, List, length, take, drop, Option, None, Some, refl, sym, ap, append_assoc, arith, zero-add, add-zero, suc-add}
+use Rattle.std.proofs.Common.{◌≡◌, ◌≤◌, ◌+◌, ◌++◌, false, ◌∙◌, [], ◌∷◌, ℕ, List, length, take, drop, Option, None, Some, inl, inr, refl, sym, ap, subst, append_assoc, arith, zero-add, add-zero, suc-add}
 use Rattle.std.proofs.lemmas.List.{take-take, take-append-le, append-nil}
 use Rattle.std.specs.Io.KnownBytes.{Consumes, Keeps}
 use Rattle.std.specs.declared.alloc.Global.{Global}
 use Rattle.std.proofs.KnownBytes.{Consumes-nil, Consumes-trans}
-use Rattle.socket_conn.specs.Heads.{IsUpgrade}
-use Rattle.socket_conn.specs.Shakes.{Begins, HasHeard, IsHeld, Judges, Shakes}
+use Rattle.socket_conn.specs.Heads.{IsUpgrade, MayCome}
+use Rattle.socket_conn.specs.Shakes.{Begins, HasHeard, HasLooked, IsHeld, IsLimited, Judges, Shakes, most_message}
 use Rattle.socket_conn.specs.State.{begun}
 use Rattle.socket_conn.specs.declared.conn.SocketConn.{SocketConn}
 use Rattle.socket_conn.specs.declared.head.Upgrade.{Upgrade}
@@ -14,8 +14,11 @@ use Rattle.socket_conn.specs.declared.shaking.Shaken.{Shaken}
 use Rattle.socket_conn.specs.declared.shaking.Shaken.TheVariants.{Open, Plain, Waits, Failed}
 use Rattle.socket_conn.specs.declared.shaking.Shaking.{Shaking}
 use Rattle.tungstenite.proofs.SocketLemmas.{take-nil}
+use Rattle.tungstenite.specs.Config.{HasLimits}
 use Rattle.tungstenite.specs.Socket.{Socket, IsFresh}
+use Rattle.tungstenite.specs.declared.protocol.WebSocketConfig.{WebSocketConfig as Config}
 use Rattle.websocket.specs.declared.protocol.config.Role.TheVariants.{Server}
+use Rattle.websocket.specs.declared.protocol.config.WebSocketConfig.{WebSocketConfig as FrameConfig}
 
 -- behind what was kept, the rest is what follows it
 behind : (old more : List ℕ) (n : ℕ) → take (length old + n) (old ++ more) ≡ old ++ take n more
@@ -44,9 +47,9 @@ grown old kept buf post rest items len m n long front within fits is =
 
 -- the same where nothing was read
 pub kept_head : (old kept buf post rest items : List ℕ) (len m : ℕ) → len ≡ length old → kept ≡ old → len ≤ m
-    → items ≡ take len (take m ((kept ++ (buf ++ post)) ++ rest)) → items ≡ old ++ []
+    → items ≡ take len (take m ((kept ++ (buf ++ post)) ++ rest)) → items ≡ old
 kept_head old kept buf post rest items len m long front fits is =
-    grown old kept buf post rest items len m 0 long front (omega arith) (omega arith) (is ∙ ap (λ k. take k (take m ((kept ++ (buf ++ post)) ++ rest))) (sym (add-zero len)))
+    grown old kept buf post rest items len m 0 long front (omega arith) (omega arith) (is ∙ ap (λ k. take k (take m ((kept ++ (buf ++ post)) ++ rest))) (sym (add-zero len))) ∙ append-nil old
 
 -- what is told of nothing more
 pub nothing_more : (a b : Option (List ℕ)) → Keeps a b → Consumes a b []
@@ -54,10 +57,15 @@ nothing_more None b h = tt
 nothing_more (Some x) None h = absurd h
 nothing_more (Some x) (Some y) h = sym h
 
+-- the limits of a socket are those that it was given
+pub limited : (given : Config) (config : FrameConfig) → HasLimits config given → given.max_message_size ≡ Some most_message → given.max_frame_size ≡ Some most_message
+    → given.accept_unmasked_frames ≡ false → IsLimited config
+limited given config same message frame masked = (same.0 ∙ message, same.1 ∙ frame, same.2 ∙ masked)
+
 module _ {S : Type 0} where
   pub begins : (alloc : Global) (u : Upgrade) (stream : S) (rest : List ℕ) (socket : Socket (Held S)) (conn : SocketConn (Held S)) → conn ≡ begun alloc socket
-      → IsHeld stream u.answer.items socket.stream → socket.input ≡ rest → IsFresh (record socket { input = [] }) socket.stream Server → Begins u stream rest conn
-  begins alloc u stream rest socket conn is held left fresh = rw is record { begun = refl; answer = held; rest = left; fresh = fresh }
+      → IsHeld stream u.answer.items socket.stream → socket.input ≡ rest → IsFresh (record socket { input = [] }) socket.stream Server → IsLimited socket.conn.config → Begins u stream rest conn
+  begins alloc u stream rest socket conn is held left fresh limits = rw is record { begun = refl; answer = held; rest = left; fresh = fresh; limits = limits }
 
   pub opens : (old : Shaking S) (u : Upgrade) (stream : S) (rest : List ℕ) (shaken : Shaken S) → IsUpgrade old.head.items u → stream ≡ old.stream.inner → rest ≡ drop u.len old.head.items
       → ((conn : SocketConn (Held S)) × (shaken ≡ Open conn u.asked) × Begins u stream rest conn) → Judges old shaken
@@ -70,6 +78,16 @@ module _ {S : Type 0} where
   pub heard_more : (remaining : S → Option (List ℕ)) (old mid new : Shaking S) → HasHeard remaining old mid → HasHeard remaining mid new → HasHeard remaining old new
   heard_more remaining old mid new (got, consumes, is) (more, then, so) =
       (got ++ more, Consumes-trans (remaining old.stream.inner) (remaining mid.stream.inner) (remaining new.stream.inner) got more consumes then, so ∙ ap (λ l. l ++ more) is ∙ append_assoc old.head.items got more)
+
+  -- the same where nothing more came
+  pub heard_no_more : (remaining : S → Option (List ℕ)) (old mid new : Shaking S) → HasHeard remaining old mid → Keeps (remaining mid.stream.inner) (remaining new.stream.inner)
+      → new.head.items ≡ mid.head.items → HasHeard remaining old new
+  heard_no_more remaining old mid new heard keeps is =
+      heard_more remaining old mid new heard ([], nothing_more _ _ keeps, is ∙ sym (append-nil mid.head.items))
+
+  pub looked_on : (old mid new : Shaking S) → HasLooked old mid → new.head.items ≡ mid.head.items → HasLooked old new
+  looked_on old mid new (inl same) is = inl (is ∙ same)
+  looked_on old mid new (inr may) is = inr (subst MayCome (sym is) may)
 
   -- what the last look came to, where more is not waited for
   pub looked : (remaining : S → Option (List ℕ)) (old last : Shaking S) (shaken : Shaken S) → HasHeard remaining old last → Judges last shaken

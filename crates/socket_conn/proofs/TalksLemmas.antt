@@ -1,8 +1,10 @@
 -- What a call of the socket comes to.
 use Rattle.std.proofs.Common.{◌≡◌, ◌++◌, ◌∙◌, [], ℕ, List, Bool, true, false, Option, None, Some, Result, Ok, Err, MatchBool, refl, sym, ap, subst, inl, inr, append_assoc}
 use Rattle.std.specs.Io.KnownBytes.{Appends, append_known}
-use Rattle.socket_conn.specs.Talks.{SendsText, IsTextFrame, ComesTo, ErrorComesTo, GivenComesTo, MessageComesTo, GivesSigns, WaitedSince, Takes, ReadsError, ReadsMessage, ReadsOnce, Receives, WouldWait, SaysClosed, breach_of}
-use Rattle.socket_conn.specs.State.{over, emptied, ended, noting}
+use Rattle.socket_conn.specs.Talks.{SendsText, IsTextFrame, ComesTo, ErrorComesTo, GivenComesTo, MessageComesTo, GivesSigns, WaitedSince, Takes, counted, ReadsError, ReadsMessage, ReadsOnce, Receives, WouldWait, SaysClosed, breach_of}
+use Rattle.socket_conn.specs.Faults.{after_copy}
+use Rattle.socket_conn.specs.declared.faults.Faults.{Faults}
+use Rattle.socket_conn.specs.State.{over, emptied, ended, failed, noting}
 use Rattle.socket_conn.specs.declared.outcomes.Came.{Came}
 use Rattle.socket_conn.specs.declared.outcomes.Signs.{Signs}
 use Rattle.socket_conn.specs.declared.conn.SocketConn.{SocketConn}
@@ -86,6 +88,11 @@ wait-is-io Why.OutOfMemory h = absurd h
 
 -- ---- of a read
 
+-- of an error there is no copy
+pub copied_nothing : (signs : Signs) (error : Error) (came : Came) (f : Faults) → ErrorComesTo signs error came → f ≡ after_copy came f
+copied_nothing signs error Came.Lost f comes = absurd comes
+copied_nothing signs error came f comes = refl
+
 -- a breach is none of the others
 breach-waits : (error : Error) (code : CloseCode) → breach_of error ≡ Some code → ¬ (WouldWait error)
 breach-waits (Why.Protocol cause) code h = λ w. w
@@ -136,7 +143,7 @@ module _ {S : Type 0} where
 
   -- what the connection answers to a read by which a message had more frames than it may
   too_many : (remaining contents : S → Option (List ℕ)) (full dry spent : S → ℕ) (is_over : S → Bool) (old new : SocketConn S) (socket : Socket S) (given : Result Message Error) (answer : Result Incoming ConnFault)
-      → ReadsOnce remaining contents old.socket socket given → is_over socket.stream ≡ true → Takes (Came.Breaks Size) (over socket (emptied old)) new answer
+      → ReadsOnce remaining contents old.socket socket given → is_over socket.stream ≡ true → Takes (Came.Breaks Size) (counted (Came.Breaks Size) (over socket (emptied old))) new answer
       → Receives remaining contents full dry spent is_over old new answer
   too_many remaining contents full dry spent is_over old new socket given (Ok incoming) reads long takes = cc
   too_many remaining contents full dry spent is_over old new socket given (Err fault) reads long takes = rw takes.1 (inr (inr (long, (given, reads), refl)))
@@ -144,7 +151,7 @@ module _ {S : Type 0} where
   -- the same of a message that was read, where none had more
   message_answered : (remaining contents : S → Option (List ℕ)) (full dry spent : S → ℕ) (is_over : S → Bool) (old new : SocketConn S) (socket : Socket S) (message : Message) (came : Came) (answer : Result Incoming ConnFault)
       → ReadsMessage remaining contents old.socket socket message → MessageComesTo message came → is_over socket.stream ≡ false
-      → Takes came (over socket (emptied old)) new answer → Receives remaining contents full dry spent is_over old new answer
+      → Takes came (counted came (over socket (emptied old))) new answer → Receives remaining contents full dry spent is_over old new answer
   message_answered remaining contents full dry spent is_over old new socket message (Came.Text bytes) answer reads comes short takes =
       rw (takes.0, takes.1) (short, (message, reads, comes, refl))
   message_answered remaining contents full dry spent is_over old new socket message Came.Ping answer reads comes short takes =
@@ -156,17 +163,19 @@ module _ {S : Type 0} where
   message_answered remaining contents full dry spent is_over old new socket message Came.Closes answer reads comes short takes =
       rw (takes.0, takes.1) (short, refl, inl (message, reads, comes))
   message_answered remaining contents full dry spent is_over old new socket message (Came.Breaks code) answer reads comes short takes = absurd comes
-  message_answered remaining contents full dry spent is_over old new socket message Came.Fails (Ok incoming) reads comes short takes = cc
-  message_answered remaining contents full dry spent is_over old new socket message Came.Fails (Err fault) reads comes short takes =
+  message_answered remaining contents full dry spent is_over old new socket message Came.Fails answer reads comes short takes = absurd comes
+  message_answered remaining contents full dry spent is_over old new socket message Came.Lost (Ok incoming) reads comes short takes = cc
+  message_answered remaining contents full dry spent is_over old new socket message Came.Lost (Err fault) reads comes short takes =
       rw takes.1 (inr (inl (short, inl (message, reads, comes, refl))))
 
   -- the same of an error
   error_answered : (remaining contents : S → Option (List ℕ)) (full dry spent : S → ℕ) (is_over : S → Bool) (old new : SocketConn S) (socket : Socket S) (signs : Signs) (error : Error) (came : Came) (answer : Result Incoming ConnFault)
       → ReadsError remaining contents old.socket socket error → ErrorComesTo signs error came → GivesSigns dry spent is_over (dry old.socket.stream) (spent old.socket.stream) socket signs
-      → is_over socket.stream ≡ false → Takes came (over socket (emptied old)) new answer → Receives remaining contents full dry spent is_over old new answer
+      → is_over socket.stream ≡ false → Takes came (counted came (over socket (emptied old))) new answer → Receives remaining contents full dry spent is_over old new answer
   error_answered remaining contents full dry spent is_over old new socket signs error (Came.Text bytes) answer reads comes given short takes = absurd comes
   error_answered remaining contents full dry spent is_over old new socket signs error Came.Ping answer reads comes given short takes = absurd comes
   error_answered remaining contents full dry spent is_over old new socket signs error Came.Pong answer reads comes given short takes = absurd comes
+  error_answered remaining contents full dry spent is_over old new socket signs error Came.Lost answer reads comes given short takes = absurd comes
   error_answered remaining contents full dry spent is_over old new socket signs error Came.Nothing answer reads comes given short takes =
       let before = not_waited spent (spent old.socket.stream) socket signs.is_spent comes.1.0 given.1 in
       let dried = waited dry (dry old.socket.stream) socket signs.is_dry comes.1.1 given.0 in
@@ -178,19 +187,19 @@ module _ {S : Type 0} where
       rw (takes.0, takes.1) (short, refl, inr (error, reads, comes))
   error_answered remaining contents full dry spent is_over old new socket signs error (Came.Breaks code) (Ok incoming) reads comes given short takes = cc
   error_answered remaining contents full dry spent is_over old new socket signs error (Came.Breaks code) (Err fault) reads comes given short takes =
-      rw takes.1 (inr (inl (short, inr (error, reads, (λ waits. absurd (breach-waits error code comes waits)), breach-is-no-close error code comes, noted error (Some code) comes (ended (over socket (emptied old)))))))
+      rw takes.1 (inr (inl (short, inr (error, reads, (λ waits. absurd (breach-waits error code comes waits)), breach-is-no-close error code comes, noted error (Some code) comes (ended (over socket (emptied (failed old))))))))
   error_answered remaining contents full dry spent is_over old new socket signs error Came.Fails (Ok incoming) reads comes given short takes = cc
   error_answered remaining contents full dry spent is_over old new socket signs error Came.Fails (Err fault) reads comes given short takes =
       let before = λ (waits : WouldWait error). not_waited spent (spent old.socket.stream) socket signs.is_spent (comes.0 waits).0 given.1 in
       let asked = λ (waits : WouldWait error). not_waited dry (dry old.socket.stream) socket signs.is_dry (comes.0 waits).1 given.0 in
-      rw takes.1 (inr (inl (short, inr (error, reads, (λ waits. (before waits, asked waits)), comes.1, noted error None comes.2 (ended (over socket (emptied old)))))))
+      rw takes.1 (inr (inl (short, inr (error, reads, (λ waits. (before waits, asked waits)), comes.1, noted error None comes.2 (ended (over socket (emptied (failed old))))))))
 
   by_frames : (remaining contents : S → Option (List ℕ)) (full dry spent : S → ℕ) (is_over : S → Bool) (old new : SocketConn S) (socket : Socket S) (signs : Signs) (now : Bool) (given : Result Message Error) (came : Came) (answer : Result Incoming ConnFault)
       → MatchBool now (came ≡ Came.Breaks Size) (GivenComesTo signs given came) → now ≡ is_over socket.stream
       → ReadsOnce remaining contents old.socket socket given → GivesSigns dry spent is_over (dry old.socket.stream) (spent old.socket.stream) socket signs
-      → Takes came (over socket (emptied old)) new answer → Receives remaining contents full dry spent is_over old new answer
+      → Takes came (counted came (over socket (emptied old))) new answer → Receives remaining contents full dry spent is_over old new answer
   by_frames remaining contents full dry spent is_over old new socket signs true given came answer comes said reads signed takes =
-      too_many remaining contents full dry spent is_over old new socket given answer reads (sym said) (subst (λ c. Takes c (over socket (emptied old)) new answer) comes takes)
+      too_many remaining contents full dry spent is_over old new socket given answer reads (sym said) (subst (λ c. Takes c (counted c (over socket (emptied old))) new answer) comes takes)
   by_frames remaining contents full dry spent is_over old new socket signs false (Ok message) came answer comes said reads signed takes =
       message_answered remaining contents full dry spent is_over old new socket message came answer reads comes (sym said) takes
   by_frames remaining contents full dry spent is_over old new socket signs false (Err error) came answer comes said reads signed takes =
@@ -199,6 +208,6 @@ module _ {S : Type 0} where
   -- what the connection answers to a read, by what the read came to
   pub answered : (remaining contents : S → Option (List ℕ)) (full dry spent : S → ℕ) (is_over : S → Bool) (old new : SocketConn S) (socket : Socket S) (signs : Signs) (given : Result Message Error) (came : Came) (answer : Result Incoming ConnFault)
       → ReadsOnce remaining contents old.socket socket given → ComesTo signs given came → GivesSigns dry spent is_over (dry old.socket.stream) (spent old.socket.stream) socket signs
-      → Takes came (over socket (emptied old)) new answer → Receives remaining contents full dry spent is_over old new answer
+      → Takes came (counted came (over socket (emptied old))) new answer → Receives remaining contents full dry spent is_over old new answer
   answered remaining contents full dry spent is_over old new socket signs given came answer reads comes signed takes =
       by_frames remaining contents full dry spent is_over old new socket signs signs.is_over given came answer comes signed.2 reads signed takes

@@ -1,5 +1,5 @@
 -- What the bytes that came say of a request's head.
-use Rattle.std.specs.Prelude.{◌≡◌, ◌≢◌, ◌⊎◌, ◌&&◌, ◌||◌, ◌==◌, nat_le, not, if◌then◌else◌, ℕ, Bool, true, false, List, [], ◌∷◌, ◌++◌, drop, length, map, reverse, count_by, codes, IsTrue, IsFalse, Option, is_some, option_map, unwrap_or, Result, Ok, Err, string_bytes}
+use Rattle.std.specs.Prelude.{◌≡◌, ◌≢◌, ◌⊎◌, ◌&&◌, ◌||◌, ◌==◌, nat_le, not, if◌then◌else◌, ℕ, Bool, true, false, List, [], ◌∷◌, ◌++◌, drop, length, map, reverse, count_by, codes, IsTrue, IsFalse, Option, Some, None, is_some, bytes_eq, option_map, unwrap_or, Result, Ok, Err, string_bytes}
 use Rattle.std.specs.Str.{is_utf8}
 use Rattle.httparse.specs.Ascii.{line_feed, carriage_return}
 use Rattle.httparse.specs.Grammar.{RequestHead, ReadsRequest, HasNoRequest, MayBecomeRequest, print_request}
@@ -50,6 +50,15 @@ abbrev pub has_proxy_field : Fields → Bool
 has_proxy_field fields =
     has_field fields (codes "X-Forwarded-For") || has_field fields (codes "X-Forwarded-Host") || has_field fields (codes "X-Real-IP") || has_field fields (codes "Forwarded")
 
+-- whether a value is the word by which a refusal is told by the status of a response
+abbrev pub is_status_word : Option (List ℕ) → Bool
+is_status_word None = false
+is_status_word (Some value) = bytes_eq value (codes "http")
+
+-- the last of the fields of this name has that word
+abbrev pub wants_status : Fields → Bool
+wants_status fields = is_status_word (last_value fields (codes "X-Refusals"))
+
 -- what a head with this path and these fields asks for, and what it says of where it comes from
 pub record IsAskedBy (path : List ℕ) (fields : Fields) (asked : Asked) : Type 0 where
   pub target : string_bytes asked.target ≡ text_or_empty path
@@ -57,6 +66,7 @@ pub record IsAskedBy (path : List ℕ) (fields : Fields) (asked : Asked) : Type 
   pub origin : option_map string_bytes asked.origin ≡ last_text fields (codes "Origin")
   pub forwarded_for : option_map string_bytes asked.forwarded_for ≡ last_text fields (codes "X-Forwarded-For")
   pub is_forwarded : asked.is_forwarded ≡ has_proxy_field fields
+  pub wants_status : asked.wants_status ≡ wants_status fields
 
 -- in bytes that follow this one, a line ends with LF and has no CR before it
 abbrev pub has_bare_lf_after : ℕ → List ℕ → Bool
@@ -117,8 +127,12 @@ IsRequest bytes request =
     ((head : RequestHead) × (rest : List ℕ) × ReadsRequest bytes head rest × IsOfKind head request)
     ⊎ ((request ≡ Bad) × RequestOverflows 100 bytes)
 
+-- no whole request has come, and one may
+abbrev pub MayCome : List ℕ → Type 0
+MayCome bytes = HasNoRequest bytes × MayBecomeRequest bytes
+
 -- what has come of a head: none yet, but what may become one; or a whole one
 abbrev pub IsReadAs : List ℕ → Head → Type 0
-IsReadAs bytes Partial = HasNoRequest bytes × MayBecomeRequest bytes
+IsReadAs bytes Partial = MayCome bytes
 IsReadAs bytes (Plain request) = IsRequest bytes request
 IsReadAs bytes (Asks u) = IsUpgrade bytes u

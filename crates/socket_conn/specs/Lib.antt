@@ -1,3 +1,4 @@
+pub mod Faults
 pub mod Waits
 pub mod Frames
 pub mod Turns

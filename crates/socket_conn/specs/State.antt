@@ -1,7 +1,8 @@
 -- What a connection keeps beside its socket, and what each call makes of that.
 use Rattle.std.specs.Prelude.{◌≡◌, ◌⊎◌, ◌+◌, ◌-◌, ◌^◌, ◌&&◌, not, nat_lt, min, length, ℕ, List, Bool, true, false, Option, Some, None}
 use Rattle.std.specs.declared.alloc.Global.{Global}
-use Rattle.socket_conn.specs.Waits.{HasWaited}
+use Rattle.socket_conn.specs.Faults.{no_faults, one_more}
+use Rattle.socket_conn.specs.Waits.{HasNotWaited, HasWaited}
 use Rattle.socket_conn.specs.declared.conn.SocketConn.{SocketConn}
 use Rattle.tungstenite.specs.Socket.{Socket}
 use Rattle.websocket.specs.declared.protocol.frame.coding.CloseCode.{CloseCode}
@@ -35,6 +36,7 @@ module _ {S : Type 0} where
         received = 0;
         is_heard = false;
         breach = None;
+        faults = no_faults;
       }
 
   -- the same, where its socket has come to this
@@ -77,16 +79,26 @@ module _ {S : Type 0} where
   abbrev pub ended : SocketConn S → SocketConn S
   ended c = record c { is_open = false }
 
+  -- something that it asked for has failed
+  abbrev pub failed : SocketConn S → SocketConn S
+  failed c = record c { faults = one_more c.faults }
+
+  -- something that it asked for has failed in between
+  abbrev pub HasFailed : SocketConn S → SocketConn S → Type 0
+  HasFailed old new = ¬ (new.faults ≡ old.faults)
+
   -- a breach of the protocol is noted by its code, where there was one
   abbrev pub noting : Option CloseCode → SocketConn S → SocketConn S
   noting None c = c
   noting (Some code) c = record c { breach = Some code }
 
-  -- what a flush leaves, whose answer tells whether all output left: else the stream did not take it, or has failed
+  -- what a flush leaves, whose answer tells whether all output left: else the socket's flush has failed. Where the stream did not take
+  -- the output, that is noted; where it failed otherwise, the connection is given up
   abbrev pub Flushes : (full : S → ℕ) → SocketConn S → SocketConn S → Bool → Type 0
   Flushes full old new true = new ≡ over new.socket (emptied old)
   Flushes full old new false =
-      ((new ≡ over new.socket (blocked old)) × HasWaited full old.socket new.socket) ⊎ (new ≡ over new.socket (hung_up old))
+      ((new ≡ over new.socket (blocked (failed old))) × HasWaited full old.socket new.socket)
+      ⊎ ((new ≡ over new.socket (hung_up (failed old))) × HasNotWaited full old.socket new.socket)
 
   -- what a write leaves: the stream may have to wait, which is noted
   abbrev pub StaysOrBlocks : (full : S → ℕ) → SocketConn S → SocketConn S → Type 0

@@ -9,8 +9,9 @@ use Rattle.session_links.specs.declared.conn.Incoming.TheVariants as Said
 use Rattle.socket_conn.specs.declared.outcomes.Came.{Came}
 use Rattle.socket_conn.specs.declared.outcomes.Signs.{Signs}
 use Rattle.socket_conn.specs.declared.conn.SocketConn.{SocketConn}
+use Rattle.socket_conn.specs.Faults.{after_read}
 use Rattle.socket_conn.specs.Waits.{HasNotWaited, HasWaited}
-use Rattle.socket_conn.specs.State.{Flushes, over, emptied, drained, ended, noting, with_heard, with_received, lost}
+use Rattle.socket_conn.specs.State.{Flushes, HasFailed, over, emptied, failed, drained, ended, noting, with_heard, with_received, lost}
 use Rattle.tungstenite.specs.declared.error.Error.{Error}
 use Rattle.tungstenite.specs.declared.error.Error.TheVariants as Why
 use Rattle.tungstenite.specs.declared.message.Message.{Message}
@@ -94,7 +95,8 @@ MessageComesTo message Came.Nothing = ⊥
 MessageComesTo message Came.Spent = ⊥
 MessageComesTo message Came.Closes = IsClose message
 MessageComesTo message (Came.Breaks code) = ⊥
-MessageComesTo message Came.Fails = IsData message
+MessageComesTo message Came.Lost = IsData message
+MessageComesTo message Came.Fails = ⊥
 
 -- what it comes to that the stream would have to wait: it has given all that it may in a turn; or it had nothing to give; or it was
 -- not asked, which is a failure
@@ -113,6 +115,7 @@ ErrorComesTo signs error Came.Nothing = WouldWait error × WaitComesTo signs Cam
 ErrorComesTo signs error Came.Spent = WouldWait error × WaitComesTo signs Came.Spent
 ErrorComesTo signs error Came.Closes = SaysClosed error
 ErrorComesTo signs error (Came.Breaks code) = breach_of error ≡ Some code
+ErrorComesTo signs error Came.Lost = ⊥
 ErrorComesTo signs error Came.Fails = (WouldWait error → WaitComesTo signs Came.Fails) × (¬ SaysClosed error) × (breach_of error ≡ None)
 
 -- what a read comes to by what it gave
@@ -146,7 +149,7 @@ module _ {S : Type 0} where
   ReadsOnce remaining contents old new (Ok message) = ReadsMessage remaining contents old new message
   ReadsOnce remaining contents old new (Err error) = ReadsError remaining contents old new error
 
-  -- the connection was not read: nothing had come, or the stream was asked to take what waits and did not, or has failed
+  -- the connection was not read: nothing had come, or the stream was asked to take what waits and did not, or that failed
   abbrev pub ReadsNothing : (contents : S → Option (List ℕ)) (full : S → ℕ) → SocketConn S → SocketConn S → Type 0
   ReadsNothing contents full old new =
       ((old.is_readable ≡ false) × (new ≡ old)) ⊎ (Flushed contents old.socket new.socket × Flushes full old new false)
@@ -174,7 +177,12 @@ module _ {S : Type 0} where
   Takes Came.Spent old new answer = (answer ≡ Ok Said.Nothing) × (new ≡ old)
   Takes Came.Closes old new answer = (answer ≡ Ok Said.Gone) × (new ≡ ended old)
   Takes (Came.Breaks code) old new answer = IsErr answer × (new ≡ noting (Some code) (ended old))
+  Takes Came.Lost old new answer = IsErr answer × (new ≡ ended old)
   Takes Came.Fails old new answer = IsErr answer × (new ≡ ended old)
+
+  -- the read that came to this is counted, where it failed
+  abbrev pub counted : Came → SocketConn S → SocketConn S
+  counted came c = record c { faults = after_read came c.faults }
 
   -- what a connection comes to whose output left, and which then was read
   abbrev pub read_of : SocketConn S → SocketConn S → SocketConn S
@@ -203,17 +211,17 @@ module _ {S : Type 0} where
   abbrev pub ReadsFault : (remaining contents : S → Option (List ℕ)) (dry spent : S → ℕ) → SocketConn S → SocketConn S → Type 0
   ReadsFault remaining contents dry spent old new =
       ((message : Message) × ReadsMessage remaining contents old.socket new.socket message × IsData message
-      × (new ≡ ended (read_of old new)))
+      × (new ≡ ended (read_of (failed old) new)))
       ⊎ ((error : Error) × ReadsError remaining contents old.socket new.socket error
       × (WouldWait error → HasNotWaited spent old.socket new.socket × HasNotWaited dry old.socket new.socket) × (¬ SaysClosed error)
-      × (new ≡ noting (breach_of error) (ended (read_of old new))))
+      × (new ≡ noting (breach_of error) (ended (read_of (failed old) new))))
 
   -- a read by which a message had more frames than it may, whatever it gave: that a message is too long is noted
   abbrev pub ReadsTooMany : (remaining contents : S → Option (List ℕ)) (is_over : S → Bool) → SocketConn S → SocketConn S → Type 0
   ReadsTooMany remaining contents is_over old new =
       (is_over new.socket.stream ≡ true)
       × ((given : Result Message Error) × ReadsOnce remaining contents old.socket new.socket given)
-      × (new ≡ noting (Some Size) (ended (read_of old new)))
+      × (new ≡ noting (Some Size) (ended (read_of (failed old) new)))
 
   -- what the socket did where the connection, before and after, gave this answer, and what else changed. A text: it read one
   -- message, of these bytes. Nothing: it was not read, or read a ping or a pong, or would block. Gone: it read a close, whose reply
@@ -277,9 +285,9 @@ module _ {S : Type 0} where
     pub last : new.conn ≡ record old.conn { state = ClosedByUs }
     pub same_input : new.input ≡ old.input
 
-  -- the frame of this code and reason was said; or the connection is lost, since there was no memory for the frame, or none for
-  -- the reason alone
+  -- the frame of this code and reason was said; or the connection is lost, since that failed, or a copy of the reason alone did
   abbrev pub Closes : (contents : S → Option (List ℕ)) → SocketConn S → SocketConn S → CloseCode → List ℕ → Type 0
   Closes contents old new code reason =
       (SendsClose contents old.socket new.socket code reason × (new ≡ over new.socket old))
-      ⊎ (((new.socket ≡ old.socket) ⊎ SendsClose contents old.socket new.socket code []) × (new ≡ lost (over new.socket old)))
+      ⊎ (((new.socket ≡ old.socket) ⊎ SendsClose contents old.socket new.socket code [])
+      × (new ≡ lost (record old { socket = new.socket; faults = new.faults })) × HasFailed old new)

@@ -2,7 +2,7 @@
 ghost use Rattle.std.specs.Prelude.{◌≡◌, All, IfOk, length, option_map, string_bytes};
 ghost use Rattle.httparse.specs.Spans.{IsHeaderWithin};
 ghost use Rattle.websocket.specs.Headers.{eq_ignore_case, fields_of};
-ghost use Rattle.socket_conn.specs.Heads.{IsAskedBy, count_of, has_bare_lf, has_field, has_proxy_field, is_sound, last_text, last_value, text_or_empty};
+ghost use Rattle.socket_conn.specs.Heads.{IsAskedBy, count_of, has_bare_lf, has_field, has_proxy_field, is_sound, last_text, last_value, text_or_empty, wants_status};
 
 use httparse::spans::HeaderSpan;
 use std::alloc::{AllocError, Global};
@@ -23,6 +23,8 @@ pub struct Asked {
     /// Whether a proxy handed the request on: the head has an `X-Forwarded-For`, an `X-Forwarded-Host`, an `X-Real-IP` or a
     /// `Forwarded` (RFC 7239).
     pub is_forwarded: bool,
+    /// Whether a refusal is to be told by the status of a response: the last `X-Refusals` has the value `http`.
+    pub wants_status: bool,
 }
 
 /// Whether the name of a field is the wanted one, whatever the case of its letters.
@@ -75,6 +77,16 @@ fn has_proxy_field(bytes: &[u8], fields: &[HeaderSpan]) -> bool
         || has_field(bytes, fields, b"X-Forwarded-Host")
         || has_field(bytes, fields, b"X-Real-IP")
         || has_field(bytes, fields, b"Forwarded")
+}
+
+fn wants_status(bytes: &[u8], fields: &[HeaderSpan]) -> bool
+    requires { All (IsHeaderWithin (length bytes.now)) fields.now }
+    ensures { result ≡ wants_status (fields_of bytes.now fields.now) }
+{
+    match last_value(bytes, fields, b"X-Refusals") {
+        Some(value) => value == b"http".as_slice(),
+        None => false,
+    }
 }
 
 /// Whether a line ends with LF and no CR before it.
@@ -151,5 +163,6 @@ pub(crate) fn asked_of(
         origin,
         forwarded_for,
         is_forwarded: has_proxy_field(bytes, fields),
+        wants_status: wants_status(bytes, fields),
     })
 }

@@ -5,10 +5,11 @@ ghost use Rattle.tungstenite.specs.Content.{text as Text};
 ghost use Rattle.tungstenite.specs.Socket.{Flushed, Writes, content_of};
 ghost use Rattle.websocket.specs.Connection.{write_step};
 ghost use Rattle.websocket.specs.Content.{ping};
-ghost use Rattle.socket_conn.specs.State.{Flushes, StaysOrBlocks, begun, blocked, ended, hung_up, says_close, with_unsent};
-ghost use Rattle.socket_conn.specs.Talks.{Closes, Receives, SendsText};
+ghost use Rattle.socket_conn.specs.State.{Flushes, StaysOrBlocks, begun, blocked, ended, hung_up, is_roomy, says_close, with_unsent};
+ghost use Rattle.socket_conn.specs.Talks.{Closes, Receives, SendsText, WaitedSince};
 ghost use Rattle.websocket.specs.CloseCode.{close_code_of};
 
+use crate::faults::Faults;
 use crate::frames::CountsFrames;
 use crate::outcomes::would_block;
 use crate::waits::CountsWaits;
@@ -48,6 +49,8 @@ pub struct SocketConn<S: Read + Write + Drop> {
     is_heard: bool,
     /// The code that the client's breach of the protocol is closed with, once that was met.
     breach: Option<CloseCode>,
+    /// How often a read, a flush, a close or the copy of its reason has failed.
+    faults: Faults,
 }
 
 impl<S: Read + Write + Drop> Drop for SocketConn<S> {
@@ -63,6 +66,7 @@ impl<S: Read + Write + Drop> Drop for SocketConn<S> {
             received: _,
             is_heard: _,
             breach: _,
+            faults: _,
         } = self;
     }
 }
@@ -83,6 +87,7 @@ impl<S: Read + Write + CountsWaits + Drop> SocketConn<S> {
             received: 0,
             is_heard: false,
             breach: None,
+            faults: Faults::none(),
         }
     }
 
@@ -130,16 +135,15 @@ impl<S: Read + Write + CountsWaits + Drop> SocketConn<S> {
         ensures state { Flushes S.full self.old self.new result }
     {
         let full = self.socket.get_ref().times_full();
-        match self.socket.flush() {
+        match self.faults.flush(&mut self.socket) {
             Ok(()) => {
                 self.unsent = 0;
                 self.is_blocked = false;
                 true
             }
             Err(error) => {
-                let waits = would_block(&error) && self.is_full_since(full);
                 drop(error);
-                if waits {
+                if self.is_full_since(full) {
                     self.is_blocked = true;
                 } else {
                     self.hang_up();
@@ -151,7 +155,7 @@ impl<S: Read + Write + CountsWaits + Drop> SocketConn<S> {
 
     /// Whether the stream took nothing since it counted so many.
     fn is_full_since(&self, full: u64) -> bool
-        ensures { IsTrue result → ¬ (S.full self.now.socket.stream ≡ full) }
+        ensures { WaitedSince S.full full self.now.socket result }
     {
         self.socket.get_ref().times_full() != full
     }
@@ -246,7 +250,7 @@ impl<S: Read + Write + CountsWaits + CountsFrames + Drop> Conn for SocketConn<S>
         if !self.is_readable || !self.flush() {
             return Ok(Incoming::Nothing);
         }
-        let what = self.read(dry, spent);
+        let what = self.faults.read(self.alloc, &mut self.socket, dry, spent);
         self.take(what)
     }
 
@@ -255,7 +259,8 @@ impl<S: Read + Write + CountsWaits + CountsFrames + Drop> Conn for SocketConn<S>
     }
 
     fn send(&mut self, text: &str) -> Result<(), ConnFault>
-        requires { self.old.is_open ≡ true }
+        requires open { self.old.is_open ≡ true }
+        requires room { is_roomy self.old ≡ true }
         ensures ok { OnOk result ((self.new.is_open ≡ true) × Tells (with_sent text.now) None None) }
         ensures err { OnErr result ((self.new.is_open ≡ false) × Tells same None None) }
         ensures wrote { OnOk result (SendsText S.contents self.old.socket self.new.socket text.now) }

@@ -8,6 +8,7 @@ ghost use Rattle.socket_conn.specs.Frames.{no_frames, walked};
 ghost use Rattle.socket_conn.specs.Shakes.{IsHeld};
 ghost use Rattle.socket_conn.specs.Turns.{IsInTurn, after_read, most_a_turn};
 ghost use Rattle.socket_conn.specs.Waits.{with_wait, with_waits};
+ghost use Rattle.tungstenite.specs.Config.{HasLimits};
 ghost use Rattle.tungstenite.specs.Socket.{IsFresh};
 
 use crate::frames::{CountsFrames, FrameCount};
@@ -82,6 +83,20 @@ impl<S> Held<S> {
         inner
     }
 
+    /// Whether nothing goes out yet.
+    pub(crate) fn is_held(&self) -> bool
+        ensures { result ≡ self.now.is_held }
+    {
+        self.is_held
+    }
+
+    /// How many of the first bytes have gone out.
+    pub(crate) fn gone(&self) -> usize
+        ensures { result ≡ self.now.at }
+    {
+        self.at
+    }
+
     /// What waits may go out.
     pub fn let_go(&mut self)
         ensures { self.new ≡ record self.old { is_held = false } }
@@ -140,6 +155,20 @@ impl<S: Write> Held<S> {
 }
 
 impl<S: Write> Held<S> {
+    /// Sends the first bytes on. Whether they have gone out.
+    pub(crate) fn send_on(&mut self) -> io::Result<bool>
+        ensures bytes { Keeps (append_known (S.contents self.old.inner) (drop self.old.at self.old.first.items))
+            (append_known (S.contents self.new.inner) (drop self.new.at self.new.first.items)) }
+        ensures gone { IfOk result (λ all. IsTrue all → length self.new.first.items ≤ self.new.at) }
+        ensures counted { self.new ≡ record self.old { inner = self.new.inner; at = self.new.at; full = with_waits self.old.full result } }
+    {
+        let sent = self.send_first();
+        if let Err(error) = &sent {
+            self.full = counted(self.full, error);
+        }
+        sent
+    }
+
     fn write_on(&mut self, buf: &[u8]) -> io::Result<usize>
         ensures same { self.new ≡ record self.old { inner = self.new.inner; at = self.new.at } }
         ensures held { self.old.is_held ≡ true → IsErr result × (self.new ≡ self.old) }
@@ -291,6 +320,7 @@ pub(crate) fn socket_of<S: Read + Write + Drop>(
     ensures input { result.input ≡ rest.items }
     ensures answer { IsHeld stream answer.items result.stream }
     ensures fresh { IsFresh (record result { input = [] }) result.stream Role.Server }
+    ensures limits { HasLimits result.conn.config config }
     ensures turn { result.stream.left ≡ most_a_turn }
     ensures frames { result.stream.frames ≡ walked no_frames rest.items }
 {

@@ -4,6 +4,7 @@
 mod answering;
 mod asked;
 mod conn;
+mod faults;
 mod frames;
 mod head;
 mod held;

@@ -1,11 +1,15 @@
 // What a read of the socket came to.
-ghost use Rattle.std.specs.Prelude.{MatchBool, IsTrue, ◌↔◌};
-ghost use Rattle.socket_conn.specs.Talks.{ComesTo, ErrorComesTo, GivenComesTo, MessageComesTo, WaitComesTo, WouldWait};
+ghost use Rattle.std.specs.Prelude.{◌≡◌, MatchBool, IsTrue, ◌↔◌};
+ghost use Rattle.socket_conn.specs.Faults.{after_copy};
+ghost use Rattle.socket_conn.specs.Talks.{ComesTo, ErrorComesTo, GivenComesTo, GivesSigns, MessageComesTo, WaitComesTo, WouldWait};
 ghost use Rattle.tungstenite.specs.Failure.{IsIo};
 
+use crate::faults::Faults;
+use crate::frames::CountsFrames;
+use crate::waits::CountsWaits;
 use std::alloc::Global;
 use std::io::ErrorKind;
-use tungstenite::{Error, Message};
+use tungstenite::{Error, Message, NoMask, WebSocket};
 use websocket::protocol::CloseCode;
 
 /// What a read came to.
@@ -22,6 +26,8 @@ pub(crate) enum Came {
     Closes,
     /// The client broke the protocol, which is closed with the code.
     Breaks(CloseCode),
+    /// A text or a binary message, for whose bytes there was no memory.
+    Lost,
     Fails,
 }
 
@@ -34,6 +40,22 @@ pub(crate) struct Signs {
     pub(crate) is_spent: bool,
     /// A message had more frames than it may.
     pub(crate) is_over: bool,
+}
+
+/// What the stream of the socket tells, which had counted so often before that it was dry, and that its turn was spent.
+pub(crate) fn signs_since<S: CountsWaits + CountsFrames + Drop>(
+    socket: &WebSocket<S, NoMask>,
+    dry: u64,
+    spent: u64,
+) -> Signs
+    ensures { GivesSigns S.dry S.spent S.over dry spent socket.now result }
+{
+    let stream = socket.get_ref();
+    Signs {
+        is_dry: stream.times_dry() != dry,
+        is_spent: stream.times_spent() != spent,
+        is_over: stream.is_over(),
+    }
 }
 
 pub(crate) fn would_block(error: &Error) -> bool
@@ -52,17 +74,18 @@ pub(crate) fn is_io(error: &Error) -> bool
     matches!(error, Error::Io(_))
 }
 
-fn message_in(alloc: Global, message: &Message) -> Came
-    ensures { MessageComesTo message.now result }
+fn message_in(alloc: Global, faults: &mut Faults, message: &Message) -> Came
+    ensures comes { MessageComesTo message.now result }
+    ensures counted { faults.new ≡ after_copy result faults.old }
 {
     match message {
-        Message::Text(text) => match Vec::from_slice(alloc, text.as_str().as_bytes()) {
+        Message::Text(text) => match faults.bytes(alloc, text.as_str().as_bytes()) {
             Ok(bytes) => Came::Text(bytes),
-            Err(_) => Came::Fails,
+            Err(_) => Came::Lost,
         },
-        Message::Binary(bytes) => match Vec::from_slice(alloc, bytes.as_slice()) {
+        Message::Binary(bytes) => match faults.bytes(alloc, bytes.as_slice()) {
             Ok(bytes) => Came::Text(bytes),
-            Err(_) => Came::Fails,
+            Err(_) => Came::Lost,
         },
         Message::Ping(_) => Came::Ping,
         Message::Pong(_) => Came::Pong,
@@ -100,22 +123,30 @@ fn failure_of(error: &Error, signs: Signs) -> Came
     }
 }
 
-fn given_of(alloc: Global, read: &Result<Message, Error>, signs: Signs) -> Came
-    ensures { GivenComesTo signs read.now result }
+#[tactic(auto, using(crate::proofs::TalksLemmas::copied_nothing))]
+fn given_of(alloc: Global, faults: &mut Faults, read: &Result<Message, Error>, signs: Signs) -> Came
+    ensures comes { GivenComesTo signs read.now result }
+    ensures counted { faults.new ≡ after_copy result faults.old }
 {
     match read {
-        Ok(message) => message_in(alloc, message),
+        Ok(message) => message_in(alloc, faults, message),
         Err(error) => failure_of(error, signs),
     }
 }
 
-/// What a read comes to. A message of too many frames is too long, whatever was read before it.
-pub(crate) fn outcome_of(alloc: Global, read: &Result<Message, Error>, signs: Signs) -> Came
-    ensures { ComesTo signs read.now result }
+/// What a read comes to. A message of too many frames is too long, whatever was read before it. A copy that failed is counted.
+pub(crate) fn outcome_of(
+    alloc: Global,
+    faults: &mut Faults,
+    read: &Result<Message, Error>,
+    signs: Signs,
+) -> Came
+    ensures comes { ComesTo signs read.now result }
+    ensures counted { faults.new ≡ after_copy result faults.old }
 {
     if signs.is_over {
         Came::Breaks(CloseCode::Size)
     } else {
-        given_of(alloc, read, signs)
+        given_of(alloc, faults, read, signs)
     }
 }

@@ -1,9 +1,9 @@
 // A connection whose request is on its way (RFC 6455, section 4.2), on a stream that does not block.
-ghost use Rattle.std.specs.Prelude.{◌≡◌, [], IfOk, drop};
+ghost use Rattle.std.specs.Prelude.{◌≡◌, [], IfOk, Some, drop, false};
 ghost use Rattle.socket_conn.specs.Heads.{IsRequest, IsUpgrade};
 ghost use Rattle.socket_conn.specs.declared.conn.SocketConn.{SocketConn};
 ghost use Rattle.socket_conn.specs.declared.held.Held.{Held};
-ghost use Rattle.socket_conn.specs.Shakes.{Begins, Hears, Judges, Shakes};
+ghost use Rattle.socket_conn.specs.Shakes.{Begins, Hears, Judges, Shakes, most_message};
 
 use crate::asked::Asked;
 use crate::conn::SocketConn;
@@ -71,6 +71,18 @@ fn behind(alloc: Global, mut head: Vec<u8>, len: usize) -> Vec<u8>
     }
 }
 
+/// What a connection takes.
+fn config() -> WebSocketConfig
+    ensures message { result.max_message_size ≡ Some most_message }
+    ensures frame { result.max_frame_size ≡ Some most_message }
+    ensures masked { result.accept_unmasked_frames ≡ false }
+{
+    WebSocketConfig::default()
+        .read_buffer_size(READ_SIZE)
+        .max_message_size(Some(MOST_BYTES))
+        .max_frame_size(Some(MOST_BYTES))
+}
+
 fn opened<S: Read + Write + Drop>(
     alloc: Global,
     stream: S,
@@ -84,11 +96,7 @@ fn opened<S: Read + Write + Drop>(
         answer,
         len: _,
     } = upgrade;
-    let config = WebSocketConfig::default()
-        .read_buffer_size(READ_SIZE)
-        .max_message_size(Some(MOST_BYTES))
-        .max_frame_size(Some(MOST_BYTES));
-    let socket = socket_of(alloc, stream, answer, rest, config);
+    let socket = socket_of(alloc, stream, answer, rest, config());
     Shaken::Open(SocketConn::new(alloc, socket), asked)
 }
 

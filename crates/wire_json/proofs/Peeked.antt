@@ -4,8 +4,7 @@ use Rattle.std.specs.Prelude.{codes, if◌then◌else◌}
 use Rattle.std.proofs.lemmas.Bool.{leb-false, leb-true}
 use Rattle.std.proofs.lemmas.Grind.{flat_map-append}
 use Rattle.delivery_machine.specs.declared.delivery.Delivery.{Delivery}
-use Rattle.wire_json.specs.Deliveries.{IsDelivery}
-use Rattle.wire_json.specs.Peeks.{Appends, AreDeliveries, BeginsPeek, IsPeek, begun, ending, fits, listed, messages_text, most_text}
+use Rattle.wire_json.specs.Peeks.{Appends, AreShown, BeginsPeek, IsPeek, IsShown, begun, ending, fits, listed, messages_text, most_text}
 
 abbrev pub none_in : {A : Type 0} → List A → Bool
 none_in [] = true
@@ -15,13 +14,13 @@ pub none_after_one : {A : Type 0} (xs : List A) (x : A) → false ≡ none_in (x
 none_after_one [] x = refl
 none_after_one (y ∷ ys) x = refl
 
-same_none : (ds : List Delivery) (texts : List (List ℕ)) → AreDeliveries ds texts → none_in ds ≡ none_in texts
+same_none : (ds : List Delivery) (texts : List (List ℕ)) → AreShown ds texts → none_in ds ≡ none_in texts
 same_none [] [] are = refl
 same_none (d ∷ ds) (text ∷ texts) are = refl
 same_none [] (text ∷ texts) are = absurd are
 same_none (d ∷ ds) [] are = absurd are
 
-one_more : (ds : List Delivery) (texts : List (List ℕ)) (d : Delivery) (text : List ℕ) → AreDeliveries ds texts → IsDelivery d.message d.count text → AreDeliveries (ds ++ d ∷ []) (texts ++ text ∷ [])
+one_more : (ds : List Delivery) (texts : List (List ℕ)) (d : Delivery) (text : List ℕ) → AreShown ds texts → IsShown d text → AreShown (ds ++ d ∷ []) (texts ++ text ∷ [])
 one_more [] [] d text are one = (one, tt)
 one_more (e ∷ ds) (first ∷ texts) d text are one = (are.0, one_more ds texts d text are.1 one)
 one_more [] (first ∷ texts) d text are one = absurd are
@@ -52,14 +51,14 @@ one_alone (y ∷ ys) x none above = cc
 -- all that was gone over is shown
 pub record AllShown (ds : List Delivery) (after : List ℕ) : Type 0 where
   pub texts : List (List ℕ)
-  pub as_written : AreDeliveries ds texts
+  pub as_written : AreShown ds texts
   pub is : after ≡ begun texts
   pub within : 1 < length ds → length (messages_text texts) ≤ most_text
 
 pub none_shown : (after : List ℕ) → after ≡ codes "{\"messages\":[" → AllShown [] after
 none_shown after is = record { texts = []; as_written = tt; is = is ∙ sym (append-nil (codes "{\"messages\":[")); within = λ above. absurd (omega (arith, above)) }
 
-one_within : (is_first : Bool) (ds : List Delivery) (texts : List (List ℕ)) (d : Delivery) (before text : List ℕ) → is_first ≡ none_in ds → AreDeliveries ds texts → before ≡ begun texts → true ≡ fits is_first before text → 1 < length (ds ++ d ∷ []) → length (messages_text (texts ++ text ∷ [])) ≤ most_text
+one_within : (is_first : Bool) (ds : List Delivery) (texts : List (List ℕ)) (d : Delivery) (before text : List ℕ) → is_first ≡ none_in ds → AreShown ds texts → before ≡ begun texts → true ≡ fits is_first before text → 1 < length (ds ++ d ∷ []) → length (messages_text (texts ++ text ∷ [])) ≤ most_text
 one_within true ds texts d before text first are is fit above = absurd (one_alone ds d first above)
 one_within false ds texts d before text first are is fit above =
     subst (λ s. length s ≤ most_text) (sym (one_ended texts text before (first ∙ same_none ds texts are) is)) (leb-true _ _ (sym fit))
@@ -102,11 +101,11 @@ no_more_fit ds d later false before after first was (text, one, fit, same) = (
   same ∙ (append-nil before ∙ was.is),
 )
 
-pub appended_one : (d : Delivery) (is_first : Bool) (before middle after text : List ℕ) → IsDelivery d.message d.count text → true ≡ fits is_first before text → middle ≡ before ++ (if is_first then [] else codes ",") → after ≡ middle ++ text → Appends true is_first d before after
+pub appended_one : (d : Delivery) (is_first : Bool) (before middle after text : List ℕ) → IsShown d text → true ≡ fits is_first before text → middle ≡ before ++ (if is_first then [] else codes ",") → after ≡ middle ++ text → Appends true is_first d before after
 unfolding Appends
 appended_one d is_first before middle after text one fit e f = (text, one, fit, f ∙ ap (λ s. s ++ text) e ∙ append_assoc before (if is_first then [] else codes ",") text)
 
-pub appended_none : (d : Delivery) (is_first : Bool) (before text : List ℕ) → IsDelivery d.message d.count text → false ≡ fits is_first before text → Appends false is_first d before before
+pub appended_none : (d : Delivery) (is_first : Bool) (before text : List ℕ) → IsShown d text → false ≡ fits is_first before text → Appends false is_first d before before
 unfolding Appends
 appended_none d is_first before text one fit = (text, one, fit, sym (append-nil before))
 

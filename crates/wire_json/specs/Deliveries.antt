@@ -6,7 +6,7 @@ use Rattle.base64.specs.Engines.{standard}
 use Rattle.json.specs.Json.{Json, number, string}
 use Rattle.position_core.specs.declared.message.Entry.{Entry}
 use Rattle.json_values.specs.Times.{IsTimeText}
-use Rattle.json_values.specs.Written.{object_text, object_with, property_fields}
+use Rattle.json_values.specs.Written.{leading, object_text, object_with, property_fields}
 use Rattle.wire_json.specs.Answers.{id_field}
 
 -- the key, where the message has one
@@ -34,6 +34,12 @@ abbrev pub delivery_fields : List ℕ → Entry → ℕ → List (List ℕ × Js
 delivery_fields time message count =
     key_field message.body.key
     ++ id_field message.position ∷ payload_field message.body.payload ∷ properties_field message.body.properties ∷ time_field time ∷ count_field count ∷ []
+
+-- the fields before the count, each with the comma behind it, in an object that is not ended yet
+abbrev pub BeginsDelivery : Entry → List ℕ → Type 0
+BeginsDelivery message text =
+    (time : List ℕ) × IsTimeText message.time time
+    × (text ≡ codes "{" ++ leading (key_field message.body.key ++ id_field message.position ∷ payload_field message.body.payload ∷ properties_field message.body.properties ∷ time_field time ∷ []))
 
 -- the text of the delivery
 abbrev pub IsDelivery : Entry → ℕ → List ℕ → Type 0

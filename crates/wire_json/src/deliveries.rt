@@ -2,7 +2,7 @@
 ghost use Rattle.std.specs.Prelude.{◌≡◌, ℕ, List, [], ◌∷◌, ◌++◌, OnOk, string_bytes};
 ghost use Rattle.json_values.specs.Times.{IsTimeText};
 ghost use Rattle.json_values.specs.Written.{field_text, leading};
-ghost use Rattle.wire_json.specs.Deliveries.{IsDelivery, count_field, key_field, payload_field, properties_field, time_field};
+ghost use Rattle.wire_json.specs.Deliveries.{BeginsDelivery, IsDelivery, count_field, key_field, payload_field, properties_field, time_field};
 
 use crate::answers::{begin, push_id};
 use base64::engine::general_purpose::STANDARD;
@@ -66,7 +66,7 @@ fn push_publish_time(out: &mut String, moment: Moment) -> Result<(), AllocError>
     Ok(())
 }
 
-fn push_count(out: &mut String, count: u32) -> Result<(), AllocError>
+pub(crate) fn push_count(out: &mut String, count: u32) -> Result<(), AllocError>
     ensures { OnOk result (string_bytes out.new ≡ string_bytes out.old ++ field_text (count_field count)) }
 {
     out.push_str("\"redeliveryCount\":")?;
@@ -74,9 +74,9 @@ fn push_count(out: &mut String, count: u32) -> Result<(), AllocError>
     Ok(())
 }
 
-/// Writes what a consumer is sent, the message and how often it was redelivered, in place of what `out` holds.
-pub fn delivery_text(out: &mut String, message: &Entry, count: u32) -> Result<(), AllocError>
-    ensures { OnOk result (IsDelivery message.now count (string_bytes out.new)) }
+/// Writes all that stands before the count, in place of what `out` holds.
+pub(crate) fn begin_delivery(out: &mut String, message: &Entry) -> Result<(), AllocError>
+    ensures { OnOk result (BeginsDelivery message.now (string_bytes out.new)) }
 {
     let content = message.body.content();
     begin(out, room_for_delivery(content))?;
@@ -86,6 +86,14 @@ pub fn delivery_text(out: &mut String, message: &Entry, count: u32) -> Result<()
     push_payload(out, content.payload.as_slice())?;
     push_properties(out, &content.properties)?;
     push_publish_time(out, message.time)?;
+    Ok(())
+}
+
+/// Writes what a consumer is sent, the message and how often it was redelivered, in place of what `out` holds.
+pub fn delivery_text(out: &mut String, message: &Entry, count: u32) -> Result<(), AllocError>
+    ensures { OnOk result (IsDelivery message.now count (string_bytes out.new)) }
+{
+    begin_delivery(out, message)?;
     push_count(out, count)?;
     out.push_str("}")?;
     Ok(())

@@ -1,5 +1,6 @@
 // How a connection is closed: by one last frame.
-ghost use Rattle.std.specs.Prelude.{◌≡◌, ◌≤◌, length, IfOk, IfSome, OnOk, OnErr, Ok, Some, None, [], true};
+ghost use Rattle.std.specs.Prelude.{◌≡◌, ◌≤◌, length, IfSome, OnOk, OnErr, Ok, Some, None, [], true};
+ghost use Rattle.socket_conn.specs.Faults.{after};
 ghost use Rattle.socket_conn.specs.State.{over, says_close};
 ghost use Rattle.socket_conn.specs.Talks.{Closes, SendsClose};
 ghost use Rattle.tungstenite.specs.Socket.{Flushed, Writes};
@@ -7,10 +8,8 @@ ghost use Rattle.websocket.specs.CloseCode.{close_code_of};
 ghost use Rattle.websocket.specs.Connection.{close_step};
 
 use super::SocketConn;
-use crate::outcomes::is_io;
 use bytes::ByteStr;
 use session_links::ConnFault;
-use std::alloc::AllocError;
 use std::io::{Read, Write};
 use tungstenite::{CloseFrame, Message};
 use websocket::protocol::CloseCode;
@@ -47,17 +46,11 @@ impl<S: Read + Write + Drop> SocketConn<S> {
         }
     }
 
-    fn reason_of(&self, reason: &str) -> Result<ByteStr, AllocError>
-        ensures { IfOk result (λ copy. copy ≡ reason.now) }
-    {
-        ByteStr::copy_from_str(self.alloc, reason)
-    }
-
     /// Says the last frame. What the stream does not take waits.
     fn say_close(&mut self, code: u16, reason: ByteStr) -> Result<(), ConnFault>
         requires says { says_close self.old (close_code_of code) ≡ true }
         requires short { length reason ≤ 123 }
-        ensures same { self.new ≡ over self.new.socket self.old }
+        ensures same { self.new ≡ record self.old { socket = self.new.socket; faults = after result self.old.faults } }
         ensures ok { OnOk result (SendsClose S.contents self.old.socket self.new.socket (close_code_of code) reason) }
         ensures err { OnErr result (self.new.socket ≡ self.old.socket) }
     {
@@ -84,18 +77,17 @@ impl<S: Read + Write + Drop> SocketConn<S> {
     fn put_close(&mut self, code: u16, reason: ByteStr) -> Result<(), ConnFault>
         requires says { says_close self.old (close_code_of code) ≡ true }
         requires short { length reason ≤ 123 }
-        ensures same { self.new ≡ over self.new.socket self.old }
+        ensures same { self.new ≡ record self.old { socket = self.new.socket; faults = after result self.old.faults } }
         ensures ok { OnOk result (SendsClose S.contents self.old.socket self.new.socket (close_code_of code) reason) }
         ensures err { OnErr result (self.new.socket ≡ self.old.socket) }
     {
         let code = CloseCode::from(code);
         let close = Message::Close(Some(CloseFrame { code, reason }));
-        match self.socket.write(close) {
+        match self.faults.put(&mut self.socket, close) {
             Ok(()) => Ok(()),
             Err(error) => {
-                let is_io = is_io(&error);
                 drop(error);
-                if is_io { Ok(()) } else { Err(ConnFault) }
+                Err(ConnFault)
             }
         }
     }
@@ -107,7 +99,7 @@ impl<S: Read + Write + Drop> SocketConn<S> {
         requires short { length reason.now ≤ 123 }
         ensures { Closes S.contents self.old self.new (close_code_of code) reason.now }
     {
-        match self.reason_of(reason) {
+        match self.faults.copy(self.alloc, reason) {
             Ok(reason) => {
                 if self.say_close(code, reason).is_err() {
                     self.is_lost = true;

@@ -1,41 +1,17 @@
-// How a connection is read: once, and what came is told.
+// What a connection tells of what came.
 ghost use Rattle.std.specs.Prelude.{◌≡◌, IfOk, OnErr, true, false};
 ghost use Rattle.session_links.specs.Links.{goes_on};
 ghost use Rattle.socket_conn.specs.State.{with_received};
-ghost use Rattle.socket_conn.specs.Talks.{Brings, GivesSigns, Takes};
+ghost use Rattle.socket_conn.specs.Talks.{Takes};
 
 use super::SocketConn;
 use crate::frames::CountsFrames;
-use crate::outcomes::{Came, Signs, outcome_of};
+use crate::outcomes::Came;
 use crate::waits::CountsWaits;
 use session_links::{ConnFault, Incoming};
 use std::io::{Read, Write};
 
 impl<S: Read + Write + CountsWaits + CountsFrames + Drop> SocketConn<S> {
-    /// What the stream tells, which had counted so often before that it was dry, and that its turn was spent.
-    fn signs_since(&self, dry: u64, spent: u64) -> Signs
-        ensures { GivesSigns S.dry S.spent S.over dry spent self.now.socket result }
-    {
-        let stream = self.socket.get_ref();
-        Signs {
-            is_dry: stream.times_dry() != dry,
-            is_spent: stream.times_spent() != spent,
-            is_over: stream.is_over(),
-        }
-    }
-
-    /// Reads once. The stream had counted so often that it was dry, and that its turn was spent.
-    pub(super) fn read(&mut self, dry: u64, spent: u64) -> Came
-        ensures same { self.new ≡ record self.old { socket = self.new.socket } }
-        ensures came { (signs : Signs) × Brings S.remaining signs self.old.socket self.new.socket result × GivesSigns S.dry S.spent S.over dry spent self.new.socket signs }
-    {
-        let read = self.socket.read();
-        let signs = self.signs_since(dry, spent);
-        let came = outcome_of(self.alloc, &read, signs);
-        drop(read);
-        came
-    }
-
     /// A message was received.
     fn note_received(&mut self)
         ensures { self.new ≡ with_received self.old }
@@ -80,7 +56,7 @@ impl<S: Read + Write + CountsWaits + CountsFrames + Drop> SocketConn<S> {
                 self.breach = Some(code);
                 Err(ConnFault)
             }
-            Came::Fails => {
+            Came::Lost | Came::Fails => {
                 self.is_open = false;
                 Err(ConnFault)
             }

@@ -1,7 +1,5 @@
-use Rattle.std.proofs.Common.{◌≡◌, [], ◌∷◌, ◌++◌, append-nil}
-use Rattle.std.specs.Prelude.{codes}
-use Rattle.json_values.specs.Written.{leading}
-use Rattle.json_values.proofs.Written.{brace_after, finish, follow}
+use Rattle.std.proofs.Common.{[], ◌∷◌}
+use Rattle.json_values.proofs.Written.{brace_after, finish}
 use Rattle.wire_json.specs.Answers.{id_field}
 use Rattle.wire_json.specs.Deliveries.{count_field, key_field, payload_field, properties_field, time_field}
 use Rattle.wire_json.proofs.deliveries.delivery_text.Goals as goal
@@ -9,20 +7,9 @@ use Rattle.wire_json.proofs.deliveries.delivery_text.Goals as goal
 pub returns : goal.returns
 returns c =
     let m = c.args.message.now in
-    let key = rw c.content-content.ensures at c.in_ok-push_key.ensures in
-    let payload = rw (c.as_slice.ensures.value, c.content-content.ensures) at c.in_ok-push_payload.ensures in
-    let properties = rw c.content-content.ensures at c.in_ok-push_properties.ensures in
-    let time = c.in_ok-push_publish_time.ensures in
-    let start = rw c.in_ok-begin.ensures at c.in_ok-push_str.ensures.bytes in
-    let first = follow [] [] (key_field m.body.key) _ _ start key in
-    let keyed : _ ≡ codes "{" ++ leading (key_field m.body.key ++ []) = rw append-nil first in
-    let fields = key_field m.body.key in
-    let one = follow fields [] (id_field m.position ∷ []) _ _ keyed c.in_ok-push_id.ensures in
-    let two = follow fields (id_field m.position ∷ []) (payload_field m.body.payload ∷ []) _ _ one payload in
-    let three = follow fields (id_field m.position ∷ payload_field m.body.payload ∷ []) (properties_field m.body.properties ∷ []) _ _ two properties in
-    let four = follow fields (id_field m.position ∷ payload_field m.body.payload ∷ properties_field m.body.properties ∷ []) (time_field time.0 ∷ []) _ _ three time.2 in (
-      time.0,
-      time.1,
-      finish fields (id_field m.position ∷ payload_field m.body.payload ∷ properties_field m.body.properties ∷ time_field time.0 ∷ []) (count_field c.args.count) _ _ four
-          (brace_after _ _ _ _ c.in_ok-push_count.ensures c.in_ok-push_str-2.ensures.bytes),
+    let begun = c.in_ok-begin_delivery.ensures in (
+      begun.0,
+      begun.1,
+      finish (key_field m.body.key) (id_field m.position ∷ payload_field m.body.payload ∷ properties_field m.body.properties ∷ time_field begun.0 ∷ []) (count_field c.args.count) _ _ begun.2
+          (brace_after _ _ _ _ c.in_ok-push_count.ensures c.in_ok-push_str.ensures.bytes),
     )

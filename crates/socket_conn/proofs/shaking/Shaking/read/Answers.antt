@@ -1,6 +1,6 @@
-use Rattle.std.proofs.Common.{◌+◌, ◌-◌, ◌≤◌, ◌≡◌, [], length, take, drop, arith, ap, sym, ◌∙◌}
+use Rattle.std.proofs.Common.{◌+◌, ◌-◌, ◌≤◌, ◌≡◌, length, take, drop, arith, ap, sym, ◌∙◌}
 use Rattle.std.proofs.lemmas.List.{length-take}
-use Rattle.socket_conn.proofs.ShakesLemmas.{grown, kept_head, in_front, nothing_more}
+use Rattle.socket_conn.proofs.ShakesLemmas.{grown, kept_head, in_front}
 use Rattle.socket_conn.specs.declared.held.Held.{Held}
 use Rattle.socket_conn.proofs.shaking.Shaking.read.Goals as goal
 
@@ -25,4 +25,4 @@ returns-then-times_dry-dry g c =
     let z = c.deref_mut.result.now in
     let front : take len z ≡ old = in_front old z _ len 2048 long (c.deref_mut.ensures.value ∙ c.in_ok-resize.ensures.items) in
     let fits : len ≤ c.resize.new.self.len = omega (arith, c.in_ok-resize.ensures.len) in
-    (([], nothing_more _ _ c.in-Err.ensures.bytes, kept_head old (take len z) c.read-got.new.buf _ _ c.truncate-in-Err.new.self.items len c.resize.new.self.len long front fits c.truncate-in-Err.ensures.items), λ e. c.if-times_dry-dry.true (c.times_dry.ensures ∙ e ∙ sym c.times_dry-dry.ensures))
+    (c.in-Err.ensures.bytes, kept_head old (take len z) c.read-got.new.buf _ _ c.truncate-in-Err.new.self.items len c.resize.new.self.len long front fits c.truncate-in-Err.ensures.items, λ e. c.if-times_dry-dry.true (c.times_dry.ensures ∙ e ∙ sym c.times_dry-dry.ensures))

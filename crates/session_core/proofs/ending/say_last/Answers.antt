@@ -1,7 +1,7 @@
 use Rattle.std.proofs.Common.{Some, option_map, ap, sym, ◌∙◌}
 use Rattle.session_links.specs.declared.request.Request.TheVariants.{Event as OfEvent}
 use Rattle.session_links.specs.Links.{event_call}
-use Rattle.session_core.proofs.serving.say_last.Goals as goal
+use Rattle.session_core.proofs.ending.say_last.Goals as goal
 
 pub returns-in-Some : goal.returns-in-Some
 returns-in-Some g c = record {
