@@ -1,12 +1,15 @@
 -- What a refused store says of the keeper.
-use Rattle.std.proofs.Common.{◌≡◌, ◌⊎◌, inl, inr, Bool, true, false, Result, Ok, Err, refl, ap}
+use Rattle.std.proofs.Common.{◌≡◌, ◌⊎◌, inl, inr, Bool, true, false, Result, Ok, Err, refl, ap, subst}
 use Rattle.position_core.specs.declared.fault.Fault.{Fault}
-use Rattle.position_core.specs.declared.fault.Fault.TheVariants.{NoMemory, NoSuchSubscription, StoreFailed, TooMany}
+use Rattle.position_core.specs.declared.fault.Fault.TheVariants.{NoMemory, NoSuchSubscription, TooMany}
+use Rattle.row_store.specs.Unstored.{HasFailed}
+use Rattle.row_store.specs.declared.unstored.Unstored.{Unstored}
+use Rattle.row_store.specs.declared.unstored.Unstored.TheVariants as stores
 use Rattle.broker_dir.specs.Refusing.{IsRefusal}
 
 -- a keeper that lacked memory had not failed
-pub had_worked : {V : Type 0} (r : Result V Fault) (failed : Bool) → r ≡ Err NoMemory → (failed ≡ true → r ≡ Err StoreFailed) → failed ≡ false
-had_worked r true lacked stuck = absurd (cc (lacked, stuck refl))
+pub had_worked : {V : Type 0} (r : Result V Unstored) (failed : Bool) → r ≡ Err stores.NoMemory → (failed ≡ true → HasFailed r) → failed ≡ false
+had_worked {V} r true lacked stuck = absurd (subst (λ (q : Result V Unstored). HasFailed q) lacked (stuck refl))
 had_worked r false lacked stuck = refl
 
 err_or : {W E : Type 0} → E → Result W E → E

@@ -1,5 +1,5 @@
 -- Looking at a topic leaves it as it is, and what it tells is so of its state.
-use Rattle.std.proofs.Common.{◌≡◌, ℕ, zero, suc, Bool, true, false, List, [], ◌∷◌, ◌++◌, Option, Some, None, Result, Ok, Err, IsSomeAnd, if◌then◌else◌, subst, sym, arith}
+use Rattle.std.proofs.Common.{◌≡◌, ◌⊎◌, inl, inr, ℕ, zero, suc, Bool, true, false, List, [], ◌∷◌, ◌++◌, Option, Some, None, Result, Ok, Err, IsSomeAnd, if◌then◌else◌, subst, sym, arith}
 use Rattle.std.proofs.lemmas.List.Elements.{All-append}
 use Rattle.std.specs.Prelude.{All}
 use Rattle.std.specs.List.{find}
@@ -53,3 +53,7 @@ pub shown_on : (s t : State) (xs ys zs : List SubscriptionSeen) → t ≡ s → 
     → (All (ShowsSubscription t) ys → All (ShowsSubscription t) zs) → All (ShowsSubscription s) xs → All (ShowsSubscription s) zs
 shown_on s t xs ys zs same earlier later all =
     subst (λ (u : State). All (ShowsSubscription u) zs) same (later (subst (λ (u : State). All (ShowsSubscription u) ys) (sym same) (earlier all)))
+
+-- those of the one kind, and behind them those of the other, are all of one of both
+pub each_of_both : {A : Type 0} (P Q : A → Type 0) (xs ys : List A) → All P xs → All Q ys → All (λ x. P x ⊎ Q x) (xs ++ ys)
+each_of_both P Q xs ys one other = All-append (λ x. P x ⊎ Q x) xs ys (λ k d lt. inl (one k d lt)) (λ k d lt. inr (other k d lt))

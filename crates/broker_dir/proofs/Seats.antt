@@ -98,19 +98,19 @@ promised_state k = by k.promised (nat_lt _ k.limit)
     by false false = refl
 
 -- a round leaves the name, makes nothing durable by a word, and what it stored is an origin
-pub round_named : (r : Result ℕ Fault) (old new : Held)
+pub round_named : {E : Type 0} (r : Result ℕ E) (old new : Held)
     → IfOk r (λ count. StoresLine (record (with_promise old.cell) { viewed = old.cell.state; unsaved = false }) Stored count new.cell) → OnErr r (SameButPromise old new)
     → new.cell.state.name ≡ old.cell.state.name
 round_named (Ok count) old new line same =
     step_named (with_promise old.cell).state Stored (Durable count) new.cell.state line.step ∙ ap (λ (s : State). s.name) (promised_state old.cell)
 round_named (Err fault) old new line same = ap (λ (h : Held). h.cell.state.name) same
 
-pub round_word : {V : Type 0} (X Y : Noted → Type 0) (r : Result V Fault) (old new : Held)
+pub round_word : {V E : Type 0} (X Y : Noted → Type 0) (r : Result V E) (old new : Held)
     → OnOk r ((n : Noted) × (new.stored ≡ Some n) × X n × Y n × (new.by_word ≡ false)) → OnErr r (SameButPromise old new) → old.by_word ≡ false → new.by_word ≡ false
 round_word X Y (Ok v) old new stored same was = stored.4
 round_word X Y (Err fault) old new stored same was = ap (λ (h : Held). h.by_word) same ∙ was
 
-pub round_origin : {V : Type 0} (X Y Z : Noted → Type 0) (r : Result V Fault) (old new : Held) (rows : Noted) (name : TopicName)
+pub round_origin : {V E : Type 0} (X Y Z : Noted → Type 0) (r : Result V E) (old new : Held) (rows : Noted) (name : TopicName)
     → OnOk r ((n : Noted) × (new.stored ≡ Some n) × X n × Y n × Z n) → OnErr r (SameButPromise old new) → has_origin rows old.stored name ≡ true → has_origin rows new.stored name ≡ true
 round_origin X Y Z (Ok v) old new rows name stored same was =
     subst (λ (o : Option Noted). has_origin rows o name ≡ true) (sym stored.1) (stored_origin rows stored.0 name)

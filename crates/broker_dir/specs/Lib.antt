@@ -1,5 +1,7 @@
 -- What the contracts of the directory cite.
+pub mod Answering
 pub mod Coming
+pub mod Deleting
 pub mod Handing
 pub mod Listing
 pub mod Refusing

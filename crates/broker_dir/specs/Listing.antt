@@ -22,12 +22,12 @@ most_open = 256
 -- there is room for one more beside so many: fewer are open than may be, or one of them may leave
 abbrev pub HasRoom : Room → ℕ → Type 0
 HasRoom Free count = count < most_open
-HasRoom (InPlaceOf unused) count = (unused.place < count) × (most_open ≤ count)
+HasRoom (InPlaceOf unused) count = (unused.sole.place < count) × (most_open ≤ count)
 
 -- what is left once the place is made
 abbrev pub after_making : {A : Type 0} → Room → List A → List A
 after_making Free xs = xs
-after_making (InPlaceOf unused) xs = remove xs unused.place
+after_making (InPlaceOf unused) xs = remove xs unused.sole.place
 
 -- the name stands behind the others, where fewer were open than may be; where as many were, one of them has left
 abbrev pub IsListed : List (List ℕ) → List ℕ → List (List ℕ) → Type 0

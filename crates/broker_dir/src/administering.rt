@@ -1,13 +1,16 @@
 // What an administrator asks of a topic that is more than one event.
-ghost use Rattle.std.specs.Prelude.{◌≡◌, ◌+◌, Err, IfOk, IfSome, OnErr, Some};
+ghost use Rattle.std.specs.Prelude.{◌≡◌, ◌+◌, Err, Ok, IfOk, IfSome, OnErr, Some};
 ghost use Rattle.delivery_machine.specs.Places.{snapshot_in};
 ghost use Rattle.delivery_machine.specs.Snapshot.{snapshot_of};
 ghost use Rattle.session_links.specs.Creating.{MayCreate};
+ghost use Rattle.session_links.specs.Looking.{shown_of};
+ghost use Rattle.session_links.specs.declared.looking.Look.{Look};
 ghost use Rattle.broker_parts.specs.Ends.{refusal_at};
+ghost use Rattle.broker_dir.specs.Answering.{IsMade, IsShown};
 ghost use Rattle.broker_dir.specs.Handing.{HandsOn};
 
 use crate::attached::Attached;
-use crate::inside::{Inside, VISITOR, is_storing};
+use crate::inside::{Inside, is_storing};
 use crate::topic::Shared;
 use broker_parts::{Board, Wants};
 use delivery_machine::{Event, Fault, Opened, Reply, SubscriptionName, Target};
@@ -17,7 +20,27 @@ use session_links::{Hold, Look, PeekLength, create};
 use std::alloc::Global;
 use std::sync::{Arc, Wait};
 
+/// What is shown of the subscription where the topic was looked at.
+fn shown_of(
+    alloc: Global,
+    looked: Result<Look, Fault>,
+    subscription: &SubscriptionName,
+    count: PeekLength,
+) -> Result<Reply, Fault>
+    ensures { IfOk result (λ reply. (look : Look) × (looked ≡ Ok look) × (reply ≡ shown_of look.snapshot look.stored subscription.now count)) }
+{
+    match looked {
+        Ok(look) => {
+            let shown = look.next_of(alloc, subscription, count);
+            drop(look);
+            shown
+        }
+        Err(fault) => Err(fault),
+    }
+}
+
 impl<T: Opened + Drop, J: Naming, B: Bell + Drop> Hold for Inside<T, J, B> {
+    ghost use Rattle.std.proofs.Common.{inl};
     ghost use Rattle.broker_dir.specs.Handing.{HandsOn};
 
     ghost state = { λ i. i.topic.cell.cell.state };
@@ -34,10 +57,10 @@ impl<T: Opened + Drop, J: Naming, B: Bell + Drop> Hold for Inside<T, J, B> {
             drop(event);
             return Err(Fault::NoMemory);
         };
-        match self.topic.call(VISITOR, event) {
-            Ok(receipt) => {
-                self.hearers.graves.answered(change, &receipt.reply);
-                Ok(receipt.reply)
+        match self.ask(event) {
+            Ok(reply) => {
+                self.hearers.graves.answered(change, &reply);
+                Ok(reply)
             }
             Err(fault) => {
                 drop(change);
@@ -48,8 +71,12 @@ impl<T: Opened + Drop, J: Naming, B: Bell + Drop> Hold for Inside<T, J, B> {
 
     /// The journal begins anew: so there is room for a line, and none of it is taken.
     fn spare(&mut self) {
-        self.topic.roll();
+        self.begin_anew();
     }
+
+    ghost hears = { λ s event reply t step. inl step };
+
+    ghost refuses = { λ s event fault t same. same };
 }
 
 impl<T: Opened + Drop, J: Naming, B: Bell + Drop> Inside<T, J, B> {
@@ -96,7 +123,7 @@ impl<T: Opened + Drop, J: Naming, B: Bell + Drop> Inside<T, J, B> {
             Ok(stored) => stored,
             Err(fault) => return Err(fault),
         };
-        let look = match self.topic.view() {
+        let look = match self.view() {
             Ok(snapshot) => Ok(Look { snapshot, stored }),
             Err(fault) => Err(fault),
         };
@@ -113,7 +140,9 @@ impl<T: Opened + Drop, J: Naming, B: Bell + Drop> Attached<T, J, B> {
         board: &Board<Arc<Shared<T, J, B>>>,
         subscription: SubscriptionName,
         target: Target,
-    ) -> Result<Reply, Fault> {
+    ) -> Result<Reply, Fault>
+        ensures makes { IsMade T J B T.Topic T.Saved J.Naming subscription target result }
+    {
         let mut inside = self.topic.inside.lock(rt);
         let answer = inside.create(rt, &subscription, target);
         let store = inside.wants_storing();
@@ -136,18 +165,13 @@ impl<T: Opened + Drop, J: Naming, B: Bell + Drop> Attached<T, J, B> {
         alloc: Global,
         subscription: SubscriptionName,
         count: PeekLength,
-    ) -> Result<Reply, Fault> {
+    ) -> Result<Reply, Fault>
+        ensures shows { IfOk result (IsShown T J B T.Topic T.Saved J.Naming subscription count) }
+    {
         let mut inside = self.topic.inside.lock(rt);
         let looked = inside.look();
         drop(inside);
-        let shown = match looked {
-            Ok(look) => {
-                let shown = look.next_of(alloc, &subscription, count);
-                drop(look);
-                shown
-            }
-            Err(fault) => Err(fault),
-        };
+        let shown = shown_of(alloc, looked, &subscription, count);
         drop(subscription);
         shown
     }

@@ -1,5 +1,6 @@
 // A seat at a topic, and the calls of whoever sits there.
 ghost use Rattle.std.specs.Prelude.{◌≡◌};
+ghost use Rattle.broker_dir.specs.Answering.{IsAsked};
 
 use crate::topic::Shared;
 use broker_parts::{Board, Visitor, Wants};
@@ -52,7 +53,9 @@ impl<T: Opened + Drop, J: Naming, B: Bell + Drop> Attached<T, J, B> {
         board: &Board<Arc<Shared<T, J, B>>>,
         most: Option<u64>,
         event: Event,
-    ) -> Result<Reply, Fault> {
+    ) -> Result<Reply, Fault>
+        ensures asks { IsAsked T J B T.Topic T.Saved J.Naming event result }
+    {
         let asked = match Asked::of(&event) {
             Ok(asked) => asked,
             Err(fault) => {

@@ -1,12 +1,16 @@
 // The directory, as its broker's workers know it.
+ghost use Rattle.std.specs.Prelude.{◌≡◌, All, IfOk};
+ghost use Rattle.broker_dir.specs.Seeing.{IsSeen};
+
 use crate::attached::Attached;
 use crate::attaching::Left;
 use crate::directory::Directory;
-use crate::overview::topics_seen;
+use crate::overview::all_seen;
+use crate::settling::is_settled;
 use crate::unloading::leave_blank;
 use crate::why::{Why, why_by};
 use broker_parts::{
-    Broker, Coming, Copied, Did, Notice, Tasks, Visitor, backups_seen, want_backup,
+    Broker, Coming, Copied, Did, Notice, OnDisk, Tasks, Visitor, backups_seen, want_backup,
 };
 use delivery_machine::{Fault, Moment, Reply, TopicName, Watched};
 use marks::Naming;
@@ -24,6 +28,10 @@ const MOST_IN_TURN: u32 = 8;
 
 impl<T: Watched + Drop, S: Alter + Drop, J: Naming, B: Bell + Drop> Broker<B>
     for Directory<T, S, J, B> {
+    ghost use Rattle.broker_dir.specs.Answering.{AnswersAt};
+
+    ghost answers = { AnswersAt T J B T.Topic T.Saved J.Naming };
+
     type Seat = Attached<T, J, B>;
 
     type Cause = Why;
@@ -54,7 +62,8 @@ impl<T: Watched + Drop, S: Alter + Drop, J: Naming, B: Bell + Drop> Broker<B>
         seat.introduce(rt, visitor);
     }
 
-    /// Each call is one hold of the topic's lock, and of no other. Refused (F16) where the store failed.
+    /// Each call is one hold of the topic's lock, and of no other; what an administrator changes is stored after it. Refused (F16)
+    /// where the store failed.
     fn call<R: Wait>(
         &self,
         rt: &R,
@@ -66,11 +75,18 @@ impl<T: Watched + Drop, S: Alter + Drop, J: Naming, B: Bell + Drop> Broker<B>
             return Err(Fault::StoreFailed);
         }
         match request {
-            Request::Event(event) => seat.ask(rt, &self.board, self.most, event),
+            Request::Event(event) => {
+                let settles = is_settled(&event);
+                let answer = seat.ask(rt, &self.board, self.most_now(), event);
+                self.settled(rt, seat, settles, answer)
+            }
             Request::CreateSubscription {
                 subscription,
                 target,
-            } => seat.create(rt, &self.board, subscription, target),
+            } => {
+                let answer = seat.create(rt, &self.board, subscription, target);
+                self.settled(rt, seat, true, answer)
+            }
             Request::Peek {
                 subscription,
                 count,
@@ -92,8 +108,11 @@ impl<T: Watched + Drop, S: Alter + Drop, J: Naming, B: Bell + Drop> Broker<B>
 
     /// Topics are in the order in which they were opened; none is loaded by it. Each is looked at by itself, with the others
     /// free. Only want of memory is a refusal (F1).
-    fn seen<R: Wait>(&self, rt: &R, program: ProgramSeen) -> Result<BrokerSeen, Fault> {
-        let topics = match topics_seen(rt, self.alloc, &self.table) {
+    fn seen<R: Wait>(&self, rt: &R, program: ProgramSeen) -> Result<BrokerSeen, Fault>
+        ensures looks { IfOk result (λ seen. All (IsSeen T J B T.Topic T.Saved J.Naming) seen.topics.items) }
+        ensures program { IfOk result (λ seen. seen.program ≡ program) }
+    {
+        let topics = match all_seen(rt, self.alloc, &self.counts, &self.table) {
             Ok(topics) => topics,
             Err(fault) => return Err(fault),
         };
@@ -108,6 +127,14 @@ impl<T: Watched + Drop, S: Alter + Drop, J: Naming, B: Bell + Drop> Broker<B>
             backups: backups_seen(&self.backups),
             topics,
         })
+    }
+
+    fn on_disk<R: Wait>(&self, rt: &R) -> OnDisk {
+        self.disk(rt)
+    }
+
+    fn count_resting<R: Wait>(&self, rt: &R) {
+        self.count_all(rt);
     }
 
     fn notice<R: Wait>(&self, rt: &R) -> Option<Notice> {
@@ -172,7 +199,7 @@ impl<T: Watched + Drop, S: Alter + Drop, J: Naming, B: Bell + Drop> Broker<B>
     }
 
     fn look_around<R: Wait + Clock + Files>(&self, rt: &R) {
-        let _ = self.moment_of_rules(rt);
+        let _ = self.rules(rt);
         self.look_at_files(rt);
     }
 

@@ -1,9 +1,10 @@
 // How a directory is closed, for good: by a store that failed.
-ghost use Rattle.std.specs.Prelude.{◌≡◌, ◌↔◌};
+ghost use Rattle.std.specs.Prelude.{◌≡◌};
 
 use crate::directory::Directory;
 use delivery_machine::{Fault, Opened};
 use marks::Naming;
+use row_store::Failed;
 use session_bells::Bell;
 use sqlite::Alter;
 use std::sync::{OnceLock, OnceToken, Wait};
@@ -36,29 +37,6 @@ impl Closed {
     }
 }
 
-/// A store that failed. It is neither copied nor dropped: whoever has it can do no more with it than close the directory.
-pub(crate) struct Failed(());
-
-/// Why topics were not stored.
-pub(crate) enum Unstored {
-    /// There was no memory: they may be stored later.
-    NoMemory,
-    Failed(Failed),
-}
-
-impl Unstored {
-    /// What the refusal comes to. Only want of memory is no failure.
-    pub(crate) fn of(fault: Fault) -> Unstored
-        ensures { (result ≡ Unstored.NoMemory) ↔ (fault ≡ Fault.NoMemory) }
-    {
-        if fault == Fault::NoMemory {
-            Unstored::NoMemory
-        } else {
-            Unstored::Failed(Failed(()))
-        }
-    }
-}
-
 impl<T: Opened + Drop, S: Alter, J: Naming, B: Bell + Drop> Directory<T, S, J, B> {
     /// Nothing is stored any more, and all is refused (F16). All sessions are rung, so that they learn of it. What is given
     /// shows that the directory is closed.
@@ -76,7 +54,7 @@ impl<T: Opened + Drop, S: Alter, J: Naming, B: Bell + Drop> Directory<T, S, J, B
     pub(crate) fn close_after<R: Wait>(&self, rt: &R, failed: Failed) -> OnceToken<'_, ()>
         ensures { result.of ≡ self.now.closed.cell.id }
     {
-        let Failed(()) = failed;
+        let _ = failed.fault();
         self.close(rt)
     }
 }

@@ -1,5 +1,5 @@
-// A topic is deleted: its rows go, and the name is as if it had never been.
-ghost use Rattle.std.specs.Prelude.{◌≡◌, None, OnErr, OnOk, Err};
+// A topic is deleted: what is left of it is stored, and it is listed no more.
+ghost use Rattle.std.specs.Prelude.{◌≡◌, IfOk, None, OnErr, OnOk, Err};
 ghost use Rattle.std.specs.Map.{remove_entry};
 ghost use Rattle.std.specs.Str.{bytes_eq};
 ghost use Rattle.std.specs.String.{string_bytes};
@@ -8,10 +8,11 @@ ghost use Rattle.position_core.specs.TopicName.{topic_text};
 ghost use Rattle.position_core.specs.declared.fault.Fault.{Fault};
 ghost use Rattle.sqlite.specs.State.{HasCleanDisk};
 ghost use Rattle.sqlite.specs.Held.{state};
-ghost use Rattle.stored_cell.specs.Held.{IsDeletable};
-ghost use Rattle.row_store.specs.Keeping.{Deletes};
+ghost use Rattle.delivery_machine.specs.Places.{snapshot_in};
+ghost use Rattle.delivery_machine.specs.Snapshot.{snapshot_of};
+ghost use Rattle.topic_lives.specs.Deleting.{IsDeletable, emptied};
+ghost use Rattle.broker_dir.specs.Deleting.{StoresLeft};
 
-use crate::closing::{Failed, Unstored};
 use crate::directory::Directory;
 use crate::inside::Inside;
 use crate::table::Table;
@@ -20,11 +21,12 @@ use broker_parts::{Stage, Wants};
 use delivery_machine::{Fault, Opened, Reply};
 use marks::Naming;
 use row_forms::topic_text;
-use row_store::Keeper;
+use row_store::{Failed, Keeper, Unstored};
 use session_bells::Bell;
 use sqlite::Alter;
 use std::alloc::Global;
 use std::sync::{Arc, Wait};
+use stored_cell::Deletion;
 
 /// Why a topic was not deleted.
 enum Undeleted {
@@ -36,10 +38,10 @@ enum Undeleted {
 
 impl Undeleted {
     /// What the keeper's refusal comes to.
-    fn of(fault: Fault) -> Undeleted
-        ensures { (why : Fault) → result ≡ Undeleted.Refused why → (why ≡ Fault.NoMemory) × (fault ≡ Fault.NoMemory) }
+    fn of(unstored: Unstored) -> Undeleted
+        ensures { (why : Fault) → result ≡ Undeleted.Refused why → (why ≡ Fault.NoMemory) × (unstored ≡ Unstored.NoMemory) }
     {
-        match Unstored::of(fault) {
+        match unstored {
             Unstored::NoMemory => Undeleted::Refused(Fault::NoMemory),
             Unstored::Failed(failed) => Undeleted::Failed(failed),
         }
@@ -83,6 +85,7 @@ impl<T: Opened + Drop, S: Alter, J: Naming, B: Bell + Drop> Directory<T, S, J, B
             Ok(()) => {
                 topic.signs.note_over();
                 self.counts.unload();
+                self.counts.resting.remove(rt, &topic.name);
                 inside.hearers.bells.ring_all(rt);
                 Ok(Wants {
                     store: false,
@@ -94,50 +97,53 @@ impl<T: Opened + Drop, S: Alter, J: Naming, B: Bell + Drop> Directory<T, S, J, B
     }
 }
 
-/// The topic's rows go, and it is open no more.
+/// What is left of the topic is stored, and it is open no more.
 fn delete_from<T: Opened + Drop, S: Alter, J: Naming, B: Bell + Drop>(
     alloc: Global,
     table: &mut Table<T, J, B>,
     keeper: &mut Keeper<S, J>,
     inside: &mut Inside<T, J, B>,
 ) -> Result<(), Undeleted>
-    ensures rows { HasCleanDisk (state S.Store keeper.new.conn) → OnOk result (Deletes (topic_text inside.old.topic.name) (state S.Store keeper.old.conn).now.trees (state S.Store keeper.new.conn).now.trees) }
+    ensures rows { HasCleanDisk (state S.Store keeper.new.conn) → OnOk result (StoresLeft inside.old.topic.cell.cell.state (state S.Store keeper.old.conn).now.trees (state S.Store keeper.new.conn).now.trees) }
     ensures free { OnOk result ((inside.old.stage ≡ Stage.Open) × IsDeletable inside.old.topic.cell.cell.state) }
     ensures gone { OnOk result ((inside.new.stage ≡ Stage.Gone) × (get_by_text table.new.list.topics (topic_text inside.old.topic.name) ≡ None)) }
     ensures others { OnOk result (table.new.list.topics.entries ≡ remove_entry (λ k. bytes_eq (topic_text inside.old.topic.name) (string_bytes k)) table.old.list.topics.entries) }
     ensures stays { OnErr result ((inside.new ≡ inside.old) × (table.new.list.topics.entries ≡ table.old.list.topics.entries)) }
     ensures busy { inside.old.stage ≡ Stage.Open → result ≡ Err (Undeleted.Refused Fault.SubscriptionBusy) → IsDeletable inside.old.topic.cell.cell.state → ⊥ }
 {
-    match may_delete(inside) {
-        Ok(()) => {}
+    let deletion = match deletion_of(alloc, inside) {
+        Ok(deletion) => deletion,
         Err(fault) => return Err(Undeleted::Refused(fault)),
-    }
-    let Ok(text) = topic_text(alloc, inside.topic.name()) else {
+    };
+    let Ok(text) = topic_text(alloc, inside.name()) else {
+        drop(deletion);
         return Err(Undeleted::Refused(Fault::NoMemory));
     };
-    match keeper.delete(inside.topic.name()) {
+    match keeper.delete(deletion) {
         Ok(()) => {
-            table.take_out(text.as_str());
-            inside.stage = Stage::Gone;
+            let gone = inside.end(text);
+            table.take_out(&gone);
             Ok(())
         }
-        Err(fault) => Err(Undeleted::of(fault)),
+        Err(unstored) => Err(Undeleted::of(unstored)),
     }
 }
 
-/// Whether the topic may be deleted; why not, where it may not.
-fn may_delete<T: Opened + Drop, J: Naming, B: Bell + Drop>(
+/// What is left of the topic, where it may be deleted; why not, where it may not.
+fn deletion_of<T: Opened + Drop, J: Naming, B: Bell + Drop>(
+    alloc: Global,
     inside: &Inside<T, J, B>,
-) -> Result<(), Fault>
+) -> Result<Deletion, Fault>
     ensures ok { OnOk result ((inside.now.stage ≡ Stage.Open) × IsDeletable inside.now.topic.cell.cell.state) }
+    ensures left { IfOk result (λ deletion. snapshot_in deletion ≡ emptied (snapshot_of inside.now.topic.cell.cell.state)) }
     ensures busy { inside.now.stage ≡ Stage.Open → result ≡ Err Fault.SubscriptionBusy → IsDeletable inside.now.topic.cell.cell.state → ⊥ }
 {
     if let Some(fault) = inside.stage.refusal() {
         return Err(fault);
     }
-    match inside.topic.cell().may_be_deleted() {
-        Ok(true) => Ok(()),
-        Ok(false) => Err(Fault::SubscriptionBusy),
+    match inside.cell().deletion(alloc) {
+        Ok(Some(deletion)) => Ok(deletion),
+        Ok(None) => Err(Fault::SubscriptionBusy),
         Err(fault) => Err(fault),
     }
 }

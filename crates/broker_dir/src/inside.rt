@@ -1,8 +1,16 @@
 // What a topic's lock guards: the topic with what is stored of it, and the bells of those who sit at it.
-ghost use Rattle.std.specs.Prelude.{◌≡◌, ◌≢◌, ◌-◌, ◌<◌, ◌≤◌, ◌⊎◌, ◌↔◌, IfOk, IfErr, IfSome, IsOk, IsSome, IsTrue, None, OnErr, Err, All, length, set, false, true};
+ghost use Rattle.std.specs.Prelude.{[], ◌≡◌, ◌≢◌, ◌-◌, ◌<◌, ◌≤◌, ◌⊎◌, ◌↔◌, IfOk, IfErr, IfSome, IsOk, IsSome, IsTrue, None, OnErr, OnOk, Err, All, length, set, false, true};
+ghost use Rattle.std.specs.String.{string_bytes};
+ghost use Rattle.position_core.specs.TopicName.{topic_text};
 ghost use Rattle.delivery_machine.specs.Journals.{is_storing};
+ghost use Rattle.delivery_machine.specs.Places.{snapshot_in};
+ghost use Rattle.delivery_machine.specs.Snapshot.{snapshot_of};
+ghost use Rattle.sqlite.specs.State.{HasCleanDisk};
+ghost use Rattle.sqlite.specs.Held.{state};
+ghost use Rattle.row_store.specs.Keeping.{StoresState};
 ghost use Rattle.topic_shared.specs.Kept.{is_end};
 ghost use Rattle.stored_cell.specs.Held.{IsAtRest};
+ghost use Rattle.topic_lives.specs.Deleting.{IsDeletable};
 ghost use Rattle.broker_parts.specs.Ends.{entry_refusal, is_ending, refused_at};
 ghost use Rattle.broker_dir.specs.Handing.{Confirms, HandsOn};
 ghost use Rattle.broker_dir.specs.Trimming.{MayAnswer, most_after as most_going, rule_of as rule_by, trim_by as trims_by};
@@ -10,14 +18,16 @@ ghost use Rattle.topic_shared.specs.Seats.{IsFree, without_seat};
 
 use crate::named_cell::NamedCell;
 use crate::trimming::{most_after, rule_of, trim_by};
+use crate::watching::Rules;
 use broker_parts::{Bulk, Hearers, Prepared, Stage, Wanted, is_ending};
-use delivery_machine::{Event, Fault, Moment, Opened, Reply, Retention, Snapshot};
+use delivery_machine::{Event, Fault, Opened, Reply, Snapshot, TopicName};
 use marks::Naming;
-use row_store::OpenCell;
+use row_store::{Keeper, OpenCell, Unmade};
 use session_bells::{Asked, Bell};
+use sqlite::Alter;
 use std::alloc::Global;
 use std::sync::{Arc, Wait};
-use stored_cell::Kept;
+use stored_cell::{Kept, Part, StoredCell};
 
 /// After how many lines a journal begins anew, so that its memory is bounded.
 const LONG: u64 = 4_096;
@@ -26,7 +36,7 @@ const LONG: u64 = 4_096;
 const PINNED: u64 = 1_024;
 
 /// By this number an event is asked for which nobody sits down: no seat has it.
-pub(crate) const VISITOR: u64 = u64::MAX;
+const VISITOR: u64 = u64::MAX;
 
 /// Whether the event calls something durable: only the store may do that, by its confirmation.
 pub(crate) fn is_storing(event: &Event) -> bool
@@ -46,7 +56,7 @@ fn may_ask(seat: u64, event: &Event) -> bool
 
 /// What a topic's lock guards.
 pub(crate) struct Inside<T: Opened + Drop, J: Naming, B: Bell + Drop> {
-    pub(crate) topic: NamedCell<T, J>,
+    topic: NamedCell<T, J>,
     pub(crate) stage: Stage,
     pub(crate) hearers: Hearers<B>,
     pub(crate) wanted: Wanted,
@@ -85,6 +95,21 @@ impl Rested {
         ensures { result ≡ self.now.used }
     {
         self.used
+    }
+}
+
+/// A topic that was deleted, by the text of its name. Only the topic itself tells so, and then it may not be used any more.
+#[derive(Drop)]
+pub(crate) struct Gone {
+    text: String,
+}
+
+impl Gone {
+    /// The text of its name.
+    pub(crate) fn text(&self) -> &str
+        ensures { result.now ≡ string_bytes self.now.text }
+    {
+        self.text.as_str()
     }
 }
 
@@ -128,6 +153,27 @@ impl<T: Opened + Drop, J: Naming, B: Bell + Drop> Inside<T, J, B> {
                 Err(fault)
             }
         }
+    }
+
+    pub(crate) fn name(&self) -> &TopicName
+        ensures { result.now ≡ self.now.topic.name }
+    {
+        self.topic.name()
+    }
+
+    /// The topic with what is stored of it, to look at.
+    pub(crate) fn cell(&self) -> &StoredCell<T, J>
+        ensures { result.now ≡ self.now.topic.cell }
+    {
+        self.topic.cell()
+    }
+
+    /// What the topic has now, to look at.
+    pub(crate) fn view(&self) -> Result<Snapshot, Fault>
+        ensures ok { IfOk result (λ kept. snapshot_in kept ≡ snapshot_of self.now.topic.cell.cell.state) }
+        ensures fault { IfErr result (λ fault. fault ≡ Fault.NoMemory) }
+    {
+        self.topic.view()
     }
 
     /// Takes a free seat, and leaves the bell there. Refused (F15) where the journal is full, (F21) where no seat is free, and
@@ -294,6 +340,29 @@ impl<T: Opened + Drop, J: Naming, B: Bell + Drop> Inside<T, J, B> {
         self.topic.is_blank()
     }
 
+    /// The topic's last use, where it is blank, and so may leave.
+    pub(crate) fn rests_blank(&self) -> Option<Rested>
+        ensures rest { IsSome result → IsAtRest self.now.topic.cell × (self.now.topic.cell.stored ≡ None) }
+    {
+        if self.is_blank() {
+            Some(Rested { used: self.used })
+        } else {
+            None
+        }
+    }
+
+    /// The topic, which might be deleted, was: it may not be used any more. The text is that of its name.
+    pub(crate) fn end(&mut self, text: String) -> Gone
+        requires text { string_bytes text ≡ topic_text self.old.topic.name }
+        requires free { (self.old.stage ≡ Stage.Open) × IsDeletable self.old.topic.cell.cell.state }
+        ensures gone { string_bytes result.text ≡ topic_text self.old.topic.name }
+        ensures stage { self.new.stage ≡ Stage.Gone }
+        ensures topic { self.new.topic ≡ self.old.topic }
+    {
+        self.stage = Stage::Gone;
+        Gone { text }
+    }
+
     /// One event of one who takes a free seat for it alone. An end needs none, so that nothing is left behind where all
     /// are taken: where it detaches one who is attached it is always answered.
     pub(crate) fn visit<R: Wait>(&mut self, rt: &R, event: Event) -> Result<Reply, Fault>
@@ -327,6 +396,52 @@ impl<T: Opened + Drop, J: Naming, B: Bell + Drop> Inside<T, J, B> {
         }
     }
 
+    /// One event of nobody who sits there. Nobody is rung.
+    pub(crate) fn ask(&mut self, event: Event) -> Result<Reply, Fault>
+        requires { is_storing event ≡ false }
+        ensures hands_on { HandsOn self.old.topic.cell.cell.state event result self.new.topic.cell.cell.state }
+        ensures ends { is_end self.old.topic.cell.cell event ≡ true → IsOk result }
+        ensures name { self.new.topic.name ≡ self.old.topic.name }
+        ensures stage { self.new.stage ≡ self.old.stage }
+    {
+        match self.topic.call(VISITOR, event) {
+            Ok(receipt) => Ok(receipt.reply),
+            Err(fault) => Err(fault),
+        }
+    }
+
+    /// The topic as it is, to be stored.
+    pub(crate) fn view_by<S: Alter>(&mut self, keeper: &mut Keeper<S, J>) -> Result<Part<J>, Fault>
+        ensures keeper { keeper.new ≡ keeper.old }
+        ensures part { IfOk result (λ part. snapshot_in part.kept ≡ snapshot_of self.old.topic.cell.cell.state) }
+        ensures state { self.new.topic.cell.cell.state ≡ self.old.topic.cell.cell.state }
+        ensures name { self.new.topic.name ≡ self.old.topic.name }
+        ensures stage { self.new.stage ≡ self.old.stage }
+    {
+        self.topic.view_by(keeper)
+    }
+
+    /// Stores the topic as it is, and makes all of it durable, in one hold. Its journal begins anew before, so that the store has
+    /// its line.
+    pub(crate) fn store_by<S: Alter>(&mut self, keeper: &mut Keeper<S, J>) -> Result<(), Unmade>
+        ensures rows { HasCleanDisk (state S.Store keeper.new.conn) → OnOk result (StoresState self.old.topic.cell.cell.state (state S.Store keeper.old.conn).now.trees (state S.Store keeper.new.conn).now.trees) }
+        ensures ok { OnOk result (keeper.new.failed ≡ false) }
+        ensures name { self.new.topic.name ≡ self.old.topic.name }
+        ensures stage { self.new.stage ≡ self.old.stage }
+    {
+        self.topic.roll();
+        self.topic.round_by(keeper)
+    }
+
+    /// The journal begins anew: so there is room for a line, and none of it is taken.
+    pub(crate) fn begin_anew(&mut self)
+        ensures cell { self.new.topic.cell ≡ record self.old.topic.cell { cell = record self.old.topic.cell.cell { opening = self.old.topic.cell.cell.state; lines = [] } } }
+        ensures name { self.new.topic.name ≡ self.old.topic.name }
+        ensures stage { self.new.stage ≡ self.old.stage }
+    {
+        self.topic.roll();
+    }
+
     /// What was viewed, with so many messages, is stored: those are rung whose answers are ready. Where it is not what was
     /// viewed last nobody is rung, and the topic is to be stored again. How many messages came since the store before.
     pub(crate) fn confirmed<R: Wait>(&mut self, rt: &R, length: u64, kept: Kept<J>) -> u64
@@ -346,16 +461,16 @@ impl<T: Opened + Drop, J: Naming, B: Bell + Drop> Inside<T, J, B> {
 
     /// Messages go that every subscription has done with and that nothing keeps, by the topic's own rule or the broker's: at
     /// most twice as many as came since the store before. Where that is refused (F1, F15) the next store asks again.
-    pub(crate) fn trim(&mut self, broker: Retention, now: Option<Moment>, came: u64)
-        ensures asks { MayAnswer (trims_by (rule_by self.old.topic.cell.cell.state.retention broker) now (most_going came)) self.old.topic.cell.cell.state self.new.topic.cell.cell.state }
+    pub(crate) fn trim(&mut self, rules: &Rules, came: u64)
+        ensures asks { MayAnswer (trims_by (rule_by self.old.topic.cell.cell.state.retention rules.now.broker) rules.now.moment (most_going came)) self.old.topic.cell.cell.state self.new.topic.cell.cell.state }
         ensures name { self.new.topic.name ≡ self.old.topic.name }
         ensures stage { self.new.stage ≡ self.old.stage }
     {
         if self.stage != Stage::Open {
             return;
         }
-        let rule = rule_of(self.topic.cell().cell().retention(), broker);
-        let Some(event) = trim_by(rule, now, most_after(came)) else {
+        let rule = rule_of(self.topic.cell().cell().retention(), rules.broker());
+        let Some(event) = trim_by(rule, rules.moment(), most_after(came)) else {
             return;
         };
         match self.topic.call(VISITOR, event) {

@@ -4,16 +4,15 @@ ghost use Rattle.sqlite.specs.State.{HasCleanDisk};
 ghost use Rattle.sqlite.specs.Held.{state};
 ghost use Rattle.row_store.specs.Keeping.{StoresState};
 
-use crate::closing::Unstored;
 use crate::directory::Directory;
 use crate::inside::Inside;
 use crate::table::Table;
 use crate::topic::Shared;
 use crate::unloading::{let_go, unused_at};
 use broker_parts::{Counts, Guarded, Stage};
-use delivery_machine::Opened;
+use delivery_machine::{Fault, Opened};
 use marks::Naming;
-use row_store::Keeper;
+use row_store::{Keeper, Unmade, Unstored};
 use session_bells::Bell;
 use sqlite::Alter;
 use std::sync::{Arc, Mutex, Wait};
@@ -78,9 +77,10 @@ fn see_out_at<T: Opened + Drop, S: Alter, J: Naming, B: Bell + Drop, R: Wait>(
     table: &mut Table<T, J, B>,
     place: usize,
 ) -> Result<(), Unstored> {
-    if !table.is_sole(place) {
+    let Some(sole) = table.sole_at(place) else {
         return Ok(());
-    }
+    };
+    drop(sole);
     let stored = match table.at(place) {
         Some(topic) => store_last(rt, keeper, topic),
         None => Ok(false),
@@ -117,7 +117,7 @@ fn store_last<T: Opened + Drop, S: Alter, J: Naming, B: Bell + Drop, R: Wait>(
     }
 }
 
-/// The topic is stored as it is, in one hold. Its journal begins anew before, so that the store has its line.
+/// The topic is stored as it is, in one hold.
 fn store_now<T: Opened + Drop, S: Alter, J: Naming, B: Bell + Drop>(
     keeper: &mut Keeper<S, J>,
     inside: &mut Inside<T, J, B>,
@@ -125,9 +125,9 @@ fn store_now<T: Opened + Drop, S: Alter, J: Naming, B: Bell + Drop>(
     ensures rows { HasCleanDisk (state S.Store keeper.new.conn) → OnOk result (StoresState inside.old.topic.cell.cell.state (state S.Store keeper.old.conn).now.trees (state S.Store keeper.new.conn).now.trees) }
     ensures ok { OnOk result (keeper.new.failed ≡ false) }
 {
-    inside.topic.roll();
-    match inside.topic.round_by(keeper) {
+    match inside.store_by(keeper) {
         Ok(()) => Ok(()),
-        Err(fault) => Err(Unstored::of(fault)),
+        Err(Unmade::Unstored(unstored)) => Err(unstored),
+        Err(Unmade::JournalFull) => Err(Unstored::of(Fault::JournalFull)),
     }
 }

@@ -11,13 +11,14 @@ ghost use Rattle.topic_shared.specs.Seats.{IsFree, without_seat};
 ghost use Rattle.topic_shared.specs.Kept.{is_end};
 ghost use Rattle.row_store.specs.Keeping.{StoresState};
 ghost use Rattle.row_store.specs.Opened.{has_origin};
+ghost use Rattle.row_store.specs.declared.unstored.Unstored.{Unstored};
 ghost use Rattle.stored_cell.specs.Held.{IsAtRest, bases_of};
 ghost use Rattle.stored_cell.specs.Noted.{Noted};
 ghost use Rattle.broker_dir.specs.Handing.{Confirms};
 
 use delivery_machine::{Event, Fault, Opened, Saved, Snapshot, TopicName};
 use marks::{Mark, Naming};
-use row_store::{Keeper, OpenCell};
+use row_store::{Keeper, OpenCell, Unmade};
 use sqlite::Alter;
 use stored_cell::{Kept, Note, Part, StoredCell};
 use topic_shared::Receipt;
@@ -168,17 +169,16 @@ impl<T: Opened + Drop, J: Naming> NamedCell<T, J> {
     }
 
     /// Stores the topic as it is, and makes all of it durable, in one hold.
-    pub(crate) fn round_by<S: Alter>(&mut self, keeper: &mut Keeper<S, J>) -> Result<(), Fault>
+    pub(crate) fn round_by<S: Alter>(&mut self, keeper: &mut Keeper<S, J>) -> Result<(), Unmade>
         ensures rows { HasCleanDisk (state S.Store keeper.new.conn) → OnOk result (StoresState self.old.cell.cell.state (state S.Store keeper.old.conn).now.trees (state S.Store keeper.new.conn).now.trees) }
         ensures stored { OnOk result ((n : Noted) × (self.new.cell.stored ≡ Some n) × (snapshot_in n.kept ≡ snapshot_of self.old.cell.cell.state)) }
         ensures ok { OnOk result (keeper.new.failed ≡ false) }
-        ensures memory { result ≡ Err Fault.NoMemory → keeper.new ≡ keeper.old }
-        ensures faults { IfErr result (λ fault. (fault ≡ Fault.NoMemory) ⊎ (fault ≡ Fault.JournalFull) ⊎ (fault ≡ Fault.StoreFailed)) }
+        ensures memory { result ≡ Err (Unmade.Unstored Unstored.NoMemory) → keeper.new ≡ keeper.old }
         ensures name { self.new.name ≡ self.old.name }
     {
         match keeper.round(&mut self.cell) {
             Ok(_) => Ok(()),
-            Err(fault) => Err(fault),
+            Err(unmade) => Err(unmade),
         }
     }
 

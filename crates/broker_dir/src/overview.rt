@@ -1,35 +1,74 @@
-// What is seen of all topics that are in memory.
+// What is seen of all topics: of those that are in memory as they are, and of the others as they were.
+ghost use Rattle.std.specs.Prelude.{◌≡◌, All, IfOk, IfSome, true};
+ghost use Rattle.broker_dir.specs.Seeing.{IsLook, IsSeen};
+
 use crate::table::Table;
 use crate::topic::Shared;
-use broker_parts::Stage;
+use broker_parts::{Counts, Stage};
 use delivery_machine::{Fault, Opened, Watched};
 use marks::Naming;
 use session_bells::Bell;
 use status_pages::TopicSeen;
-use std::alloc::Global;
+use std::alloc::{AllocError, Global};
 use std::sync::{Arc, Mutex, Wait};
 
-/// What is seen of the topics that are in memory, one after another.
-pub(crate) fn topics_seen<T: Watched + Drop, J: Naming, B: Bell + Drop, R: Wait>(
+/// The names of the topics that are in memory, and what is seen of the others: each is among one of them.
+fn known<T: Opened + Drop, J: Naming, B: Bell + Drop, R: Wait>(
+    rt: &R,
+    counts: &Counts,
+    table: &Mutex<Table<T, J, B>>,
+) -> Result<(Vec<String>, Vec<TopicSeen>), AllocError>
+    ensures { IfOk result (λ known. All (λ seen. seen.is_resting ≡ true) known.1.items) }
+{
+    let table = table.lock(rt);
+    let names = table.names(counts.resting.alloc())?;
+    let others = counts.resting.others(rt, &names)?;
+    Ok((names, others))
+}
+
+/// What is seen of all topics, those in memory first, one after another: each of these is a look at one open topic.
+pub(crate) fn all_seen<T: Watched + Drop, J: Naming, B: Bell + Drop, R: Wait>(
+    rt: &R,
+    alloc: Global,
+    counts: &Counts,
+    table: &Mutex<Table<T, J, B>>,
+) -> Result<Vec<TopicSeen>, Fault>
+    ensures { IfOk result (λ seen. All (IsSeen T J B T.Topic T.Saved J.Naming) seen.items) }
+{
+    let Ok((names, mut others)) = known(rt, counts, table) else {
+        return Err(Fault::NoMemory);
+    };
+    let mut topics = match topics_seen(rt, alloc, table, &names) {
+        Ok(topics) => topics,
+        Err(fault) => {
+            drop(others);
+            return Err(fault);
+        }
+    };
+    match topics.append(&mut others) {
+        Ok(()) => Ok(topics),
+        Err(_) => {
+            drop(topics);
+            Err(Fault::NoMemory)
+        }
+    }
+}
+
+/// What is seen of the topics of the names that are in memory still, one after another. Each is a look at one open topic.
+fn topics_seen<T: Watched + Drop, J: Naming, B: Bell + Drop, R: Wait>(
     rt: &R,
     alloc: Global,
     table: &Mutex<Table<T, J, B>>,
-) -> Result<Vec<TopicSeen>, Fault> {
-    let guard = table.lock(rt);
-    let found = guard.names(alloc);
-    drop(guard);
-    let Ok(names) = found else {
-        return Err(Fault::NoMemory);
-    };
+    names: &[String],
+) -> Result<Vec<TopicSeen>, Fault>
+    ensures looks { IfOk result (λ seen. All (IsLook T J B T.Topic T.Saved J.Naming) seen.items) }
+{
     let Ok(mut topics) = Vec::with_capacity(alloc, names.len()) else {
         return Err(Fault::NoMemory);
     };
-    for name in names.iter() {
-        match topic_seen(rt, alloc, table, name.as_str()) {
-            Ok(Some(seen)) => {
-                let _ = topics.push(seen);
-            }
-            Ok(None) => {}
+    for name in names {
+        match see_one(rt, alloc, table, name.as_str(), &mut topics) {
+            Ok(()) => {}
             Err(fault) => {
                 drop(topics);
                 return Err(fault);
@@ -37,6 +76,26 @@ pub(crate) fn topics_seen<T: Watched + Drop, J: Naming, B: Bell + Drop, R: Wait>
         }
     }
     Ok(topics)
+}
+
+/// Adds to what is seen the topic of the name, where it is in memory still.
+fn see_one<T: Watched + Drop, J: Naming, B: Bell + Drop, R: Wait>(
+    rt: &R,
+    alloc: Global,
+    table: &Mutex<Table<T, J, B>>,
+    name: &str,
+    topics: &mut Vec<TopicSeen>,
+) -> Result<(), Fault>
+    ensures looks { All (IsLook T J B T.Topic T.Saved J.Naming) topics.old.items → All (IsLook T J B T.Topic T.Saved J.Naming) topics.new.items }
+{
+    match topic_seen(rt, alloc, table, name) {
+        Ok(Some(seen)) => match topics.push(seen) {
+            Ok(()) => Ok(()),
+            Err(_) => Err(Fault::NoMemory),
+        },
+        Ok(None) => Ok(()),
+        Err(fault) => Err(fault),
+    }
 }
 
 /// The topic of the name, where it is in memory still.
@@ -59,20 +118,16 @@ fn topic_seen<T: Watched + Drop, J: Naming, B: Bell + Drop, R: Wait>(
     alloc: Global,
     table: &Mutex<Table<T, J, B>>,
     name: &str,
-) -> Result<Option<TopicSeen>, Fault> {
-    let Ok(text) = String::from_str(alloc, name) else {
-        return Err(Fault::NoMemory);
-    };
+) -> Result<Option<TopicSeen>, Fault>
+    ensures look { IfOk result (λ seen. IfSome seen (IsLook T J B T.Topic T.Saved J.Naming)) }
+{
     match topic_there(rt, table, name) {
         Some(topic) => {
-            let seen = seen_in(rt, alloc, &topic, text);
+            let seen = seen_in(rt, alloc, &topic);
             drop(topic);
             seen
         }
-        None => {
-            drop(text);
-            Ok(None)
-        }
+        None => Ok(None),
     }
 }
 
@@ -81,14 +136,14 @@ fn seen_in<T: Watched + Drop, J: Naming, B: Bell + Drop, R: Wait>(
     rt: &R,
     alloc: Global,
     topic: &Shared<T, J, B>,
-    name: String,
-) -> Result<Option<TopicSeen>, Fault> {
+) -> Result<Option<TopicSeen>, Fault>
+    ensures look { IfOk result (λ seen. IfSome seen (IsLook T J B T.Topic T.Saved J.Naming)) }
+{
     let mut inside = topic.inside.lock(rt);
     if inside.stage != Stage::Open {
-        drop(name);
         return Ok(None);
     }
-    match inside.seen(alloc, name) {
+    match inside.seen(alloc) {
         Ok(seen) => Ok(Some(seen)),
         Err(Fault::JournalFull) => Ok(None),
         Err(fault) => Err(fault),

@@ -1,21 +1,22 @@
 // What is seen of a topic: its numbers are those of one state, under one hold of its lock.
 ghost use Rattle.std.specs.Prelude.{◌≡◌, ◌+◌, [], All, IfOk, IfSome, false, length, option_map, slice_get};
 ghost use Rattle.std.specs.String.{string_bytes};
-ghost use Rattle.delivery_machine.specs.Journals.{is_storing};
+ghost use Rattle.position_core.specs.TopicName.{topic_text};
 ghost use Rattle.delivery_machine.specs.Places.{snapshot_in};
 ghost use Rattle.delivery_machine.specs.Run.{Step};
 ghost use Rattle.delivery_machine.specs.Snapshot.{snapshot_of};
 ghost use Rattle.delivery_machine.specs.Statistics.{oldest as oldest_in};
-ghost use Rattle.broker_dir.specs.Handing.{HandsOn};
 ghost use Rattle.broker_dir.specs.Seeing.{ShowsReply, ShowsSubscription, ShowsTopic};
 
-use crate::inside::{Inside, VISITOR};
-use broker_parts::{Traffic, Visitor};
+use crate::inside::Inside;
+use crate::resting::shown_rule;
+use broker_parts::{Publisher, Traffic, Visitor};
 use delivery_machine::{
     ConsumerCounts, Event, Fault, KeptSubscription, Opened, Reply, Snapshot, SubscriptionName,
     Watched,
 };
 use marks::Naming;
+use row_forms::topic_text;
 use session_bells::Bell;
 use status_pages::{Holds, SessionSeen, SubscriptionSeen, TopicSeen};
 use std::alloc::{AllocError, Global};
@@ -60,6 +61,8 @@ fn subscription_by(told: Told, reply: &Reply) -> Option<SubscriptionSeen>
             oldest,
             delivered: traffic.sent,
             redelivered: traffic.released,
+            acks: traffic.acks,
+            deaths: traffic.deaths,
         }),
         _ => {
             drop(name);
@@ -100,20 +103,33 @@ fn text_of(alloc: Global, name: Option<&SubscriptionName>) -> Result<Option<Stri
     }
 }
 
+fn publisher_of(
+    alloc: Global,
+    publisher: Option<&Publisher>,
+) -> Result<Option<String>, AllocError> {
+    match publisher {
+        Some(publisher) => Ok(Some(publisher.text(alloc)?)),
+        None => Ok(None),
+    }
+}
+
 fn session_of(
     alloc: Global,
     seat: u64,
     visitor: &Visitor,
+    publisher: Option<&Publisher>,
     subscription: Option<&SubscriptionName>,
     counts: Option<ConsumerCounts>,
 ) -> Result<SessionSeen, AllocError> {
     let address = address_of(alloc, visitor)?;
+    let producer = publisher_of(alloc, publisher)?;
     let subscription = text_of(alloc, subscription)?;
     Ok(SessionSeen {
         number: seat,
         address,
         role: visitor.role,
         since: visitor.since.millis(),
+        producer,
         subscription,
         holds: counts.map(|counts| Holds {
             pending: counts.pending,
@@ -123,19 +139,6 @@ fn session_of(
 }
 
 impl<T: Opened + Drop, J: Naming, B: Bell + Drop> Inside<T, J, B> {
-    /// The topic's answer, to nobody who sits there.
-    fn ask(&mut self, event: Event) -> Result<Reply, Fault>
-        requires { is_storing event ≡ false }
-        ensures hands_on { HandsOn self.old.topic.cell.cell.state event result self.new.topic.cell.cell.state }
-        ensures name { self.new.topic.name ≡ self.old.topic.name }
-        ensures stage { self.new.stage ≡ self.old.stage }
-    {
-        match self.topic.call(VISITOR, event) {
-            Ok(receipt) => Ok(receipt.reply),
-            Err(fault) => Err(fault),
-        }
-    }
-
     /// How many messages are stored, of all that the topic has had.
     pub(crate) fn durable(&mut self) -> Result<u64, Fault>
         ensures durable { IfOk result (λ count. count ≡ self.old.topic.cell.cell.state.gone + self.old.topic.cell.cell.state.durable) }
@@ -239,28 +242,6 @@ impl<T: Opened + Drop, J: Naming, B: Bell + Drop> Inside<T, J, B> {
         }
         Ok(())
     }
-}
-
-impl<T: Watched + Drop, J: Naming, B: Bell + Drop> Inside<T, J, B> {
-    /// Adds to what is seen who sits at the topic.
-    fn see_sessions(&self, alloc: Global, seen: &mut Vec<SessionSeen>) -> Result<(), Fault> {
-        for seat in 1..self.hearers.visitors.last().saturating_add(1) {
-            if let Some(visitor) = self.hearers.visitors.at(seat) {
-                let name = self.hearers.bells.subscription(seat);
-                let counts = match self.hearers.visitors.consumer(seat) {
-                    Some(consumer) => self.topic.cell().cell().topic().consumer_counts(consumer),
-                    None => None,
-                };
-                let Ok(session) = session_of(alloc, seat, &visitor, name, counts) else {
-                    return Err(Fault::NoMemory);
-                };
-                if seen.push(session).is_err() {
-                    return Err(Fault::NoMemory);
-                }
-            }
-        }
-        Ok(())
-    }
 
     /// What is seen of the topic now, but for its subscriptions and sessions, of which the lists are empty.
     fn seen_alone(
@@ -272,6 +253,7 @@ impl<T: Watched + Drop, J: Naming, B: Bell + Drop> Inside<T, J, B> {
     ) -> TopicSeen
         ensures gone { result.gone ≡ snapshot.now.gone }
         ensures kept { result.kept ≡ length snapshot.now.log }
+        ensures name { result.name ≡ name }
         ensures durable { result.durable ≡ durable }
         ensures oldest { result.oldest ≡ oldest_in snapshot.now.log }
         ensures none { result.subscriptions.items ≡ [] }
@@ -279,6 +261,8 @@ impl<T: Watched + Drop, J: Naming, B: Bell + Drop> Inside<T, J, B> {
         let tallies = self.hearers.tallies;
         TopicSeen {
             name,
+            is_resting: false,
+            rule: shown_rule(snapshot.retention().as_ref()),
             gone: snapshot.gone(),
             kept: snapshot.log().count() as u64,
             bytes: self.bulk.bytes(),
@@ -288,20 +272,21 @@ impl<T: Watched + Drop, J: Naming, B: Bell + Drop> Inside<T, J, B> {
             published: tallies.published,
             duplicates: tallies.duplicates,
             refused: tallies.refused,
-            journal: self.topic.cell().cell().lines(),
+            journal: self.cell().cell().lines(),
             sessions: Vec::new(alloc),
             subscriptions: Vec::new(alloc),
         }
     }
 
-    /// What is seen of the topic, of which the snapshot is.
+    /// What is seen of the topic, of which the name and the snapshot are, but for its sessions.
     fn seen_by(
         &mut self,
         alloc: Global,
         name: String,
         snapshot: &Snapshot,
     ) -> Result<TopicSeen, Fault>
-        requires { snapshot_in snapshot.now ≡ snapshot_of self.old.topic.cell.cell.state }
+        requires name { string_bytes name ≡ topic_text self.old.topic.cell.cell.state.name }
+        requires snapshot { snapshot_in snapshot.now ≡ snapshot_of self.old.topic.cell.cell.state }
         ensures shows { IfOk result (ShowsTopic self.old.topic.cell.cell.state) }
         ensures state { self.new.topic.cell.cell.state ≡ self.old.topic.cell.cell.state }
         ensures name { self.new.topic.name ≡ self.old.topic.name }
@@ -315,11 +300,7 @@ impl<T: Watched + Drop, J: Naming, B: Bell + Drop> Inside<T, J, B> {
             }
         };
         let mut seen = self.seen_alone(alloc, name, snapshot, durable);
-        let mut all = self.see_each(alloc, snapshot, &mut seen.subscriptions);
-        if all.is_ok() {
-            all = self.see_sessions(alloc, &mut seen.sessions);
-        }
-        match all {
+        match self.see_each(alloc, snapshot, &mut seen.subscriptions) {
             Ok(()) => Ok(seen),
             Err(fault) => {
                 drop(seen);
@@ -328,14 +309,18 @@ impl<T: Watched + Drop, J: Naming, B: Bell + Drop> Inside<T, J, B> {
         }
     }
 
-    /// What is seen of the topic now. Only want of memory is a refusal, and a journal that is full.
-    pub(crate) fn seen(&mut self, alloc: Global, name: String) -> Result<TopicSeen, Fault>
+    /// What is seen of the topic now, under its own name, but for its sessions. Only want of memory is a refusal, and a journal that
+    /// is full.
+    pub(crate) fn seen_rest(&mut self, alloc: Global) -> Result<TopicSeen, Fault>
         ensures shows { IfOk result (ShowsTopic self.old.topic.cell.cell.state) }
         ensures state { self.new.topic.cell.cell.state ≡ self.old.topic.cell.cell.state }
         ensures name { self.new.topic.name ≡ self.old.topic.name }
         ensures stage { self.new.stage ≡ self.old.stage }
     {
-        let snapshot = match self.topic.view() {
+        let Ok(name) = topic_text(alloc, self.name()) else {
+            return Err(Fault::NoMemory);
+        };
+        let snapshot = match self.view() {
             Ok(snapshot) => snapshot,
             Err(fault) => {
                 drop(name);
@@ -346,5 +331,48 @@ impl<T: Watched + Drop, J: Naming, B: Bell + Drop> Inside<T, J, B> {
         drop(snapshot);
         self.roll_if_long();
         seen
+    }
+}
+
+impl<T: Watched + Drop, J: Naming, B: Bell + Drop> Inside<T, J, B> {
+    /// Adds to what is seen who sits at the topic.
+    fn see_sessions(&self, alloc: Global, seen: &mut Vec<SessionSeen>) -> Result<(), Fault> {
+        for seat in 1..self.hearers.visitors.last().saturating_add(1) {
+            if let Some(visitor) = self.hearers.visitors.at(seat) {
+                let name = self.hearers.bells.subscription(seat);
+                let counts = match self.hearers.visitors.consumer(seat) {
+                    Some(consumer) => self.cell().cell().topic().consumer_counts(consumer),
+                    None => None,
+                };
+                let publisher = self.hearers.visitors.publisher(seat);
+                let Ok(session) = session_of(alloc, seat, &visitor, publisher, name, counts) else {
+                    return Err(Fault::NoMemory);
+                };
+                if seen.push(session).is_err() {
+                    return Err(Fault::NoMemory);
+                }
+            }
+        }
+        Ok(())
+    }
+
+    /// What is seen of the topic now, under its own name. Only want of memory is a refusal, and a journal that is full.
+    pub(crate) fn seen(&mut self, alloc: Global) -> Result<TopicSeen, Fault>
+        ensures shows { IfOk result (ShowsTopic self.old.topic.cell.cell.state) }
+        ensures state { self.new.topic.cell.cell.state ≡ self.old.topic.cell.cell.state }
+        ensures name { self.new.topic.name ≡ self.old.topic.name }
+        ensures stage { self.new.stage ≡ self.old.stage }
+    {
+        let mut seen = match self.seen_rest(alloc) {
+            Ok(seen) => seen,
+            Err(fault) => return Err(fault),
+        };
+        match self.see_sessions(alloc, &mut seen.sessions) {
+            Ok(()) => Ok(seen),
+            Err(fault) => {
+                drop(seen);
+                Err(fault)
+            }
+        }
     }
 }

@@ -6,15 +6,15 @@ ghost use Rattle.sqlite.specs.State.{HasCleanDisk};
 ghost use Rattle.sqlite.specs.Held.{state};
 ghost use Rattle.row_store.specs.Keeping.{StoresAll, kepts};
 
-use crate::closing::Unstored;
 use crate::directory::Directory;
 use crate::errand::Errands;
 use crate::inside::Inside;
 use crate::topic::Shared;
+use crate::watching::Rules;
 use broker_parts::{Board, Did, Stage, Task, Tasks, Wants, instant, since};
-use delivery_machine::{Fault, Moment, Opened, Retention};
+use delivery_machine::{Fault, Opened};
 use marks::Naming;
-use row_store::{Keeper, Written};
+use row_store::{Keeper, Unstored, Written};
 use session_bells::Bell;
 use sqlite::Alter;
 use status_pages::Rows;
@@ -187,19 +187,11 @@ impl<T: Opened + Drop, S: Alter, J: Naming, B: Bell + Drop> Directory<T, S, J, B
             Ok(kept) => {
                 let rows = rows_of(keeper.written());
                 self.counts.store(rt, rows, since(began, instant(rt)));
-                let now = self.moment_of_rules(rt);
-                confirm_all(
-                    rt,
-                    &self.board,
-                    &self.retention,
-                    &now,
-                    topics,
-                    seen.as_slice(),
-                    kept,
-                );
+                let rules = self.rules(rt);
+                confirm_all(rt, &self.board, &rules, topics, seen.as_slice(), kept);
                 Ok(())
             }
-            Err(fault) => Err(Unstored::of(fault)),
+            Err(unstored) => Err(unstored),
         }
     }
 }
@@ -207,8 +199,7 @@ impl<T: Opened + Drop, S: Alter, J: Naming, B: Bell + Drop> Directory<T, S, J, B
 fn confirm_all<T: Opened + Drop, J: Naming, B: Bell + Drop, R: Wait>(
     rt: &R,
     board: &Board<Arc<Shared<T, J, B>>>,
-    broker: &Retention,
-    now: &Option<Moment>,
+    rules: &Rules,
     topics: &[Arc<Shared<T, J, B>>],
     seen: &[Seen],
     kept: Vec<Kept<J>>,
@@ -218,7 +209,7 @@ fn confirm_all<T: Opened + Drop, J: Naming, B: Bell + Drop, R: Wait>(
         if let Some(seen) = seen.get(at)
             && let Some(topic) = topics.get(seen.place)
         {
-            let wants = topic.confirm(rt, *broker, *now, seen.length, kept);
+            let wants = topic.confirm(rt, rules, seen.length, kept);
             board.grant(rt, topic, wants);
         } else {
             drop(kept);
@@ -267,7 +258,7 @@ impl<T: Opened + Drop, J: Naming, B: Bell + Drop> Inside<T, J, B> {
         if !self.may_be_viewed(rt) {
             return Ok(None);
         }
-        match self.topic.view_by(keeper) {
+        match self.view_by(keeper) {
             Ok(part) => {
                 self.hearers.graves.viewed();
                 Ok(Some(part))
@@ -279,7 +270,7 @@ impl<T: Opened + Drop, J: Naming, B: Bell + Drop> Inside<T, J, B> {
 
 impl<T: Opened + Drop, J: Naming, B: Bell + Drop> Shared<T, J, B> {
     /// The topic as it is, with its lock held for no longer than that takes. None where it leaves or is gone.
-    fn viewed<S: Alter, R: Wait>(
+    pub(crate) fn viewed<S: Alter, R: Wait>(
         &self,
         rt: &R,
         keeper: &mut Keeper<S, J>,
@@ -301,20 +292,35 @@ impl<T: Opened + Drop, J: Naming, B: Bell + Drop> Shared<T, J, B> {
 
     /// What was viewed is stored. The topic's lock is held for the confirmation and the trim that follows it; what they lead to
     /// on the board comes after.
-    fn confirm<R: Wait>(
+    fn confirm<R: Wait>(&self, rt: &R, rules: &Rules, length: u64, kept: Kept<J>) -> Wants {
+        let mut inside = self.inside.lock(rt);
+        let came = inside.confirmed(rt, length, kept);
+        inside.go_on(rules, came)
+    }
+
+    /// The same, of a topic that was not taken from the board for it: where it waits there it waits on. Else it would be there twice.
+    pub(crate) fn confirm_beside<R: Wait>(
         &self,
         rt: &R,
-        broker: Retention,
-        now: Option<Moment>,
+        rules: &Rules,
         length: u64,
         kept: Kept<J>,
     ) -> Wants {
         let mut inside = self.inside.lock(rt);
+        let waits = inside.wanted.is_queued;
         let came = inside.confirmed(rt, length, kept);
-        inside.trim(broker, now, came);
-        let store = inside.wants_storing();
-        let has_letters = inside.hearers.has_letters();
-        let thread = inside.wanted.courier(has_letters);
+        inside.wanted.is_queued = waits;
+        inside.go_on(rules, came)
+    }
+}
+
+impl<T: Opened + Drop, J: Naming, B: Bell + Drop> Inside<T, J, B> {
+    /// A store was confirmed, since which so many messages came: those go that may, and what the topic wants then is told.
+    fn go_on(&mut self, rules: &Rules, came: u64) -> Wants {
+        self.trim(rules, came);
+        let store = self.wants_storing();
+        let has_letters = self.hearers.has_letters();
+        let thread = self.wanted.courier(has_letters);
         Wants { store, thread }
     }
 }

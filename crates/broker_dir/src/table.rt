@@ -8,6 +8,7 @@ ghost use Rattle.indexmap.specs.IndexMap.{get_by_text};
 ghost use Rattle.position_core.specs.TopicName.{same_topic, topic_text};
 ghost use Rattle.broker_dir.specs.Listing.{AreNamed};
 
+use crate::inside::{Gone, Rested};
 use crate::topic::Shared;
 use broker_parts::{Opening, Outcome};
 use delivery_machine::{Fault, Opened, TopicName};
@@ -19,6 +20,12 @@ use std::sync::{Arc, Wait};
 
 /// How many topics may be open.
 pub(crate) const MOST_OPEN: usize = 256;
+
+/// The place of a topic that nobody but the table has: so it is as long as the table is lent to nobody else. Only the table tells so.
+#[derive(Drop)]
+pub(crate) struct Sole {
+    place: usize,
+}
 
 /// Something by names, in the order in which it came.
 #[derive(Drop)]
@@ -100,18 +107,24 @@ impl<T: Opened + Drop, J: Naming, B: Bell + Drop> Table<T, J, B> {
         None
     }
 
-    /// Whether nobody but the table has the topic at the place. As long as the table is lent to nobody else, so it stays.
-    pub(crate) fn is_sole(&mut self, place: usize) -> bool
+    /// The place, where nobody but the table has the topic there.
+    pub(crate) fn sole_at(&mut self, place: usize) -> Option<Sole>
         ensures same { self.new.list.topics.entries ≡ self.old.list.topics.entries }
-        ensures there { result ≡ true → place < length self.old.list.topics.entries }
+        ensures there { IfSome result (λ sole. (sole.place ≡ place) × (place < length self.old.list.topics.entries)) }
     {
-        self.list.is_sole(place)
+        if self.list.is_sole(place) {
+            Some(Sole { place })
+        } else {
+            None
+        }
     }
 
-    /// The topic at the place is open no more.
-    pub(crate) fn remove(&mut self, place: usize) -> Option<Arc<Shared<T, J, B>>>
-        ensures { self.new.list.topics.entries ≡ remove self.old.list.topics.entries place }
+    /// The topic at the place is open no more. Nobody else had it, and it rests by its own word.
+    pub(crate) fn remove(&mut self, sole: Sole, rested: Rested) -> Option<Arc<Shared<T, J, B>>>
+        ensures { self.new.list.topics.entries ≡ remove self.old.list.topics.entries sole.place }
     {
+        let Sole { place } = sole;
+        drop(rested);
         match self.list.topics.shift_remove_index(place) {
             Some((name, topic)) => {
                 drop(name);
@@ -179,12 +192,12 @@ impl<T: Opened + Drop, J: Naming, B: Bell + Drop> Table<T, J, B> {
         }
     }
 
-    /// The topic of the name is open no more. All others stay.
-    pub(crate) fn take_out(&mut self, name: &str)
-        ensures gone { get_by_text self.new.list.topics name.now ≡ None }
-        ensures others { self.new.list.topics.entries ≡ remove_entry (λ k. bytes_eq name.now (string_bytes k)) self.old.list.topics.entries }
+    /// The topic that was deleted is open no more. All others stay.
+    pub(crate) fn take_out(&mut self, gone: &Gone)
+        ensures gone { get_by_text self.new.list.topics (string_bytes gone.now.text) ≡ None }
+        ensures others { self.new.list.topics.entries ≡ remove_entry (λ k. bytes_eq (string_bytes gone.now.text) (string_bytes k)) self.old.list.topics.entries }
     {
-        drop(self.list.topics.shift_remove(name));
+        drop(self.list.topics.shift_remove(gone.text()));
     }
 }
 

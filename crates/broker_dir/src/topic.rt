@@ -60,6 +60,12 @@ impl<T: Opened + Drop, J: Naming, B: Bell + Drop> Shared<T, J, B> {
 }
 
 impl<T: Opened + Drop, J: Naming, B: Bell + Drop> Guarded for Shared<T, J, B> {
+    ghost use Rattle.broker_dir.specs.Answering.{IsAnswered};
+
+    ghost named = { λ topic. topic.name };
+
+    ghost answers = { λ topic. IsAnswered T J B T.Topic T.Saved J.Naming };
+
     fn name(&self) -> &TopicName {
         &self.name
     }

@@ -4,6 +4,7 @@ ghost use Rattle.broker_dir.specs.Trimming.{most_after, rule_of, trim_by};
 
 use crate::table::Table;
 use crate::topic::Shared;
+use crate::watching::Rules;
 use broker_parts::{Board, Wants};
 use delivery_machine::{Event, KeptAge, KeptMessages, Moment, Opened, Retention};
 use marks::Naming;
@@ -85,9 +86,9 @@ pub(crate) fn trim_by(rule: Retention, now: Option<Moment>, most: u64) -> Option
 }
 
 impl<T: Opened + Drop, J: Naming, B: Bell + Drop> Shared<T, J, B> {
-    fn trim<R: Wait>(&self, rt: &R, broker: Retention, now: Option<Moment>) -> Wants {
+    fn trim<R: Wait>(&self, rt: &R, rules: &Rules) -> Wants {
         let mut inside = self.inside.lock(rt);
-        inside.trim(broker, now, 0);
+        inside.trim(rules, 0);
         Wants {
             store: inside.wants_storing(),
             thread: false,
@@ -101,12 +102,11 @@ impl<T: Opened + Drop, J: Naming, B: Bell + Drop> Table<T, J, B> {
         &self,
         rt: &R,
         board: &Board<Arc<Shared<T, J, B>>>,
-        broker: &Retention,
-        now: &Option<Moment>,
+        rules: &Rules,
     ) {
         for place in 0..self.count() {
             if let Some(topic) = self.at(place) {
-                board.grant(rt, topic, topic.trim(rt, *broker, *now));
+                board.grant(rt, topic, topic.trim(rt, rules));
             }
         }
     }

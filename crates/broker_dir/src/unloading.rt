@@ -5,7 +5,7 @@ ghost use Rattle.broker_dir.specs.Listing.{HasRoom, after_making, most_open, nam
 
 use crate::directory::Directory;
 use crate::inside::Rested;
-use crate::table::{MOST_OPEN, Table};
+use crate::table::{MOST_OPEN, Sole, Table};
 use crate::topic::Shared;
 use broker_parts::{Counts, Tasks, instant, since};
 use delivery_machine::Opened;
@@ -25,10 +25,11 @@ pub(crate) enum Room {
     InPlaceOf(Unused),
 }
 
-/// A topic that nobody uses, by its place. Nothing leaves but what is one.
+/// A topic that nobody uses. Nothing leaves but what is one, and what was deleted.
 #[derive(Drop)]
 pub(crate) struct Unused {
-    place: usize,
+    /// Its place, by the table's word.
+    sole: Sole,
     /// By the topic's own word.
     rested: Rested,
 }
@@ -63,14 +64,35 @@ pub(crate) fn unused_at<T: Opened + Drop, J: Naming, B: Bell + Drop, R: Wait>(
     place: usize,
 ) -> Option<Unused>
     ensures same { table.new.list.topics.entries ≡ table.old.list.topics.entries }
-    ensures there { IfSome result (λ unused. (unused.place ≡ place) × (place < length table.old.list.topics.entries)) }
+    ensures there { IfSome result (λ unused. (unused.sole.place ≡ place) × (place < length table.old.list.topics.entries)) }
 {
-    if !table.is_sole(place) {
+    let Some(sole) = table.sole_at(place) else {
         return None;
-    }
+    };
     match table.at(place) {
         Some(topic) => match rests_since(rt, topic) {
-            Some(rested) => Some(Unused { place, rested }),
+            Some(rested) => Some(Unused { sole, rested }),
+            None => None,
+        },
+        None => None,
+    }
+}
+
+/// The same, where nothing is stored of the topic, and nothing is in it.
+fn blank_at<T: Opened + Drop, J: Naming, B: Bell + Drop, R: Wait>(
+    rt: &R,
+    table: &mut Table<T, J, B>,
+    place: usize,
+) -> Option<Unused>
+    ensures same { table.new.list.topics.entries ≡ table.old.list.topics.entries }
+    ensures there { IfSome result (λ unused. (unused.sole.place ≡ place) × (place < length table.old.list.topics.entries)) }
+{
+    let Some(sole) = table.sole_at(place) else {
+        return None;
+    };
+    match table.at(place) {
+        Some(topic) => match rests_blank(rt, topic) {
+            Some(rested) => Some(Unused { sole, rested }),
             None => None,
         },
         None => None,
@@ -83,7 +105,7 @@ fn least_used<T: Opened + Drop, J: Naming, B: Bell + Drop, R: Wait>(
     table: &mut Table<T, J, B>,
 ) -> Option<Unused>
     ensures same { table.new.list.topics.entries ≡ table.old.list.topics.entries }
-    ensures there { IfSome result (λ unused. unused.place < length table.old.list.topics.entries) }
+    ensures there { IfSome result (λ unused. unused.sole.place < length table.old.list.topics.entries) }
 {
     let mut least = None;
     for place in 0..table.count() {
@@ -135,18 +157,33 @@ pub(crate) fn let_go<T: Opened + Drop, S: Alter, J: Naming, B: Bell + Drop, R: W
     table: &mut Table<T, J, B>,
     unused: Unused,
 )
-    ensures { names_of table.new.list.topics.entries ≡ remove (names_of table.old.list.topics.entries) unused.place }
+    ensures { names_of table.new.list.topics.entries ≡ remove (names_of table.old.list.topics.entries) unused.sole.place }
 {
-    let place = unused.place;
-    drop(unused);
-    let Some(topic) = table.remove(place) else {
+    let Unused { sole, rested } = unused;
+    let Some(topic) = table.remove(sole, rested) else {
         return;
     };
     counts.unload();
+    note_rest(rt, counts, &topic);
     let mut keeper = keeper.lock(rt);
     keeper.forget(&topic.name);
     drop(keeper);
     drop(topic);
+}
+
+/// What is seen of the topic stays so, since it rests.
+fn note_rest<T: Opened + Drop, J: Naming, B: Bell + Drop, R: Wait>(
+    rt: &R,
+    counts: &Counts,
+    topic: &Shared<T, J, B>,
+) {
+    let mut inside = topic.inside.lock(rt);
+    let seen = inside.seen_rest(counts.resting.alloc());
+    drop(inside);
+    match seen {
+        Ok(seen) => counts.resting.put(rt, &topic.name, seen),
+        Err(_) => counts.resting.remove(rt, &topic.name),
+    }
 }
 
 /// Nothing is stored of the topic, and nothing was in it: it leaves, unless somebody has come to it since. The keeper
@@ -162,10 +199,9 @@ pub(crate) fn leave_blank<T: Opened + Drop, J: Naming, B: Bell + Drop, R: Wait>(
     let place = table.place_of(&topic.name);
     drop(topic);
     if let Some(place) = place
-        && table.is_sole(place)
-        && is_blank_at(rt, table, place)
+        && let Some(Unused { sole, rested }) = blank_at(rt, table, place)
     {
-        drop(table.remove(place));
+        drop(table.remove(sole, rested));
         counts.unload();
     }
 }
@@ -204,9 +240,10 @@ impl<T: Opened + Drop, S: Alter, J: Naming, B: Bell + Drop> Directory<T, S, J, B
             let took = since(time, instant(rt));
             self.counts.note_unloads(rt, before, took);
             self.see_all_out(rt);
-            let now = self.moment_of_rules(rt);
+            let rules = self.rules(rt);
+            self.wake_due(rt, &rules);
             let table = self.table.lock(rt);
-            table.trim_each(rt, &self.board, &self.retention, &now);
+            table.trim_each(rt, &self.board, &rules);
         }
     }
 }
@@ -220,16 +257,11 @@ fn rests_since<T: Opened + Drop, J: Naming, B: Bell + Drop, R: Wait>(
     inside.rests_since()
 }
 
-fn is_blank_at<T: Opened + Drop, J: Naming, B: Bell + Drop, R: Wait>(
+/// The topic's last use, where nothing is stored of it, and nothing is in it.
+fn rests_blank<T: Opened + Drop, J: Naming, B: Bell + Drop, R: Wait>(
     rt: &R,
-    table: &Table<T, J, B>,
-    place: usize,
-) -> bool {
-    match table.at(place) {
-        Some(topic) => {
-            let inside = topic.inside.lock(rt);
-            inside.is_blank()
-        }
-        None => false,
-    }
+    topic: &Shared<T, J, B>,
+) -> Option<Rested> {
+    let inside = topic.inside.lock(rt);
+    inside.rests_blank()
 }

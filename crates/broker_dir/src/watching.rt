@@ -1,21 +1,78 @@
 // What a directory looks at beside its topics: the time of day, and the database's files.
+ghost use Rattle.std.specs.Prelude.{◌≡◌};
+
 use crate::directory::Directory;
-use broker_parts::{DataFiles, Lost};
-use delivery_machine::{Moment, Opened};
+use broker_parts::{DataFiles, Lost, OnDisk};
+use delivery_machine::{Moment, Opened, Retention};
 use marks::Naming;
 use session_bells::Bell;
 use sqlite::Alter;
 use std::rt::{Clock, Files};
 use std::sync::Wait;
 
+/// What topics keep that have no rule of their own, and the moment that rules by age go by, where there is one. Only a directory
+/// tells so.
+#[derive(Clone, Copy)]
+pub(crate) struct Rules {
+    broker: Retention,
+    moment: Option<Moment>,
+}
+
+impl Rules {
+    /// What a topic keeps that has no rule of its own.
+    pub(crate) fn broker(&self) -> Retention
+        ensures { result ≡ self.now.broker }
+    {
+        self.broker
+    }
+
+    /// The moment that rules by age go by.
+    pub(crate) fn moment(&self) -> Option<Moment>
+        ensures { result ≡ self.now.moment }
+    {
+        self.moment
+    }
+}
+
 impl<T: Opened + Drop, S: Alter, J: Naming, B: Bell + Drop> Directory<T, S, J, B> {
-    /// The moment that rules by age go by, where there is one. A step of the time of day is told of.
-    pub(crate) fn moment_of_rules<R: Wait + Clock>(&self, rt: &R) -> Option<Moment> {
+    /// The directory's rule, and the moment now. A step of the time of day is told of.
+    pub(crate) fn rules<R: Wait + Clock>(&self, rt: &R) -> Rules
+        ensures { result.broker ≡ self.now.retention }
+    {
         let (moment, step) = self.steps.look(rt);
         if let Some(step) = step {
             self.counts.note_step(rt, step);
         }
-        moment
+        Rules {
+            broker: self.retention,
+            moment,
+        }
+    }
+
+    /// The directory's rule, where nobody looks at the clock: no message goes by its age.
+    pub(crate) fn rules_without_age(&self) -> Rules
+        ensures { result.broker ≡ self.now.retention }
+    {
+        Rules {
+            broker: self.retention,
+            moment: None,
+        }
+    }
+
+    /// How many bytes the messages of a topic may have together now: none more where the database has what it may have of the disk.
+    pub(crate) fn most_now(&self) -> Option<u64> {
+        match &self.files {
+            Some(files) if files.is_full() => Some(0),
+            _ => self.most,
+        }
+    }
+
+    /// What the database takes of the disk.
+    pub(crate) fn disk<R: Wait>(&self, rt: &R) -> OnDisk {
+        match &self.files {
+            Some(files) => files.on_disk(rt),
+            None => OnDisk::nothing(),
+        }
     }
 
     /// Where a file of the database is lost the store has failed. Once it has, nobody looks: the first cause stays.

@@ -110,7 +110,7 @@ impl<T: Opened + Drop, J: Naming, B: Bell + Drop> Inside<T, J, B> {
         if self.bulk.is_counted() {
             return Ok(());
         }
-        match self.topic.view() {
+        match self.view() {
             Ok(snapshot) => {
                 let counted = self.bulk.count(&snapshot);
                 drop(snapshot);

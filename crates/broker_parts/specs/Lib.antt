@@ -5,3 +5,4 @@ pub mod Ends
 pub mod Losses
 pub mod Places
 pub mod Steps
+pub mod Visiting

@@ -1,5 +1,11 @@
 // What a broker's workers ask of its directory of topics.
+ghost use Rattle.std.specs.Prelude.{Result};
+ghost use Rattle.position_core.specs.declared.fault.Fault.{Fault};
+ghost use Rattle.delivery_machine.specs.declared.reply.Reply.{Reply};
+ghost use Rattle.session_links.specs.declared.request.Request.{Request};
+
 use crate::backup::Copied;
+use crate::files::OnDisk;
 use crate::notices::Notice;
 use crate::visitors::Visitor;
 use crate::waiting::Waiter;
@@ -20,9 +26,12 @@ pub enum Coming<X: Drop, B: Bell + Drop> {
     Waits(Waiter<B>),
 }
 
-/// A directory of topics, at whose seats bells are left. No method says what it does, and each type may be any: so whoever
-/// serves a directory, or tries one, promises nothing of it, and does not know what it is made of.
+/// A directory of topics, at whose seats bells are left. But for what is answered at a seat no method says what it does, and each
+/// type may be any: so whoever serves a directory, or tries one, promises no more of it, and does not know what it is made of.
 pub trait Broker<B: Bell + Drop>: Drop {
+    /// What may be answered to the one at a seat.
+    ghost answers: { Request → Result Reply Fault → Type 0 };
+
     /// A seat at an open topic, until it is detached.
     type Seat: Drop;
 
@@ -45,7 +54,8 @@ pub trait Broker<B: Bell + Drop>: Drop {
     fn introduce<R: Wait>(&self, rt: &R, seat: &Self::Seat, visitor: Visitor);
 
     /// What the topic, or whoever stands before it, answers to the one at the seat.
-    fn call<R: Wait>(&self, rt: &R, seat: &Self::Seat, request: Request) -> Result<Reply, Fault>;
+    fn call<R: Wait>(&self, rt: &R, seat: &Self::Seat, request: Request) -> Result<Reply, Fault>
+        ensures { answers request result };
 
     /// Why the one at the seat may not stay, where it may not.
     fn refusal<R: Wait>(&self, rt: &R, seat: &Self::Seat) -> Option<Fault>;
@@ -54,8 +64,14 @@ pub trait Broker<B: Bell + Drop>: Drop {
     /// already.
     fn rest<R: Wait>(&self, rt: &R, seat: &Self::Seat, rest: Rest) -> bool;
 
-    /// What is seen of the topics that are in memory, and of what was stored.
+    /// What is seen of all topics, and of what was stored.
     fn seen<R: Wait>(&self, rt: &R, program: ProgramSeen) -> Result<BrokerSeen, Fault>;
+
+    /// What the database takes of the disk, and whether that is as much as it may.
+    fn on_disk<R: Wait>(&self, rt: &R) -> OnDisk;
+
+    /// Topics that have rows and are not in memory are counted, to be seen.
+    fn count_resting<R: Wait>(&self, rt: &R);
 
     /// What there is to tell, one after another, from the first on that was not told.
     fn notice<R: Wait>(&self, rt: &R) -> Option<Notice>;

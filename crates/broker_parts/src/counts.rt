@@ -1,5 +1,6 @@
-// What the directory has done since it was opened, as its lookers are told.
+// What the directory has done since it was opened, and what is known of topics that are not in memory, as its lookers are told.
 use crate::notices::{Notice, Notices};
+use crate::resting::Resting;
 use crate::steps::Step;
 use delivery_machine::TopicName;
 use status_pages::{Histogram, Rows};
@@ -21,8 +22,10 @@ pub struct Stores {
     pub times: Histogram,
 }
 
-/// How many topics came into memory and left it, and what was stored. Its lock is behind all others.
+/// How many topics came into memory and left it, what was stored, and what was seen last of topics that are not in memory. Its
+/// locks are behind all others.
 pub struct Counts {
+    pub resting: Resting,
     loads: AtomicU64,
     unloads: AtomicU64,
     stores: Mutex<Stores>,
@@ -32,6 +35,7 @@ pub struct Counts {
 impl Drop for Counts {
     fn drop(self) {
         let Counts {
+            resting: _,
             loads: _,
             unloads: _,
             stores: _,
@@ -43,6 +47,7 @@ impl Drop for Counts {
 impl Counts {
     pub fn new(alloc: Global) -> Self {
         Counts {
+            resting: Resting::new(alloc),
             loads: AtomicU64::new(0),
             unloads: AtomicU64::new(0),
             stores: Mutex::new(Stores {

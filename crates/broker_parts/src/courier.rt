@@ -1,24 +1,26 @@
 // A courier at work: it moves dead letters, one at a time, with one topic's lock at a time.
-ghost use Rattle.std.specs.Prelude.{None};
+ghost use Rattle.std.specs.Prelude.{◌≡◌, IfOk, IfSome, None, OnOk};
+ghost use Rattle.position_core.specs.TopicName.{topic_text};
+ghost use Rattle.dead_letters.specs.Moving.{target_of};
 
 use crate::board::Board;
 use crate::graves::Grave;
 use crate::guarded::Guarded;
 use crate::pause::{Due, Pause};
-use dead_letters::{Hand, Route, Stepped, step};
-use delivery_machine::{Event, Fault, Moment, Reply, TopicName};
-use session_links::{Caller, Request};
+use crate::sides::{Sides, step_between};
+use dead_letters::{Hand, Route, Stepped};
+use delivery_machine::{Fault, Moment, Reply, TopicName};
 use std::alloc::Global;
-use std::mem;
 use std::sync::{Arc, Wait};
 use std::time::Instant;
 
 /// Where couriers are at work: who opens the topics that letters go to, and the board of all.
-pub trait Opens<X: Drop> {
+pub trait Opens<X: Guarded + Drop> {
     fn board(&self) -> &Board<Arc<X>>;
 
     /// The open topic of the name, which is made where it is not known.
-    fn open_topic<R: Wait>(&self, rt: &R, name: &TopicName) -> Result<Arc<X>, Fault>;
+    fn open_topic<R: Wait>(&self, rt: &R, name: &TopicName) -> Result<Arc<X>, Fault>
+        ensures { IfOk result (λ topic. topic_text (X.named topic.value) ≡ topic_text name.now) };
 }
 
 /// When a courier goes on.
@@ -39,9 +41,7 @@ enum Stay {
 pub(crate) struct Courier<X: Drop> {
     route: Route,
     hand: Hand,
-    source: Arc<X>,
-    /// The topic that the letter in its hand goes to, once it is open.
-    target: Option<Arc<X>>,
+    sides: Sides<X>,
     /// The number of the grave that it was sent to.
     grave: u64,
     stay: Stay,
@@ -75,8 +75,7 @@ impl<X: Guarded + Drop> Courier<X> {
             Ok(source) => Some(Courier {
                 route,
                 hand: Hand::Empty,
-                source,
-                target: None,
+                sides: Sides::of(source),
                 grave: grave.number,
                 stay: Stay::Goes,
                 pause: Pause::first(),
@@ -92,7 +91,7 @@ impl<X: Guarded + Drop> Courier<X> {
     /// first one again.
     fn note(&mut self, was_ending: bool, stepped: Stepped) {
         if self.is_free() {
-            drop(self.target.take());
+            self.sides.let_target_go();
         }
         if was_ending && stepped == Stepped::GoesOn {
             self.pause = Pause::first();
@@ -138,7 +137,7 @@ impl<X: Guarded + Drop> Courier<X> {
     }
 
     fn moves_to(&self, topic: &TopicName) -> bool {
-        match &self.target {
+        match self.sides.target() {
             Some(target) => target.name().is(topic),
             None => false,
         }
@@ -170,8 +169,12 @@ impl<X: Guarded + Drop> Courier<X> {
     }
 
     /// The topic that the letter goes to is open.
-    fn find_target<D: Opens<X>, R: Wait>(&mut self, rt: &R, house: &D) -> Result<(), Fault> {
-        if self.target.is_some() {
+    fn find_target<D: Opens<X>, R: Wait>(&mut self, rt: &R, house: &D) -> Result<(), Fault>
+        ensures opened { self.old.sides.target ≡ None → OnOk result (IfSome (target_of self.old.hand) (λ name. IfSome self.new.sides.target (λ topic. topic_text (X.named topic.value) ≡ topic_text name))) }
+        ensures source { self.new.sides.source ≡ self.old.sides.source }
+        ensures hand { self.new.hand ≡ self.old.hand }
+    {
+        if self.sides.target().is_some() {
             return Ok(());
         }
         let target = match self.hand.target() {
@@ -180,7 +183,7 @@ impl<X: Guarded + Drop> Courier<X> {
         };
         match target {
             Ok(target) => {
-                drop(mem::replace(&mut self.target, Some(target)));
+                self.sides.set_target(target);
                 Ok(())
             }
             Err(fault) => Err(fault),
@@ -196,21 +199,9 @@ impl<X: Guarded + Drop> Courier<X> {
     ) -> Stepped {
         let awaited = awaited_by(&self.hand);
         let absent = opened.err().unwrap_or(Fault::NoSession);
-        let mut at_source = Visitor {
-            rt,
-            board,
-            topic: Some(&self.source),
-            absent,
-            awaited,
-        };
-        let mut at_target = Visitor {
-            rt,
-            board,
-            topic: self.target.as_ref(),
-            absent,
-            awaited,
-        };
-        step(
+        let mut at_source = self.sides.at_source(rt, board, awaited);
+        let mut at_target = self.sides.at_target(rt, board, absent, awaited);
+        step_between(
             &self.route,
             &mut self.hand,
             &mut at_source,
@@ -222,62 +213,18 @@ impl<X: Guarded + Drop> Courier<X> {
     /// No letter is left. Where one was stored meanwhile, another courier is to be sent.
     fn end<R: Wait>(&mut self, rt: &R, board: &Board<Arc<X>>) {
         self.stay = Stay::Over;
-        let wants = self.source.release(rt, self.grave);
-        board.grant(rt, &self.source, wants);
+        let wants = self.sides.source().release(rt, self.grave);
+        board.grant(rt, self.sides.source(), wants);
     }
 
     /// The letter stays where it is. It tries again after a pause, if its topic and its subscription are there still, or if it
     /// has something in its hand that it is to put back first.
     fn put_back<R: Wait>(&mut self, rt: &R, time: Option<Instant>) {
-        if self.is_free() && (self.source.is_over() || !self.source.has_grave(rt, self.grave)) {
+        let source = self.sides.source();
+        if self.is_free() && (source.is_over() || !source.has_grave(rt, self.grave)) {
             self.stay = Stay::Over;
         } else {
             self.stay = Stay::Pauses(self.pause.begin(time));
         }
-    }
-}
-
-/// The calls of a courier at one of its two topics: each is one hold of the topic's lock. Where the topic is not open all
-/// is refused, with the fault for which it is not.
-#[derive(Drop)]
-struct Visitor<'r, 'a, X: Guarded + Drop, R: Wait> {
-    rt: &'r R,
-    board: &'r Board<Arc<X>>,
-    topic: Option<&'a Arc<X>>,
-    absent: Fault,
-    /// Where less is stored than that, the thread comes to the topic once more of it is stored.
-    awaited: Option<u64>,
-}
-
-impl<'r, 'a, X: Guarded + Drop, R: Wait> Visitor<'r, 'a, X, R> {
-    fn visit(&self, topic: &Arc<X>, event: Event) -> Result<Reply, Fault> {
-        let (answer, wants) = topic.visit(self.rt, event, self.awaited);
-        self.board.grant(self.rt, topic, wants);
-        answer
-    }
-}
-
-impl<'r, 'a, X: Guarded + Drop, R: Wait> Caller for Visitor<'r, 'a, X, R> {
-    ghost use Rattle.std.specs.Prelude.{None};
-
-    ghost calls = { λ c. None };
-
-    /// A courier asks for no more than events.
-    fn call(&mut self, request: Request) -> Result<Reply, Fault> {
-        match (self.topic, request) {
-            (Some(topic), Request::Event(event)) => self.visit(topic, event),
-            (Some(_), request) => {
-                drop(request);
-                Err(Fault::NoSession)
-            }
-            (None, request) => {
-                drop(request);
-                Err(self.absent)
-            }
-        }
-    }
-
-    fn overview(&mut self) -> Result<String, Fault> {
-        Err(Fault::NoSession)
     }
 }

@@ -1,4 +1,4 @@
-// Whether the database's files are there still, as the broker left them.
+// The database's files: whether they are there still, as the broker left them, and how much of the disk they take.
 ghost use Rattle.std.specs.Prelude.{◌≡◌, if◌then◌else◌, is_some};
 ghost use Rattle.broker_parts.specs.Losses.{first_lost, is_cut, loss_by, loss_of};
 
@@ -6,6 +6,7 @@ use std::alloc::Global;
 use std::io::{ErrorKind, Read};
 use std::os::unix::fs::MetadataExt;
 use std::rt::Files;
+use std::sync::atomic::{AtomicBool, Ordering};
 use std::sync::{Mutex, Wait};
 use std::{fmt, fs, io};
 
@@ -132,6 +133,36 @@ fn find<R: Files>(rt: &R, path: &str, part: Part) -> io::Result<Option<Known>> {
     }
 }
 
+/// A number of some bytes, the greatest first.
+fn number_in(bytes: &[u8]) -> u64 {
+    let mut number: u64 = 0;
+    for byte in bytes {
+        number = number.wrapping_mul(256).wrapping_add(u64::from(*byte));
+    }
+    number
+}
+
+/// How many bytes of the database's file are free for new rows: the pages that its head, as of its last checkpoint, counts as free.
+fn free_in(head: &[u8; 100]) -> u64 {
+    let size = match number_in(&head[16..18]) {
+        1 => 65_536,
+        size => size,
+    };
+    number_in(&head[36..40]).saturating_mul(size)
+}
+
+/// The same of the file at the path; 0 where the system does not tell.
+fn free_at<R: Files>(rt: &R, path: &str) -> u64 {
+    let mut head = [0; 100];
+    let Ok(mut file) = fs::open(rt, path) else {
+        return 0;
+    };
+    match file.read_exact(&mut head) {
+        Ok(()) => free_in(&head),
+        Err(_) => 0,
+    }
+}
+
 /// What has become of the file since it was last looked at. Where the system does not tell, nothing is concluded.
 fn look_at<R: Files>(rt: &R, path: &str, part: Part, known: &mut Option<Known>) -> Option<Loss> {
     match find(rt, path, part) {
@@ -174,11 +205,48 @@ struct Last {
     lost: Option<Lost>,
 }
 
+/// What the two take of the disk.
+#[derive(Clone, Copy, Debug, PartialEq, Eq)]
+pub struct OnDisk {
+    /// How many bytes they have, where that is known.
+    pub file: Option<u64>,
+    pub log: Option<u64>,
+    /// They take as much as they may: publishes are refused.
+    pub is_full: bool,
+}
+
+impl OnDisk {
+    /// Nothing is on a disk.
+    pub fn nothing() -> OnDisk {
+        OnDisk {
+            file: None,
+            log: None,
+            is_full: false,
+        }
+    }
+}
+
+fn length_of(known: Option<Known>) -> Option<u64> {
+    match known {
+        Some(known) => Some(known.len),
+        None => None,
+    }
+}
+
+/// Whether what they take, less what is free for new rows, is as much as it may be.
+fn fills(file: Option<u64>, log: Option<u64>, free: u64, most: u64) -> bool {
+    let both = file.unwrap_or(0).saturating_add(log.unwrap_or(0));
+    both.saturating_sub(free) >= most
+}
+
 /// The database's file and its log, which are to stay what they are while the broker has them. Its lock is a leaf.
 pub struct DataFiles {
     database: String,
     log: String,
     last: Mutex<Last>,
+    /// How many bytes of the disk they may take, where that is said.
+    most: Option<u64>,
+    is_full: AtomicBool,
 }
 
 impl Drop for DataFiles {
@@ -187,13 +255,15 @@ impl Drop for DataFiles {
             database: _,
             log: _,
             last: _,
+            most: _,
+            is_full: _,
         } = self;
     }
 }
 
 impl DataFiles {
-    /// Those of the database at the path. None for want of memory.
-    pub fn new(alloc: Global, database: &str) -> Option<Self> {
+    /// Those of the database at the path, and how many bytes of the disk they may take, where that is said. None for want of memory.
+    pub fn new(alloc: Global, database: &str, most: Option<u64>) -> Option<Self> {
         let log = format!(in alloc; "{database}-wal").ok()?;
         let database = String::from_str(alloc, database).ok()?;
         Some(DataFiles {
@@ -204,6 +274,8 @@ impl DataFiles {
                 log: None,
                 lost: None,
             }),
+            most,
+            is_full: AtomicBool::new(false),
         })
     }
 
@@ -222,7 +294,34 @@ impl DataFiles {
         if lost.is_some() {
             last.lost = lost;
         }
+        drop(guard);
+        self.look_for_room(rt);
         lost
+    }
+
+    /// Whether they take as much of the disk as they may.
+    fn look_for_room<R: Wait + Files>(&self, rt: &R) {
+        if let Some(most) = self.most {
+            let free = free_at(rt, self.database.as_str());
+            let now = self.on_disk(rt);
+            let is_full = fills(now.file, now.log, free, most);
+            self.is_full.store(is_full, Ordering::SeqCst);
+        }
+    }
+
+    /// Whether they took as much of the disk as they may, at the last look.
+    pub fn is_full(&self) -> bool {
+        self.is_full.load(Ordering::SeqCst)
+    }
+
+    /// What they took of the disk at the last look.
+    pub fn on_disk<R: Wait>(&self, rt: &R) -> OnDisk {
+        let last = self.last.lock(rt);
+        OnDisk {
+            file: length_of(last.database),
+            log: length_of(last.log),
+            is_full: self.is_full(),
+        }
     }
 
     /// Which one was found to be lost.

@@ -1,5 +1,6 @@
 // The subscriptions of a topic, and in which of them letters may lie dead.
-ghost use Rattle.std.specs.Prelude.{◌≡◌, IfErr};
+ghost use Rattle.std.specs.Prelude.{◌≡◌, IfErr, IsOk, true};
+ghost use Rattle.broker_parts.specs.Ends.{is_ending};
 
 use crate::tallies::Traffic;
 use delivery_machine::{Event, Fault, KeptSubscription, Reply, SubscriptionName};
@@ -129,7 +130,10 @@ impl Graves {
     }
 
     /// What the event does to the graves, with the room that it needs. Only want of memory is a refusal (F1).
-    pub fn prepare(&mut self, event: &Event) -> Result<Change, Fault> {
+    pub fn prepare(&mut self, event: &Event) -> Result<Change, Fault>
+        ensures fault { IfErr result (λ fault. fault ≡ Fault.NoMemory) }
+        ensures ends { is_ending event.now ≡ true → IsOk result }
+    {
         match event {
             Event::Subscribe { subscription, .. } => self.prepare_join(subscription),
             Event::DropSubscription { subscription } => Ok(self.going(subscription)),
@@ -137,7 +141,9 @@ impl Graves {
         }
     }
 
-    fn prepare_join(&mut self, name: &SubscriptionName) -> Result<Change, Fault> {
+    fn prepare_join(&mut self, name: &SubscriptionName) -> Result<Change, Fault>
+        ensures { IfErr result (λ fault. fault ≡ Fault.NoMemory) }
+    {
         if self.place_of(name).is_some() {
             return Ok(Change::Nothing);
         }
@@ -176,14 +182,14 @@ impl Graves {
         }
     }
 
-    /// A consumer of the subscription was answered so, by which a letter may have died.
-    pub fn note(&mut self, name: &SubscriptionName, reply: &Reply) {
+    /// A consumer of the subscription was answered so, who had acknowledged or had not; a letter may have died by it.
+    pub fn note(&mut self, name: &SubscriptionName, acknowledges: bool, reply: &Reply) {
         let found = self.place_of(name);
         if let Some(place) = found
             && let Some(grave) = self.graves.get_mut(place)
         {
             grave.has_died |= matches!(reply, Reply::Died { .. });
-            grave.traffic.note(reply);
+            grave.traffic.note(acknowledges, reply);
         }
     }
 

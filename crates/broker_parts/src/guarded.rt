@@ -1,4 +1,10 @@
 // An open topic behind its lock, as whoever stores and whoever moves its letters sees it.
+ghost use Rattle.std.specs.Prelude.{◌≡◌, Result};
+ghost use Rattle.position_core.specs.declared.fault.Fault.{Fault};
+ghost use Rattle.position_core.specs.declared.topic_name.TopicName.{TopicName};
+ghost use Rattle.delivery_machine.specs.declared.event.Event.{Event};
+ghost use Rattle.delivery_machine.specs.declared.reply.Reply.{Reply};
+
 use crate::board::Board;
 use delivery_machine::{Event, Fault, Reply, TopicName};
 use std::sync::{Arc, Wait};
@@ -14,7 +20,14 @@ pub struct Wants {
 
 /// An open topic behind a lock of its own: each call is one hold of it, and takes no other.
 pub trait Guarded {
-    fn name(&self) -> &TopicName;
+    /// The name that it is open under.
+    ghost named: { Self → TopicName };
+
+    /// What may be answered to an event.
+    ghost answers: { Self → Event → Result Reply Fault → Type 0 };
+
+    fn name(&self) -> &TopicName
+        ensures { result.now ≡ named self.now };
 
     /// Whether it may not be used any more.
     fn is_over(&self) -> bool;
@@ -31,7 +44,8 @@ pub trait Guarded {
         rt: &R,
         event: Event,
         awaited: Option<u64>,
-    ) -> (Result<Reply, Fault>, Wants);
+    ) -> (Result<Reply, Fault>, Wants)
+        ensures { answers self.now event result.0 };
 
     /// Whether the subscription is there still whose grave has the number.
     fn has_grave<R: Wait>(&self, rt: &R, grave: u64) -> bool;

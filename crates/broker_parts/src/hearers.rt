@@ -2,9 +2,9 @@
 ghost use Rattle.std.specs.Prelude.{◌≡◌, IfErr};
 
 use crate::graves::{Change, Graves};
-use crate::tallies::{Tallies, ends_producer};
-use crate::visitors::Visitors;
-use delivery_machine::{Event, Fault, KeptSubscription, Reply};
+use crate::tallies::{Tallies, acknowledges, ends_producer};
+use crate::visitors::{Publisher, Visitors};
+use delivery_machine::{Event, Fault, KeptSubscription, ProducerName, Reply};
 use session_bells::{Asked, Bell, Bells};
 use std::alloc::Global;
 use std::sync::Wait;
@@ -28,12 +28,30 @@ impl<B: Bell + Drop> Drop for Hearers<B> {
     }
 }
 
-/// Whether the reply to a consumer is noted at its subscription.
-fn is_of_subscription(reply: &Reply) -> bool {
-    matches!(
-        reply,
-        Reply::Sent { .. } | Reply::Released { .. } | Reply::Rewound { .. } | Reply::Died { .. }
-    )
+/// Whether the reply to a consumer, who had acknowledged or had not, is noted at its subscription.
+fn is_of_subscription(acknowledges: bool, reply: &Reply) -> bool {
+    match reply {
+        Reply::Sent { .. } | Reply::Released { .. } | Reply::Rewound { .. } | Reply::Died { .. } =>
+            { true }
+        Reply::Done => acknowledges,
+        _ => false,
+    }
+}
+
+/// The name that a producer asks for by the event.
+fn name_in(event: &Event) -> Result<Option<ProducerName>, Fault>
+    ensures { IfErr result (λ fault. fault ≡ Fault.NoMemory) }
+{
+    match event {
+        Event::AddProducer {
+            name: Some(name),
+            ..
+        } => match name.clone() {
+            Ok(name) => Ok(Some(name)),
+            Err(_) => Err(Fault::NoMemory),
+        },
+        _ => Ok(None),
+    }
 }
 
 /// An event and who asked it, once there is room for its answer.
@@ -41,6 +59,9 @@ fn is_of_subscription(reply: &Reply) -> bool {
 pub struct Prepared {
     change: Change,
     ends_producer: bool,
+    acknowledges: bool,
+    /// The name that a producer asks for.
+    name: Option<ProducerName>,
 }
 
 impl Prepared {
@@ -49,6 +70,8 @@ impl Prepared {
         Prepared {
             change: Change::Nothing,
             ends_producer: ends_producer(event),
+            acknowledges: false,
+            name: None,
         }
     }
 }
@@ -88,16 +111,24 @@ impl<B: Bell + Drop> Hearers<B> {
     pub fn prepare(&mut self, asked: &Asked, event: &Event) -> Result<Prepared, Fault>
         ensures { IfErr result (λ fault. fault ≡ Fault.NoMemory) }
     {
+        let name = match name_in(event) {
+            Ok(name) => name,
+            Err(fault) => return Err(fault),
+        };
         let Ok(change) = self.graves.prepare(event) else {
+            drop(name);
             return Err(Fault::NoMemory);
         };
         match self.bells.prepare(asked) {
             Ok(()) => Ok(Prepared {
                 change,
                 ends_producer: ends_producer(event),
+                acknowledges: acknowledges(event),
+                name,
             }),
             Err(_) => {
                 drop(change);
+                drop(name);
                 Err(Fault::NoMemory)
             }
         }
@@ -115,17 +146,31 @@ impl<B: Bell + Drop> Hearers<B> {
         let Prepared {
             change,
             ends_producer,
+            acknowledges,
+            name,
         } = prepared;
         self.tallies.note(ends_producer, reply);
         self.bells.answered(rt, seat, asked, reply);
         self.graves.answered(change, reply);
-        if let Reply::Subscribed { consumer } = reply {
-            self.visitors.join(seat, *consumer);
-        }
-        if is_of_subscription(reply)
+        self.note_visitor(seat, name, reply);
+        if is_of_subscription(acknowledges, reply)
             && let Some(name) = self.bells.subscription(seat)
         {
-            self.graves.note(name, reply);
+            self.graves.note(name, acknowledges, reply);
+        }
+    }
+
+    /// The one at the seat, who may have asked for a name, was answered so.
+    fn note_visitor(&mut self, seat: u64, name: Option<ProducerName>, reply: &Reply) {
+        match reply {
+            Reply::Subscribed { consumer } => {
+                drop(name);
+                self.visitors.join(seat, *consumer);
+            }
+            Reply::ProducerAdded { auto, .. } => {
+                self.visitors.produce(seat, Publisher::of(name, *auto));
+            }
+            _ => drop(name),
         }
     }
 

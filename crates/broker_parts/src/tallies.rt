@@ -18,11 +18,20 @@ pub struct Traffic {
     pub sent: u64,
     /// Messages that came back from one of them, and wait again.
     pub released: u64,
+    /// Acknowledgements of theirs.
+    pub acks: u64,
+    /// Messages that became dead letters.
+    pub deaths: u64,
 }
 
 /// Whether a producer goes by the event, where it is done.
 pub fn ends_producer(event: &Event) -> bool {
     matches!(event, Event::DropProducer { .. })
+}
+
+/// Whether messages are acknowledged by the event, where it is done.
+pub fn acknowledges(event: &Event) -> bool {
+    matches!(event, Event::Ack { .. } | Event::AckUpTo { .. })
 }
 
 fn add(count: &mut u64, more: u64) {
@@ -62,15 +71,19 @@ impl Traffic {
         Traffic {
             sent: 0,
             released: 0,
+            acks: 0,
+            deaths: 0,
         }
     }
 
-    /// A consumer was answered so.
-    pub fn note(&mut self, reply: &Reply) {
+    /// A consumer was answered so, who had acknowledged or had not.
+    pub fn note(&mut self, acknowledges: bool, reply: &Reply) {
         match reply {
             Reply::Sent { .. } => add(&mut self.sent, 1),
             Reply::Released { .. } => add(&mut self.released, 1),
             Reply::Rewound { count } => add(&mut self.released, *count),
+            Reply::Died { .. } => add(&mut self.deaths, 1),
+            Reply::Done if acknowledges => add(&mut self.acks, 1),
             _ => {}
         }
     }

@@ -5,9 +5,9 @@ ghost use Rattle.broker_parts.specs.Places.{ComesFromHere};
 
 use crate::stage::Stage;
 use crate::whence::{Whence, is_own};
-use delivery_machine::{ConsumerNumber, Fault, Moment};
+use delivery_machine::{ConsumerNumber, Fault, Moment, ProducerName};
 use status_pages::Role;
-use std::alloc::Global;
+use std::alloc::{AllocError, Global};
 
 /// Who sits at a seat.
 #[derive(Clone, Copy, Debug, PartialEq, Eq)]
@@ -35,11 +35,41 @@ impl Visitor {
     }
 }
 
-/// Who sits at a seat, its number as a consumer of the topic where it is one, and whether its session is to end.
-#[derive(Clone, Copy)]
+/// Under which name one publishes.
+#[derive(Drop)]
+pub enum Publisher {
+    /// The one that it asked for.
+    Named(ProducerName),
+    /// The one that the topic made of this number.
+    Made(u64),
+}
+
+impl Publisher {
+    /// One who asked for the name, or for none and got one of the number.
+    pub fn of(name: Option<ProducerName>, auto: Option<u64>) -> Option<Publisher> {
+        match (name, auto) {
+            (Some(name), _) => Some(Publisher::Named(name)),
+            (None, Some(number)) => Some(Publisher::Made(number)),
+            (None, None) => None,
+        }
+    }
+
+    /// The name.
+    pub fn text(&self, alloc: Global) -> Result<String, AllocError> {
+        match self {
+            Publisher::Named(name) => String::from_str(alloc, name.as_str()),
+            Publisher::Made(number) => format!(in alloc; "auto-{number}"),
+        }
+    }
+}
+
+/// Who sits at a seat, its number as a consumer of the topic where it is one, or its name as a producer, and whether its session is to
+/// end.
+#[derive(Drop)]
 struct Sitting {
     visitor: Visitor,
     consumer: Option<ConsumerNumber>,
+    publisher: Option<Publisher>,
     is_to_go: bool,
 }
 
@@ -73,6 +103,7 @@ impl Visitors {
             Some(Sitting {
                 visitor,
                 consumer: None,
+                publisher: None,
                 is_to_go: false,
             }),
         );
@@ -82,6 +113,22 @@ impl Visitors {
     pub fn join(&mut self, seat: u64, consumer: ConsumerNumber) {
         if let Some(sitting) = self.sitting_mut(seat) {
             sitting.consumer = Some(consumer);
+        }
+    }
+
+    /// The one at the seat publishes under this name.
+    pub fn produce(&mut self, seat: u64, publisher: Option<Publisher>) {
+        match self.sitting_mut(seat) {
+            Some(sitting) => sitting.publisher = publisher,
+            None => drop(publisher),
+        }
+    }
+
+    /// Under which name the one at the seat publishes.
+    pub fn publisher(&self, seat: u64) -> Option<&Publisher> {
+        match self.sitting(seat) {
+            Some(sitting) => sitting.publisher.as_ref(),
+            None => None,
         }
     }
 

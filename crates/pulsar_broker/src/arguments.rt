@@ -1,7 +1,7 @@
 // What the program's arguments ask for.
 use delivery_machine::{KeptAge, KeptMessages, Retention};
 use endpoint_core::Letters;
-use worker_pool::{Patience, PerAddress};
+use worker_pool::{Patience, PerAddress, Refused};
 
 /// What is to be served, and where.
 #[derive(Clone, Copy, Debug, PartialEq, Eq)]
@@ -27,6 +27,10 @@ pub struct Asked<'a> {
     pub per_address: PerAddress,
     /// How many bytes the messages of a topic may have that are kept; any number where there is no most.
     pub most: Option<u64>,
+    /// How many bytes of the disk the database may take, where that is said.
+    pub disk: Option<u64>,
+    /// How a refusal is told that is known before the request is accepted.
+    pub refusals: Refused,
 }
 
 /// The database that is held in memory, and gone with the program.
@@ -147,6 +151,14 @@ fn letters(word: &str) -> Option<Letters> {
     }
 }
 
+fn refusals(word: &str) -> Option<Refused> {
+    if word == "http" {
+        Some(Refused::Status)
+    } else {
+        None
+    }
+}
+
 /// What the words ask for that have names, in any order.
 #[derive(Clone, Copy, Debug, PartialEq, Eq)]
 struct Named<'a> {
@@ -159,6 +171,8 @@ struct Named<'a> {
     patience: Option<Patience>,
     per_address: Option<PerAddress>,
     most: Option<u64>,
+    disk: Option<u64>,
+    refusals: Option<Refused>,
 }
 
 /// The value, where there is none yet: a word stands once.
@@ -185,6 +199,8 @@ impl<'a> Named<'a> {
             patience: None,
             per_address: None,
             most: None,
+            disk: None,
+            refusals: None,
         }
     }
 
@@ -211,6 +227,8 @@ impl<'a> Named<'a> {
             "letters" => self.letters = once(self.letters, letters(value)?)?,
             "per-address" => self.per_address = once(self.per_address, per_address(value)?)?,
             "most" => self.most = once(self.most, number(value, MOST_BYTES)?)?,
+            "disk" => self.disk = once(self.disk, number(value, MOST_BYTES)?)?,
+            "refusals" => self.refusals = once(self.refusals, refusals(value)?)?,
             "silence" => self.patience = once(self.patience, patience(value)?)?,
             _ => return None,
         }
@@ -245,7 +263,7 @@ pub fn read_arguments(words: &[String]) -> Option<Asked<'_>> {
     let (connections, words) = split_connections(words.get(3..)?)?;
     let mut named = Named::nothing();
     named.read(words)?;
-    if database == IN_MEMORY && named.backup.is_some() {
+    if database == IN_MEMORY && (named.backup.is_some() || named.disk.is_some()) {
         return None;
     }
     Some(Asked {
@@ -262,5 +280,7 @@ pub fn read_arguments(words: &[String]) -> Option<Asked<'_>> {
         patience: named.patience.unwrap_or(Patience::usual()),
         per_address: named.per_address.unwrap_or(PER_ADDRESS),
         most: named.most,
+        disk: named.disk,
+        refusals: named.refusals.unwrap_or(Refused::Close),
     })
 }

@@ -109,7 +109,7 @@ fn equipped<S: Alter + Drop, J: Naming>(
         directory = directory.with_backups(Backups::new(alloc, asked.database, folder)?);
     }
     if asked.database != IN_MEMORY {
-        directory = directory.with_files(DataFiles::new(alloc, asked.database)?);
+        directory = directory.with_files(DataFiles::new(alloc, asked.database, asked.disk)?);
     }
     if let Some(most) = asked.most {
         directory = directory.with_most(most);

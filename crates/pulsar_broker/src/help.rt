@@ -19,6 +19,8 @@ A topic broker with Apache Pulsar's subscription types, spoken to by JSON over W
   per-address=c,t,s  at once from one address of another machine: c connections, at t topics; and s sessions begun within a
                 second: per-address=16384,192,4096 (the default)
   most=bytes    a topic whose messages have so many bytes is full: without it only 1,048,576 messages fill one
+  disk=bytes    where the database's file and its log have so many bytes, publishes are refused until there is room again
+  refusals=http a session that does not begin is answered with a status and why, and not opened and then closed
   silence=a,b   a client that is silent for a is pinged, and ended b later: silence=30000ms,45000ms (the default)
 
   pulsar_broker broker.db 127.0.0.1:8080 4 keep=86400000ms

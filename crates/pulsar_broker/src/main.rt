@@ -97,6 +97,7 @@ fn rules_of(alloc: Global, asked: &Asked<'_>) -> Result<Option<Rules>, AllocErro
         letters: asked.letters,
         patience: asked.patience,
         per_address: asked.per_address,
+        refusals: asked.refusals,
     }))
 }
 

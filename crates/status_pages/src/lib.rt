@@ -7,6 +7,7 @@ mod of_subscription;
 mod of_topic;
 mod overview;
 mod page;
+mod process;
 mod sample;
 mod seen;
 
@@ -15,6 +16,6 @@ pub use metrics::metrics_text;
 pub use overview::overview_text;
 pub use page::{PAGE, PAGE_POLICY};
 pub use seen::{
-    BackupsSeen, BrokerSeen, Holds, ProgramSeen, Role, Rows, SessionSeen, SubscriptionSeen,
-    TopicSeen,
+    BackupsSeen, BrokerSeen, FAULTS, Holds, ProgramSeen, Role, Rows, Rule, SessionSeen,
+    SubscriptionSeen, TopicSeen,
 };

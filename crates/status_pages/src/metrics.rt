@@ -2,8 +2,9 @@
 use crate::histogram::{Histogram, MICROS};
 use crate::of_subscription::push_subscriptions;
 use crate::of_topic::push_topics;
-use crate::sample::{Head, Kind, Value, push_label, push_seconds, push_single};
-use crate::seen::{BackupsSeen, BrokerSeen, ProgramSeen, Rows};
+use crate::process::push_process;
+use crate::sample::{Family, Head, Kind, Value, push_end, push_label, push_seconds, push_single};
+use crate::seen::{BackupsSeen, BrokerSeen, FAULTS, ProgramSeen, Rows};
 use json_values::push_decimal;
 use std::alloc::{AllocError, Global};
 
@@ -40,28 +41,83 @@ fn push_started(out: &mut String, started: u64) -> Result<(), AllocError> {
     push_single(out, &head, Value::Millis(started))
 }
 
-fn push_memory(out: &mut String, memory: Option<u64>) -> Result<(), AllocError> {
-    match memory {
-        Some(bytes) => push_gauge(
-            out,
-            "resident_memory_bytes",
-            "How much of the broker is in memory.",
-            bytes,
-        ),
+/// A gauge, where its number is known.
+fn push_known(
+    out: &mut String,
+    name: &'static str,
+    help: &'static str,
+    count: Option<u64>,
+) -> Result<(), AllocError> {
+    match count {
+        Some(count) => push_gauge(out, name, help, count),
         None => Ok(()),
     }
 }
 
-fn push_program(out: &mut String, program: &ProgramSeen) -> Result<(), AllocError> {
-    push_version(out, program.version)?;
-    push_started(out, program.started)?;
-    push_memory(out, program.memory)?;
+fn push_sizes(out: &mut String, program: &ProgramSeen) -> Result<(), AllocError> {
+    push_known(
+        out,
+        "resident_memory_bytes",
+        "How much of the broker is in memory.",
+        program.memory,
+    )?;
+    push_known(
+        out,
+        "database_bytes",
+        "The size of the database's file.",
+        program.file,
+    )?;
+    push_known(
+        out,
+        "log_bytes",
+        "The size of the log beside the database's file.",
+        program.log,
+    )
+}
+
+fn push_refusal(out: &mut String, head: &Head, fault: usize, count: u64) -> Result<(), AllocError> {
+    head.push_name(out)?;
+    out.push_str("{fault=\"F")?;
+    push_decimal(out, fault as u64)?;
+    out.push_str("\"")?;
+    push_end(out, Value::Count(count))
+}
+
+/// Appends how often each fault came that came at all.
+fn push_refusals(out: &mut String, refusals: &[u64; FAULTS]) -> Result<(), AllocError> {
+    let help = "Sessions that were refused, or ended since they could not go on, by the fault.";
+    let head = Head::counter("refusals_total", help);
+    head.push(out)?;
+    for (fault, count) in refusals.iter().enumerate() {
+        if *count > 0 {
+            push_refusal(out, &head, fault, *count)?;
+        }
+    }
+    Ok(())
+}
+
+fn push_traffic(out: &mut String, program: &ProgramSeen) -> Result<(), AllocError> {
     push_gauge(
         out,
         "connections",
         "Connections that are open.",
         program.connections,
+    )?;
+    push_counter(
+        out,
+        "sessions_ended_by_silence_total",
+        "Sessions that ended since nothing came from their clients.",
+        program.silenced,
     )
+}
+
+fn push_program(out: &mut String, program: &ProgramSeen) -> Result<(), AllocError> {
+    push_version(out, program.version)?;
+    push_started(out, program.started)?;
+    push_sizes(out, program)?;
+    push_traffic(out, program)?;
+    push_refusals(out, &program.refusals)?;
+    push_process(out, program)
 }
 
 fn push_rows(out: &mut String, rows: Rows) -> Result<(), AllocError> {
@@ -101,6 +157,7 @@ fn push_buckets(out: &mut String, head: &Head, times: &Histogram) -> Result<(), 
 
 fn push_stores(out: &mut String, times: &Histogram) -> Result<(), AllocError> {
     let head = Head {
+        family: Family::Broker,
         name: "store_duration_seconds",
         kind: Kind::Histogram,
         help: "How long each store took, from its first row to the disk's answer.",
@@ -130,15 +187,23 @@ fn push_broker(out: &mut String, seen: &BrokerSeen) -> Result<(), AllocError> {
     )?;
     push_gauge(
         out,
+        "is_full",
+        "1 while the database takes as much of the disk as it may, and publishes are refused for it.",
+        u64::from(seen.program.is_full),
+    )?;
+    push_gauge(
+        out,
         "sessions",
         "Sessions that are at a topic.",
         seen.sessions(),
     )?;
+    let in_memory = seen.in_memory();
+    push_gauge(out, "open_topics", "Topics that are in memory.", in_memory)?;
     push_gauge(
         out,
-        "open_topics",
-        "Topics that are in memory.",
-        seen.topics.len() as u64,
+        "resting_topics",
+        "Topics that nobody uses, and that are out of memory.",
+        (seen.topics.len() as u64).saturating_sub(in_memory),
     )?;
     push_counter(
         out,

@@ -16,9 +16,11 @@ enum OfSubscription {
     Oldest,
     Delivered,
     Redelivered,
+    Acknowledgements,
+    Deaths,
 }
 
-const ALL: [OfSubscription; 9] = [
+const ALL: [OfSubscription; 11] = [
     OfSubscription::Backlog,
     OfSubscription::Waiting,
     OfSubscription::Pending,
@@ -28,6 +30,8 @@ const ALL: [OfSubscription; 9] = [
     OfSubscription::Oldest,
     OfSubscription::Delivered,
     OfSubscription::Redelivered,
+    OfSubscription::Acknowledgements,
+    OfSubscription::Deaths,
 ];
 
 /// How long ago it was; 0 where it never was.
@@ -50,6 +54,8 @@ impl OfSubscription {
             OfSubscription::Oldest => Value::Millis(age(now, sub.oldest)),
             OfSubscription::Delivered => Value::Count(sub.delivered),
             OfSubscription::Redelivered => Value::Count(sub.redelivered),
+            OfSubscription::Acknowledgements => Value::Count(sub.acks),
+            OfSubscription::Deaths => Value::Count(sub.deaths),
         }
     }
 
@@ -89,6 +95,14 @@ impl OfSubscription {
             OfSubscription::Redelivered => Head::counter(
                 "subscription_redelivered_total",
                 "Messages that were given back or not acknowledged in time.",
+            ),
+            OfSubscription::Acknowledgements => Head::counter(
+                "subscription_acknowledgements_total",
+                "Acknowledgements that were taken, one by one or up to a message.",
+            ),
+            OfSubscription::Deaths => Head::counter(
+                "subscription_deaths_total",
+                "Messages that became dead letters.",
             ),
         }
     }

@@ -6,6 +6,7 @@ use std::alloc::AllocError;
 /// A number of a topic.
 #[derive(Clone, Copy, Debug, PartialEq, Eq)]
 enum OfTopic {
+    Resting,
     Kept,
     Durable,
     Gone,
@@ -18,7 +19,8 @@ enum OfTopic {
     Refused,
 }
 
-const ALL: [OfTopic; 10] = [
+const ALL: [OfTopic; 11] = [
+    OfTopic::Resting,
     OfTopic::Kept,
     OfTopic::Durable,
     OfTopic::Gone,
@@ -34,6 +36,7 @@ const ALL: [OfTopic; 10] = [
 impl OfTopic {
     fn of(self, topic: &TopicSeen) -> u64 {
         match self {
+            OfTopic::Resting => u64::from(topic.is_resting),
             OfTopic::Kept => topic.kept,
             OfTopic::Durable => topic.kept_durable(),
             OfTopic::Gone => topic.gone,
@@ -49,6 +52,10 @@ impl OfTopic {
 
     fn head(self) -> Head {
         match self {
+            OfTopic::Resting => Head::gauge(
+                "topic_is_resting",
+                "1 while nobody uses the topic and it is out of memory, else 0.",
+            ),
             OfTopic::Kept => Head::gauge("topic_messages", "Messages that the topic keeps."),
             OfTopic::Durable => Head::gauge(
                 "topic_durable_messages",

@@ -1,7 +1,7 @@
 // The overview, as one object of JSON (RFC 8259) whose keys are sorted.
 use crate::histogram::Histogram;
 use crate::seen::{
-    BackupsSeen, BrokerSeen, ProgramSeen, Role, Rows, SessionSeen, SubscriptionSeen, TopicSeen,
+    BackupsSeen, BrokerSeen, FAULTS, Role, Rows, Rule, SessionSeen, SubscriptionSeen, TopicSeen,
 };
 use json_values::{push_decimal, push_quoted};
 use position_core::Kind;
@@ -51,6 +51,20 @@ fn push_text(out: &mut String, name: &str, text: &str) -> Result<(), AllocError>
     out.push_str(",")
 }
 
+/// The same, where there is one.
+fn push_known_text(out: &mut String, name: &str, text: &Option<String>) -> Result<(), AllocError> {
+    match text {
+        Some(text) => push_text(out, name, text.as_str()),
+        None => Ok(()),
+    }
+}
+
+/// Appends whether something is so under its name, and a comma.
+fn push_truth(out: &mut String, name: &str, is_so: bool) -> Result<(), AllocError> {
+    push_key(out, name)?;
+    out.push_str(if is_so { "true," } else { "false," })
+}
+
 /// The last number of an object.
 fn push_last(out: &mut String, name: &str, number: u64) -> Result<(), AllocError> {
     push_key(out, name)?;
@@ -65,11 +79,10 @@ fn push_comma(out: &mut String, place: usize) -> Result<(), AllocError> {
 
 fn push_session(out: &mut String, session: &SessionSeen) -> Result<(), AllocError> {
     out.push_str("{")?;
-    if let Some(address) = &session.address {
-        push_text(out, "address", address.as_str())?;
-    }
+    push_known_text(out, "address", &session.address)?;
     push_number(out, "number", session.number)?;
     push_known(out, "pending", session.holds.map(|holds| holds.pending))?;
+    push_known_text(out, "producerName", &session.producer)?;
     push_text(out, "role", role_name(session.role))?;
     push_known(out, "room", session.holds.map(|holds| holds.room))?;
     if let Some(subscription) = &session.subscription {
@@ -93,8 +106,10 @@ fn push_sessions(out: &mut String, sessions: &[SessionSeen]) -> Result<(), Alloc
 fn push_subscription(out: &mut String, sub: &SubscriptionSeen) -> Result<(), AllocError> {
     out.push_str("{")?;
     push_number(out, "acknowledged", sub.acknowledged)?;
+    push_number(out, "acknowledgements", sub.acks)?;
     push_number(out, "consumers", sub.consumers)?;
     push_number(out, "dead", sub.dead)?;
+    push_number(out, "deaths", sub.deaths)?;
     push_number(out, "delivered", sub.delivered)?;
     push_text(out, "kind", kind_name(sub.kind))?;
     push_text(out, "name", sub.name.as_str())?;
@@ -113,6 +128,24 @@ fn push_subscriptions(out: &mut String, subs: &[SubscriptionSeen]) -> Result<(),
     out.push_str("]")
 }
 
+/// Appends a rule as the fields of the command that gives it to a topic.
+fn push_rule(out: &mut String, rule: Rule) -> Result<(), AllocError> {
+    out.push_str("\"rule\":{")?;
+    match rule {
+        Rule::All => out.push_str("\"keep\":\"all\"}")?,
+        Rule::Messages(count) => push_last(out, "messages", count)?,
+        Rule::Millis(age) => push_last(out, "millis", age)?,
+    }
+    out.push_str(",")
+}
+
+fn push_known_rule(out: &mut String, rule: Option<Rule>) -> Result<(), AllocError> {
+    match rule {
+        Some(rule) => push_rule(out, rule),
+        None => Ok(()),
+    }
+}
+
 fn push_topic(out: &mut String, topic: &TopicSeen) -> Result<(), AllocError> {
     out.push_str("{")?;
     push_known(out, "bytes", topic.bytes)?;
@@ -126,7 +159,9 @@ fn push_topic(out: &mut String, topic: &TopicSeen) -> Result<(), AllocError> {
     push_number(out, "producers", topic.producers)?;
     push_number(out, "published", topic.published)?;
     push_number(out, "refused", topic.refused)?;
+    push_truth(out, "resting", topic.is_resting)?;
     push_number(out, "room", topic.room())?;
+    push_known_rule(out, topic.rule)?;
     push_sessions(out, topic.sessions.as_slice())?;
     push_subscriptions(out, topic.subscriptions.as_slice())?;
     out.push_str("}")
@@ -139,12 +174,6 @@ fn push_topics(out: &mut String, topics: &[TopicSeen]) -> Result<(), AllocError>
         push_topic(out, topic)?;
     }
     out.push_str("],")
-}
-
-/// Appends whether something is so under its name, and a comma.
-fn push_truth(out: &mut String, name: &str, is_so: bool) -> Result<(), AllocError> {
-    push_key(out, name)?;
-    out.push_str(if is_so { "true," } else { "false," })
 }
 
 fn push_rows(out: &mut String, rows: Rows) -> Result<(), AllocError> {
@@ -170,33 +199,59 @@ fn push_backups(out: &mut String, backups: BackupsSeen) -> Result<(), AllocError
     out.push_str(",")
 }
 
+fn push_refusal(out: &mut String, fault: usize, count: u64) -> Result<(), AllocError> {
+    out.push_str("{")?;
+    push_number(out, "count", count)?;
+    push_last(out, "fault", fault as u64)
+}
+
+/// Appends how often each fault came that came at all.
+fn push_refusals(out: &mut String, refusals: &[u64; FAULTS]) -> Result<(), AllocError> {
+    out.push_str("\"refusals\":[")?;
+    let mut comma = "";
+    for (fault, count) in refusals.iter().enumerate() {
+        if *count > 0 {
+            out.push_str(comma)?;
+            push_refusal(out, fault, *count)?;
+            comma = ",";
+        }
+    }
+    out.push_str("],")
+}
+
 fn push_beginning(out: &mut String, seen: &BrokerSeen) -> Result<(), AllocError> {
-    let ProgramSeen {
-        version: _,
-        started: _,
-        now,
-        connections,
-        memory,
-        is_open,
-    } = seen.program;
+    let program = &seen.program;
     out.push_str("{")?;
     push_backups(out, seen.backups)?;
     push_truth(out, "closed", seen.is_closed)?;
-    push_number(out, "connections", connections)?;
+    push_number(out, "connections", program.connections)?;
+    push_known(out, "cpu", program.cpu)?;
+    push_known(out, "database", program.file)?;
+    push_known(out, "descriptors", program.descriptors)?;
+    push_truth(out, "full", program.is_full)?;
     push_number(out, "loads", seen.loads)?;
-    push_known(out, "memory", memory)?;
-    push_number(out, "now", now)?;
-    push_truth(out, "open", is_open)
+    push_known(out, "log", program.log)?;
+    push_known(out, "memory", program.memory)?;
+    push_known(out, "mostDescriptors", program.most_descriptors)?;
+    push_number(out, "now", program.now)?;
+    push_truth(out, "open", program.is_open)
+}
+
+fn push_counts(out: &mut String, seen: &BrokerSeen) -> Result<(), AllocError> {
+    let program = &seen.program;
+    push_refusals(out, &program.refusals)?;
+    push_rows(out, seen.rows)?;
+    push_number(out, "sessions", seen.sessions())?;
+    push_number(out, "silenced", program.silenced)?;
+    push_number(out, "started", program.started)?;
+    push_stores(out, &seen.stores)
 }
 
 /// The overview. Only want of memory is a failure.
 pub fn overview_text(alloc: Global, seen: &BrokerSeen) -> Result<String, AllocError> {
     let mut out = String::new(alloc);
     push_beginning(&mut out, seen)?;
-    push_rows(&mut out, seen.rows)?;
-    push_number(&mut out, "sessions", seen.sessions())?;
-    push_number(&mut out, "started", seen.program.started)?;
-    push_stores(&mut out, &seen.stores)?;
+    push_counts(&mut out, seen)?;
     push_topics(&mut out, seen.topics.as_slice())?;
     push_number(&mut out, "unloads", seen.unloads)?;
     push_key(&mut out, "version")?;

@@ -21,9 +21,27 @@ impl Kind {
     }
 }
 
+/// What a number is of, which its name begins with.
+#[derive(Clone, Copy, Debug, PartialEq, Eq)]
+pub(crate) enum Family {
+    Broker,
+    /// Those that every program has, by the names that are common for them.
+    Process,
+}
+
+impl Family {
+    fn prefix(self) -> &'static str {
+        match self {
+            Family::Broker => "pulsar_broker_",
+            Family::Process => "process_",
+        }
+    }
+}
+
 /// What is said of a number before its values.
 #[derive(Clone, Copy, Debug, PartialEq, Eq)]
 pub(crate) struct Head {
+    pub(crate) family: Family,
     pub(crate) name: &'static str,
     pub(crate) kind: Kind,
     pub(crate) help: &'static str,
@@ -32,6 +50,7 @@ pub(crate) struct Head {
 impl Head {
     pub(crate) fn gauge(name: &'static str, help: &'static str) -> Head {
         Head {
+            family: Family::Broker,
             name,
             kind: Kind::Gauge,
             help,
@@ -40,15 +59,26 @@ impl Head {
 
     pub(crate) fn counter(name: &'static str, help: &'static str) -> Head {
         Head {
+            family: Family::Broker,
             name,
             kind: Kind::Counter,
             help,
         }
     }
 
+    /// The same number, as one of the process.
+    pub(crate) fn of_process(self) -> Head {
+        Head {
+            family: Family::Process,
+            name: self.name,
+            kind: self.kind,
+            help: self.help,
+        }
+    }
+
     /// Appends the name with what all names begin with.
     pub(crate) fn push_name(&self, out: &mut String) -> Result<(), AllocError> {
-        out.push_str("pulsar_broker_")?;
+        out.push_str(self.family.prefix())?;
         out.push_str(self.name)
     }
 

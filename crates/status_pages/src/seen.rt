@@ -1,9 +1,14 @@
 // What is seen of the broker at one moment. Moments are in milliseconds since 1970.
+ghost use Rattle.std.specs.Prelude.{◌≡◌, ◌+◌, ◌-◌, ◌^◌, min};
+
 use crate::histogram::Histogram;
 use position_core::Kind;
 
 /// How many messages a topic keeps at most.
 const MOST_KEPT: u64 = 1_048_576;
+
+/// More than any fault's number.
+pub const FAULTS: usize = 25;
 
 /// What a session is for.
 #[derive(Clone, Copy, Debug, PartialEq, Eq)]
@@ -23,7 +28,7 @@ pub struct Holds {
 }
 
 /// A session that is at a topic.
-#[derive(Drop)]
+#[derive(Clone, Drop)]
 pub struct SessionSeen {
     /// Its number at the topic, by which an administrator may end it.
     pub number: u64,
@@ -32,14 +37,16 @@ pub struct SessionSeen {
     pub role: Role,
     /// When it came.
     pub since: u64,
+    /// The name by which it publishes.
+    pub producer: Option<String>,
     /// The subscription that it is a consumer of.
     pub subscription: Option<String>,
     /// What it has as a consumer.
     pub holds: Option<Holds>,
 }
 
-/// What is seen of a subscription. What was delivered is counted since its topic came into memory.
-#[derive(Drop)]
+/// What is seen of a subscription. What was delivered and what came of it is counted since its topic came into memory.
+#[derive(Clone, Drop)]
 pub struct SubscriptionSeen {
     pub name: String,
     pub kind: Kind,
@@ -58,20 +65,41 @@ pub struct SubscriptionSeen {
     pub delivered: u64,
     /// Messages that were given back, or had waited too long for an acknowledgement.
     pub redelivered: u64,
+    /// Acknowledgements that were taken, one by one or up to a message.
+    pub acks: u64,
+    /// Messages that were given back too often, and became dead letters.
+    pub deaths: u64,
 }
 
 impl SubscriptionSeen {
     /// Messages that are neither acknowledged nor dead.
-    pub fn backlog(&self) -> u64 {
+    pub fn backlog(&self) -> u64
+        ensures { result ≡ min (self.now.waiting + self.now.pending) (2 ^ 64 - 1) }
+    {
         self.waiting.saturating_add(self.pending)
     }
 }
 
-/// What is seen of an open topic. What was published, refused and so on is counted since it came into memory.
-#[derive(Drop)]
+/// A rule of a topic's own: which of its messages it keeps when all subscriptions have done with them.
+#[derive(Clone, Copy, Debug, PartialEq, Eq)]
+pub enum Rule {
+    All,
+    /// So many of the last ones.
+    Messages(u64),
+    /// Those that are not older than so many milliseconds.
+    Millis(u64),
+}
+
+/// What is seen of a topic. What was published, refused and so on is counted since it came into memory; of one that rests, up to
+/// when it left memory, and from 0 where it has not been there.
+#[derive(Clone, Drop)]
 pub struct TopicSeen {
     /// As `persistent://tenant/namespace/topic`.
     pub name: String,
+    /// Nobody uses it and it is out of memory: its numbers are the last that it had there, or those of its rows at the start.
+    pub is_resting: bool,
+    /// Which messages it keeps, where it has a rule of its own.
+    pub rule: Option<Rule>,
     /// Messages that are gone before the log.
     pub gone: u64,
     /// Messages of the log.
@@ -94,12 +122,16 @@ pub struct TopicSeen {
 
 impl TopicSeen {
     /// How many messages have room.
-    pub fn room(&self) -> u64 {
+    pub fn room(&self) -> u64
+        ensures { result ≡ 1048576 - self.now.kept }
+    {
         MOST_KEPT.saturating_sub(self.kept)
     }
 
     /// How many messages are kept and stored.
-    pub fn kept_durable(&self) -> u64 {
+    pub fn kept_durable(&self) -> u64
+        ensures { result ≡ self.now.durable - self.now.gone }
+    {
         self.durable.saturating_sub(self.gone)
     }
 }
@@ -135,6 +167,20 @@ pub struct ProgramSeen {
     pub memory: Option<u64>,
     /// It listens at an address that others than its own machine's may reach, and nobody said that it should.
     pub is_open: bool,
+    /// The database takes as much of the disk as it may: publishes are refused.
+    pub is_full: bool,
+    /// Sessions that were refused or ended since the start, by the number of the fault. No fault has 0.
+    pub refusals: [u64; FAULTS],
+    /// Sessions that ended since nothing came from their clients.
+    pub silenced: u64,
+    /// How many bytes the database's file has, and the log beside it, where the system tells.
+    pub file: Option<u64>,
+    pub log: Option<u64>,
+    /// File descriptors that are open, and how many may be, where the system tells.
+    pub descriptors: Option<u64>,
+    pub most_descriptors: Option<u64>,
+    /// How long processors worked for it, in milliseconds, where the system tells.
+    pub cpu: Option<u64>,
 }
 
 /// What is seen of the broker.
@@ -150,10 +196,16 @@ pub struct BrokerSeen {
     pub loads: u64,
     pub unloads: u64,
     pub backups: BackupsSeen,
+    /// Those that are in memory, and those that rest.
     pub topics: Vec<TopicSeen>,
 }
 
 impl BrokerSeen {
+    /// Topics that are in memory.
+    pub(crate) fn in_memory(&self) -> u64 {
+        self.topics.iter().filter(|topic| !topic.is_resting).count() as u64
+    }
+
     /// Sessions that are at a topic.
     pub fn sessions(&self) -> u64 {
         let mut all: u64 = 0;

@@ -2,3 +2,4 @@
 pub mod Callers
 pub mod Dated
 pub mod Pages
+pub mod Refusing

@@ -9,7 +9,9 @@ use Rattle.socket_conn.specs.declared.head.Request.TheVariants.{Get, Other, Bad}
 use Rattle.worker_pool.specs.declared.pages.Page.{Page}
 use Rattle.worker_pool.specs.declared.pages.Page.TheVariants.{Health, Metrics, Overview, Index, Unknown, Nothing, Forbidden}
 use Rattle.worker_pool.specs.declared.pages.Status.{Status}
-use Rattle.worker_pool.specs.declared.pages.Status.TheVariants.{Fine, BadRequest, NotFound, Unavailable}
+use Rattle.worker_pool.specs.declared.pages.Store.{Store}
+use Rattle.worker_pool.specs.declared.pages.Store.TheVariants.{Failed, Full, Stands}
+use Rattle.worker_pool.specs.declared.pages.Status.TheVariants.{Fine, BadRequest, NotFound, Conflict, Unavailable}
 use Rattle.worker_pool.specs.declared.pages.Status.TheVariants as statuses
 
 -- the number and the name of a status
@@ -18,6 +20,7 @@ status_text Fine = codes "200 OK"
 status_text BadRequest = codes "400 Bad Request"
 status_text statuses.Forbidden = codes "403 Forbidden"
 status_text NotFound = codes "404 Not Found"
+status_text Conflict = codes "409 Conflict"
 status_text Unavailable = codes "503 Service Unavailable"
 
 -- the first lines of a response whose body is of this kind
@@ -44,10 +47,11 @@ nothing_else = codes "default-src 'none'; frame-ancestors 'none'"
 abbrev pub text_response : Status → List ℕ → List ℕ
 text_response status body = response_of status (codes "text/plain; charset=utf-8") nothing_else body
 
--- whether the store stands
-abbrev pub health : Bool → List ℕ
-health true = text_response Unavailable (codes "store failed\n")
-health false = text_response Fine (codes "ok\n")
+-- how the store stands
+abbrev pub health : Store → List ℕ
+health Failed = text_response Unavailable (codes "store failed\n")
+health Full = text_response Unavailable (codes "disk full\n")
+health Stands = text_response Fine (codes "ok\n")
 
 -- the page that a target is; one that may be read in two ways is none
 abbrev pub page_at : List ℕ → Page
@@ -86,7 +90,7 @@ unseen = text_response Unavailable (codes "no memory\n")
 
 -- these bytes are that page
 abbrev pub IsPage : Page → List ℕ → Type 0
-IsPage Health bytes = (has_failed : Bool) × (bytes ≡ health has_failed)
+IsPage Health bytes = (store : Store) × (bytes ≡ health store)
 IsPage Metrics bytes = Says (codes "text/plain; version=0.0.4; charset=utf-8") nothing_else bytes ⊎ (bytes ≡ unseen)
 IsPage Overview bytes = Says (codes "application/json") nothing_else bytes ⊎ (bytes ≡ unseen)
 IsPage Index bytes = (policy : List ℕ) × Says (codes "text/html; charset=utf-8") policy bytes

@@ -1,5 +1,6 @@
 // The calls of a session: at its seat, and of the broker that all seats are at.
-ghost use Rattle.std.specs.Prelude.{◌≡◌};
+ghost use Rattle.std.specs.Prelude.{◌≡◌, None};
+ghost use Rattle.session_links.specs.Links.{Tells, reply_of, with_call};
 ghost use Rattle.worker_pool.specs.Dated.{dated};
 
 use crate::place::Place;
@@ -51,7 +52,10 @@ impl<'a, D: Broker<Doorbell>, R: Wait> Caller for Seated<'a, D, R> {
 
     ghost calls = { λ c. None };
 
-    fn call(&mut self, request: Request) -> Result<Reply, Fault> {
+    fn call(&mut self, request: Request) -> Result<Reply, Fault>
+        ensures tells { Tells (with_call (record { request = request; reply = reply_of result })) None None }
+        ensures answers { D.answers request result }
+    {
         let answer = self.directory.call(self.rt, self.seat, request);
         self.refused = fault_of(&answer);
         answer
@@ -118,7 +122,10 @@ impl<'a, D: Broker<Doorbell>, R: Wait> Caller for Desk<'a, D, R> {
 
     ghost calls = { λ c. None };
 
-    fn call(&mut self, request: Request) -> Result<Reply, Fault> {
+    fn call(&mut self, request: Request) -> Result<Reply, Fault>
+        ensures tells { Tells (with_call (record { request = request; reply = reply_of result })) None None }
+        ensures answers { D.answers (dated self.old.day request) result }
+    {
         self.seated.call(dated(request, self.day))
     }
 

@@ -1,11 +1,14 @@
 // From a request to a session: the target is read, a seat is taken, the session begins, and only then the request is
 // accepted. So whoever sees its connection open is subscribed, or is a producer of its topic. One whose topic is being opened
 // waits before that.
+ghost use Rattle.std.specs.Prelude.{◌≡◌, None};
+
+use crate::accepting::{accept, session_at};
 use crate::callers::Presence;
-use crate::desk::Seated;
 use crate::guest::Guest;
 use crate::place::Place;
 use crate::quoted::Quoted;
+use crate::refusing::{Refusal, refuse, tells_status};
 use crate::serving::Served;
 use crate::waiting::Waiting;
 use crate::whence::whence_of;
@@ -13,9 +16,6 @@ use broker_parts::{Broker, Coming, Visitor, Waiter};
 use delivery_machine::{Fault, TopicName};
 use endpoint_core::{Endpoint, route};
 use mio::net::TcpStream;
-use session_core::{Session, open};
-use session_links::Conn;
-use session_texts::reason;
 use socket_conn::{Asked, Held, SocketConn};
 use status_pages::Role;
 use std::alloc::Global;
@@ -28,22 +28,56 @@ use worker_loops::{Comer, Doorbell};
 pub(crate) struct Wish {
     pub(crate) topic: TopicName,
     creates: bool,
-    pub(crate) code: u16,
+    code: u16,
+    /// A refusal is told by the status of a response.
+    tells_status: bool,
     pub(crate) visitor: Visitor,
     /// It counts as its address's, where it is counted.
     presence: Option<Presence>,
 }
 
-fn wish_of(endpoint: &Endpoint, comer: Comer, asked: &Asked) -> Option<Wish> {
+impl Wish {
+    /// That the topic, or the broker, gives no session.
+    pub(crate) fn refusal(&self, fault: Fault) -> Refusal
+        ensures fault { result.fault ≡ fault }
+        ensures code { result.code ≡ self.now.code }
+        ensures way { result.tells_status ≡ self.now.tells_status }
+        ensures wrong { result.wrong ≡ None }
+    {
+        Refusal {
+            fault,
+            code: self.code,
+            tells_status: self.tells_status,
+            wrong: None,
+        }
+    }
+}
+
+/// What is wished for; or that there is no memory for that.
+fn wish_of(
+    endpoint: &Endpoint,
+    comer: Comer,
+    asked: &Asked,
+    tells_status: bool,
+) -> Result<Wish, Refusal> {
     let (topic, creates, code, role) = match endpoint {
         Endpoint::Producer(producer) => (&producer.topic, true, 4001, Role::Producer),
         Endpoint::Consumer(consumer) => (&consumer.topic, true, 4002, Role::Consumer),
         Endpoint::Admin(admin) => (&admin.topic, false, 4008, Role::Admin),
     };
-    Some(Wish {
-        topic: topic.clone().ok()?,
+    let Ok(topic) = topic.clone() else {
+        return Err(Refusal {
+            fault: Fault::NoMemory,
+            code: 4008,
+            tells_status,
+            wrong: None,
+        });
+    };
+    Ok(Wish {
+        topic,
         creates,
         code,
+        tells_status,
         visitor: Visitor {
             whence: whence_of(comer.address, asked),
             is_handed_on: asked.is_forwarded,
@@ -52,20 +86,6 @@ fn wish_of(endpoint: &Endpoint, comer: Comer, asked: &Asked) -> Option<Wish> {
         },
         presence: None,
     })
-}
-
-/// Closes a connection that gets no session.
-pub(crate) fn turn_away(conn: &mut SocketConn<Held<TcpStream>>, code: u16, fault: Fault) {
-    if conn.is_open() {
-        conn.close(code, reason(fault));
-    }
-    accept(conn);
-}
-
-/// The request is accepted, and what was said to it since goes out.
-fn accept(conn: &mut SocketConn<Held<TcpStream>>) {
-    conn.let_go();
-    let _ = conn.flush();
 }
 
 /// Says on standard error why a topic is not opened: its client learns no more than that the store failed.
@@ -103,30 +123,7 @@ fn come_to<D: Broker<Doorbell>, R: Wait + Eprint>(
     }
 }
 
-/// The session of the endpoint at the seat. None where the topic refuses it; the connection is closed then.
-fn session_at<D: Broker<Doorbell>, R: Wait>(
-    rt: &R,
-    alloc: Global,
-    place: &Place<D>,
-    endpoint: Endpoint,
-    conn: &mut SocketConn<Held<TcpStream>>,
-    seat: &D::Seat,
-) -> Option<Session> {
-    let mut caller = Seated::at(rt, &place.directory, seat);
-    if !conn.is_open() {
-        drop(endpoint);
-        return None;
-    }
-    let session = open(alloc, endpoint, conn, &mut caller);
-    if session.is_none()
-        && let Some(fault) = caller.refused()
-    {
-        place.refusals.note(rt, fault);
-    }
-    session
-}
-
-/// The session begins, or the seat is free again; then the request is accepted.
+/// The session begins and the request is accepted; or the seat is free again, and then the client is told why.
 fn begin<D: Broker<Doorbell>, R: Wait>(
     rt: &R,
     alloc: Global,
@@ -139,14 +136,16 @@ fn begin<D: Broker<Doorbell>, R: Wait>(
     let Wish {
         topic,
         creates: _,
-        code: _,
+        code,
+        tells_status,
         visitor,
         presence,
     } = wish;
     drop(topic);
-    match session_at(rt, alloc, place, endpoint, &mut conn, &seat) {
-        Some(session) => {
-            accept(&mut conn);
+    let (begun, settled) = session_at(rt, alloc, place, endpoint, &mut conn, &seat);
+    match begun {
+        Ok(session) => {
+            accept(&mut conn, settled);
             Some(Guest::Serves(Served {
                 conn,
                 session,
@@ -155,11 +154,17 @@ fn begin<D: Broker<Doorbell>, R: Wait>(
                 presence,
             }))
         }
-        None => {
+        Err(fault) => {
             place.directory.detach(rt, seat);
             drop(presence);
-            accept(&mut conn);
-            drop(conn);
+            drop(settled);
+            let refusal = Refusal {
+                fault,
+                code,
+                tells_status,
+                wrong: None,
+            };
+            refuse(alloc, conn, refusal);
             None
         }
     }
@@ -170,20 +175,26 @@ pub(crate) fn enter<D: Broker<Doorbell>, R: Wait + Eprint>(
     rt: &R,
     alloc: Global,
     place: &Place<D>,
-    mut conn: SocketConn<Held<TcpStream>>,
+    conn: SocketConn<Held<TcpStream>>,
     asked: &Asked,
     comer: Comer,
     bell: &Arc<Doorbell>,
 ) -> Option<Guest<D::Seat>> {
+    let tells_status = tells_status(place.rules.refusals, asked);
     match route(alloc, asked.target.as_str(), place.rules.letters) {
         Ok(endpoint) => {
-            let wish = wish_of(&endpoint, comer, asked);
+            let wish = wish_of(&endpoint, comer, asked, tells_status);
             enter_at(rt, alloc, place, conn, endpoint, wish, bell)
         }
         Err(fault) => {
             place.refusals.note(rt, fault.fault());
-            turn_away(&mut conn, fault.close_code(), fault.fault());
-            drop(conn);
+            let refusal = Refusal {
+                fault: fault.fault(),
+                code: fault.close_code(),
+                tells_status,
+                wrong: fault.wrong(),
+            };
+            refuse(alloc, conn, refusal);
             None
         }
     }
@@ -193,17 +204,16 @@ fn enter_at<D: Broker<Doorbell>, R: Wait + Eprint>(
     rt: &R,
     alloc: Global,
     place: &Place<D>,
-    mut conn: SocketConn<Held<TcpStream>>,
+    conn: SocketConn<Held<TcpStream>>,
     endpoint: Endpoint,
-    wish: Option<Wish>,
+    wish: Result<Wish, Refusal>,
     bell: &Arc<Doorbell>,
 ) -> Option<Guest<D::Seat>> {
     match wish {
-        Some(wish) => enter_counted(rt, alloc, place, conn, endpoint, wish, bell),
-        None => {
-            place.refusals.note(rt, Fault::NoMemory);
-            turn_away(&mut conn, 4008, Fault::NoMemory);
-            drop(conn);
+        Ok(wish) => enter_counted(rt, alloc, place, conn, endpoint, wish, bell),
+        Err(refusal) => {
+            place.refusals.note(rt, refusal.fault);
+            refuse(alloc, conn, refusal);
             drop(endpoint);
             None
         }
@@ -215,7 +225,7 @@ fn enter_counted<D: Broker<Doorbell>, R: Wait + Eprint>(
     rt: &R,
     alloc: Global,
     place: &Place<D>,
-    mut conn: SocketConn<Held<TcpStream>>,
+    conn: SocketConn<Held<TcpStream>>,
     endpoint: Endpoint,
     mut wish: Wish,
     bell: &Arc<Doorbell>,
@@ -227,8 +237,7 @@ fn enter_counted<D: Broker<Doorbell>, R: Wait + Eprint>(
         }
         Err(fault) => {
             place.refusals.note(rt, fault);
-            turn_away(&mut conn, wish.code, fault);
-            drop(conn);
+            refuse(alloc, conn, wish.refusal(fault));
             drop(endpoint);
             drop(wish);
             None
@@ -241,7 +250,7 @@ pub(crate) fn enter_with<D: Broker<Doorbell>, R: Wait + Eprint>(
     rt: &R,
     alloc: Global,
     place: &Place<D>,
-    mut conn: SocketConn<Held<TcpStream>>,
+    conn: SocketConn<Held<TcpStream>>,
     endpoint: Endpoint,
     wish: Wish,
     bell: &Arc<Doorbell>,
@@ -254,8 +263,7 @@ pub(crate) fn enter_with<D: Broker<Doorbell>, R: Wait + Eprint>(
         Ok(Coming::Waits(waiter)) => wait(rt, alloc, conn, endpoint, wish, bell, waiter),
         Err(fault) => {
             place.refusals.note(rt, fault);
-            turn_away(&mut conn, wish.code, fault);
-            drop(conn);
+            refuse(alloc, conn, wish.refusal(fault));
             drop(endpoint);
             drop(wish);
             None
@@ -267,7 +275,7 @@ pub(crate) fn enter_with<D: Broker<Doorbell>, R: Wait + Eprint>(
 fn wait<X: Drop, R: Wait>(
     rt: &R,
     alloc: Global,
-    mut conn: SocketConn<Held<TcpStream>>,
+    conn: SocketConn<Held<TcpStream>>,
     endpoint: Endpoint,
     wish: Wish,
     bell: &Arc<Doorbell>,
@@ -285,8 +293,7 @@ fn wait<X: Drop, R: Wait>(
         })),
         Err(_) => {
             waiter.leave(rt);
-            turn_away(&mut conn, wish.code, Fault::NoMemory);
-            drop(conn);
+            refuse(alloc, conn, wish.refusal(Fault::NoMemory));
             drop(endpoint);
             drop(wish);
             None

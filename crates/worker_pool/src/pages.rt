@@ -16,6 +16,7 @@ pub(crate) enum Status {
     BadRequest,
     Forbidden,
     NotFound,
+    Conflict,
     Unavailable,
 }
 
@@ -23,7 +24,7 @@ pub(crate) enum Status {
 const TEXT: &str = "text/plain; charset=utf-8";
 
 /// The policy of a body that a browser shows alone: it loads nothing, and is in no frame.
-const NOTHING: &str = "default-src 'none'; frame-ancestors 'none'";
+pub(crate) const NOTHING: &str = "default-src 'none'; frame-ancestors 'none'";
 
 impl Status {
     fn text(self) -> &'static str
@@ -34,13 +35,14 @@ impl Status {
             Status::BadRequest => "400 Bad Request",
             Status::Forbidden => "403 Forbidden",
             Status::NotFound => "404 Not Found",
+            Status::Conflict => "409 Conflict",
             Status::Unavailable => "503 Service Unavailable",
         }
     }
 }
 
 /// The first two lines of a response.
-fn begun(alloc: Global, status: Status, kind: &str) -> Result<Vec<u8>, AllocError>
+pub(crate) fn begun(alloc: Global, status: Status, kind: &str) -> Result<Vec<u8>, AllocError>
     ensures { IfOk result (λ bytes. bytes.items ≡ beginning status kind.now) }
 {
     let mut bytes = Vec::from_slice(alloc, b"HTTP/1.1 ")?;
@@ -52,7 +54,7 @@ fn begun(alloc: Global, status: Status, kind: &str) -> Result<Vec<u8>, AllocErro
 
 /// The head, and behind it its last lines: the connection ends behind it, nobody is to keep it, and a browser may do with it what
 /// the policy says.
-fn ended(head: Vec<u8>, policy: &str) -> Result<Vec<u8>, AllocError>
+pub(crate) fn ended(head: Vec<u8>, policy: &str) -> Result<Vec<u8>, AllocError>
     ensures { IfOk result (λ bytes. bytes.items ≡ head.items ++ ending policy.now) }
 {
     let mut bytes = head;
@@ -91,14 +93,35 @@ fn text_page(alloc: Global, status: Status, body: &str) -> Result<Vec<u8>, Alloc
     response(alloc, status, TEXT, NOTHING, body.as_bytes())
 }
 
-/// Whether the store stands.
-pub(crate) fn health(alloc: Global, has_failed: bool) -> Result<Vec<u8>, AllocError>
-    ensures { IfOk result (λ bytes. bytes.items ≡ health_page has_failed) }
+/// How the store stands.
+#[derive(Clone, Copy, Debug, PartialEq, Eq)]
+pub(crate) enum Store {
+    Stands,
+    /// The database takes as much of the disk as it may.
+    Full,
+    Failed,
+}
+
+impl Store {
+    pub(crate) fn of(has_failed: bool, is_full: bool) -> Store {
+        if has_failed {
+            Store::Failed
+        } else if is_full {
+            Store::Full
+        } else {
+            Store::Stands
+        }
+    }
+}
+
+/// How the store stands, as whoever asks is told.
+pub(crate) fn health(alloc: Global, store: Store) -> Result<Vec<u8>, AllocError>
+    ensures { IfOk result (λ bytes. bytes.items ≡ health_page store) }
 {
-    if has_failed {
-        text_page(alloc, Status::Unavailable, "store failed\n")
-    } else {
-        text_page(alloc, Status::Fine, "ok\n")
+    match store {
+        Store::Stands => text_page(alloc, Status::Fine, "ok\n"),
+        Store::Full => text_page(alloc, Status::Unavailable, "disk full\n"),
+        Store::Failed => text_page(alloc, Status::Unavailable, "store failed\n"),
     }
 }
 

@@ -6,12 +6,13 @@ use crate::callers::{Callers, PerAddress};
 use crate::entering::enter;
 use crate::guest::{Guest, turn};
 use crate::log::say_silent;
-use crate::memory::Memory;
 use crate::pages::{
-    Page, asked_of, bad_request, comes, forbidden, health, index, metrics_of, not_found,
+    Page, Store, asked_of, bad_request, comes, forbidden, health, index, metrics_of, not_found,
     overview_in, overview_of,
 };
+use crate::process::Process;
 use crate::refusals::Refusals;
+use crate::refusing::Refused;
 use broker_parts::{Broker, Steady, moment};
 use delivery_machine::{Fault, Moment};
 use endpoint_core::{Admitted, Letters};
@@ -21,6 +22,7 @@ use status_pages::{BrokerSeen, ProgramSeen};
 use std::alloc::{AllocError, Global};
 use std::io::Eprint;
 use std::rt::{Clock, Files};
+use std::sync::atomic::{AtomicBool, AtomicU64, Ordering};
 use std::sync::{Arc, Mutex, Wait};
 use worker_loops::{Asking, Comer, Doorbell, House, Job, Patience, Start, Time, Turned, work_at};
 
@@ -45,6 +47,8 @@ pub struct Rules {
     /// For how long a client may be silent.
     pub patience: Patience,
     pub per_address: PerAddress,
+    /// How a refusal is told that is known before the request is accepted.
+    pub refusals: Refused,
 }
 
 /// What all workers share: the directory of topics, and what is counted beside it.
@@ -57,7 +61,11 @@ pub struct Place<D: Broker<Doorbell>> {
     /// Held by whoever writes what is seen of all topics, so that this takes memory for one asker at a time. It comes first in the
     /// order of locks.
     looks: Mutex<()>,
-    memory: Memory,
+    process: Process,
+    /// How many sessions ended since nothing came from their clients.
+    silenced: AtomicU64,
+    /// The topics that are not in memory were counted.
+    has_counted: AtomicBool,
 }
 
 impl<D: Broker<Doorbell>> Drop for Place<D> {
@@ -69,7 +77,9 @@ impl<D: Broker<Doorbell>> Drop for Place<D> {
             refusals: _,
             callers: _,
             looks: _,
-            memory: _,
+            process: _,
+            silenced: _,
+            has_counted: _,
         } = self;
     }
 }
@@ -87,27 +97,39 @@ impl<D: Broker<Doorbell>> Place<D> {
             refusals: Refusals::new(),
             callers,
             looks: Mutex::new(()),
-            memory: Memory::new(),
+            process: Process::new(),
+            silenced: AtomicU64::new(0),
+            has_counted: AtomicBool::new(false),
         }
     }
 }
 
 impl<D: Broker<Doorbell>> Place<D> {
     /// What is seen of the program at the moment, with so many connections.
-    fn program_seen(&self, now: Moment, connections: u64) -> ProgramSeen {
+    fn program_seen<R: Wait>(&self, rt: &R, now: Moment, connections: u64) -> ProgramSeen {
+        let disk = self.directory.on_disk(rt);
         ProgramSeen {
             version: VERSION,
             started: self.about.clock.start().millis(),
             now: now.millis(),
             connections,
-            memory: self.memory.bytes(),
+            memory: self.process.memory(),
             is_open: self.about.is_open,
+            is_full: disk.is_full,
+            refusals: self.refusals.all(rt),
+            silenced: self.silenced.load(Ordering::SeqCst),
+            file: disk.file,
+            log: disk.log,
+            descriptors: self.process.descriptors(),
+            most_descriptors: self.process.most_descriptors(),
+            cpu: self.process.cpu(),
         }
     }
 
     /// What is seen of the broker at the moment, with so many connections.
     fn seen<R: Wait>(&self, rt: &R, now: Moment, connections: u64) -> Result<BrokerSeen, Fault> {
-        self.directory.seen(rt, self.program_seen(now, connections))
+        self.directory
+            .seen(rt, self.program_seen(rt, now, connections))
     }
 
     /// The overview, as an administrator gets it in a session.
@@ -147,6 +169,14 @@ impl<D: Broker<Doorbell>> Place<D> {
         overview_of(alloc, self.seen(rt, now, connections))
     }
 
+    /// How the store stands.
+    fn store<R: Wait>(&self, rt: &R) -> Store {
+        Store::of(
+            self.directory.is_closed(),
+            self.directory.on_disk(rt).is_full,
+        )
+    }
+
     /// The page that was asked for. No topic's lock is held while it is written.
     fn page<R: Wait>(
         &self,
@@ -159,7 +189,7 @@ impl<D: Broker<Doorbell>> Place<D> {
         ensures { IfOk result (λ bytes. IsPage page bytes.items) }
     {
         match page {
-            Page::Health => health(alloc, self.directory.is_closed()),
+            Page::Health => health(alloc, self.store(rt)),
             Page::Metrics => self.metrics_page(rt, alloc, now, connections),
             Page::Overview => self.overview_page(rt, alloc, now, connections),
             Page::Index => index(alloc),
@@ -235,6 +265,7 @@ impl<D: Broker<Doorbell>> House for Place<D> {
     }
 
     fn hang_up<R: Eprint>(&self, rt: &R, guest: &mut Guest<D::Seat>, silent: u64) {
+        let _ = self.silenced.fetch_add(1, Ordering::SeqCst);
         say_silent(rt, guest.whence(), silent);
         guest.hang_up();
     }
@@ -269,10 +300,13 @@ impl<D: Broker<Doorbell>> Job for Place<D> {
     }
 
     fn attend<R: Wait + Clock + Eprint + Files>(&self, rt: &R) {
-        self.memory.look(rt);
+        self.process.look(rt);
         self.directory.look_around(rt);
         self.make_backup(rt);
         self.say_news(rt);
+        if !self.has_counted.swap(true, Ordering::SeqCst) {
+            self.directory.count_resting(rt);
+        }
     }
 
     fn finish<R: Wait>(&self, rt: &R) {

@@ -1,14 +1,13 @@
 // How often sessions were refused, by the refusal, and which of that is still to be told.
 use delivery_machine::Fault;
+use status_pages::FAULTS;
 use std::sync::atomic::{AtomicBool, Ordering};
 use std::sync::{Mutex, Wait};
 
-/// More than any refusal's number.
-const KINDS: usize = 25;
-
-/// One refusal: how often it came since it was told, and in which second that was.
+/// One refusal: how often it came, how often since it was told, and in which second that was.
 #[derive(Clone, Copy)]
 struct Kind {
+    all: u64,
     count: u64,
     told: Option<u64>,
 }
@@ -23,7 +22,7 @@ pub(crate) struct Refused {
 /// The refusals, by their numbers. The lock is held for nothing else, and none is taken under it.
 pub(crate) struct Refusals {
     has_some: AtomicBool,
-    kinds: Mutex<[Kind; KINDS]>,
+    kinds: Mutex<[Kind; FAULTS]>,
 }
 
 impl Drop for Refusals {
@@ -38,12 +37,13 @@ impl Drop for Refusals {
 impl Refusals {
     pub(crate) fn new() -> Self {
         let none = Kind {
+            all: 0,
             count: 0,
             told: None,
         };
         Refusals {
             has_some: AtomicBool::new(false),
-            kinds: Mutex::new([none; KINDS]),
+            kinds: Mutex::new([none; FAULTS]),
         }
     }
 
@@ -56,9 +56,20 @@ impl Refusals {
     pub(crate) fn note<R: Wait>(&self, rt: &R, fault: Fault) {
         let mut kinds = self.kinds.lock(rt);
         if let Some(kind) = kinds.get_mut(usize::from(fault.number())) {
+            kind.all = kind.all.saturating_add(1);
             kind.count = kind.count.saturating_add(1);
         }
         self.has_some.store(true, Ordering::SeqCst);
+    }
+
+    /// How often each came, by its number.
+    pub(crate) fn all<R: Wait>(&self, rt: &R) -> [u64; FAULTS] {
+        let kinds = self.kinds.lock(rt);
+        let mut all = [0; FAULTS];
+        for (count, kind) in all.iter_mut().zip(kinds.iter()) {
+            *count = kind.all;
+        }
+        all
     }
 
     /// One that may be told in this second, in which it was not told before.

@@ -1,7 +1,7 @@
 // A session with its connection, and its turns.
+use crate::accepting::turn_away;
 use crate::callers::Presence;
 use crate::desk::{Desk, Seated};
-use crate::entering::turn_away;
 use crate::guest::Guest;
 use crate::place::Place;
 use broker_parts::{Broker, Whence};

@@ -1,7 +1,8 @@
 // A connection that waits for its topic to be opened. It takes no turn of others: its worker goes on with them.
-use crate::entering::{Wish, enter_with, say_unopened, turn_away};
+use crate::entering::{Wish, enter_with, say_unopened};
 use crate::guest::Guest;
 use crate::place::Place;
+use crate::refusing;
 use broker_parts::{Broker, Outcome, Waiter};
 use delivery_machine::Fault;
 use endpoint_core::Endpoint;
@@ -127,8 +128,8 @@ fn refuse<D: Broker<Doorbell>, R: Wait + Eprint>(
     fault: Fault,
 ) {
     let Waiting {
-        alloc: _,
-        mut conn,
+        alloc,
+        conn,
         endpoint,
         wish,
         bell,
@@ -138,8 +139,7 @@ fn refuse<D: Broker<Doorbell>, R: Wait + Eprint>(
     waiter.leave(rt);
     say_unopened(rt, place, &wish.topic, fault);
     place.refusals.note(rt, fault);
-    turn_away(&mut conn, wish.code, fault);
-    drop(conn);
+    refusing::refuse(alloc, conn, wish.refusal(fault));
     drop(endpoint);
     drop(wish);
     drop(bell);

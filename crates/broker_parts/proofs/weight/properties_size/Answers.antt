@@ -1,4 +1,4 @@
-use Rattle.std.proofs.Common.{arith, rules, ◌≡◌, ◌∷◌, [], map, string_bytes}
+use Rattle.std.proofs.Common.{arith, rules, ◌≡◌, map}
 use Rattle.std.specs.Map.Iter.{deref_pair}
 use Rattle.std.proofs.lemmas.Map.Iter.{iter_end}
 use Rattle.position_core.specs.Properties.{pairs_of}

@@ -1,4 +1,4 @@
-use Rattle.std.proofs.Common.{arith, rules, ◌≡◌, drop, ap, ◌∙◌}
+use Rattle.std.proofs.Common.{rules, drop, ap, ◌∙◌}
 use Rattle.std.proofs.lemmas.List.{drop-drop}
 use Rattle.broker_parts.proofs.bulk.Bulk.drop_front.Goals as goal
 
