@@ -3,6 +3,7 @@ mod answers;
 mod breaks;
 mod broken;
 mod confirming;
+mod counting;
 mod deleting;
 mod disks;
 mod failing;

@@ -3,7 +3,7 @@ use super::breaks::{CONTENTS, COUNTS, LETTERS, PLACES, RUNS, SUBSCRIPTIONS, TOPI
 use super::front_breaks::{AUTHORS, FRONTS, RULES};
 use super::keepers::in_memory;
 use super::keeps::{Keeps, Scene};
-use super::plays::{FOUR, T, play_rounds, round, trimmed};
+use super::plays::{FOUR, T, play_rounds, resumed, round, trimmed};
 use position_core::Fault;
 use std::process::Abort;
 
@@ -120,6 +120,29 @@ impl Scene for Most {
         let mut full = after(rt, keeper, MOST);
         assert!(rt; full.show(rt, T).is_ok());
     }
+}
+
+/// No message is left of a topic of which some are gone, and no row beside them tells of one: a topic may be so.
+const NONE_LEFT: &str = "UPDATE entry SET topic = 'x'; UPDATE ack SET topic = 'x'";
+
+#[derive(Drop)]
+struct NoneLeft;
+
+impl Scene for NoneLeft {
+    fn play<K: Keeps, R: Abort + AllocGlobal>(&self, rt: &R, mut keeper: K) {
+        let mut topic = trimmed(rt, &mut keeper, T);
+        round(rt, &mut keeper, &mut topic);
+        drop(topic);
+        let mut emptied = after(rt, keeper, NONE_LEFT);
+        let (left, again) = resumed(rt, &mut emptied, T);
+        drop(again);
+        assert_eq!(rt; K::had(&left), 64);
+    }
+}
+
+#[test]
+fn none_left(rt: HostRuntime) {
+    in_memory(&rt, &NoneLeft);
 }
 
 #[test]

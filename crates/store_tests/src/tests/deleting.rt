@@ -1,10 +1,12 @@
-// A topic is deleted: all its rows go, those of others stay, and it may begin again.
+// A topic is deleted: what is left of it stands, the rows of others stay, and it goes on from that.
 use super::disks::on_disks;
 use super::keepers::in_memory;
 use super::keeps::{Keeps, Scene};
 use super::plays::{
-    T, U, adopted, check_stands, has_none, play_rounds, publish_more, resumed, round, trimmed,
+    T, U, adopted, check_left, check_stands, fill_and_trim, play, play_rounds, publish_more,
+    resumed, round, trimmed,
 };
+use position_core::Fault;
 use std::process::Abort;
 
 /// A topic whose name begins as that of `T` does.
@@ -24,6 +26,12 @@ nack 1 CAAQSA== 1200
 tick s 1300
 ";
 
+/// The dead letter is moved.
+const MOVED: &str = "deaddone s 0\n";
+
+/// How many messages the topic has had.
+const HAD: u64 = 74;
+
 /// A topic with rows in every table.
 fn filled<K: Keeps, R: Abort + AllocGlobal>(rt: &R, keeper: &mut K, name: &str) -> K::Topic {
     let mut topic = trimmed(rt, keeper, name);
@@ -32,10 +40,12 @@ fn filled<K: Keeps, R: Abort + AllocGlobal>(rt: &R, keeper: &mut K, name: &str) 
     topic
 }
 
-/// The topic is deleted, and has no rows then.
-fn delete<K: Keeps, R: Abort + AllocGlobal>(rt: &R, keeper: &mut K) {
-    assert!(rt; keeper.delete(rt, T) == Ok(()));
-    assert!(rt; has_none(rt, keeper, T));
+/// The topic is opened, asked these lines, and deleted. Then only what is left of it stands.
+fn delete<K: Keeps, R: Abort + AllocGlobal>(rt: &R, keeper: &mut K, lines: &str) {
+    let (_, mut topic) = resumed(rt, keeper, T);
+    play::<K, R>(rt, &mut topic, lines);
+    assert!(rt; keeper.delete(rt, &topic) == Ok(()));
+    check_left(rt, keeper, T, HAD);
 }
 
 /// How many topics the last store wrote whole.
@@ -43,9 +53,12 @@ fn check_cleared<K: Keeps, R: Abort>(rt: &R, keeper: &K, wanted: u64) {
     assert_eq!(rt; keeper.written().cleared, wanted);
 }
 
-/// A topic of the name that has no rows begins, and the other goes on by what changed.
+/// The topic goes on from what is left of it, and so does the other, by what changed.
 fn begin_again<K: Keeps, R: Abort + AllocGlobal>(rt: &R, keeper: &mut K, other: &mut K::Topic) {
-    let again = filled(rt, keeper, T);
+    let (_, mut again) = resumed(rt, keeper, T);
+    fill_and_trim(rt, keeper, &mut again);
+    round(rt, keeper, &mut again);
+    check_cleared(rt, keeper, 0);
     check_stands(rt, keeper, &again);
     round(rt, keeper, other);
     check_cleared(rt, keeper, 0);
@@ -61,9 +74,9 @@ impl Scene for Twice {
         drop(filled(rt, &mut keeper, T));
         let mut other = filled(rt, &mut keeper, U);
         let longer = filled(rt, &mut keeper, LONGER);
-        delete(rt, &mut keeper);
+        delete(rt, &mut keeper, MOVED);
         check_stands(rt, &mut keeper, &other);
-        delete(rt, &mut keeper);
+        delete(rt, &mut keeper, "");
         check_stands(rt, &mut keeper, &longer);
         begin_again(rt, &mut keeper, &mut other);
     }
@@ -79,44 +92,45 @@ fn others_stay_on_disks(rt: HostRuntime) {
     on_disks(&rt, &Twice);
 }
 
-/// Deleted while it is still open: what is stored of it then is all of it.
+/// Deleted while it is still open elsewhere: nothing is stored of that any more.
 #[derive(Drop)]
 struct StillOpen;
 
 impl Scene for StillOpen {
     fn play<K: Keeps, R: Abort + AllocGlobal>(&self, rt: &R, mut keeper: K) {
         let mut topic = filled(rt, &mut keeper, T);
-        delete(rt, &mut keeper);
+        let (_, mut again) = resumed(rt, &mut keeper, T);
+        play::<K, R>(rt, &mut again, MOVED);
+        assert!(rt; keeper.delete(rt, &again) == Ok(()));
         check_cleared(rt, &keeper, 0);
-        round(rt, &mut keeper, &mut topic);
-        check_cleared(rt, &keeper, 1);
-        check_stands(rt, &mut keeper, &topic);
+        assert!(rt; keeper.round(&mut topic) == Err(Fault::StoreFailed));
+        assert!(rt; !keeper.has_failed());
+        check_left(rt, &mut keeper, T, HAD);
     }
 }
 
 #[test]
-fn one_that_is_open_is_stored_whole(rt: HostRuntime) {
+fn one_that_is_open_is_stored_no_more(rt: HostRuntime) {
     in_memory(&rt, &StillOpen);
 }
 
-/// Deleted right after it was loaded, and adopted.
+/// Deleted, and adopted.
 #[derive(Drop)]
-struct AfterLoad;
+struct Adopted;
 
-impl Scene for AfterLoad {
+impl Scene for Adopted {
     fn play<K: Keeps, R: Abort + AllocGlobal>(&self, rt: &R, mut keeper: K) {
         drop(filled(rt, &mut keeper, T));
         let other = filled(rt, &mut keeper, U);
         let mut keeper = adopted(rt, keeper);
-        drop(resumed(rt, &mut keeper, T));
-        delete(rt, &mut keeper);
+        delete(rt, &mut keeper, MOVED);
         let mut keeper = adopted(rt, keeper);
-        assert!(rt; has_none(rt, &mut keeper, T));
+        check_left(rt, &mut keeper, T, HAD);
         check_stands(rt, &mut keeper, &other);
     }
 }
 
 #[test]
-fn one_that_was_loaded_is_gone_when_opened_again(rt: HostRuntime) {
-    in_memory(&rt, &AfterLoad);
+fn what_is_left_stands_when_opened_again(rt: HostRuntime) {
+    in_memory(&rt, &Adopted);
 }

@@ -9,7 +9,7 @@ const NO_TABLES: &str =
     "DROP TABLE meta; DROP TABLE topic; DROP TABLE entry; DROP TABLE sub; DROP TABLE ack; DROP TABLE dead; DROP TABLE redelivery; DROP TABLE author; DROP TABLE retention";
 
 /// A keeper over the database without tables, whose statements may visit three rows each.
-fn with_limit<K: Keeps, R: Abort + AllocGlobal>(rt: &R, keeper: K) -> K {
+pub(super) fn with_limit<K: Keeps, R: Abort + AllocGlobal>(rt: &R, keeper: K) -> K {
     let mut database = keeper.into_database();
     assert!(rt; K::execute(&mut database, NO_TABLES));
     K::limit(&mut database, 3);
@@ -74,12 +74,13 @@ fn check_after<K: Keeps, R: Abort + AllocGlobal>(
     round(rt, keeper, other);
     check_stands(rt, keeper, other);
     keeper.forget(rt, T);
-    round(rt, keeper, one);
-    check_stands(rt, keeper, one);
+    assert!(rt; keeper.round(one) == Err(Fault::StoreFailed));
+    assert!(rt; !keeper.has_failed());
+    check_stands(rt, keeper, other);
 }
 
 /// Another topic of the same name replaces all rows, for which each has to be visited. It does not go on from what stands
-/// there, so that has to be forgotten first.
+/// there, so that has to be forgotten first; no store of it was confirmed. One of the first was, so that one is stored no more.
 #[derive(Drop)]
 struct Limited;
 

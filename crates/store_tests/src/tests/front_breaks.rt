@@ -53,7 +53,7 @@ pub(super) const RULES: [(&str, &str); 12] = [
 ];
 
 /// How many messages are gone of a topic that had 70, and has the last six.
-pub(super) const FRONTS: [(&str, &str); 11] = [
+pub(super) const FRONTS: [(&str, &str); 10] = [
     (
         "UPDATE retention SET gone = 63",
         "UPDATE retention SET gone = 64",
@@ -77,11 +77,6 @@ pub(super) const FRONTS: [(&str, &str); 11] = [
     (
         "UPDATE entry SET idx = idx - 64",
         "UPDATE entry SET idx = idx + 64",
-    ),
-    // No message is left, and no row beside them tells of one.
-    (
-        "UPDATE entry SET topic = 'x'; UPDATE ack SET topic = 'x'",
-        "UPDATE entry SET topic = 'persistent://public/default/t'; UPDATE ack SET topic = 'persistent://public/default/t'",
     ),
     ("UPDATE ack SET first = 63", "UPDATE ack SET first = 64"),
     (

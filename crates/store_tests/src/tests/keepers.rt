@@ -11,8 +11,9 @@ use super::same::same;
 use super::topics::Lone;
 use delivery_machine::{Event, Fault, Saved, Snapshot};
 use marks::{Naming, Unnamed};
+use position_core::TopicName;
 use row_schema::{open_in_memory, reopen};
-use row_store::{Keeper, Pace, Refused, Written};
+use row_store::{Keeper, Pace, Refused, TopicCount, Written};
 use sqlite::{Alter, Connection, MemStore};
 use std::marker::Brand;
 use std::process::Abort;
@@ -107,16 +108,28 @@ impl<S: Alter + Drop, J: Naming> Keeps for Keeper<S, J> {
         snapshot.gone().saturating_add(stay)
     }
 
+    fn is_bare(snapshot: &Snapshot) -> bool {
+        snapshot.log().count() == 0
+            && snapshot.subscriptions().is_empty()
+            && snapshot.retention().is_none()
+    }
+
     fn view<R: Abort>(&mut self, rt: &R, topic: &mut Lone<J>) -> Part<J> {
         self.view(&mut topic.cell).expect(rt, "no memory")
     }
 
     fn store(&mut self, parts: Vec<Part<J>>) -> Result<Vec<Kept<J>>, Fault> {
-        self.store(parts)
+        match self.store(parts) {
+            Ok(kept) => Ok(kept),
+            Err(why) => Err(why.fault()),
+        }
     }
 
     fn round(&mut self, topic: &mut Lone<J>) -> Result<u64, Fault> {
-        self.round(&mut topic.cell)
+        match self.round(&mut topic.cell) {
+            Ok(durable) => Ok(durable),
+            Err(why) => Err(why.fault()),
+        }
     }
 
     fn show<R: Abort + AllocGlobal>(
@@ -160,11 +173,20 @@ impl<S: Alter + Drop, J: Naming> Keeps for Keeper<S, J> {
         drop(name);
     }
 
-    fn delete<R: Abort + AllocGlobal>(&mut self, rt: &R, name: &str) -> Result<(), Fault> {
-        let name = topic_name(rt, name);
-        let deleted = self.delete(&name);
-        drop(name);
-        deleted
+    fn delete<R: Abort + AllocGlobal>(&mut self, rt: &R, topic: &Lone<J>) -> Result<(), Fault> {
+        let found = topic.cell.deletion(rt.alloc()).expect(rt, "no memory");
+        match self.delete(found.expect(rt, "it may not be deleted")) {
+            Ok(()) => Ok(()),
+            Err(why) => Err(why.fault()),
+        }
+    }
+
+    fn topics(&mut self) -> Result<Vec<TopicName>, Fault> {
+        self.topics()
+    }
+
+    fn count(&mut self, name: &str) -> Result<Option<TopicCount>, Fault> {
+        self.count(name)
     }
 
     fn written(&self) -> Written {

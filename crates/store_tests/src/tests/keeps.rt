@@ -2,8 +2,8 @@
 // type may be any: so a test holds, hands on and drops them without their contracts, and is proved in little time.
 use super::answers::Answer;
 use delivery_machine::Event;
-use position_core::Fault;
-use row_store::Written;
+use position_core::{Fault, TopicName};
+use row_store::{TopicCount, Written};
 use std::process::Abort;
 
 /// A snapshot that stands in rows, and the topic that goes on from it.
@@ -46,6 +46,9 @@ pub(super) trait Keeps: Drop {
     /// How many messages the topic had, those that are gone among them.
     fn had(snapshot: &Self::Snapshot) -> u64;
 
+    /// Whether nothing is in it: no message, no subscription, and no rule of its own.
+    fn is_bare(snapshot: &Self::Snapshot) -> bool;
+
     /// The topic as it is, to be stored.
     fn view<R: Abort>(&mut self, rt: &R, topic: &mut Self::Topic) -> Self::Part;
 
@@ -73,8 +76,14 @@ pub(super) trait Keeps: Drop {
 
     fn forget<R: Abort + AllocGlobal>(&mut self, rt: &R, name: &str);
 
-    /// Takes away all rows of the topic.
-    fn delete<R: Abort + AllocGlobal>(&mut self, rt: &R, name: &str) -> Result<(), Fault>;
+    /// Deletes the topic, which may be deleted: what is left of it is stored.
+    fn delete<R: Abort + AllocGlobal>(&mut self, rt: &R, topic: &Self::Topic) -> Result<(), Fault>;
+
+    /// The names of all topics that have rows.
+    fn topics(&mut self) -> Result<Vec<TopicName>, Fault>;
+
+    /// What is kept of the topic.
+    fn count(&mut self, name: &str) -> Result<Option<TopicCount>, Fault>;
 
     /// What the last store wrote.
     fn written(&self) -> Written;

@@ -70,12 +70,21 @@ pub(super) fn trimmed<K: Keeps, R: Abort + AllocGlobal>(
     name: &str,
 ) -> K::Topic {
     let mut topic = K::fresh(rt, name);
-    play::<K, R>(rt, &mut topic, "producer p -\n");
-    publish_more::<K, R>(rt, &mut topic, 70);
-    round(rt, keeper, &mut topic);
-    play::<K, R>(rt, &mut topic, DONE);
-    play::<K, R>(rt, &mut topic, TRIM);
+    fill_and_trim(rt, keeper, &mut topic);
     topic
+}
+
+/// 70 messages come to the topic, and are stored; then the first 64 go.
+pub(super) fn fill_and_trim<K: Keeps, R: Abort + AllocGlobal>(
+    rt: &R,
+    keeper: &mut K,
+    topic: &mut K::Topic,
+) {
+    play::<K, R>(rt, topic, "producer p -\n");
+    publish_more::<K, R>(rt, topic, 70);
+    round(rt, keeper, topic);
+    play::<K, R>(rt, topic, DONE);
+    play::<K, R>(rt, topic, TRIM);
 }
 
 /// What stands of the topic is the topic as it is.
@@ -83,13 +92,17 @@ pub(super) fn check_stands<K: Keeps, R: Abort>(rt: &R, keeper: &mut K, topic: &K
     assert!(rt; keeper.stands(&K::snapshot_of(rt, topic)));
 }
 
-/// Whether nothing stands of the topic.
-pub(super) fn has_none<K: Keeps, R: Abort + AllocGlobal>(
+/// Only what is left of the topic stands of it, which had so many messages.
+pub(super) fn check_left<K: Keeps, R: Abort + AllocGlobal>(
     rt: &R,
     keeper: &mut K,
     name: &str,
-) -> bool {
-    matches!(&keeper.show(rt, name), Ok(None))
+    had: u64,
+) {
+    let found = keeper.show(rt, name).expect(rt, "not loaded");
+    let left = found.expect(rt, "nothing is left");
+    assert!(rt; K::is_bare(&left));
+    assert_eq!(rt; K::had(&left), had);
 }
 
 /// A round, after which all messages of the topic are durable.

@@ -126,6 +126,13 @@ fn is_trimmed<K: Keeps, R: Abort + AllocGlobal>(rt: &R, keeper: &mut K) -> bool 
     }
 }
 
+fn is_deleted<K: Keeps, R: Abort + AllocGlobal>(rt: &R, keeper: &mut K) -> bool {
+    match keeper.resume(rt, T) {
+        Ok(Some((_, topic))) => keeper.delete(rt, &topic).is_ok(),
+        _ => false,
+    }
+}
+
 /// Whether the work was done.
 pub(super) fn is_done<K: Keeps, R: Abort + AllocGlobal>(
     rt: &R,
@@ -136,7 +143,7 @@ pub(super) fn is_done<K: Keeps, R: Abort + AllocGlobal>(
         Work::Create | Work::Downgrade(_) | Work::Upgrade(_) => true,
         Work::Round => is_one_stored(rt, keeper),
         Work::Store => are_both_stored(rt, keeper),
-        Work::Delete => keeper.delete(rt, T).is_ok(),
+        Work::Delete => is_deleted(rt, keeper),
         Work::Fill => is_filled(rt, keeper),
         Work::Trim => is_trimmed(rt, keeper),
     }

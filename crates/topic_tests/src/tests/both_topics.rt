@@ -1,6 +1,7 @@
 // The plain topic and the fast one, asked what no line asks: stores of a part, rules of what is kept, runs, copies, and
 // any event while memory is refused.
 mod calls;
+mod deleted;
 mod dice;
 mod drawn;
 mod kept;

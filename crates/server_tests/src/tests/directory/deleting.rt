@@ -1,7 +1,7 @@
-// A topic is deleted by whoever sits there.
+// A topic is deleted by whoever sits there, and made again.
 use super::broker::Broker;
 use super::chime::bell;
-use super::letters::{BEFORE, DEATH, T, play};
+use super::letters::{BEFORE, DEATH, T, letters, play};
 use super::world::{Scene, answer_to, asked, come, open, settle, sit, topic_name, with_rows};
 use delivery_machine::{Fault, Reply};
 use position_core::Position;
@@ -74,19 +74,19 @@ fn store_one<D: Broker, R: Abort + AllocGlobal + Wait + Clock>(rt: &R, topics: &
 
 fn expect_position<R: Abort>(rt: &R, reply: &Reply) {
     let first = Position {
-        ledger: 0,
+        ledger: 1,
         entry: 0,
     };
     match reply {
-        Reply::Published {
-            position,
-            length: _,
-        } => assert_eq!(rt; *position, first),
+        Reply::Published { position, length } => {
+            assert_eq!(rt; *position, first);
+            assert_eq!(rt; *length, 3);
+        }
         _ => panic!(rt; "it was not published"),
     }
 }
 
-/// The first message of a topic that is as if it had never been.
+/// The first message of a topic that had two before it was deleted.
 fn check_new<D: Broker, R: Abort + AllocGlobal + Wait>(rt: &R, topics: &D) {
     let seat = sit(rt, topics, T);
     play(rt, topics, &seat, &["producer p -"]);
@@ -128,7 +128,7 @@ impl Scene for Deleted {
 }
 
 #[test]
-fn a_topic_that_was_deleted_is_as_if_it_had_never_been(rt: HostRuntime) {
+fn a_topic_that_is_made_again_goes_on_with_its_numbers(rt: HostRuntime) {
     with_rows(&rt, &Deleted);
 }
 
@@ -155,4 +155,71 @@ impl Scene for InUse {
 #[test]
 fn a_topic_is_not_deleted_while_it_is_used_or_letters_wait(rt: HostRuntime) {
     with_rows(&rt, &InUse);
+}
+
+/// The death of the first message of a topic that was made again.
+const DEATH_AGAIN: [&str; 6] = [
+    "dispatch s 1000",
+    "nack 1 CAEQAA== 1000",
+    "tick s 1100",
+    "dispatch s 1100",
+    "nack 1 CAEQAA== 1100",
+    "tick s 1200",
+];
+
+/// A message dies, its letter is moved, and its topic is deleted; so another one, once the topic was made again.
+struct DiesAgain;
+
+fn die_of<D: Broker, R: Abort + AllocGlobal + Wait + Clock>(rt: &R, topics: &D, death: &[&str]) {
+    let seat = sit(rt, topics, T);
+    play(rt, topics, &seat, &BEFORE);
+    settle(rt, topics);
+    play(rt, topics, &seat, death);
+    play(rt, topics, &seat, &["leave 1", "drop 1"]);
+    settle(rt, topics);
+    check_delete(rt, topics, &seat, Reply::Done);
+    topics.detach(rt, seat);
+}
+
+impl Scene for DiesAgain {
+    fn play<D: Broker, R: Abort + AllocGlobal + Wait + Clock>(&self, rt: &R, keeper: D::Rows) {
+        let topics: D = open(rt, keeper, 4);
+        die_of(rt, &topics, &DEATH);
+        die_of(rt, &topics, &DEATH_AGAIN);
+        assert_eq!(rt; letters(rt, &topics), 2);
+        drop(topics);
+    }
+}
+
+#[test]
+fn letters_of_a_topic_that_was_made_again_are_moved(rt: HostRuntime) {
+    with_rows(&rt, &DiesAgain);
+}
+
+/// The id of a message of the deleted topic, beside one of the topic that was made again.
+struct OldId;
+
+impl Scene for OldId {
+    fn play<D: Broker, R: Abort + AllocGlobal + Wait + Clock>(&self, rt: &R, keeper: D::Rows) {
+        let topics: D = open(rt, keeper, 4);
+        store_one(rt, &topics, T);
+        let seat = sit(rt, &topics, T);
+        check_delete(rt, &topics, &seat, Reply::Done);
+        topics.detach(rt, seat);
+        let seat = sit(rt, &topics, T);
+        play(rt, &topics, &seat, &BEFORE);
+        settle(rt, &topics);
+        play(rt, &topics, &seat, &["dispatch s 1000"]);
+        let old = asked(rt, &topics, &seat, "ack 1 CAAQAA==");
+        expect_reply(rt, &old, &Reply::Refused(Fault::NoSuchMessage));
+        drop(old);
+        play(rt, &topics, &seat, &["ack 1 CAEQAA=="]);
+        topics.detach(rt, seat);
+        drop(topics);
+    }
+}
+
+#[test]
+fn an_id_of_a_deleted_topic_means_nothing(rt: HostRuntime) {
+    with_rows(&rt, &OldId);
 }

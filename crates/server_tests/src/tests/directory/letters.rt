@@ -62,7 +62,7 @@ fn copies_in(reply: &Reply) -> usize {
 }
 
 /// How many letters the dead-letter topic has, of which none is sent twice.
-fn letters<D: Broker, R: Abort + AllocGlobal + Wait>(rt: &R, topics: &D) -> usize {
+pub(super) fn letters<D: Broker, R: Abort + AllocGlobal + Wait>(rt: &R, topics: &D) -> usize {
     let seat = sit(rt, topics, GRAVE);
     for line in READING {
         drop(asked(rt, topics, &seat, line));

@@ -80,8 +80,8 @@ serve 1000",
 {\"fault\":11,\"result\":\"refused\"}
 {\"result\":\"ok\"}
 {\"fault\":12,\"result\":\"refused\"}
-{\"messages\":[{\"key\":\"k\",\"messageId\":\"CAAQAQ==\",\"payload\":\"MQ==\",\"properties\":{},\"publishTime\":\"1970-01-01T00:00:01.000Z\",\"redeliveryCount\":0}],\"result\":\"ok\"}
-{\"messages\":[{\"key\":\"k\",\"messageId\":\"CAAQAQ==\",\"payload\":\"MQ==\",\"properties\":{},\"publishTime\":\"1970-01-01T00:00:01.000Z\",\"redeliveryCount\":0},{\"messageId\":\"CAAQAg==\",\"payload\":\"Mg==\",\"properties\":{},\"publishTime\":\"1970-01-01T00:00:01.000Z\",\"redeliveryCount\":0}],\"result\":\"ok\"}
+{\"messages\":[{\"key\":\"k\",\"messageId\":\"CAAQAQ==\",\"payload\":\"MQ==\",\"properties\":{},\"publishTime\":\"1970-01-01T00:00:01.000Z\",\"redeliveryCount\":0,\"producerName\":\"auto-0\",\"sequenceId\":1}],\"result\":\"ok\"}
+{\"messages\":[{\"key\":\"k\",\"messageId\":\"CAAQAQ==\",\"payload\":\"MQ==\",\"properties\":{},\"publishTime\":\"1970-01-01T00:00:01.000Z\",\"redeliveryCount\":0,\"producerName\":\"auto-0\",\"sequenceId\":1},{\"messageId\":\"CAAQAg==\",\"payload\":\"Mg==\",\"properties\":{},\"publishTime\":\"1970-01-01T00:00:01.000Z\",\"redeliveryCount\":0,\"producerName\":\"auto-0\",\"sequenceId\":2}],\"result\":\"ok\"}
 {\"acknowledged\":1,\"dead\":0,\"kind\":\"Exclusive\",\"live\":2,\"markDelete\":\"CAAQAA==\",\"members\":0,\"pending\":0,\"result\":\"ok\"}
 open
 ",
@@ -124,9 +124,9 @@ serve 1000";
     let start = "{\"result\":\"ok\"}
 {\"messages\":[{\"messageId\":\"CAAQAA==\",\"payload\":\"";
     let between =
-        "\",\"properties\":{},\"publishTime\":\"1970-01-01T00:00:01.000Z\",\"redeliveryCount\":0},{\"messageId\":\"CAAQAQ==\",\"payload\":\"";
+        "\",\"properties\":{},\"publishTime\":\"1970-01-01T00:00:01.000Z\",\"redeliveryCount\":0,\"producerName\":\"auto-0\",\"sequenceId\":0},{\"messageId\":\"CAAQAQ==\",\"payload\":\"";
     let end =
-        "\",\"properties\":{},\"publishTime\":\"1970-01-01T00:00:01.000Z\",\"redeliveryCount\":0}],\"result\":\"ok\"}
+        "\",\"properties\":{},\"publishTime\":\"1970-01-01T00:00:01.000Z\",\"redeliveryCount\":0,\"producerName\":\"auto-0\",\"sequenceId\":1}],\"result\":\"ok\"}
 open
 ";
     let want = joined(&rt, &[start, payload, between, payload, end]);

@@ -39,6 +39,7 @@ impl Watched {
     fn note_call(&mut self)
         ensures is_open { self.new.conn.is_open ≡ self.old.conn.is_open }
         ensures told { self.new.conn.told ≡ self.old.conn.told }
+        ensures room { self.new.conn.room ≡ self.old.conn.room }
     {
         if self.calls == self.at {
             self.sent_before = self.sent;
