@@ -1,8 +1,6 @@
 # What the examples in Python share: the next text of a connection, and why the broker closed one.
 import json
 import os
-import select
-import socket
 import sys
 
 import websocket
@@ -12,19 +10,23 @@ with open(os.path.join(os.path.dirname(os.path.abspath(__file__)), 'refusals.jso
 
 
 class Closed(Exception):
-    """The broker closed the session, with a code and a reason."""
+    """The broker closed the session with a code, or did not begin it and answered with a status, and why."""
 
-    def __init__(self, code, reason):
-        super().__init__(f'closed with {code} {reason}: {MEANING.get(reason, "see docs/FORMATS.md")}')
+    def __init__(self, code, reason, wrong='', how='closed with'):
+        meaning = ': '.join(filter(None, (MEANING.get(reason, 'see docs/FORMATS.md'), wrong)))
+        super().__init__(f'{how} {code} {reason}: {meaning}')
         self.code, self.reason = code, reason
 
 
 def connect(url, timeout=None):
-    """An open connection. A refused session is open for a moment too; its close comes before anything is sent to it."""
-    ws = websocket.create_connection(url, timeout=timeout)
-    if select.select([ws.sock], [], [], 0.05)[0] and ws.sock.recv(1, socket.MSG_PEEK) == b'\x88':
-        receive(ws)
-    return ws
+    """An open connection, whose session has begun: the header asks for a status where the broker refuses it."""
+    try:
+        return websocket.create_connection(url, timeout=timeout, header={'X-Refusals': 'http'})
+    except websocket.WebSocketBadStatusException as error:
+        reason, _, wrong = (error.resp_headers or {}).get('x-refusal', '').partition(' ')
+        if not reason:
+            raise
+        raise Closed(error.status_code, reason, wrong, 'answered with') from None
 
 
 def receive(ws):

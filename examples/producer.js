@@ -1,13 +1,13 @@
 // Publishes messages, and waits for the answer of each, as Pulsar's page on the WebSocket API has it.
 // node producer.js [address] [topic] [count]
 const WebSocket = require('ws');
-const refusal = require('./refusals.js');
+const { refusal, asking, refusedBy } = require('./refusals.js');
 
 const address = process.argv[2] || 'localhost:8080';
 const topic = process.argv[3] || 'my-topic';
 const count = Number(process.argv[4] || 10);
 
-const ws = new WebSocket(`ws://${address}/ws/v2/producer/persistent/public/default/${topic}`);
+const ws = new WebSocket(`ws://${address}/ws/v2/producer/persistent/public/default/${topic}`, asking);
 let number = 0;
 
 function publish() {
@@ -25,7 +25,7 @@ function fail(line) {
   process.exit(1);
 }
 
-ws.on('open', () => setTimeout(publish, 50));      // a refusal comes at once
+ws.on('open', publish);      // the session has begun
 
 ws.on('message', (text) => {
   const response = JSON.parse(text);
@@ -36,5 +36,6 @@ ws.on('message', (text) => {
   if (number < count) publish(); else ws.close(1000);
 });
 
+ws.on('unexpected-response', (request, response) => fail(`refused: ${refusedBy(response)}`));
 ws.on('error', (error) => fail(`no connection: ${error.message}`));
 ws.on('close', (code, reason) => { if (code !== 1000) fail(`refused: ${refusal(code, reason)}`); });

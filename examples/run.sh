@@ -109,24 +109,24 @@ refused() {
 timeout 60 "$python" "$here/consumer.py" "$address" my-topic taken > "$room/consumer" &
 consumer=$!
 until grep -q Received "$room/consumer"; do sleep 0.05; done
-refused 'closed with 4002 F6' "$python" "$here/consumer.py" "$address" my-topic taken
-refused 'closed with 4002 F6' node "$here/consumer.js" "$address" my-topic taken
+refused 'answered with 409 F6' "$python" "$here/consumer.py" "$address" my-topic taken
+refused 'answered with 409 F6' node "$here/consumer.js" "$address" my-topic taken
 refused 'F12' "$python" "$here/admin.py" "$address" my-topic drop taken
 kill "$consumer"
 wait "$consumer" || true
-refused 'closed with 4001 F20' "$python" "$here/producer.py" "$address" a%00b
-refused 'closed with 4001 F20' node "$here/producer.js" "$address" a%00b
+refused 'answered with 400 F20' "$python" "$here/producer.py" "$address" a%00b
+refused 'answered with 400 F20' node "$here/producer.js" "$address" a%00b
 long=$(printf 'n%.0s' $(seq 256))
-refused 'closed with 4001 F20' "$python" "$here/once.py" "$address" "$long"
-refused 'closed with 4001 F20' node "$here/once.js" "$address" "$long"
-refused 'closed with 4002 F20' "$python" "$here/worker.py" "$address" "$long"
-refused 'closed with 4002 F20' node "$here/worker.js" "$address" "$long"
-refused 'closed with 4002 F20' "$python" "$here/key_shared.py" "$address" a%00b
-refused 'closed with 4002 F20' "$python" "$here/sticky.py" "$address" a%00b
-refused 'closed with 4002 F20' "$python" "$here/dead_letters.py" "$address" a%00b
-refused 'closed with 4008 F11' "$python" "$here/admin.py" "$address" not-there stats my-sub
+refused 'answered with 400 F20' "$python" "$here/once.py" "$address" "$long"
+refused 'answered with 400 F20' node "$here/once.js" "$address" "$long"
+refused 'answered with 400 F20' "$python" "$here/worker.py" "$address" "$long"
+refused 'answered with 400 F20' node "$here/worker.js" "$address" "$long"
+refused 'answered with 400 F20' "$python" "$here/key_shared.py" "$address" a%00b
+refused 'answered with 400 F20' "$python" "$here/sticky.py" "$address" a%00b
+refused 'answered with 400 F20' "$python" "$here/dead_letters.py" "$address" a%00b
+refused 'answered with 404 F11' "$python" "$here/admin.py" "$address" not-there stats my-sub
 timeout 60 "$python" "$here/admin.py" "$address" my-topic delete
-refused 'closed with 4008 F11' "$python" "$here/admin.py" "$address" my-topic stats my-sub
+refused 'answered with 404 F11' "$python" "$here/admin.py" "$address" my-topic stats my-sub
 
 echo "== Work that fails is given back"
 timeout 60 "$python" "$here/producer.py" "$address" failing 2 > /dev/null

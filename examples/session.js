@@ -1,7 +1,7 @@
 // A session with the broker that lasts: it is opened again after each loss, with growing pauses. Pings are answered as
 // long as the program lets Node's events run.
 const WebSocket = require('ws');
-const refusal = require('./refusals.js');
+const { refusal, asking, reasonIn, refusedBy } = require('./refusals.js');
 
 const FIRST_PAUSE = 100;          // milliseconds before a further try
 const LONGEST_PAUSE = 30000;
@@ -60,11 +60,11 @@ class Session {
 
   // One connection, to its end.
   open() {
-    const ws = new WebSocket(`${this.place}?${new URLSearchParams(this.query())}`, { handshakeTimeout: OPENING });
+    const ws = new WebSocket(`${this.place}?${new URLSearchParams(this.query())}`, { ...asking, handshakeTimeout: OPENING });
     this.trying = ws;
     this.ended = new Promise((end) => ws.on('close', end));
     let lost = 'the connection ended';
-    let status = 0;
+    let answer = null;        // of the broker, or a proxy, that gives no session
     let silent = 0;
 
     const look = setInterval(() => {
@@ -74,17 +74,14 @@ class Session {
     }, SILENCE);
     for (const heard of ['ping', 'pong', 'message']) ws.on(heard, () => { silent = 0; });
 
-    const begin = () => {
-      if (this.ws === ws || ws.readyState !== WebSocket.OPEN) return;
+    ws.on('open', () => {      // the session has begun
       this.connections += 1;
       this.ws = ws;
       this.opened();
-    };
-    ws.on('open', () => setTimeout(begin, 50));      // a refusal comes at once, and before anything is sent
+    });
 
     ws.on('message', (text) => {
       if (this.failure) return;
-      begin();
       this.tries = 0;
       try {
         this.came(JSON.parse(text));
@@ -95,7 +92,7 @@ class Session {
     });
 
     ws.on('unexpected-response', (request, response) => {
-      status = response.statusCode;
+      answer = response;
       ws.terminate();
     });
     ws.on('error', (error) => { lost = error.message || error.code; });      // a close follows
@@ -103,17 +100,17 @@ class Session {
       clearInterval(look);
       this.ws = this.trying = null;
       this.lost();
-      if (!this.closing && !this.failure) this.again(code, String(reason), status, lost);
+      if (!this.closing && !this.failure) this.again(code, answer ? reasonIn(answer)[0] : String(reason), answer, lost);
     });
   }
 
   // Tries again after a pause, if that may help. By chance the pause is up to a half shorter: not all clients come back at
   // once.
-  again(code, reason, status, lost) {
+  again(code, reason, answer, lost) {
     const final = FINAL.includes(reason) || FINAL.includes(code);
     const refused = final || reason !== '';
-    const why = status ? `turned away with ${status}` : refused ? `refused: ${refusal(code, reason)}` : lost;
-    if (final || (status && status < 500)) {      // from 500 on: a proxy whose broker is away
+    const why = refused ? `refused: ${answer ? refusedBy(answer) : refusal(code, reason)}` : answer ? refusedBy(answer) : lost;
+    if (final || (answer && !refused && answer.statusCode < 500)) {      // from 500 on: a proxy whose broker is away
       this.fail(new Error(why));
       return;
     }

@@ -9,7 +9,7 @@ from urllib.parse import quote, urlencode
 
 import websocket
 
-from answers import Closed, receive, text_of
+from answers import Closed, connect, text_of
 
 FIRST_PAUSE, LONGEST_PAUSE = 0.1, 30      # seconds before a further try
 OPENING = 90      # seconds for the handshake: a topic of many messages is read first
@@ -79,13 +79,8 @@ class Session:
 
     def _serve(self):
         """One connection, to its end."""
-        ws = websocket.create_connection(f'{self.place}?{urlencode(self.query())}', timeout=OPENING)
+        ws = connect(f'{self.place}?{urlencode(self.query())}', timeout=OPENING)
         try:
-            ws.settimeout(0.05)
-            try:
-                first = receive(ws)      # a refusal comes at once, and before anything is sent
-            except websocket.WebSocketTimeoutException:
-                first = None
             ws.settimeout(SILENCE)
             with self.changed:
                 if self.closing:
@@ -93,8 +88,6 @@ class Session:
                 self.connections += 1
                 self.ws = ws
                 self.opened()
-            if first:
-                self._take(first)
             while True:
                 self._take(next_text(ws))
         finally:

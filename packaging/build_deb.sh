@@ -40,7 +40,7 @@ install -D -m 644 "$room/brokerctl.bash" "$root/usr/share/bash-completion/comple
 
 # The documents lie as they do in the sources, so that their links and the paths that they name lead somewhere.
 mkdir -p "$doc/tools"
-(cd "$here/.." && git ls-files -z README.md docs bench/NOTES.md examples | tar -c --null -T -) | tar -x --no-same-permissions -C "$doc"
+(cd "$here/.." && git ls-files -z README.md docs bench/NOTES.md examples tools/alerts.yml tools/grafana.json | tar -c --null -T -) | tar -x --no-same-permissions -C "$doc"
 ln -s ../../../../bin/brokerctl "$doc/tools/brokerctl"
 install -m 644 "$here/copyright" "$doc/copyright"
 sed "s|@version@|$version|; s|@maintainer@|$maintainer|; s|@date@|$(date -u -R -d "@$SOURCE_DATE_EPOCH")|" "$here/changelog" |

@@ -1,7 +1,8 @@
 #!/usr/bin/env python3
-# What an administrator asks for beside moves of subscriptions: one is made, once, from a position of any kind, and is there after a
-# kill; it is looked at, and what is shown is what a consumer gets; its consumer is ended by its number; the broker is seen at the
-# administrator's own endpoint; and a copy of the database is refused where no folder is there for it. The gate runs it.
+# What an administrator asks for beside moves of subscriptions: one is made, once, from a position of any kind; it is looked at,
+# and what is shown is what a consumer gets; its consumer is ended by its number; the broker is seen at the administrator's own
+# endpoint; a copy of the database is refused where no folder is there for it; and what was answered is there after a kill. The
+# gate runs it.
 # administer.py PROGRAM [port]
 import json
 import shutil
@@ -117,15 +118,27 @@ maker.send(text_of(b'on'))
 assert maker.receive()['result'] == 'ok'
 print('ok an administrator ends his own session; without a folder no copy is made')
 
-# What is published is stored with all that came before it.
-assert asked(boss, type='createSubscription', subscription='kept', position='CAAQAg==') == {'result': 'ok'}
-maker.send(text_of(b'last'))
-assert maker.receive()['result'] == 'ok'
-broker.kill()
-broker.start()
-boss = admin('news')
-assert numbers('kept') == (0, 2, 5)
-print('ok a subscription that was made is there after a kill')
+
+def is_there_after_a_kill(wanted, **said):
+    """What an administrator is answered `ok` is stored: it is there, though the broker is killed right then."""
+    global boss
+    assert asked(boss, **said) == {'result': 'ok'}, said
+    broker.kill()
+    broker.start()
+    boss = admin('news')
+    assert numbers('kept') == wanted, said
+
+
+is_there_after_a_kill((0, 2, 4), type='createSubscription', subscription='kept', position='CAAQAg==')
+is_there_after_a_kill((0, 4, 2), type='skip', subscription='kept', messages=2)
+is_there_after_a_kill((0, 6, 0), type='seek', subscription='kept', position='latest')
+is_there_after_a_kill((0, 0, 6), type='seekTime', subscription='kept', time=0)
+is_there_after_a_kill((0, 0, 6), type='keep', messages=3)
+topic = next(each for each in asked(boss, type='overview')['topics'] if each['name'].endswith('/news'))
+assert topic['rule'] == {'messages': 3}, topic['rule']
+is_there_after_a_kill((0, 0, 6), type='dropSubscription', subscription='lost')
+assert asked(boss, type='stats', subscription='lost') == REFUSED[11]
+print('ok what an administrator was answered is there after a kill')
 
 broker.kill()
 shutil.rmtree(broker.folder)

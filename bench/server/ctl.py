@@ -5,6 +5,7 @@
 import json
 import os
 import pty
+import re
 import signal
 import socket
 import subprocess
@@ -318,14 +319,14 @@ def looks_make_nothing():
     for words in (['consume', 'misspelt', 's'], ['tail', 'misspelt'], ['dead', 'list', 'misspelt', 's'], ['dead', 'requeue', 'misspelt', 's'],
                   ['stats', 'misspelt', 's'], ['peek', 'misspelt', 's'], ['delete', 'misspelt']):
         said(*words, status=1)
-    assert 'not in memory' in said('sessions', 'misspelt', status=1)
+    assert 'there is no topic' in said('sessions', 'misspelt', status=1)
     assert set(topics()) == before
     assert lines('consume', 'misspelt', 's', '--create', '--wait', '0.2') == [] and list(subscriptions('misspelt')) == ['s']
     said('create', 'first', 's')
     assert list(subscriptions('first')) == ['s']
     said('publish', 'first', 'x')
     assert lines('consume', 'first', 's', '--count', '1') == ['x']
-    assert lines('topics')[-1].startswith('not shown: topics that are not in memory')
+    assert any(line.startswith('first: ') for line in lines('topics'))
     ok('a look makes nothing, and create makes the topic too')
 
 
@@ -373,9 +374,16 @@ def letters_come_back():
     for _ in range(2):
         reader.send(json.dumps({'type': 'negativeAcknowledge', 'messageId': reader.receive()['messageId']}))
     until(lambda: 'letters-s-DLQ' in topics() and topics()['letters-s-DLQ']['durable'] == 1)
-    assert lines('dead', 'list', 'letters', 's') == ['l'] == lines('dead', 'list', 'letters', 's', '--count', '1')
+    moved = r'\d{4}-\d\d-\d\dT\d\d:\d\d:\d\d\.\d{3}Z letters s l'
+    for more in ([], ['--count', '1']):
+        shown = lines('dead', 'list', 'letters', 's', *more)
+        assert len(shown) == 1 and re.fullmatch(moved, shown[0]), shown
+    letter = json.loads(said('dead', 'list', 'letters', 's', '--json'))
+    assert (letter['topic'], letter['subscription'], letter['sequenceId']) == ('public/default/letters', 's', 0), letter
+    assert letter['producerName'] == 'dlq/public/default/letters/s', letter
+    assert said('dead', 'list', 'letters', 's', '--raw') == b'l'
     assert subscriptions('letters-s-DLQ') == {}
-    assert lines('dead', 'requeue', 'letters', 's') == ['1 letter is in letters again']
+    assert lines('dead', 'requeue', 'letters', 's') == ['1 letter is published to letters again, so that every subscription gets it']
     ok('dead letters are listed, and published again')
 
 

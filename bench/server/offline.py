@@ -11,7 +11,7 @@ import subprocess
 import sys
 import tempfile
 
-from client import Broker, consumer, producer, text_of
+from client import Broker, Client, consumer, producer, text_of
 
 program = sys.argv[1]
 port = int(sys.argv[2]) if len(sys.argv) > 2 else 18097
@@ -143,5 +143,30 @@ conn.close()
 assert tool('delete', f'{whole}/broker.db', 't2') == [{'result': 'ok'}]
 assert [one['topic'] for one in tool('list', f'{whole}/broker.db')] == [T]
 assert 'no such topic' in tool('trim', f'{whole}/broker.db', 'nowhere', fails=True)
-Broker(program, port, folder=whole).kill()
-print('a dead letter keeps what stands behind it, a topic without subscriptions all; a topic is deleted')
+assert 'no such topic' in tool('delete', f'{whole}/broker.db', 't2', fails=True)
+print('a dead letter keeps what stands behind it, a topic without subscriptions all')
+
+# What is left of a deleted topic: its numbers, and who moved dead letters there. So an id of it is never another message's.
+conn = sqlite3.connect(f'{whole}/broker.db')
+assert conn.execute('SELECT ledger, ordinal FROM topic WHERE name = ?', (T + '2',)).fetchall() == [(0, 0)]
+assert conn.execute('SELECT gone, kind, amount FROM retention WHERE topic = ?', (T + '2',)).fetchall() == [(70, 0, 0)]
+for table in ('entry', 'author', 'sub', 'ack', 'dead', 'redelivery'):
+    assert conn.execute(f'SELECT count(*) FROM {table} WHERE topic = ?', (T + '2',)).fetchone() == (0,), table
+old = conn.execute('SELECT max(ledger) FROM entry WHERE topic = ?', (T,)).fetchone()[0]
+conn.close()
+broker = Broker(program, port, folder=whole)
+try:
+    looker = Client(port, '/ws/v2/admin/persistent/public/default/t2')
+    assert looker.receive() == (4008, 'F11')
+    looker.close()
+    writer = producer(port, 't2', '?producerName=first')
+    writer.send(text_of(b'again'))
+    again = writer.receive()
+    assert again['result'] == 'ok' and base64.b64decode(again['messageId']) == b'\x08\x01\x10\x00', again
+    writer.leave()
+    client = consumer(port, 't2', 's', '?subscriptionInitialPosition=Earliest')
+    assert base64.b64decode(client.receive()['payload']) == b'again'
+    client.leave()
+finally:
+    broker.kill()
+print('a topic is deleted; the one that is made again under its name goes on with its numbers')

@@ -35,7 +35,7 @@ def number(text):
 
 def rows_of(browser, table):
     """The rows by name, each with its numbers by the titles of their columns."""
-    rows = browser.evaluate(f'''[...document.querySelectorAll("#{table} tbody tr")].map(row => [row.querySelector("bdi").textContent,
+    rows = browser.evaluate(f'''[...document.querySelectorAll("#{table} > tbody > tr:not(.more)")].map(row => [row.querySelector("bdi").textContent,
         [...row.cells].slice(2).map(cell => [cell.title, cell.textContent])])''')
     return {name: dict(cells) for name, cells in rows}
 
@@ -148,7 +148,7 @@ def compare(browser, writers):
         name: int(number(row['Kept'])) for name, row in rows_of(browser, 'topics').items()}, kept)
     until('the backlog of all', lambda: tile(browser, 2), orders + payments + 3)
     words = wrong(browser)
-    assert any(line.startswith('orders / audit: no consumer') and line.endswith(f'{orders:,} waiting') for line in words), words
+    assert any(line.startswith('orders / audit: no consumer') and f'and {orders:,} waiting' in line for line in words), words
     assert f'payments / reports: {dead:,} dead letter{"s"[dead == 1:]} in payments-reports-DLQ' in words, words
     print('    what is wrong, in words')
 
@@ -222,18 +222,22 @@ class Stand(http.server.BaseHTTPRequestHandler):
 
 
 def made_up(topics, now, **more):
-    return {'closed': False, 'loads': 0, 'now': now, 'sessions': 0, 'started': now - 7200000, 'stores': {'count': 0, 'micros': 0},
-            'topics': topics, 'unloads': 0, 'version': '0'} | more
+    return {'closed': False, 'full': False, 'loads': 0, 'now': now, 'open': False, 'refusals': [], 'sessions': 0, 'silenced': 0,
+            'started': now - 7200000, 'stores': {'count': 0, 'micros': 0}, 'topics': topics, 'unloads': 0, 'version': '0'} | more
 
 
-def topic_of(name, kept, subs):
+def topic_of(name, kept, subs, **more):
     return {'duplicates': 0, 'durable': kept, 'gone': 0, 'kept': kept, 'name': f'persistent://public/default/{name}', 'producers': 0,
-            'published': kept, 'redelivered': 0, 'refused': 0, 'room': 1048576 - kept, 'subscriptions': subs}
+            'published': kept, 'refused': 0, 'resting': False, 'room': 1048576 - kept, 'sessions': [], 'subscriptions': subs} | more
 
 
-def sub_of(name, waiting, consumers, oldest=1):
-    return {'acknowledged': 0, 'consumers': consumers, 'dead': 0, 'kind': 'Shared', 'name': name, 'oldest': oldest, 'pending': 0,
-            'redelivered': 5, 'waiting': waiting}
+def sub_of(name, waiting, consumers, oldest=1, **more):
+    return {'acknowledged': 0, 'acknowledgements': 0, 'consumers': consumers, 'dead': 0, 'deaths': 0, 'delivered': 0, 'kind': 'Shared',
+            'name': name, 'oldest': oldest, 'pending': 0, 'redelivered': 5, 'waiting': waiting} | more
+
+
+def seen_now(browser, now):
+    until(f'a look at {now}', lambda: browser.evaluate('typeof seen === "object" && seen.now'), now)
 
 
 def full_and_alone(browser, url):
@@ -243,14 +247,66 @@ def full_and_alone(browser, url):
         Stand.seen = made_up([topic_of(EVIL_TOPIC, 943719, [sub_of(EVIL_SUB, 12000, consumers, start - 7200000)])], start + after)
         if after == 0:
             browser.open(url)
-        until(f'{after} ms, {consumers} consumers', lambda: browser.evaluate('typeof seen === "object" && seen.now'), start + after)
+        seen_now(browser, start + after)
     name = f'{EVIL_TOPIC} / {EVIL_SUB}'
-    until('what is wrong', lambda: wrong(browser), [f'{EVIL_TOPIC} is 90 % full', f'{name}: no consumer for 3 minutes and 12,000 waiting'])
+    until('what is wrong', lambda: wrong(browser), [f'{EVIL_TOPIC} is 90 % full', f'{name}: no consumer for 3 minutes and 12,000 waiting, '
+                                                  'the oldest for 2 hours'])
     row = rows_of(browser, 'subs')[name]
     assert (row['Backlog'], row['Oldest'], row['Redelivered']) == ('12,000', '2 hours', '5'), row
     assert browser.evaluate(HARM)
     Stand.seen = made_up([], start + 300000, closed=True)
     until('a store that failed', lambda: wrong(browser), ['Nothing is stored any more: the broker wrote to its standard error why'])
+
+
+def at_rest(browser, url):
+    """A broker without topics says what to do; one whose topics are out of memory does not say that nothing is wrong."""
+    start = 1800000000000
+    Stand.seen = made_up([], start)
+    browser.open(url)
+    seen_now(browser, start)
+    assert browser.evaluate('document.getElementById("empty").hidden === false && document.getElementById("all").hidden === true')
+    days = start - 3 * 86400000
+    letters = topic_of('mail-late-DLQ', 4, [], resting=True)
+    Stand.seen = made_up([topic_of('clicks', 219, [sub_of('archive', 219, 0, days)], resting=True), letters,
+                          topic_of('mail', 9, [sub_of('late', 0, 1)]), topic_of('alone', 7, [], resting=True)], start + 2000)
+    seen_now(browser, start + 2000)
+    until('what waits at rest', lambda: wrong(browser), ['clicks / archive: nobody is at it and 219 waiting, the oldest for 3 days',
+                                                         'mail / late: 4 dead letters in \u2068mail-late-DLQ\u2069'])
+    assert tile(browser, 2) == 219 and 'at rest' in browser.evaluate('document.querySelector("#subs tbody tr").textContent')
+    Stand.seen = made_up([topic_of('alone', 7, [], resting=True)], start + 4000)
+    seen_now(browser, start + 4000)
+    assert browser.evaluate('document.getElementById("wrong").textContent').endswith('but 1 topic keeps messages that none is to get.')
+
+
+def opened(browser, url):
+    """A row that opens tells of its sessions and its rule, and how to ask for more, and stays open. No letter turns others about."""
+    start, name = 1800000000000, 'a\u202eb'
+    session = {'address': '192.0.2.1:5', 'number': 7, 'pending': 2, 'role': 'consumer', 'room': 9, 'since': start - 60000, 'subscription': "it's"}
+    topics = [topic_of(name, 3, [sub_of("it's", 3, 1)], rule={'messages': 1000}, sessions=[session])]
+    Stand.seen = made_up(topics, start)
+    browser.open(url)
+    seen_now(browser, start)
+    assert list(rows_of(browser, 'subs')) == ["a[U+202E]b / it's"]
+    browser.evaluate('document.querySelector("#subs tbody button").click()')
+    Stand.seen = made_up(topics, start + 2000)
+    seen_now(browser, start + 2000)
+    lines = browser.evaluate('[...document.querySelectorAll(".more div")].map(one => one.textContent)')
+    assert any('the last 1,000 messages' in line for line in lines), lines
+    begun = "brokerctl disconnect $'a\\U0000202Eb' 7session 7, a consumer, from 192.0.2.1:5, for 62 seconds, 2 pending, room for 9"
+    assert begun in lines, lines
+    assert "brokerctl peek $'a\\U0000202Eb' 'it'\\''s'its next messages" in lines, lines
+    print('    an open row')
+
+
+def slow_once(browser, url):
+    """A disk is slow while it is: what was before the first look counts for nothing, and what is over fades."""
+    start, slow = 1800000000000, 'The disk is slow: a store takes 400 ms'
+    for after, count, micros, told in ((0, 1000, 900000000, []), (2000, 1010, 904000000, [slow]), (30000, 1010, 904000000, [])):
+        Stand.seen = made_up([], start + after, stores={'count': count, 'micros': micros})
+        if after == 0:
+            browser.open(url)
+        seen_now(browser, start + after)
+        until('what is said of the disk', lambda: wrong(browser), told)
 
 
 def crowded(browser, url):
@@ -279,6 +335,9 @@ def with_stand(browser):
     threading.Thread(target=server.serve_forever, daemon=True).start()
     url = f'http://127.0.0.1:{server.server_address[1]}/'
     full_and_alone(browser, url)
+    at_rest(browser, url)
+    opened(browser, url)
+    slow_once(browser, url)
     crowded(browser, url)
     server.shutdown()
 

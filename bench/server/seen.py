@@ -19,7 +19,7 @@ port = int(sys.argv[2]) if len(sys.argv) > 2 else 18096
 FULL = 'persistent://public/default/'
 COUNT = 40
 NACK = '&negativeAckRedeliveryDelay=1'
-SAMPLE = re.compile(r'pulsar_broker_([a-z_]+)(?:\{(.*)\})? ([0-9.]+)')
+SAMPLE = re.compile(r'(?:pulsar_broker_)?([a-z_]+)(?:\{(.*)\})? ([0-9.]+)')
 LABEL = re.compile(r'([a-z]+)="((?:[^"\\]|\\.)*)"')
 
 
@@ -39,6 +39,10 @@ def overview():
 
 def topic_of(seen, name):
     return next((each for each in seen['topics'] if each['name'] == FULL + name), None)
+
+
+def in_memory(seen):
+    return [each for each in seen['topics'] if not each['resting']]
 
 
 def sub_of(topic, name):
@@ -110,11 +114,13 @@ def millis_of(text):
 
 def nothing_yet():
     seen = overview()
-    assert seen['topics'] == [] and seen['sessions'] == 0 and seen['closed'] is seen['open'] is False, seen
+    assert seen['topics'] == [] and seen['sessions'] == 0 and seen['closed'] is seen['full'] is seen['open'] is False, seen
     assert seen['connections'] == 1 and seen['loads'] == seen['unloads'] == 0, seen
     assert abs(seen['now'] - time.time() * 1000) < 5000 and 0 <= seen['now'] - seen['started'] < 30000, seen
     assert seen['memory'] > 1 << 20 and seen['stores'] == {'count': 0, 'micros': 0}, seen
     assert seen['rows'] == {'deleted': 0, 'inserted': 0, 'updated': 0}, seen
+    assert seen['refusals'] == [] and seen['silenced'] == 0, seen
+    assert 0 < seen['descriptors'] < seen['mostDescriptors'] and seen['cpu'] >= 0, seen
     print('ok nothing was done')
 
 
@@ -131,6 +137,7 @@ def who_is_there():
     assert {(each['address'], each['role'], each.get('subscription')) for each in got} == wanted, got
     assert all(before <= each['since'] <= seen['now'] for each in got), (before, got, seen['now'])
     assert [each['number'] for each in got] == [1, 2, 3], got
+    assert [each.get('producerName') for each in got] == ['w', None, None], got
     publish(writer, 3)
     ids = [message['messageId'] for message in take(reader, 3)]
     reader.send(json.dumps({'messageId': ids[0]}))
@@ -163,7 +170,7 @@ def exclusive():
         ack(reader, message)
     taken += take(reader, 4)
     shows('acknowledgements', 'all', 'sole', pending=10, waiting=COUNT - 14, acknowledged=4, delivered=14,
-          redelivered=0, oldest=millis_of(taken[4]['publishTime']))
+          acknowledgements=4, redelivered=0, oldest=millis_of(taken[4]['publishTime']))
     told = admin('all', type='stats', subscription='sole')
     assert (told['acknowledged'], told['live'], told['pending']) == (4, COUNT - 4, 10), told
     assert admin('all', type='seek', subscription='sole', position='earliest') == {'result': 'ok'}
@@ -180,7 +187,7 @@ def failover():
     taken = take(first, COUNT)
     shows('a spare consumer', 'all', 'spare', kind='Failover', consumers=2, pending=COUNT, waiting=0)
     first.send(json.dumps({'type': 'acknowledgeCumulative', 'messageId': taken[COUNT - 5]['messageId']}))
-    shows('up to a message', 'all', 'spare', pending=4, waiting=0, acknowledged=COUNT - 4)
+    shows('up to a message', 'all', 'spare', pending=4, waiting=0, acknowledged=COUNT - 4, acknowledgements=1)
     ends(first)
     assert [each['messageId'] for each in take(second, 4)] == [each['messageId'] for each in taken[-4:]]
     shows('the spare one takes over', 'all', 'spare', consumers=1, pending=4, delivered=COUNT + 4, redelivered=0)
@@ -240,11 +247,11 @@ def dying():
         give_back(reader, message)
     for message in take(reader, 5):
         give_back(reader, message)
-    shows('letters', 'all', 'dying', dead=5, pending=COUNT - 5, acknowledged=0, redelivered=5, delivered=COUNT + 5)
+    shows('letters', 'all', 'dying', dead=5, deaths=5, pending=COUNT - 5, acknowledged=0, redelivered=5, delivered=COUNT + 5)
     seen = overview()
     assert topic_of(seen, 'grave')['refused'] > 0, seen
     ends(*holders)
-    shows('are moved', 'all', 'dying', dead=0, acknowledged=5, pending=COUNT - 5)
+    shows('are moved', 'all', 'dying', dead=0, deaths=5, acknowledged=5, pending=COUNT - 5)
     shows('and stand there', 'grave', published=5, kept=5)
     ends(reader)
 
@@ -270,6 +277,7 @@ def trimmed():
     seen = until('messages go', lambda seen: topic_of(seen, 'short')['gone'] == 192)
     topic = topic_of(seen, 'short')
     assert (topic['kept'], topic['published'], topic['durable']) == (8, 200, 200), topic
+    assert topic['rule'] == {'messages': 0} and 'rule' not in topic_of(seen, 'all'), seen
     assert admin('short', type='stats', subscription='s')['gone'] == 192
     ends(reader, writer)
 
@@ -290,7 +298,7 @@ def adds_up(seen):
         for sub in topic['subscriptions']:
             assert topic['kept'] == sub['acknowledged'] + sub['waiting'] + sub['pending'] + sub['dead'], (topic, sub)
     assert seen['sessions'] == sum(len(each['sessions']) for each in seen['topics']), seen
-    assert seen['loads'] - seen['unloads'] == len(seen['topics']), seen
+    assert seen['loads'] - seen['unloads'] == len(in_memory(seen)), seen
     print(f'ok {sum(len(each["subscriptions"]) for each in seen["topics"])} subscriptions add up')
 
 
@@ -302,8 +310,8 @@ def samples(text):
             described.add(line.split(' ')[2])
             continue
         name, labels, value = SAMPLE.fullmatch(line).groups()
-        base = 'pulsar_broker_' + re.sub(r'_(bucket|sum|count)$', '', name)
-        assert base in described, line
+        base = re.sub(r'_(bucket|sum|count)$', '', name)
+        assert (name if name.startswith('process_') else 'pulsar_broker_' + base) in described, line
         found[(name, tuple(sorted(LABEL.findall(labels or ''))))] = float(value)
     return found
 
@@ -312,16 +320,23 @@ OF_TOPIC = {'messages': 'kept', 'trimmed_messages_total': 'gone', 'room_messages
             'published_total': 'published', 'duplicates_total': 'duplicates', 'refused_total': 'refused'}
 OF_SUBSCRIPTION = {'waiting_messages': 'waiting', 'pending_messages': 'pending', 'acknowledged_messages': 'acknowledged',
                    'dead_letters': 'dead', 'consumers': 'consumers', 'delivered_total': 'delivered',
-                   'redelivered_total': 'redelivered'}
+                   'redelivered_total': 'redelivered', 'acknowledgements_total': 'acknowledgements', 'deaths_total': 'deaths'}
+# What another look changes, or the system.
+CHANGES = {'connections', 'resident_memory_bytes', 'database_bytes', 'log_bytes',
+           'topic_journal_lines', 'store_duration_seconds_bucket', 'process_cpu_seconds_total', 'process_open_fds',
+           'process_resident_memory_bytes'}
 
 
 def wanted_of(seen):
     """The same numbers, by the overview."""
-    found = {('is_storing', ()): 1, ('info', (('version', seen['version']),)): 1, ('sessions', ()): seen['sessions'],
+    found = {('is_storing', ()): 1, ('is_full', ()): 0, ('info', (('version', seen['version']),)): 1, ('sessions', ()): seen['sessions'],
              ('backups_total', ()): seen['backups']['made'], ('backup_failures_total', ()): seen['backups']['failed'],
-             ('open_topics', ()): len(seen['topics']), ('start_time_seconds', ()): seen['started'] / 1000,
+             ('open_topics', ()): len(in_memory(seen)), ('resting_topics', ()): len(seen['topics']) - len(in_memory(seen)),
+             ('start_time_seconds', ()): seen['started'] / 1000, ('process_start_time_seconds', ()): seen['started'] / 1000,
+             ('sessions_ended_by_silence_total', ()): seen['silenced'], ('process_max_fds', ()): seen['mostDescriptors'],
              ('topic_loads_total', ()): seen['loads'], ('topic_unloads_total', ()): seen['unloads']}
     found |= {(f'rows_{key}_total', ()): value for key, value in seen['rows'].items()}
+    found |= {('refusals_total', (('fault', f'F{each["fault"]}'),)): each['count'] for each in seen['refusals']}
     found[('store_duration_seconds_count', ())] = seen['stores']['count']
     found[('store_duration_seconds_sum', ())] = seen['stores']['micros'] / 1e6
     for topic in seen['topics']:
@@ -329,6 +344,7 @@ def wanted_of(seen):
         found |= {(f'topic_{name}', at): topic[key] for name, key in OF_TOPIC.items()}
         found[('topic_durable_messages', at)] = topic['durable'] - topic['gone']
         found[('topic_sessions', at)] = len(topic['sessions'])
+        found[('topic_is_resting', at)] = int(topic['resting'])
         for sub in topic['subscriptions']:
             at = tuple(sorted([('topic', topic['name']), ('subscription', sub['name']), ('kind', sub['kind'])]))
             found |= {(f'subscription_{name}', at): sub[key] for name, key in OF_SUBSCRIPTION.items()}
@@ -352,7 +368,7 @@ def metrics_agree(seen):
         assert age - 0.001 <= value < age + 5, (labels, value, age)
     rest = set(got) - set(wanted) - set(ages)
     assert got[('connections', ())] in (1, 2), got
-    assert {name for name, _ in rest} == {'connections', 'store_duration_seconds_bucket', 'resident_memory_bytes', 'topic_journal_lines'}, rest
+    assert {name for name, _ in rest} == CHANGES, {name for name, _ in rest} ^ CHANGES
     print(f'ok {len(got)} numbers of /metrics')
     if shutil.which('promtool'):
         told = subprocess.run(['promtool', 'check', 'metrics'], input=text, capture_output=True, text=True)
@@ -392,18 +408,21 @@ def open_to_others():
 
 
 def again(broker):
-    """A topic that is not in memory is not loaded by a look."""
+    """A topic that is not in memory is not loaded by a look, and is told as it is at rest."""
     broker.kill()
     broker.start()
     for _ in range(3):
         seen = overview()
-        assert seen['topics'] == [] and seen['loads'] == 0, seen
+        assert in_memory(seen) == [] and seen['loads'] == 0, seen
+        topic = topic_of(seen, 'all')
+        assert (topic['kept'], topic['durable'], topic['published'], topic['sessions']) == (COUNT, COUNT, 0, []), topic
+        assert (sub_of(topic, 'sole')['waiting'], sub_of(topic, 'sole')['pending']) == (COUNT, 0), topic
     reader = consumer(port, 'all', 'sole')
     take(reader, COUNT)
     shows('after a start', 'all', kept=COUNT, durable=COUNT, published=0, duplicates=0)
     shows('with its subscriptions', 'all', 'sole', pending=COUNT, waiting=0, delivered=COUNT)
     seen = overview()
-    assert (seen['loads'], len(seen['topics'])) == (1, 1), seen
+    assert (seen['loads'], len(in_memory(seen))) == (1, 1), seen
     ends(reader)
 
 

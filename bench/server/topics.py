@@ -91,10 +91,10 @@ def held(step):
 
 
 def looks():
-    """A look brings no topic into memory: as many as came and have not left are there."""
+    """A look brings no topic into memory: as many as came and have not left are there. The others are told of, too."""
     first, second = overview(), overview()
     for seen in (first, second):
-        assert len(seen['topics']) == seen['loads'] - seen['unloads'] <= MOST, seen
+        assert sum(not each['resting'] for each in seen['topics']) == seen['loads'] - seen['unloads'] <= MOST, seen
         assert any(each['name'].endswith('/held') and each['published'] == 1 for each in seen['topics']), seen
     assert first['loads'] == second['loads'] and first['unloads'] == second['unloads'], (first, second)
     assert count < MOST or first['unloads'] > 0, first
