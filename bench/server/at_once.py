@@ -17,7 +17,7 @@ from filled import fill
 
 program = sys.argv[1]
 port = int(sys.argv[2]) if len(sys.argv) > 2 else 18113
-messages = int(sys.argv[3]) if len(sys.argv) > 3 else 600_000
+messages = int(sys.argv[3]) if len(sys.argv) > 3 else 1_000_000
 turns = int(sys.argv[4]) if len(sys.argv) > 4 else 40
 WANTED, PUBLISHERS, LEAST = 3, 2, 0.02
 ADMIN = '/ws/v2/admin/persistent/public/default/big'
