@@ -147,7 +147,8 @@ def compare(browser, writers):
     until(f'{len(kept)} topics with what they keep', lambda: {
         name: int(number(row['Kept'])) for name, row in rows_of(browser, 'topics').items()}, kept)
     until('the backlog of all', lambda: tile(browser, 2), orders + payments + 3)
-    words = wrong(browser)
+    # (names stand between marks that keep their direction to them)
+    words = [line.replace('\u2068', '').replace('\u2069', '') for line in wrong(browser)]
     assert any(line.startswith('orders / audit: no consumer') and f'and {orders:,} waiting' in line for line in words), words
     assert f'payments / reports: {dead:,} dead letter{"s"[dead == 1:]} in payments-reports-DLQ' in words, words
     print('    what is wrong, in words')
