@@ -1,4 +1,5 @@
 mod Found
 pub mod Agreed
 pub mod Known
+pub mod Remembering
 mod Examples

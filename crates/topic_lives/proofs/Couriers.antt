@@ -1,26 +1,25 @@
 -- Who moved dead letters, among all that are remembered: they are remembered as if nobody else were.
-use Rattle.std.proofs.Common.{◌≡◌, ℕ, ◌+◌, ◌<◌, List, [], ◌∷◌, ◌++◌, map, length, take, length-take, Some, None, Option, Bool, true, false, cond, refl, ap, ap₂, ◌∙◌, sym, subst, arith, true≢false}
+use Rattle.std.proofs.Common.{◌≡◌, ℕ, ◌+◌, ◌<◌, List, [], ◌∷◌, ◌++◌, map, take, Some, Bool, true, false, cond, refl, ap, ap₂, ◌∙◌, sym, subst, true≢false}
 use Rattle.std.specs.Prelude.{ℤ, codes, nat_eq, slice_get}
-use Rattle.std.specs.List.{AllByRecursion, IsDistinct, filter, find, starts_with}
+use Rattle.std.specs.List.{AllByRecursion, IsDistinct, filter, starts_with}
 use Rattle.std.specs.List.Sorted.{IsStrictlySortedBy}
 use Rattle.std.specs.Ordering.{nat_cmp}
 use Rattle.std.specs.declared.cmp.Ordering.TheVariants.{Less}
 use Rattle.std.specs.Int.{int_max}
-use Rattle.std.specs.Option.{option_map, option_map_or, unwrap_or}
+use Rattle.std.specs.Option.{unwrap_or}
 use Rattle.std.specs.Str.{bytes_eq}
-use Rattle.std.proofs.lemmas.Int.{ints, clamps}
-use Rattle.std.proofs.lemmas.List.{append-nil, take_more}
+use Rattle.std.proofs.lemmas.List.{append-nil}
 use Rattle.std.proofs.lemmas.List.Elements.{filter-append, recursion_from_All, All-from_recursion}
 use Rattle.std.proofs.lemmas.Map.Keys.{sorted_from_strictly_increasing, IsStrictlyIncreasing-from_sorted}
-use Rattle.std.proofs.lemmas.Option.{slice_get_within, get_or_from_slice_get}
 use Rattle.position_core.specs.declared.message.Entry.{Entry}
 use Rattle.delivery_machine.specs.State.{Author}
 use Rattle.delivery_machine.specs.Words.{Signed, signed_by, is_by, greatest, greatest_under, removed}
 use Rattle.delivery_machine.specs.Trimming.{is_author, with_author, with_authors}
 use Rattle.delivery_machine.specs.WellFormed.{AreAuthors}
-use Rattle.delivery_machine.proofs.AuthorsFound.{author_of, authors_append, greatest_of_author}
+use Rattle.delivery_machine.proofs.AuthorsFound.{author_of}
 use Rattle.delivery_machine.proofs.Behind.{same_name}
 use Rattle.delivery_machine.proofs.Remembered.{name_of, index_of, authors_more}
+use Rattle.dedup_core.proofs.Remembering.{one_more}
 use Rattle.topic_lives.specs.Deleting.{moves_letters}
 
 -- the name is of a producer that moves dead letters
@@ -124,28 +123,6 @@ other_one index e authors differs =
     ∙ ap₂ (λ (xs : List Author) (b : Bool). xs ++ cond b (author_of index e authors ∷ []) []) (other_removed e.producer differs authors) differs
     ∙ append-nil (filter moves_letters authors)
 
--- where one of its name is taken out, it stands last with the greater number
-pub as_last : (index : ℕ) (e : Entry) (authors rest : List Author) (was : Option Author) (n : ℤ) → IsDistinct bytes_eq (map name_of authors) → was ≡ find (is_author e.producer) authors → rest ≡ removed (is_author e.producer) authors
-    → n ≡ option_map_or (λ a. int_max a.sequence e.sequence) was e.sequence → rest ++ record { name = e.producer; sequence = n; index = index } ∷ [] ≡ with_author index e authors
-as_last index e authors rest was n distinct found left is =
-    ap₂ (λ (xs : List Author) (m : ℤ). xs ++ record { name = e.producer; sequence = m; index = index } ∷ []) left
-    (is ∙ ap (λ (o : Option Author). option_map_or (λ a. int_max a.sequence e.sequence) o e.sequence) found ∙ by (find (is_author e.producer) authors) ∙ ap (λ m. int_max m e.sequence) (sym (greatest_of_author e authors distinct)))
-  where
-    itself : (m : ℤ) → m ≡ int_max m m
-    itself m = omega (arith, ints, clamps)
-
-    by : (o : Option Author) → option_map_or (λ a. int_max a.sequence e.sequence) o e.sequence ≡ int_max (unwrap_or (option_map (λ a. a.sequence) o) e.sequence) e.sequence
-    by None = itself e.sequence
-    by (Some a) = refl
-
--- one message further
-pub authors_further : (gone : ℕ) (log : List Entry) (i : ℕ) (e : Entry) (authors : List Author) → slice_get log i ≡ Some e → with_author (gone + i) e (with_authors gone (take i log) authors) ≡ with_authors gone (take (i + 1) log) authors
-authors_further gone log i e authors here =
-    let low = slice_get_within log i e here in
-    let more : take (i + 1) log ≡ take i log ++ e ∷ [] = take_more log i e low ∙ ap (λ (x : Entry). take i log ++ x ∷ []) (get_or_from_slice_get log i e e here) in
-    let long : gone + length (take i log) ≡ gone + i = let taken = length-take i log in omega (arith, taken, low) in
-    ap (λ (n : ℕ). with_author n e (with_authors gone (take i log) authors)) (sym long) ∙ sym (authors_append gone (take i log) (e ∷ []) authors) ∙ ap (λ (xs : List Entry). with_authors gone xs authors) (sym more)
-
 -- who is remembered of the first messages, so many, and moves dead letters
 abbrev pub couriers_of : ℕ → ℕ → List Entry → List Author → List Author
 couriers_of i gone log authors = filter moves_letters (with_authors gone (take i log) authors)
@@ -153,12 +130,12 @@ couriers_of i gone log authors = filter moves_letters (with_authors gone (take i
 pub courier_further : (gone : ℕ) (log : List Entry) (i : ℕ) (e : Entry) (authors xs : List Author) → slice_get log i ≡ Some e → is_courier e.producer ≡ true → xs ≡ couriers_of i gone log authors
     → with_author (gone + i) e xs ≡ couriers_of (i + 1) gone log authors
 courier_further gone log i e authors xs here lasts is =
-    ap (with_author (gone + i) e) is ∙ sym (courier_one (gone + i) e (with_authors gone (take i log) authors) lasts) ∙ ap (filter moves_letters) (authors_further gone log i e authors here)
+    ap (with_author (gone + i) e) is ∙ sym (courier_one (gone + i) e (with_authors gone (take i log) authors) lasts) ∙ ap (filter moves_letters) (one_more gone log i e authors here)
 
 pub other_further : (gone : ℕ) (log : List Entry) (i : ℕ) (e : Entry) (authors xs : List Author) → slice_get log i ≡ Some e → is_courier e.producer ≡ false → xs ≡ couriers_of i gone log authors
     → xs ≡ couriers_of (i + 1) gone log authors
 other_further gone log i e authors xs here differs is =
-    is ∙ sym (other_one (gone + i) e (with_authors gone (take i log) authors) differs) ∙ ap (filter moves_letters) (authors_further gone log i e authors here)
+    is ∙ sym (other_one (gone + i) e (with_authors gone (take i log) authors) differs) ∙ ap (filter moves_letters) (one_more gone log i e authors here)
 
 pub distinct_couriers : (gone : ℕ) (log : List Entry) (i : ℕ) (authors xs : List Author) → AreAuthors gone authors → xs ≡ couriers_of i gone log authors → IsDistinct bytes_eq (map name_of xs)
 distinct_couriers gone log i authors xs are is =

@@ -1,17 +1,14 @@
 // What is left of a topic that is deleted.
-ghost use Rattle.std.specs.Prelude.{◌≡◌, ◌+◌, ◌≤◌, ◌^◌, [], IfOk, OnOk, codes, length, map, nat_eq, None};
-ghost use Rattle.std.specs.List.{IsDistinct, filter, find, position, starts_with};
-ghost use Rattle.std.specs.Int.{int_max};
-ghost use Rattle.std.specs.Option.{option_map_or};
-ghost use Rattle.std.specs.Str.{bytes_eq};
+ghost use Rattle.std.specs.Prelude.{◌≡◌, ◌+◌, ◌≤◌, ◌^◌, [], IfOk, codes, length, nat_eq, None};
+ghost use Rattle.std.specs.List.{filter, starts_with};
 ghost use Rattle.log_pieces.specs.Pieces.{joined};
 ghost use Rattle.delivery_machine.specs.Places.{snapshot_in};
-ghost use Rattle.delivery_machine.specs.Trimming.{is_author, with_author, with_authors};
+ghost use Rattle.delivery_machine.specs.Trimming.{with_authors};
 ghost use Rattle.delivery_machine.specs.WellFormed.{AreAuthors};
-ghost use Rattle.delivery_machine.specs.Words.{removed};
 ghost use Rattle.topic_lives.specs.Deleting.{emptied, is_bare, moves_letters};
 
-use delivery_machine::{Author, Message, ProducerName, Snapshot};
+use dedup_core::remember;
+use delivery_machine::{Author, ProducerName, Snapshot};
 use log_pieces::Pieces;
 use std::alloc::{AllocError, Global};
 
@@ -32,49 +29,6 @@ fn couriers_among(alloc: Global, authors: &[Author]) -> Result<Vec<Author>, Allo
         }
     }
     Ok(couriers)
-}
-
-fn place_of(authors: &[Author], name: &ProducerName) -> Option<usize>
-    ensures { result ≡ position (is_author name.now) authors.now }
-{
-    authors.iter().position(|author| author.name.is(name))
-}
-
-/// Takes the author of the name out.
-fn take_out(authors: &mut Vec<Author>, name: &ProducerName) -> Option<Author>
-    ensures found { result ≡ find (is_author name.now) authors.old.items }
-    ensures left { authors.new.items ≡ removed (is_author name.now) authors.old.items }
-{
-    match place_of(authors, name) {
-        Some(place) => Some(authors.remove(place)),
-        None => None,
-    }
-}
-
-/// The greater of the number and the author's.
-fn raised(author: Option<Author>, sequence: i64) -> i64
-    ensures { result ≡ option_map_or (λ a. int_max a.sequence sequence) author sequence }
-{
-    match author {
-        Some(author) => author.sequence.max(sequence),
-        None => sequence,
-    }
-}
-
-/// Remembers the producer of the message, the one of the index, as the last.
-fn remember(authors: &mut Vec<Author>, index: u64, message: &Message) -> Result<(), AllocError>
-    requires { IsDistinct bytes_eq (map (λ a. a.name) authors.old.items) }
-    ensures { OnOk result (authors.new.items ≡ with_author index message.now authors.old.items) }
-{
-    let entry = message.entry();
-    let name = entry.producer.clone()?;
-    let sequence = raised(take_out(authors, &name), entry.sequence);
-    authors.push(Author {
-        name,
-        sequence,
-        index,
-    })?;
-    Ok(())
 }
 
 /// Who moved dead letters to a topic: of the authors, and of the messages of the log, which so many were before.

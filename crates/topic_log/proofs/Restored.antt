@@ -18,7 +18,7 @@ use Rattle.delivery_machine.proofs.Behind.{same_name}
 use Rattle.delivery_machine.proofs.Remembered.{name_of, authors_more}
 use Rattle.dedup_core.specs.Sequences.{Numbers, AgreesWith, found, last_of, offered}
 use Rattle.dedup_core.proofs.Agreed.{same_test}
-use Rattle.topic_log.proofs.Remembering.{one_more}
+use Rattle.dedup_core.proofs.Remembering.{one_more}
 
 apart_at : (a : Author) (m : List ℕ) (ys : List Author) (k : ℕ) → k < length ys → AllByRecursion (λ n. bytes_eq m n ≡ false) (map name_of ys) → bytes_eq m (get_or ys k a).name ≡ false
 apart_at a m [] k low apart = absurd (omega (arith, low))

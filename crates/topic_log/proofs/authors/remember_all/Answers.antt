@@ -1,6 +1,7 @@
 use Rattle.std.proofs.Common.{◌+◌, sym, ap, ◌∙◌}
 use Rattle.delivery_machine.specs.Trimming.{with_author}
-use Rattle.topic_log.proofs.Remembering.{one_more, distinct_so_far}
+use Rattle.dedup_core.proofs.Remembering.{one_more}
+use Rattle.topic_log.proofs.Remembering.{distinct_so_far}
 use Rattle.topic_log.proofs.authors.remember_all.Goals as goal
 
 pub remember-requires : goal.remember-requires

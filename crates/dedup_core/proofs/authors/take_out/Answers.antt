@@ -3,7 +3,7 @@ use Rattle.std.specs.List.{position}
 use Rattle.delivery_machine.specs.State.{Author}
 use Rattle.delivery_machine.specs.Trimming.{is_author}
 use Rattle.delivery_machine.proofs.Places.{removed_there, none_removed, found_there, found_nothing}
-use Rattle.topic_lives.proofs.deleting.take_out.Goals as goal
+use Rattle.dedup_core.proofs.authors.take_out.Goals as goal
 
 pub returns-in-Some-clause-found : goal.returns-in-Some-clause-found
 returns-in-Some-clause-found c =

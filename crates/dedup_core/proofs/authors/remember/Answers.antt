@@ -8,8 +8,8 @@ use Rattle.position_core.specs.declared.message.Entry.{Entry}
 use Rattle.delivery_machine.specs.State.{Author}
 use Rattle.delivery_machine.specs.Words.{removed}
 use Rattle.delivery_machine.specs.Trimming.{is_author}
-use Rattle.topic_log.proofs.Remembering.{as_last}
-use Rattle.topic_log.proofs.authors.remember.Goals as goal
+use Rattle.dedup_core.proofs.Remembering.{as_last}
+use Rattle.dedup_core.proofs.authors.remember.Goals as goal
 
 pub returns : goal.returns
 returns c =
