@@ -25,9 +25,9 @@ use Rattle.dead_letters.proofs.Tags.{Tag, letter_tags, copy_tags, AreKnown, tags
 use Rattle.dead_letters.proofs.TargetSteps.{copies, IsApart, StaysConnected, target_apart, apart_itself}
 use Rattle.dead_letters.proofs.Topics.{all_kept, answer_goes, all_go_on, all_had, same_copies, topic_after, topic_gone, topic_again, topic_new, IsTopic}
 use Rattle.dead_letters.proofs.Outcomes.{IsDone, Outcome, outcome}
-use Rattle.dead_letters.proofs.Deaths.{safe_deaths, Stands, WasKept, behind_viewed, behind_itself, kept_gone, kept_again, safe_stored, safe_gone, safe_again, safe_most, safe_known}
+use Rattle.dead_letters.proofs.Deaths.{safe_deaths, Stands, WasKept, behind_viewed, kept_gone, kept_again, safe_stored, safe_gone, safe_again, safe_most, safe_known}
 use Rattle.dead_letters.proofs.Hands.{wanted, SourceGoes, hand_source, hand_target, hand_stored, copy_kept}
-use Rattle.dead_letters.proofs.Invariant.{IsUnder, under_after, says_later, Holds as Stays, source_moves, with_source, with_target, copied_goes}
+use Rattle.dead_letters.proofs.Invariant.{IsUnder, under_after, says_later, all_source_stored, all_target_stored, Holds as Stays, source_moves, with_source, with_target, with_source_kept, with_target_kept, copied_goes}
 
 module _ (route : Route) (target : TopicName) where
   abbrev n : List ℕ
@@ -70,8 +70,8 @@ module _ (route : Route) (target : TopicName) where
   at_source_holds w e r t holds h says leaves =
       let after = w.moved ++ done_with n w.source.state e r in
       let moves = source_moves route target w e r t holds h says in
-      let same = beside w.source.state e r t w.moved (outcome n w.source.state e r t (all_kept w.source.state (holds.source_is).reached) h) leaves in
-      with_source route target w (in_state w.source t) after w.hands holds (topic_after route.name holds.named w.source e r t h holds.source_is) moves
+      let same = beside w.source.state e r t w.moved (outcome n w.source.state e r t (all_kept w.source.state holds.source_side.is.reached) h) leaves in
+      with_source route target w (in_state w.source t) after w.hands holds (topic_after route.name holds.named w.source e r t h holds.source_side.is) moves
       (subst (λ (ds : List DeadLetter). length ds ≤ length (copies route.name (everything w.target_viewed))) (sym same) holds.in_viewed)
       (subst (λ (ds : List DeadLetter). length ds ≤ length (copies route.name (everything w.target_stored))) (sym same) holds.in_stored)
       (λ number. hand_source route target w.source w.moved (in_state w.source t) after w.target w.target_stored w.target_viewed (w.hands number) moves.goes (holds.hands number))
@@ -90,9 +90,9 @@ module _ (route : Route) (target : TopicName) where
   at_target_holds w e r u holds h says leaves =
       let stays = apart w.target.state e r u h leaves in
       let goes = answer_goes w.target.state e r u h in
-      with_target route target w (in_state w.target u) w.hands holds (topic_after route.name holds.named w.target e r u h holds.target_is)
-      (under_after w.target_viewed w.target e r u (holds.target_is).reached h (says_later w.target_stored.state w.target_viewed.state w.target.state e holds.target_lengths holds.target_ordinals says) holds.under_viewed)
-      (under_after w.target_stored w.target e r u (holds.target_is).reached h says holds.under_stored)
+      with_target route target w (in_state w.target u) w.hands holds (topic_after route.name holds.named w.target e r u h holds.target_side.is)
+      (under_after w.target_viewed w.target e r u holds.target_side.is.reached h (says_later w.target_stored.state w.target_viewed.state w.target.state e holds.target_side.lengths holds.target_side.ordinals says) holds.target_side.under_viewed)
+      (under_after w.target_stored w.target e r u holds.target_side.is.reached h says holds.target_side.under_stored)
       (subst (λ (es : List Entry). IsPrefix (copy_tags es) (letter_tags (everything w.source) (wanted target (safe_deaths n w.source.state w.moved)))) (sym (same_copies route.name w.target u goes stays.goes)) holds.copied)
       (λ number. hand_target route target w.source w.moved w.target (in_state w.target u) w.target_stored w.target_viewed (w.hands number) (all_go_on w.target u goes) (λ _. stays.connected) (holds.hands number))
       holds.alone
@@ -100,56 +100,32 @@ module _ (route : Route) (target : TopicName) where
   -- ---- snapshots
 
   pub view_source_holds : (w : World) → Is w → Is (record w { source_viewed = gone_on w.source; moved_viewed = w.moved })
-  view_source_holds w holds = record {
-    named = holds.named;
-    now = holds.now;
-    kept_viewed = kept_gone n w.source w.moved holds.now;
-    kept_stored = holds.kept_stored;
-    behind_viewed = behind_viewed n w.source w.moved (safe_most n w.source_stored w.moved_stored w.source w.moved holds.behind_stored);
-    behind_stored = holds.behind_stored;
-    ordinals = (holds.behind_stored).ordinal;
-    source_is = holds.source_is;
-    source_viewed_is = topic_gone route.name w.source holds.source_is;
-    source_stored_is = holds.source_stored_is;
-    target_is = holds.target_is;
-    target_viewed_is = holds.target_viewed_is;
-    target_stored_is = holds.target_stored_is;
-    under_viewed = holds.under_viewed;
-    under_stored = holds.under_stored;
-    target_lengths = holds.target_lengths;
-    target_ordinals = holds.target_ordinals;
-    copied = holds.copied;
-    in_viewed = holds.in_viewed;
-    in_stored = holds.in_stored;
-    hands = holds.hands;
-    alone = holds.alone;
-  }
+  view_source_holds w holds =
+      with_source_kept route target w (gone_on w.source) w.source_stored w.moved w.moved_stored holds (record {
+        stands = holds.source_side.stands;
+        kept_viewed = kept_gone n w.source w.moved holds.source_side.stands;
+        kept_stored = holds.source_side.kept_stored;
+        behind_viewed = behind_viewed n w.source w.moved (safe_most n w.source_stored w.moved_stored w.source w.moved holds.source_side.behind_stored);
+        behind_stored = holds.source_side.behind_stored;
+        ordinals = holds.source_side.behind_stored.ordinal;
+        is = holds.source_side.is;
+        viewed_is = topic_gone route.name w.source holds.source_side.is;
+        stored_is = holds.source_side.stored_is;
+      })
 
   pub store_source_holds : (w : World) → Is w → Is (record w { source_stored = w.source_viewed; moved_stored = w.moved_viewed })
-  store_source_holds w holds = record {
-    named = holds.named;
-    now = holds.now;
-    kept_viewed = holds.kept_viewed;
-    kept_stored = holds.kept_viewed;
-    behind_viewed = holds.behind_viewed;
-    behind_stored = holds.behind_viewed;
-    ordinals = omega arith;
-    source_is = holds.source_is;
-    source_viewed_is = holds.source_viewed_is;
-    source_stored_is = holds.source_viewed_is;
-    target_is = holds.target_is;
-    target_viewed_is = holds.target_viewed_is;
-    target_stored_is = holds.target_stored_is;
-    under_viewed = holds.under_viewed;
-    under_stored = holds.under_stored;
-    target_lengths = holds.target_lengths;
-    target_ordinals = holds.target_ordinals;
-    copied = holds.copied;
-    in_viewed = holds.in_viewed;
-    in_stored = holds.in_stored;
-    hands = holds.hands;
-    alone = holds.alone;
-  }
+  store_source_holds w holds =
+      with_source_kept route target w w.source_viewed w.source_viewed w.moved_viewed w.moved_viewed holds (record {
+        stands = holds.source_side.stands;
+        kept_viewed = holds.source_side.kept_viewed;
+        kept_stored = holds.source_side.kept_viewed;
+        behind_viewed = holds.source_side.behind_viewed;
+        behind_stored = holds.source_side.behind_viewed;
+        ordinals = omega arith;
+        is = holds.source_side.is;
+        viewed_is = holds.source_side.viewed_is;
+        stored_is = holds.source_side.viewed_is;
+      })
 
   -- what is stored of the target begins its messages, and so its copies
   copies_more : (past s : Topic) → IsUnder past s → length (copies route.name (everything past)) ≤ length (copies route.name (everything s))
@@ -157,74 +133,47 @@ module _ (route : Route) (target : TopicName) where
 
   had_more : (w : World) → Is w → had w.target_stored.state ≤ had w.target.state
   had_more w holds =
-      let low = front_length (everything w.target_stored) (everything w.target) (holds.under_stored).log in
-      let a = all_had route.name w.target_stored holds.target_stored_is in
-      let b = all_had route.name w.target holds.target_is in
+      let low = front_length (everything w.target_stored) (everything w.target) holds.target_side.under_stored.log in
+      let a = all_had route.name w.target_stored holds.target_side.stored_is in
+      let b = all_had route.name w.target holds.target_side.is in
       omega (arith, low, a, b)
 
   under_gone : (w : World) → Is w → IsUnder (gone_on w.target) w.target
   under_gone w holds = record {
     log = front_same (everything w.target);
-    durable = let a = (holds.under_stored).durable in let b = had_more w holds in omega (arith, a, b);
+    durable = let a = holds.target_side.under_stored.durable in let b = had_more w holds in omega (arith, a, b);
     settled = omega arith;
     ordinal = omega arith;
   }
 
   pub view_target_holds : (w : World) → Is w → Is (record w { target_viewed = gone_on w.target })
-  view_target_holds w holds = record {
-    named = holds.named;
-    now = holds.now;
-    kept_viewed = holds.kept_viewed;
-    kept_stored = holds.kept_stored;
-    behind_viewed = holds.behind_viewed;
-    behind_stored = holds.behind_stored;
-    ordinals = holds.ordinals;
-    source_is = holds.source_is;
-    source_viewed_is = holds.source_viewed_is;
-    source_stored_is = holds.source_stored_is;
-    target_is = holds.target_is;
-    target_viewed_is = topic_gone route.name w.target holds.target_is;
-    target_stored_is = holds.target_stored_is;
-    under_viewed = under_gone w holds;
-    under_stored = holds.under_stored;
-    target_lengths = had_more w holds;
-    target_ordinals = (holds.under_stored).ordinal;
-    copied = holds.copied;
-    in_viewed = let a = holds.in_stored in let b = copies_more w.target_stored w.target holds.under_stored in omega arith;
-    in_stored = holds.in_stored;
-    hands = λ number.
-        hand_stored route target w.source w.moved w.target w.target_stored w.target_viewed w.target_stored (gone_on w.target) (w.hands number)
-        (λ before a b. (a, copy_kept route target before (everything w.target_stored) (everything w.target) (holds.under_stored).log a)) (holds.hands number);
-    alone = holds.alone;
-  }
+  view_target_holds w holds =
+      with_target_kept route target w (gone_on w.target) w.target_stored holds
+      (record {
+        is = holds.target_side.is;
+        viewed_is = topic_gone route.name w.target holds.target_side.is;
+        stored_is = holds.target_side.stored_is;
+        under_viewed = under_gone w holds;
+        under_stored = holds.target_side.under_stored;
+        lengths = had_more w holds;
+        ordinals = holds.target_side.under_stored.ordinal;
+      })
+      (let a = holds.in_stored in let b = copies_more w.target_stored w.target holds.target_side.under_stored in omega arith) holds.in_stored
+      (λ before a b. (a, copy_kept route target before (everything w.target_stored) (everything w.target) holds.target_side.under_stored.log a))
 
   pub store_target_holds : (w : World) → Is w → Is (record w { target_stored = w.target_viewed })
-  store_target_holds w holds = record {
-    named = holds.named;
-    now = holds.now;
-    kept_viewed = holds.kept_viewed;
-    kept_stored = holds.kept_stored;
-    behind_viewed = holds.behind_viewed;
-    behind_stored = holds.behind_stored;
-    ordinals = holds.ordinals;
-    source_is = holds.source_is;
-    source_viewed_is = holds.source_viewed_is;
-    source_stored_is = holds.source_stored_is;
-    target_is = holds.target_is;
-    target_viewed_is = holds.target_viewed_is;
-    target_stored_is = holds.target_viewed_is;
-    under_viewed = holds.under_viewed;
-    under_stored = holds.under_viewed;
-    target_lengths = omega arith;
-    target_ordinals = omega arith;
-    copied = holds.copied;
-    in_viewed = holds.in_viewed;
-    in_stored = holds.in_viewed;
-    hands = λ number.
-        hand_stored route target w.source w.moved w.target w.target_stored w.target_viewed w.target_viewed w.target_viewed (w.hands number)
-        (λ before a b. (b, b)) (holds.hands number);
-    alone = holds.alone;
-  }
+  store_target_holds w holds =
+      with_target_kept route target w w.target_viewed w.target_viewed holds
+      (record {
+        is = holds.target_side.is;
+        viewed_is = holds.target_side.viewed_is;
+        stored_is = holds.target_side.viewed_is;
+        under_viewed = holds.target_side.under_viewed;
+        under_stored = holds.target_side.under_viewed;
+        lengths = omega arith;
+        ordinals = omega arith;
+      })
+      holds.in_viewed holds.in_viewed (λ before a b. (b, b))
 
   -- ---- a topic goes on from what is stored of it then: from a snapshot, or from what is left of it once it is deleted
 
@@ -237,23 +186,9 @@ module _ (route : Route) (target : TopicName) where
   source_goes_on : (w : World) (t : Topic) → SourceGoesOn w t → Is w → Is (record w { source = t; source_viewed = t; source_stored = t; moved_viewed = w.moved; moved_stored = w.moved })
   source_goes_on w t on holds = record {
     named = holds.named;
-    now = (on.kept).stands;
-    kept_viewed = on.kept;
-    kept_stored = on.kept;
-    behind_viewed = behind_itself n t w.moved on.kept;
-    behind_stored = behind_itself n t w.moved on.kept;
-    ordinals = omega arith;
-    source_is = on.is;
-    source_viewed_is = on.is;
-    source_stored_is = on.is;
-    target_is = holds.target_is;
-    target_viewed_is = holds.target_viewed_is;
-    target_stored_is = holds.target_stored_is;
-    under_viewed = holds.under_viewed;
-    under_stored = holds.under_stored;
-    target_lengths = holds.target_lengths;
-    target_ordinals = holds.target_ordinals;
-    copied = copied_goes route target w.source w.moved t w.moved (copy_tags (copies route.name (everything w.target))) on.goes (safe_known n w.source w.moved holds.now) holds.copied;
+    source_side = all_source_stored route t w.moved on.kept on.is;
+    target_side = holds.target_side;
+    copied = copied_goes route target w.source w.moved t w.moved (copy_tags (copies route.name (everything w.target))) on.goes (safe_known n w.source w.moved holds.source_side.stands) holds.copied;
     in_viewed = holds.in_viewed;
     in_stored = holds.in_stored;
     hands = λ number. hand_source route target w.source w.moved t w.moved w.target w.target_stored w.target_viewed (w.hands number) on.goes (holds.hands number);
@@ -265,8 +200,8 @@ module _ (route : Route) (target : TopicName) where
   reopen_source_holds w holds =
       source_goes_on w (gone_on w.source)
       (record {
-        kept = kept_gone n w.source w.moved holds.now;
-        is = topic_gone route.name w.source holds.source_is;
+        kept = kept_gone n w.source w.moved holds.source_side.stands;
+        is = topic_gone route.name w.source holds.source_side.is;
         goes = record { safe = safe_gone n w.source w.moved; done = front_same w.moved; log = front_same (everything w.source) };
       }) holds
 
@@ -275,13 +210,10 @@ module _ (route : Route) (target : TopicName) where
   delete_source_holds w may holds =
       source_goes_on w (begun_again w.source)
       (record {
-        kept = kept_again n w.source w.moved may.letters holds.now;
-        is = topic_again route.name holds.named w.source may holds.source_is;
+        kept = kept_again n w.source w.moved may.letters holds.source_side.stands;
+        is = topic_again route.name holds.named w.source may holds.source_side.is;
         goes = record { safe = safe_again n w.source w.moved may.letters; done = front_same w.moved; log = front_pushed (everything w.source) [] };
       }) holds
-
-  under_itself : (past : Topic) → past.state.gone + past.state.durable ≤ had past.state → IsUnder past past
-  under_itself past low = record { log = front_same (everything past); durable = low; settled = low; ordinal = omega arith }
 
   -- nobody is connected, so no courier is
   nobody : (before after : List Producer) → before ≡ [] → StaysConnected route.name before after
@@ -296,29 +228,15 @@ module _ (route : Route) (target : TopicName) where
 
   target_goes_on : (w : World) (u : Topic) → TargetGoesOn w u → Is w → Is (record w { target = u; target_viewed = u; target_stored = u })
   target_goes_on w u on holds =
-      let more = copies_more w.target_stored w.target holds.under_stored in
+      let more = copies_more w.target_stored w.target holds.target_side.under_stored in
       let had = holds.in_stored in
       let was : length (wanted target w.moved) ≤ length (copies route.name (everything w.target)) = omega arith in
       let now : length (wanted target w.moved) ≤ length (copies route.name (everything u)) = subst (λ (es : List Entry). length (wanted target w.moved) ≤ length (copies route.name es)) (sym on.same) was in
-      let begins : IsPrefix (everything w.target_stored) (everything u) = subst (IsPrefix (everything w.target_stored)) (sym on.same) (holds.under_stored).log in
+      let begins : IsPrefix (everything w.target_stored) (everything u) = subst (IsPrefix (everything w.target_stored)) (sym on.same) holds.target_side.under_stored.log in
       record {
         named = holds.named;
-        now = holds.now;
-        kept_viewed = holds.kept_viewed;
-        kept_stored = holds.kept_stored;
-        behind_viewed = holds.behind_viewed;
-        behind_stored = holds.behind_stored;
-        ordinals = holds.ordinals;
-        source_is = holds.source_is;
-        source_viewed_is = holds.source_viewed_is;
-        source_stored_is = holds.source_stored_is;
-        target_is = on.is;
-        target_viewed_is = on.is;
-        target_stored_is = on.is;
-        under_viewed = under_itself u on.durable;
-        under_stored = under_itself u on.durable;
-        target_lengths = omega arith;
-        target_ordinals = omega arith;
+        source_side = holds.source_side;
+        target_side = all_target_stored route u on.durable on.is;
         copied = subst (λ (es : List Entry). IsPrefix (copy_tags (copies route.name es)) (letter_tags (everything w.source) (wanted target (safe_deaths n w.source.state w.moved)))) (sym on.same) holds.copied;
         in_viewed = now;
         in_stored = now;
@@ -332,12 +250,12 @@ module _ (route : Route) (target : TopicName) where
 
   pub reopen_target_holds : (w : World) → IsDeserted w.target.state → Is w → Is (record w { target = gone_on w.target; target_viewed = gone_on w.target; target_stored = gone_on w.target })
   reopen_target_holds w deserted holds =
-      target_goes_on w (gone_on w.target) (record { deserted = deserted; is = topic_gone route.name w.target holds.target_is; same = refl; durable = omega arith }) holds
+      target_goes_on w (gone_on w.target) (record { deserted = deserted; is = topic_gone route.name w.target holds.target_side.is; same = refl; durable = omega arith }) holds
 
   pub delete_target_holds : (w : World) → IsDeletable w.target.state → Is w → Is (record w { target = begun_again w.target; target_viewed = begun_again w.target; target_stored = begun_again w.target })
   delete_target_holds w may holds =
       target_goes_on w (begun_again w.target)
-      (record { deserted = may.deserted; is = topic_again route.name holds.named w.target may holds.target_is; same = append-nil (everything w.target); durable = omega arith }) holds
+      (record { deserted = may.deserted; is = topic_again route.name holds.named w.target may holds.target_side.is; same = append-nil (everything w.target); durable = omega arith }) holds
 
   -- ---- everything that is not stored is gone
 
@@ -345,12 +263,12 @@ module _ (route : Route) (target : TopicName) where
   copied_stored w holds =
       let past = w.source_stored in
       let g = wanted target (safe_deaths n w.source.state w.moved) in
-      let more = safe_stored n past w.moved_stored w.source w.moved holds.kept_stored holds.behind_stored in
+      let more = safe_stored n past w.moved_stored w.source w.moved holds.source_side.kept_stored holds.source_side.behind_stored in
       let known : AreKnown (everything past) (safe_deaths n w.source.state w.moved) =
-      all_front _ (safe_deaths n w.source.state w.moved) more.0 (subst (AreKnown (everything past)) (sym more.1) (safe_known n past w.moved_stored (holds.kept_stored).stands)) in
-      let same : letter_tags (everything w.source) g ≡ letter_tags (everything past) g = tags_kept (everything past) (everything w.source) g (holds.behind_stored).log (all_filtered _ (is_for target) (safe_deaths n w.source.state w.moved) known) in
+      all_front _ (safe_deaths n w.source.state w.moved) more.0 (subst (AreKnown (everything past)) (sym more.1) (safe_known n past w.moved_stored holds.source_side.kept_stored.stands)) in
+      let same : letter_tags (everything w.source) g ≡ letter_tags (everything past) g = tags_kept (everything past) (everything w.source) g holds.source_side.behind_stored.log (all_filtered _ (is_for target) (safe_deaths n w.source.state w.moved) known) in
       let begins : IsPrefix (copy_tags (copies route.name (everything w.target_stored))) (copy_tags (copies route.name (everything w.target))) =
-      front_mapped _ (copies route.name (everything w.target_stored)) (copies route.name (everything w.target)) (front_filtered _ (everything w.target_stored) (everything w.target) (holds.under_stored).log) in
+      front_mapped _ (copies route.name (everything w.target_stored)) (copies route.name (everything w.target)) (front_filtered _ (everything w.target_stored) (everything w.target) holds.target_side.under_stored.log) in
       front_trans _ (letter_tags (everything past) g) _
       (front_trans _ (copy_tags (copies route.name (everything w.target))) (letter_tags (everything past) g) begins (subst (λ (ts : List Tag). IsPrefix (copy_tags (copies route.name (everything w.target))) ts) same holds.copied))
       (front_mapped _ g (wanted target (safe_deaths n past.state w.moved_stored)) (front_filtered (is_for target) (safe_deaths n w.source.state w.moved) (safe_deaths n past.state w.moved_stored) more))
@@ -366,27 +284,13 @@ module _ (route : Route) (target : TopicName) where
         hands = idle;
       })
   crash_holds w holds =
-      let fewer = front_length (wanted target w.moved_stored) (wanted target w.moved) (front_filtered (is_for target) w.moved_stored w.moved (holds.behind_stored).done) in
+      let fewer = front_length (wanted target w.moved_stored) (wanted target w.moved) (front_filtered (is_for target) w.moved_stored w.moved holds.source_side.behind_stored.done) in
       let had = holds.in_stored in
       let still : length (wanted target w.moved_stored) ≤ length (copies route.name (everything w.target_stored)) = omega arith in
       record {
         named = holds.named;
-        now = (holds.kept_stored).stands;
-        kept_viewed = holds.kept_stored;
-        kept_stored = holds.kept_stored;
-        behind_viewed = behind_itself n w.source_stored w.moved_stored holds.kept_stored;
-        behind_stored = behind_itself n w.source_stored w.moved_stored holds.kept_stored;
-        ordinals = omega arith;
-        source_is = holds.source_stored_is;
-        source_viewed_is = holds.source_stored_is;
-        source_stored_is = holds.source_stored_is;
-        target_is = holds.target_stored_is;
-        target_viewed_is = holds.target_stored_is;
-        target_stored_is = holds.target_stored_is;
-        under_viewed = under_itself w.target_stored (holds.under_stored).settled;
-        under_stored = under_itself w.target_stored (holds.under_stored).settled;
-        target_lengths = omega arith;
-        target_ordinals = omega arith;
+        source_side = all_source_stored route w.source_stored w.moved_stored holds.source_side.kept_stored holds.source_side.stored_is;
+        target_side = all_target_stored route w.target_stored holds.target_side.under_stored.settled holds.target_side.stored_is;
         copied = copied_stored w holds;
         in_viewed = still;
         in_stored = still;
@@ -408,22 +312,8 @@ module _ (route : Route) (target : TopicName) where
       let b = new_topic other ledger_size in
       record {
         named = named;
-        now = stands_fresh source ledger_size;
-        kept_viewed = kept_fresh source ledger_size;
-        kept_stored = kept_fresh source ledger_size;
-        behind_viewed = behind_itself n a [] (kept_fresh source ledger_size);
-        behind_stored = behind_itself n a [] (kept_fresh source ledger_size);
-        ordinals = omega arith;
-        source_is = topic_new route.name source ledger_size;
-        source_viewed_is = topic_new route.name source ledger_size;
-        source_stored_is = topic_new route.name source ledger_size;
-        target_is = topic_new route.name other ledger_size;
-        target_viewed_is = topic_new route.name other ledger_size;
-        target_stored_is = topic_new route.name other ledger_size;
-        under_viewed = under_itself b (omega arith);
-        under_stored = under_itself b (omega arith);
-        target_lengths = omega arith;
-        target_ordinals = omega arith;
+        source_side = all_source_stored route a [] (kept_fresh source ledger_size) (topic_new route.name source ledger_size);
+        target_side = all_target_stored route b (omega arith) (topic_new route.name other ledger_size);
         copied = ([], refl);
         in_viewed = omega arith;
         in_stored = omega arith;

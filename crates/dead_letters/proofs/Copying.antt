@@ -96,13 +96,13 @@ module _ (route : Route) (target : TopicName) where
         let front = front_shorter held.before w.moved (safe_deaths n w.source.state w.moved) to_before to_moved held.early in
         let a = front_length (wanted target held.before) (wanted target w.moved) (front_filtered (is_for target) held.before w.moved front) in
         let b = holds.in_stored in
-        let c = front_length (copies route.name (everything w.target_stored)) (copies route.name (everything w.target)) (front_filtered _ (everything w.target_stored) (everything w.target) (holds.under_stored).log) in
+        let c = front_length (copies route.name (everything w.target_stored)) (copies route.name (everything w.target)) (front_filtered _ (everything w.target_stored) (everything w.target) holds.target_side.under_stored.log) in
         omega arith
 
     rises : Rise (held.before ++ held.letter ∷ held.after)
     rises =
         let front = front_before w.moved _ (dead_at w.source.state n) (front_of_taken (safe_at w.source.state n) (dead_at w.source.state n)) in
-        subst Rise held.stands (rise_front (safe_deaths n w.source.state w.moved) front.0 (subst Rise (sym front.1) (holds.now).rise))
+        subst Rise held.stands (rise_front (safe_deaths n w.source.state w.moved) front.0 (subst Rise (sym front.1) holds.source_side.stands.rise))
 
     earlier : AreBelow held.letter.ordinal (wanted target held.before)
     earlier = all_filtered _ (is_for target) held.before (rise_before held.before held.letter held.after rises)
@@ -111,9 +111,9 @@ module _ (route : Route) (target : TopicName) where
     room =
         let s = w.source.state in
         let front = front_before w.moved _ (dead_at s n) (front_of_taken (safe_at s n) (dead_at s n)) in
-        let all = all_front _ (safe_deaths n s w.moved) front.0 (subst (AreBelow s.next_ordinal) (sym front.1) (holds.now).below) in
+        let all = all_front _ (safe_deaths n s w.moved) front.0 (subst (AreBelow s.next_ordinal) (sym front.1) holds.source_side.stands.below) in
         let own = (all_back (λ (d : DeadLetter). d.ordinal < s.next_ordinal) held.before (held.letter ∷ held.after) (subst (AreBelow s.next_ordinal) held.stands all)).0 in
-        let last = (all_kept s (holds.source_is).reached).well.ordinals in
+        let last = (all_kept s holds.source_side.is.reached).well.ordinals in
         let most = last.last_ordinal in
         omega arith
 
@@ -127,7 +127,7 @@ module _ (route : Route) (target : TopicName) where
     choice =
         let xs = copy_tags (copies route.name (everything w.target)) in
         let low : length before_tags ≤ length xs = subst (λ (k : ℕ). k ≤ length xs) (sym (length-map (wanted target held.before) (letter_tag (everything w.source)))) (subst (λ (k : ℕ). length (wanted target held.before) ≤ k) (sym (length-map (copies route.name (everything w.target)) copy_tag)) few) in
-        elim (front_or_more xs (holds.copied).0 before_tags (letter_tag (everything w.source) held.letter) after_tags ((holds.copied).1 ∙ parts) low) [
+        elim (front_or_more xs holds.copied.0 before_tags (letter_tag (everything w.source) held.letter) after_tags (holds.copied.1 ∙ parts) low) [
           | inl a ↦ inl (a.0, (after_tags, sym parts))
           | inr b ↦ inr b
         ]
@@ -143,7 +143,7 @@ module _ (route : Route) (target : TopicName) where
 
       numbers : greatest_under q.name (known w.target.state) ≡ greatest (map (λ (t : Tag). t.0) (copy_tags (copies route.name (everything w.target))))
       numbers =
-          ap (λ (name : List ℕ). greatest_under name (known w.target.state)) courier.2 ∙ (holds.target_is).numbers
+          ap (λ (name : List ℕ). greatest_under name (known w.target.state)) courier.2 ∙ holds.target_side.is.numbers
           ∙ ap greatest (signed_copies route.name (everything w.target) ∙ sequences (copies route.name (everything w.target)))
 
       fresh_number : copy_tags (copies route.name (everything w.target)) ≡ before_tags → is_duplicate w.target.state q (sequence_of l.ordinal) ≡ false
@@ -171,7 +171,7 @@ module _ (route : Route) (target : TopicName) where
 
       -- so many as the topic has had
       all_there : length (everything w.target) ≡ had w.target.state
-      all_there = all_had route.name w.target holds.target_is
+      all_there = all_had route.name w.target holds.target_side.is
 
       appended : (r : Reply) (u : State) → Asked r u → u ≡ with_message w.target.state entry → copy_tags (copies route.name (everything w.target)) ≡ before_tags → ((more : List Tag) × (before_tags ++ letter_tag (everything w.source) held.letter ∷ more ≡ Wanted w))
           → Goal w number (Copied l p (had w.target.state + 1)) u
@@ -268,6 +268,6 @@ module _ (route : Route) (target : TopicName) where
     pub moved_moves : (number : ℕ) (r : Reply) (t : State) → HasCopy route target held.before (everything w.target_stored) → HasCopy route target held.before (everything w.target_viewed) → Answers w.source.state (DeadDone n l.ordinal) r t
         → Is (record w { source = in_state w.source t; moved = w.moved ++ done_with n w.source.state (DeadDone n l.ordinal) r; hands = with_hand number Empty w.hands })
     moved_moves number r t stored viewed h =
-        let out = outcome n w.source.state (DeadDone n l.ordinal) r t (all_kept w.source.state (holds.source_is).reached) h in
+        let out = outcome n w.source.state (DeadDone n l.ordinal) r t (all_kept w.source.state holds.source_side.is.reached) h in
         source_by route target w number Empty (DeadDone n l.ordinal) r t holds h refl
         (counts (everything w.target_viewed) viewed holds.in_viewed r t out) (counts (everything w.target_stored) stored holds.in_stored r t out) tt (λ x. x)

@@ -100,7 +100,7 @@ module _ (route : Route) (target : TopicName) where
   pub empty_moves : (w : World) (number : ℕ) (r : Reply) (t : State) → Is w → Answers w.source.state (DeadNext n) r t
       → Is (record w { source = in_state w.source t; moved = w.moved ++ []; hands = with_hand number (kept_for target (after Empty r)) w.hands })
   empty_moves w number r t holds h =
-      let shown = next_hand route target w.source w.moved w.target w.target_stored w.target_viewed (holds.source_is).past r t h in
+      let shown = next_hand route target w.source w.moved w.target w.target_stored w.target_viewed holds.source_side.is.past r t h in
       source_by route target w number (kept_for target (after Empty r)) (DeadNext n) r t holds h refl
       (unmoved w (length (copies route.name (everything w.target_viewed))) holds.in_viewed) (unmoved w (length (copies route.name (everything w.target_stored))) holds.in_stored) shown.0 shown.1
 
@@ -138,7 +138,7 @@ module _ (route : Route) (target : TopicName) where
       let alone : is_connected s route.name ≡ false = not_refused (is_connected s route.name) ProducerBusy _ h.0 in
       let given : p ≡ s.next_producer = let e = h.1.3.0 in cc in
       let is : u ≡ with_producer s new = h.1.3.1 in
-      let all = all_kept s (holds.target_is).reached in
+      let all = all_kept s holds.target_side.is.reached in
       let none : find (is_producer s.next_producer) s.producers ≡ None = none_found s.next_producer s.producers (recursion_from_All (λ (m : ℕ). m < s.next_producer) (map (λ (q : Producer). q.number) s.producers) (all.well.connected.numbers).below) in
       let there : IsCourier route target (with_producer s new) s.next_producer = (new, found_last (is_producer s.next_producer) s.producers new none (itself s.next_producer), h.1.2.0, refl) in
       target_by route target w number (Joined l p) (AddProducer (Some route.name) (negsuc 0)) (ProducerAdded p auto last) u holds h refl refl
@@ -217,7 +217,7 @@ module _ (route : Route) (target : TopicName) where
       by true e =
           let low : count ≤ w.target.state.gone + w.target.state.durable = subst (λ (k : ℕ). count ≤ k) is (at_most count durable e) in
           quiet w number (Moved l) Progress (reply.Progress durable all) u holds h (λ s. refl) same
-          (held.0, durable_copy w.target_stored w.target (held.0).before count holds.target_stored_is holds.under_stored low held.1, durable_copy w.target_viewed w.target (held.0).before count holds.target_viewed_is holds.under_viewed low held.1)
+          (held.0, durable_copy w.target_stored w.target (held.0).before count holds.target_side.stored_is holds.target_side.under_stored low held.1, durable_copy w.target_viewed w.target (held.0).before count holds.target_side.viewed_is holds.target_side.under_viewed low held.1)
           (λ none. absurd none)
       by false e = quiet w number (Waits l count) Progress (reply.Progress durable all) u holds h (λ s. refl) same held (λ none. absurd none)
 
@@ -230,7 +230,7 @@ module _ (route : Route) (target : TopicName) where
 
   changes_hand : (w : World) (number : ℕ) (hand : Hand) → Is w → Held w w.target hand → (IsInside route target hand → IsInside route target (w.hands number)) → Is (record w { hands = with_hand number hand w.hands })
   changes_hand w number hand holds held inside =
-      with_target route target w w.target (with_hand number hand w.hands) holds holds.target_is holds.under_viewed holds.under_stored holds.copied
+      with_target route target w w.target (with_hand number hand w.hands) holds holds.target_side.is holds.target_side.under_viewed holds.target_side.under_stored holds.copied
       (each_with (Held w w.target) number hand w.hands held (λ i other. holds.hands i))
       (alone_with route target w number hand holds (λ now. only_inside route target w number holds (inside now)))
 

@@ -118,7 +118,7 @@ module _ (route : Route) (target : TopicName) where
   source_by w number hand e r t holds h says viewed stored held outside =
       let more = w.moved ++ done_with n w.source.state e r in
       let moves = source_moves route target w e r t holds h says in
-      with_source route target w (in_state w.source t) more (with_hand number hand w.hands) holds (topic_after route.name holds.named w.source e r t h holds.source_is) moves viewed stored
+      with_source route target w (in_state w.source t) more (with_hand number hand w.hands) holds (topic_after route.name holds.named w.source e r t h holds.source_side.is) moves viewed stored
       (each_with (HandHolds route target (in_state w.source t) more w.target w.target_stored w.target_viewed) number hand w.hands
       (hand_source route target w.source w.moved (in_state w.source t) more w.target w.target_stored w.target_viewed hand moves.goes held)
       (λ i other. hand_source route target w.source w.moved (in_state w.source t) more w.target w.target_stored w.target_viewed (w.hands i) moves.goes (holds.hands i)))
@@ -133,9 +133,9 @@ module _ (route : Route) (target : TopicName) where
       → (IsInside route target hand → IsOnly w number)
       → Is (record w { target = in_state w.target u; hands = with_hand number (kept_for target hand) w.hands })
   target_by w number hand e r u holds h says says' copied stays held only =
-      with_target route target w (in_state w.target u) (with_hand number (kept_for target hand) w.hands) holds (topic_after route.name holds.named w.target e r u h holds.target_is)
-      (under_after w.target_viewed w.target e r u (holds.target_is).reached h says' holds.under_viewed)
-      (under_after w.target_stored w.target e r u (holds.target_is).reached h says holds.under_stored)
+      with_target route target w (in_state w.target u) (with_hand number (kept_for target hand) w.hands) holds (topic_after route.name holds.named w.target e r u h holds.target_side.is)
+      (under_after w.target_viewed w.target e r u holds.target_side.is.reached h says' holds.target_side.under_viewed)
+      (under_after w.target_stored w.target e r u holds.target_side.is.reached h says holds.target_side.under_stored)
       copied
       (each_with (HandHolds route target w.source w.moved (in_state w.target u) w.target_stored w.target_viewed) number (kept_for target hand) w.hands
       (kept_either target (HandHolds route target w.source w.moved (in_state w.target u) w.target_stored w.target_viewed) hand tt held)

@@ -27,8 +27,8 @@ use Rattle.dead_letters.proofs.SourceSteps.{IsCalm, Dies}
 use Rattle.dead_letters.proofs.TargetSteps.{copies}
 use Rattle.dead_letters.proofs.Outcomes.{Tells, IsDone, Outcome, outcome}
 use Rattle.dead_letters.proofs.Topics.{all_kept, answer_goes, all_go_on, IsTopic}
-use Rattle.dead_letters.proofs.Deaths.{dead_at, safe_at, safe_deaths, Stands, WasKept, IsBehind, stands_calm, behind_calm, stands_dies, behind_dies, stands_told, behind_told, safe_told, stands_done, behind_done, safe_done, safe_known}
-use Rattle.dead_letters.proofs.Hands.{wanted, SourceGoes, HandHolds, IsInside}
+use Rattle.dead_letters.proofs.Deaths.{dead_at, safe_at, safe_deaths, Stands, WasKept, IsBehind, behind_itself, stands_calm, behind_calm, stands_dies, behind_dies, stands_told, behind_told, safe_told, stands_done, behind_done, safe_done, safe_known}
+use Rattle.dead_letters.proofs.Hands.{wanted, SourceGoes, HandHolds, HasCopy, IsInside, hand_stored}
 
 -- ---- the topic that letters go to
 
@@ -105,27 +105,65 @@ says_later a b s (StoredTo count ordinal) logs ordinals says = both _ _ _ _ logs
     both p q u v low lower says = grind (arith, nat_tests)
 says_later a b s e logs ordinals says = refl
 
+module _ (route : Route) where
+  -- the topic that letters die in, as it is, as it would go on from the snapshot that was taken last, and as it goes on from what is
+  -- stored, and the deaths that were done with at each of these moments: no snapshot has a death that is not among those of now
+  pub record SourceSide (now viewed stored : Topic) (moved moved_viewed moved_stored : List DeadLetter) : Type 0 where
+    pub stands : Stands route.subscription now moved
+    pub kept_viewed : WasKept route.subscription viewed moved_viewed
+    pub kept_stored : WasKept route.subscription stored moved_stored
+    pub behind_viewed : IsBehind route.subscription viewed moved_viewed now moved
+    pub behind_stored : IsBehind route.subscription stored moved_stored now moved
+    pub ordinals : stored.state.next_ordinal ≤ viewed.state.next_ordinal
+    pub is : IsTopic route.name now
+    pub viewed_is : IsTopic route.name viewed
+    pub stored_is : IsTopic route.name stored
+
+  -- the topic that they go to, in the same three forms: its messages go on from those of each snapshot
+  pub record TargetSide (now viewed stored : Topic) : Type 0 where
+    pub is : IsTopic route.name now
+    pub viewed_is : IsTopic route.name viewed
+    pub stored_is : IsTopic route.name stored
+    pub under_viewed : IsUnder viewed now
+    pub under_stored : IsUnder stored now
+    pub lengths : had stored.state ≤ had viewed.state
+    pub ordinals : stored.state.next_ordinal ≤ viewed.state.next_ordinal
+
+  -- where all of it is stored
+  pub all_source_stored : (t : Topic) (moved : List DeadLetter) → WasKept route.subscription t moved → IsTopic route.name t → SourceSide t t t moved moved moved
+  all_source_stored t moved kept is = record {
+    stands = kept.stands;
+    kept_viewed = kept;
+    kept_stored = kept;
+    behind_viewed = behind_itself route.subscription t moved kept;
+    behind_stored = behind_itself route.subscription t moved kept;
+    ordinals = omega arith;
+    is = is;
+    viewed_is = is;
+    stored_is = is;
+  }
+
+  under_itself : (u : Topic) → u.state.gone + u.state.durable ≤ had u.state → IsUnder u u
+  under_itself u low = record { log = front_same (everything u); durable = low; settled = low; ordinal = omega arith }
+
+  pub all_target_stored : (u : Topic) → u.state.gone + u.state.durable ≤ had u.state → IsTopic route.name u → TargetSide u u u
+  all_target_stored u low is = record {
+    is = is;
+    viewed_is = is;
+    stored_is = is;
+    under_viewed = under_itself u low;
+    under_stored = under_itself u low;
+    lengths = omega arith;
+    ordinals = omega arith;
+  }
+
 module _ (route : Route) (target : TopicName) where
   -- the couriers' messages are copies of the first safe deaths that went to the topic; those of the deaths that were done with are
   -- in what is stored, and in what was viewed
   pub record Holds (w : World) : Type 0 where
     pub named : starts_with nat_eq route.name (codes "dlq/") ≡ true
-    pub now : Stands route.subscription w.source w.moved
-    pub kept_viewed : WasKept route.subscription w.source_viewed w.moved_viewed
-    pub kept_stored : WasKept route.subscription w.source_stored w.moved_stored
-    pub behind_viewed : IsBehind route.subscription w.source_viewed w.moved_viewed w.source w.moved
-    pub behind_stored : IsBehind route.subscription w.source_stored w.moved_stored w.source w.moved
-    pub ordinals : w.source_stored.state.next_ordinal ≤ w.source_viewed.state.next_ordinal
-    pub source_is : IsTopic route.name w.source
-    pub source_viewed_is : IsTopic route.name w.source_viewed
-    pub source_stored_is : IsTopic route.name w.source_stored
-    pub target_is : IsTopic route.name w.target
-    pub target_viewed_is : IsTopic route.name w.target_viewed
-    pub target_stored_is : IsTopic route.name w.target_stored
-    pub under_viewed : IsUnder w.target_viewed w.target
-    pub under_stored : IsUnder w.target_stored w.target
-    pub target_lengths : had w.target_stored.state ≤ had w.target_viewed.state
-    pub target_ordinals : w.target_stored.state.next_ordinal ≤ w.target_viewed.state.next_ordinal
+    pub source_side : SourceSide route w.source w.source_viewed w.source_stored w.moved w.moved_viewed w.moved_stored
+    pub target_side : TargetSide route w.target w.target_viewed w.target_stored
     pub copied : IsPrefix (copy_tags (copies route.name (everything w.target))) (letter_tags (everything w.source) (wanted target (safe_deaths route.subscription w.source.state w.moved)))
     pub in_viewed : length (wanted target w.moved) ≤ length (copies route.name (everything w.target_viewed))
     pub in_stored : length (wanted target w.moved) ≤ length (copies route.name (everything w.target_stored))
@@ -150,9 +188,9 @@ module _ (route : Route) (target : TopicName) where
       done = front_same w.moved;
       log = log;
     };
-    stands = stands_calm n w.source w.moved t calm log holds.now;
-    viewed = behind_calm n w.source_viewed w.moved_viewed w.source w.moved t calm log holds.behind_viewed;
-    stored = behind_calm n w.source_stored w.moved_stored w.source w.moved t calm log holds.behind_stored;
+    stands = stands_calm n w.source w.moved t calm log holds.source_side.stands;
+    viewed = behind_calm n w.source_viewed w.moved_viewed w.source w.moved t calm log holds.source_side.behind_viewed;
+    stored = behind_calm n w.source_stored w.moved_stored w.source w.moved t calm log holds.source_side.behind_stored;
   }
 
   dies_moves : (w : World) (t : Topic) → Holds w → IsPrefix (everything w.source) (everything t) → Dies n w.source.state t.state → SourceMoves w t w.moved
@@ -164,9 +202,9 @@ module _ (route : Route) (target : TopicName) where
       done = front_same w.moved;
       log = log;
     };
-    stands = stands_dies n w.source w.moved t dies log holds.now;
-    viewed = behind_dies n w.source_viewed w.moved_viewed w.source w.moved t dies log holds.behind_viewed;
-    stored = behind_dies n w.source_stored w.moved_stored w.source w.moved t dies log holds.behind_stored;
+    stands = stands_dies n w.source w.moved t dies log holds.source_side.stands;
+    viewed = behind_dies n w.source_viewed w.moved_viewed w.source w.moved t dies log holds.source_side.behind_viewed;
+    stored = behind_dies n w.source_stored w.moved_stored w.source w.moved t dies log holds.source_side.behind_stored;
   }
 
   told_moves : (w : World) (e : Event) (t : Topic) → Holds w → IsPrefix (everything w.source) (everything t) → says_stored w.source_stored.state w.source.state e ≡ true → Tells w.source.state e t.state → SourceMoves w t w.moved
@@ -175,13 +213,13 @@ module _ (route : Route) (target : TopicName) where
       let count = tells.0 in
       let ordinal = tells.1 in
       let to_stored : ordinal ≤ w.source_stored.state.next_ordinal = (tells.3 w.source_stored.state says).1 in
-      let later = holds.ordinals in
+      let later = holds.source_side.ordinals in
       let to_viewed : ordinal ≤ w.source_viewed.state.next_ordinal = omega arith in
       record {
         goes = record { safe = safe_told n s.state t.state w.moved count ordinal tells.2; done = front_same w.moved; log = log };
-        stands = stands_told n s w.moved t count ordinal tells.2 log holds.now;
-        viewed = behind_told n w.source_viewed w.moved_viewed s w.moved t count ordinal tells.2 log to_viewed holds.behind_viewed;
-        stored = behind_told n w.source_stored w.moved_stored s w.moved t count ordinal tells.2 log to_stored holds.behind_stored;
+        stands = stands_told n s w.moved t count ordinal tells.2 log holds.source_side.stands;
+        viewed = behind_told n w.source_viewed w.moved_viewed s w.moved t count ordinal tells.2 log to_viewed holds.source_side.behind_viewed;
+        stored = behind_told n w.source_stored w.moved_stored s w.moved t count ordinal tells.2 log to_stored holds.source_side.behind_stored;
       }
 
   done_moves : (w : World) (e : Event) (r : Reply) (t : Topic) → Holds w → IsPrefix (everything w.source) (everything t) → (done : IsDone n w.source.state e r t.state) → SourceMoves w t (w.moved ++ done.letter ∷ [])
@@ -191,9 +229,9 @@ module _ (route : Route) (target : TopicName) where
       done = front_pushed w.moved (done.letter ∷ []);
       log = log;
     };
-    stands = stands_done n w.source w.moved e r t done log holds.now;
-    viewed = behind_done n w.source_viewed w.moved_viewed w.source w.moved e r t done log holds.behind_viewed;
-    stored = behind_done n w.source_stored w.moved_stored w.source w.moved e r t done log holds.behind_stored;
+    stands = stands_done n w.source w.moved e r t done log holds.source_side.stands;
+    viewed = behind_done n w.source_viewed w.moved_viewed w.source w.moved e r t done log holds.source_side.behind_viewed;
+    stored = behind_done n w.source_stored w.moved_stored w.source w.moved e r t done log holds.source_side.behind_stored;
   }
 
   by_outcome : (w : World) (e : Event) (r : Reply) (t : Topic) → Holds w → IsPrefix (everything w.source) (everything t) → says_stored w.source_stored.state w.source.state e ≡ true → Outcome n w.source.state e r t.state
@@ -213,7 +251,7 @@ module _ (route : Route) (target : TopicName) where
   pub source_moves : (w : World) (e : Event) (r : Reply) (t : State) → Holds w → Answers w.source.state e r t → says_stored w.source_stored.state w.source.state e ≡ true
       → SourceMoves w (in_state w.source t) (w.moved ++ done_with n w.source.state e r)
   source_moves w e r t holds h says =
-      by_outcome w e r (in_state w.source t) holds (all_go_on w.source t (answer_goes w.source.state e r t h)) says (outcome n w.source.state e r t (all_kept w.source.state (holds.source_is).reached) h)
+      by_outcome w e r (in_state w.source t) holds (all_go_on w.source t (answer_goes w.source.state e r t h)) says (outcome n w.source.state e r t (all_kept w.source.state holds.source_side.is.reached) h)
 
   -- ---- what the world is then
 
@@ -233,23 +271,19 @@ module _ (route : Route) (target : TopicName) where
       → Holds (record w { source = t; moved = after; hands = hands })
   with_source w t after hands holds is moves in_viewed in_stored held alone = record {
     named = holds.named;
-    now = moves.stands;
-    kept_viewed = holds.kept_viewed;
-    kept_stored = holds.kept_stored;
-    behind_viewed = moves.viewed;
-    behind_stored = moves.stored;
-    ordinals = holds.ordinals;
-    source_is = is;
-    source_viewed_is = holds.source_viewed_is;
-    source_stored_is = holds.source_stored_is;
-    target_is = holds.target_is;
-    target_viewed_is = holds.target_viewed_is;
-    target_stored_is = holds.target_stored_is;
-    under_viewed = holds.under_viewed;
-    under_stored = holds.under_stored;
-    target_lengths = holds.target_lengths;
-    target_ordinals = holds.target_ordinals;
-    copied = copied_goes w.source w.moved t after (copy_tags (copies route.name (everything w.target))) moves.goes (safe_known n w.source w.moved holds.now) holds.copied;
+    source_side = record {
+      stands = moves.stands;
+      kept_viewed = holds.source_side.kept_viewed;
+      kept_stored = holds.source_side.kept_stored;
+      behind_viewed = moves.viewed;
+      behind_stored = moves.stored;
+      ordinals = holds.source_side.ordinals;
+      is = is;
+      viewed_is = holds.source_side.viewed_is;
+      stored_is = holds.source_side.stored_is;
+    };
+    target_side = holds.target_side;
+    copied = copied_goes w.source w.moved t after (copy_tags (copies route.name (everything w.target))) moves.goes (safe_known n w.source w.moved holds.source_side.stands) holds.copied;
     in_viewed = in_viewed;
     in_stored = in_stored;
     hands = held;
@@ -263,25 +297,50 @@ module _ (route : Route) (target : TopicName) where
       → Holds (record w { target = u; hands = hands })
   with_target w u hands holds is under_viewed under_stored copied held alone = record {
     named = holds.named;
-    now = holds.now;
-    kept_viewed = holds.kept_viewed;
-    kept_stored = holds.kept_stored;
-    behind_viewed = holds.behind_viewed;
-    behind_stored = holds.behind_stored;
-    ordinals = holds.ordinals;
-    source_is = holds.source_is;
-    source_viewed_is = holds.source_viewed_is;
-    source_stored_is = holds.source_stored_is;
-    target_is = is;
-    target_viewed_is = holds.target_viewed_is;
-    target_stored_is = holds.target_stored_is;
-    under_viewed = under_viewed;
-    under_stored = under_stored;
-    target_lengths = holds.target_lengths;
-    target_ordinals = holds.target_ordinals;
+    source_side = holds.source_side;
+    target_side = record {
+      is = is;
+      viewed_is = holds.target_side.viewed_is;
+      stored_is = holds.target_side.stored_is;
+      under_viewed = under_viewed;
+      under_stored = under_stored;
+      lengths = holds.target_side.lengths;
+      ordinals = holds.target_side.ordinals;
+    };
     copied = copied;
     in_viewed = holds.in_viewed;
     in_stored = holds.in_stored;
     hands = held;
     alone = alone;
+  }
+
+  -- another snapshot of the topic that letters die in is viewed or stored
+  pub with_source_kept : (w : World) (viewed stored : Topic) (moved_viewed moved_stored : List DeadLetter) → Holds w → SourceSide route w.source viewed stored w.moved moved_viewed moved_stored
+      → Holds (record w { source_viewed = viewed; source_stored = stored; moved_viewed = moved_viewed; moved_stored = moved_stored })
+  with_source_kept w viewed stored moved_viewed moved_stored holds side = record {
+    named = holds.named;
+    source_side = side;
+    target_side = holds.target_side;
+    copied = holds.copied;
+    in_viewed = holds.in_viewed;
+    in_stored = holds.in_stored;
+    hands = holds.hands;
+    alone = holds.alone;
+  }
+
+  -- and of the one that they go to: each courier's copy is there
+  pub with_target_kept : (w : World) (viewed stored : Topic) → Holds w → TargetSide route w.target viewed stored
+      → length (wanted target w.moved) ≤ length (copies route.name (everything viewed)) → length (wanted target w.moved) ≤ length (copies route.name (everything stored))
+      → ((before : List DeadLetter) → HasCopy route target before (everything w.target_stored) → HasCopy route target before (everything w.target_viewed)
+      → HasCopy route target before (everything stored) × HasCopy route target before (everything viewed))
+      → Holds (record w { target_viewed = viewed; target_stored = stored })
+  with_target_kept w viewed stored holds side in_viewed in_stored keeps = record {
+    named = holds.named;
+    source_side = holds.source_side;
+    target_side = side;
+    copied = holds.copied;
+    in_viewed = in_viewed;
+    in_stored = in_stored;
+    hands = λ number. hand_stored route target w.source w.moved w.target w.target_stored w.target_viewed stored viewed (w.hands number) keeps (holds.hands number);
+    alone = holds.alone;
   }

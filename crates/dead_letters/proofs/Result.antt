@@ -45,15 +45,15 @@ module _ (route : Route) (target : TopicName) where
       let s = v.source.state in
       let all = safe_deaths n s v.moved in
       let begins = front_before v.moved (take (safe_at s n) (dead_at s n)) (dead_at s n) (front_of_taken (safe_at s n) (dead_at s n)) in
-      let rise : Rise all = rise_front all begins.0 (subst Rise (sym begins.1) (holds.now).rise) in
-      let below : AreBelow s.next_ordinal all = all_front _ all begins.0 (subst (AreBelow s.next_ordinal) (sym begins.1) (holds.now).below) in
-      let most = ((all_kept s (holds.source_is).reached).well.ordinals).last_ordinal in
+      let rise : Rise all = rise_front all begins.0 (subst Rise (sym begins.1) holds.source_side.stands.rise) in
+      let below : AreBelow s.next_ordinal all = all_front _ all begins.0 (subst (AreBelow s.next_ordinal) (sym begins.1) holds.source_side.stands.below) in
+      let most = ((all_kept s holds.source_side.is.reached).well.ordinals).last_ordinal in
       let room : AllByRecursion (λ (d : DeadLetter). d.ordinal ≤ 2 ^ 62) all = all_weaker (λ (d : DeadLetter). d.ordinal < s.next_ordinal) (λ (d : DeadLetter). d.ordinal ≤ 2 ^ 62) all (λ d under. omega arith) below in
       are_moved route (everything v.source) log (wanted target v.moved) (wanted target all)
       (front_trans (copy_tags (copies route.name log)) (copy_tags (copies route.name (everything v.target))) (letter_tags (everything v.source) (wanted target all))
       (front_mapped copy_tag (copies route.name log) (copies route.name (everything v.target)) (front_filtered _ log (everything v.target) front)) holds.copied)
       (front_filtered (is_for target) v.moved all (front_pushed v.moved (take (safe_at s n) (dead_at s n)))) low
-      (rise_filtered (is_for target) all rise) (all_filtered _ (is_for target) all room) (all_filtered _ (is_for target) all (safe_known n v.source v.moved holds.now))
+      (rise_filtered (is_for target) all rise) (all_filtered _ (is_for target) all room) (all_filtered _ (is_for target) all (safe_known n v.source v.moved holds.source_side.stands))
 
   -- ---- what was stored of the target before the act
 
@@ -75,23 +75,23 @@ module _ (route : Route) (target : TopicName) where
   from_side : (side : Side) (w : World) (event : Event) (reply : Reply) (hands : ℕ → Hand) (v : World) → Is w → Is v → AnswersAt route side w event reply hands v → Before w v
   from_side side w event reply hands v before after h =
       let at = at_side side w event reply hands v h in
-      unstored w v after (front_trans (everything w.target_stored) (everything w.target) (everything v.target) (before.under_stored).log at.0) at.1
+      unstored w v after (front_trans (everything w.target_stored) (everything w.target) (everything v.target) before.target_side.under_stored.log at.0) at.1
 
   was_before : (w : World) (act : Act) (v : World) → Is w → Is v → Happens route target w act v → Before w v
   was_before w (at_source event reply) v before after h = from_side Source w event reply w.hands v before after h.2
   was_before w (at_target event reply) v before after h = from_side Target w event reply w.hands v before after h.2
-  was_before w view_source v before after h = unstored w v after (subst (λ (x : World). IsPrefix (everything w.target_stored) (everything x.target)) (sym h) (before.under_stored).log) (ap (λ (x : World). x.target_stored) h)
-  was_before w view_target v before after h = unstored w v after (subst (λ (x : World). IsPrefix (everything w.target_stored) (everything x.target)) (sym h) (before.under_stored).log) (ap (λ (x : World). x.target_stored) h)
-  was_before w store_source v before after h = unstored w v after (subst (λ (x : World). IsPrefix (everything w.target_stored) (everything x.target)) (sym h) (before.under_stored).log) (ap (λ (x : World). x.target_stored) h)
-  was_before w store_target v before after h = subst (Before w) (sym h) (record { log = (before.under_stored).log; copies = before.in_stored })
-  was_before w reopen_source v before after h = unstored w v after (subst (λ (x : World). IsPrefix (everything w.target_stored) (everything x.target)) (sym h.1) (before.under_stored).log) (ap (λ (x : World). x.target_stored) h.1)
-  was_before w reopen_target v before after h = subst (Before w) (sym h.1) (record { log = (before.under_stored).log; copies = before.in_stored })
-  was_before w delete_source v before after h = unstored w v after (subst (λ (x : World). IsPrefix (everything w.target_stored) (everything x.target)) (sym h.1) (before.under_stored).log) (ap (λ (x : World). x.target_stored) h.1)
+  was_before w view_source v before after h = unstored w v after (subst (λ (x : World). IsPrefix (everything w.target_stored) (everything x.target)) (sym h) before.target_side.under_stored.log) (ap (λ (x : World). x.target_stored) h)
+  was_before w view_target v before after h = unstored w v after (subst (λ (x : World). IsPrefix (everything w.target_stored) (everything x.target)) (sym h) before.target_side.under_stored.log) (ap (λ (x : World). x.target_stored) h)
+  was_before w store_source v before after h = unstored w v after (subst (λ (x : World). IsPrefix (everything w.target_stored) (everything x.target)) (sym h) before.target_side.under_stored.log) (ap (λ (x : World). x.target_stored) h)
+  was_before w store_target v before after h = subst (Before w) (sym h) (record { log = before.target_side.under_stored.log; copies = before.in_stored })
+  was_before w reopen_source v before after h = unstored w v after (subst (λ (x : World). IsPrefix (everything w.target_stored) (everything x.target)) (sym h.1) before.target_side.under_stored.log) (ap (λ (x : World). x.target_stored) h.1)
+  was_before w reopen_target v before after h = subst (Before w) (sym h.1) (record { log = before.target_side.under_stored.log; copies = before.in_stored })
+  was_before w delete_source v before after h = unstored w v after (subst (λ (x : World). IsPrefix (everything w.target_stored) (everything x.target)) (sym h.1) before.target_side.under_stored.log) (ap (λ (x : World). x.target_stored) h.1)
   was_before w delete_target v before after h =
-      subst (Before w) (sym h.1) (record { log = front_trans (everything w.target_stored) (everything w.target) _ (before.under_stored).log (front_pushed (everything w.target) []); copies = before.in_stored })
+      subst (Before w) (sym h.1) (record { log = front_trans (everything w.target_stored) (everything w.target) _ before.target_side.under_stored.log (front_pushed (everything w.target) []); copies = before.in_stored })
   was_before w (courier number now reply) v before after h = from_side _ w _ reply _ v before after h
-  was_before w (turned_away number fault) v before after h = unstored w v after (subst (λ (x : World). IsPrefix (everything w.target_stored) (everything x.target)) (sym h) (before.under_stored).log) (ap (λ (x : World). x.target_stored) h)
-  was_before w (let_go number) v before after h = unstored w v after (subst (λ (x : World). IsPrefix (everything w.target_stored) (everything x.target)) (sym h) (before.under_stored).log) (ap (λ (x : World). x.target_stored) h)
+  was_before w (turned_away number fault) v before after h = unstored w v after (subst (λ (x : World). IsPrefix (everything w.target_stored) (everything x.target)) (sym h) before.target_side.under_stored.log) (ap (λ (x : World). x.target_stored) h)
+  was_before w (let_go number) v before after h = unstored w v after (subst (λ (x : World). IsPrefix (everything w.target_stored) (everything x.target)) (sym h) before.target_side.under_stored.log) (ap (λ (x : World). x.target_stored) h)
   was_before w crash v before after h = unstored w v after (subst (λ (x : World). IsPrefix (everything w.target_stored) (everything x.target)) (sym h) (front_same (everything w.target_stored))) (ap (λ (x : World). x.target_stored) h)
 
 pub moved_once : MovedOnce
@@ -99,7 +99,7 @@ moved_once route target ledger_size acts w act v named goes acts_on =
     let before = always route target route.source ledger_size acts w named goes in
     let after = acts_hold route target w act v acts_on before in
     let was = was_before route target w act v before after acts_on in
-    let stored = (after.under_stored).log in
+    let stored = after.target_side.under_stored.log in
     let more = front_length (copies route.name (everything v.target_stored)) (copies route.name (everything v.target)) (front_filtered _ (everything v.target_stored) (everything v.target) stored) in
     let had = after.in_stored in (
       stands_in route target v (everything v.target) after (front_same (everything v.target)) (omega arith),

@@ -30,7 +30,7 @@ safe_is_stored route target ledger_size acts w named happened =
     let holds = always route target route.source ledger_size acts w named happened in
     let n = route.subscription in (
       subst (λ (ds : List DeadLetter). IsPrefix (w.moved ++ ds) (w.moved_stored ++ dead_of w.source_stored.state n)) (sym (safe_is w.source.state n))
-          (subst (IsPrefix (safe_deaths n w.source.state w.moved)) (all_safe n w.source_stored w.moved_stored holds.kept_stored)
-          (safe_stored n w.source_stored w.moved_stored w.source w.moved holds.kept_stored holds.behind_stored)),
-      durable_in route.name w.target_stored w.target holds.target_stored_is holds.under_stored,
+          (subst (IsPrefix (safe_deaths n w.source.state w.moved)) (all_safe n w.source_stored w.moved_stored holds.source_side.kept_stored)
+          (safe_stored n w.source_stored w.moved_stored w.source w.moved holds.source_side.kept_stored holds.source_side.behind_stored)),
+      durable_in route.name w.target_stored w.target holds.target_side.stored_is holds.target_side.under_stored,
     )
