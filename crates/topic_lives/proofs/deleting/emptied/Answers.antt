@@ -26,4 +26,4 @@ of-requires c =
     let a = c.in_ok-authors.ensures in let g = c.gone.ensures in let l = c.log.ensures.value in let w = c.authors.ensures in cc in
     may_go_on kept _ c.log.ensures.restarts c.requires.count
     (is_left kept c.in_ok-name.name c.ledger_size.result c.ledger.result c.next_ordinal.result (c.gone-2.result + c.count.result) c.in_ok-authors.authors.items (joined c.new.result) c.new-2.result.items
-    named sized opened next gone who c.new.ensures c.new-2.ensures.items)
+    named sized opened next gone who c.new.ensures c.new-2.ensures.items) c.new-2.ensures.items
