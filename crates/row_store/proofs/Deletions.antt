@@ -1,5 +1,5 @@
 -- A deletion writes what is left of one topic, alone; and what stands of the others then.
-use Rattle.std.proofs.Common.{◌≡◌, ◌≢◌, ℕ, Bool, true, false, not, List, [], ◌∷◌, refl, subst, arith}
+use Rattle.std.proofs.Common.{◌≡◌, ◌≢◌, ◌⊎◌, map, ℕ, Bool, true, false, not, List, [], ◌∷◌, refl, ap, subst, arith}
 use Rattle.std.specs.Prelude.{All, IsTrue, ◌&&◌, filter}
 use Rattle.std.specs.Str.{bytes_eq}
 use Rattle.std.proofs.lemmas.Slice.Eq.{bytes_eq-Decides}
@@ -8,12 +8,19 @@ use Rattle.position_core.specs.Name.{is_name}
 use Rattle.position_core.specs.TopicName.{same_topic, topic_text}
 use Rattle.position_core.specs.declared.topic_name.TopicName.{TopicName}
 use Rattle.value_texts.proofs.TopicNames.{one_topic}
+use Rattle.sqlite_trees.specs.declared.store.Store.{Ghosts}
 use Rattle.sqlite.specs.Tree.{Trees}
+use Rattle.sqlite.specs.State.{HasCleanDisk, Survives}
+use Rattle.sqlite.specs.Held.{Held, state}
 use Rattle.delivery_machine.specs.Places.{KeptTopic}
 use Rattle.row_forms.specs.Standing.{KeepsOthers, Stands}
+use Rattle.row_tables.specs.Goes.{Saves}
+use Rattle.row_tables.specs.Ready.{IsReady}
 use Rattle.row_rounds.specs.declared.saving.Write.{Write}
-use Rattle.row_rounds.specs.Rounds.{AreApart, Fits, IsNamed}
-use Rattle.row_store.proofs.Standing.{same_stands}
+use Rattle.row_rounds.specs.Rounds.{AreApart, Fits, IsNamed, Rounds, StandAll}
+use Rattle.row_store.specs.Keeping.{IsKept, StoresAll}
+use Rattle.row_store.proofs.Standing.{same_stands, stores_all}
+use Rattle.row_store.proofs.Storing.{leaves, left_from, went}
 
 -- a write is alone
 module _ (w : Write) where
@@ -25,6 +32,30 @@ module _ (w : Write) where
 
   pub alone_fits : ((db : Trees) → Fits db w) → (known : List KeptTopic) (db : Trees) → All (λ (kept : KeptTopic). Stands kept db) known → All (Fits db) (w ∷ [])
   alone_fits fits known db all = All-cons (Fits db) w [] (fits db) (All-nil (Fits db))
+
+-- what a store of one write leads to
+module _ {S : Type 0} (g : Ghosts S) (old new : Held S) (failed : Bool) (known : List KeptTopic) (w : Write)
+    (kept : IsKept g old failed known) (working : failed ≡ false) (fits : (db : Trees) → Fits db w) (writes : List Write) (one : writes ≡ w ∷ [])
+    (survives : Survives (state g old) (state g new) (λ db. IsTrue (state g old).is_open × (IsReady (state g old).now → Rounds writes (state g old).now.trees db))) where
+  pub one_went : Saves (Rounds writes) (state g old) (state g new) → HasCleanDisk (state g new) → IsReady (state g new).now × StandAll (w ∷ []) (state g old).now.trees (state g new).now.trees
+  one_went saves = went g old new failed known (w ∷ []) kept working (alone_fits w fits known) survives.clean (subst (λ (ws : List Write). Saves (Rounds ws) (state g old) (state g new)) one saves)
+
+  -- it makes this of its topic
+  module _ (left : KeptTopic) (same : w.snapshot ≡ left) where
+    lefts : map (λ (v : Write). v.snapshot) (w ∷ []) ≡ left ∷ []
+    lefts = ap (λ (k : KeptTopic). k ∷ []) same
+
+    pub one_stores : Saves (Rounds writes) (state g old) (state g new) → HasCleanDisk (state g new) → StoresAll (left ∷ []) (state g old).now.trees (state g new).now.trees
+    one_stores saves clean = stores_all (w ∷ []) (left ∷ []) (state g old).now.trees (state g new).now.trees lefts (one_went saves clean).1
+
+    -- and a crash leaves that, or what stood before
+    pub one_leaves : Survives (state g old) (state g new) (λ db. IsTrue (state g old).is_open × StoresAll (left ∷ []) (state g old).now.trees db)
+    one_leaves =
+        leaves g old new failed known (w ∷ []) kept working (alone_fits w fits known) survives.clean (left ∷ []) lefts
+        (subst (λ (ws : List Write). Survives (state g old) (state g new) (λ db. IsTrue (state g old).is_open × (IsReady (state g old).now → Rounds ws (state g old).now.trees db))) one survives)
+
+    pub one_or_before : IsTrue (state g old).is_open → HasCleanDisk (state g new) → (db : Trees) → (state g new).may_leave db → (db ≡ (state g old).now.trees) ⊎ StoresAll (left ∷ []) (state g old).now.trees db
+    one_or_before shown = left_from (state g old) (state g new) (left ∷ []) (λ early. kept.settled working early shown) one_leaves shown
 
 -- what stood of the other topics stands
 pub others_stand : (topic : List ℕ) (old new : Trees) (known : List KeptTopic) → KeepsOthers (topic ∷ []) old new → All (λ (kept : KeptTopic). topic_text kept.name ≢ topic) known

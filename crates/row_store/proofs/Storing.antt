@@ -127,6 +127,15 @@ read_through g old new failed reading stands less same was working clean shown =
     let early : HasCleanDisk (state g old) = omega (arith, less, clean) in
     subst (λ (db : Database). IfSome reading (StandsSoFar db.trees)) (sym (same clean shown)) (stands working early (was clean shown))
 
+-- and so all that such a keeper holds true, with what it says beside that
+pub holds_through : {S P : Type 0} (g : Ghosts S) (old new : Held S) (failed : Bool) (known : List KeptTopic) (reading : Option ReadTo) → IsKept g old failed known → P → IsReadOn g old failed reading
+    → new.in_transaction ≡ false → Survives (state g old) (state g new) (λ _. ⊥)
+    → (HasCleanDisk (state g new) → IsTrue (state g new).is_open → (state g new).now ≡ (state g old).now)
+    → (HasCleanDisk (state g new) → IsTrue (state g new).is_open → IsTrue (state g old).is_open)
+    → IsKept g new failed known × P × IsReadOn g new failed reading
+holds_through g old new failed known reading kept beside read autocommit survives same was =
+    (kept_through g old new failed known kept autocommit survives.clean same was survives.crash, beside, read_through g old new failed reading read survives.clean same was)
+
 -- over a clean disk a crash leaves what stood before, or that
 pub left_from : (old new : State) (kepts : List KeptTopic) → (HasCleanDisk old → IsSettled old)
     → Survives old new (λ db. IsTrue old.is_open × StoresAll kepts old.now.trees db)

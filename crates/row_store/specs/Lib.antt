@@ -3,6 +3,7 @@ pub mod Begun
 pub mod Keeping
 pub mod Found
 pub mod Counting
+pub mod Looking
 pub mod Lives
 pub mod Opened
 pub mod Unstored

@@ -1,9 +1,10 @@
 // What stands of each topic, counted without its messages being read: it is shown of topics that are not in memory. That the numbers
 // are right is tested.
-ghost use Rattle.std.specs.Prelude.{◌≡◌, ◌⊎◌, false, true, Err, IfErr, IsTrue, OnOk};
+ghost use Rattle.std.specs.Prelude.{◌≡◌, ◌⊎◌, false, IsTrue, OnOk};
 ghost use Rattle.position_core.specs.declared.fault.Fault.TheVariants.{NoMemory, StoreFailed};
 ghost use Rattle.sqlite.specs.State.{HasCleanDisk, KeepsCommit, Survives};
 ghost use Rattle.sqlite.specs.Held.{state};
+ghost use Rattle.row_store.specs.Looking.{OnlyLooks};
 
 use crate::cause::Cause;
 use crate::keeper::Keeper;
@@ -312,12 +313,7 @@ impl<S: Alter, J: Naming> Keeper<S, J> {
     /// The names of all topics that have rows, those of deleted ones among them. Refused (F1) for want of memory, and (F16) where the
     /// store answers an error, now or before. No row changes.
     pub fn topics(&mut self) -> Result<Vec<TopicName>, Fault>
-        ensures same { HasCleanDisk (state S.Store self.new.conn) → IsTrue (state S.Store self.new.conn).is_open → (state S.Store self.new.conn).now ≡ (state S.Store self.old.conn).now }
-        ensures crash { Survives (state S.Store self.old.conn) (state S.Store self.new.conn) (λ _. ⊥) }
-        ensures stays { (self.new.known ≡ self.old.known) × (self.new.reading ≡ self.old.reading) × (self.new.written ≡ self.old.written) }
-        ensures failed { self.new.failed ≡ self.old.failed }
-        ensures refused { self.old.failed ≡ true → (result ≡ Err StoreFailed) × (self.new ≡ self.old) }
-        ensures faults { IfErr result (λ fault. (fault ≡ NoMemory) ⊎ (fault ≡ StoreFailed)) }
+        ensures looks { OnlyLooks S.Store self.old self.new result }
     {
         if self.failed {
             return Err(Fault::StoreFailed);
@@ -331,12 +327,7 @@ impl<S: Alter, J: Naming> Keeper<S, J> {
     /// What is kept of the topic; none where nothing is in it. It takes some steps into each index, whatever the log holds. Refused as
     /// above. No row changes.
     pub fn count(&mut self, topic: &str) -> Result<Option<TopicCount>, Fault>
-        ensures same { HasCleanDisk (state S.Store self.new.conn) → IsTrue (state S.Store self.new.conn).is_open → (state S.Store self.new.conn).now ≡ (state S.Store self.old.conn).now }
-        ensures crash { Survives (state S.Store self.old.conn) (state S.Store self.new.conn) (λ _. ⊥) }
-        ensures stays { (self.new.known ≡ self.old.known) × (self.new.reading ≡ self.old.reading) × (self.new.written ≡ self.old.written) }
-        ensures failed { self.new.failed ≡ self.old.failed }
-        ensures refused { self.old.failed ≡ true → (result ≡ Err StoreFailed) × (self.new ≡ self.old) }
-        ensures faults { IfErr result (λ fault. (fault ≡ NoMemory) ⊎ (fault ≡ StoreFailed)) }
+        ensures looks { OnlyLooks S.Store self.old self.new result }
     {
         if self.failed {
             return Err(Fault::StoreFailed);

@@ -9,9 +9,8 @@ use Rattle.row_forms.specs.Standing.{Stands}
 use Rattle.row_rounds.specs.Rounds.{AreApart, IsNamed}
 use Rattle.row_store.specs.Begun.{begun_of, begun_without}
 use Rattle.row_store.specs.Keeping.{known_without}
-use Rattle.row_store.proofs.Deletions.{alone_apart, alone_fits, alone_named, others_stand}
-use Rattle.row_store.proofs.Standing.{begun_left, read_beside, stores_all}
-use Rattle.row_store.proofs.Storing.{leaves, left_from, went}
+use Rattle.row_store.proofs.Deletions.{alone_apart, alone_named, one_leaves, one_or_before, one_stores, one_went, others_stand}
+use Rattle.row_store.proofs.Standing.{begun_left, read_beside}
 use Rattle.row_store.proofs.keeper.Keeper.delete.Goals as goal
 
 pub save-requires-clause-named : goal.save-requires-clause-named
@@ -28,7 +27,7 @@ invariant_of-self-2 g c =
     let write = c.in-Ok.write in
     let text = topic_text write.snapshot.name in
     let does = λ (clean : HasCleanDisk new).
-    went g.S.Store k.conn c.save.new.conn k.failed k.known.items (write ∷ []) c.self.invariant.0 c.if-self.false (alone_fits write c.in-Ok.ensures.fits k.known.items) c.save.ensures.crash.clean (rw c.from_ref-2.ensures.value at (c.in-Ok-save.ensures.saved clean)) clean in
+    one_went g.S.Store k.conn c.save.new.conn k.failed k.known.items write c.self.invariant.0 c.if-self.false c.in-Ok.ensures.fits _ c.from_ref-2.ensures.value c.save.ensures.crash (c.in-Ok-save.ensures.saved clean) clean in
     let knows = λ (clean : HasCleanDisk new).
     let early : HasCleanDisk old = omega (arith, c.save.ensures.crash.clean, clean) in
     let before = c.self.invariant.0.known c.if-self.false early (c.in-Ok-save.ensures.saved clean).was_shown in
@@ -52,40 +51,32 @@ invariant_of-self-2 g c =
 pub returns-clause-rows : goal.returns-clause-rows
 returns-clause-rows g c = λ clean.
     let k = c.self.inside in
-    let write = c.in-Ok.write in
-    let same : write.snapshot ≡ c.args.deletion = c.in-Ok.ensures.snapshot ∙ c.into_snapshot.ensures in
-    let all = (went g.S.Store k.conn c.save.new.conn k.failed k.known.items (write ∷ []) c.self.invariant.0 c.if-self.false (alone_fits write c.in-Ok.ensures.fits k.known.items) c.save.ensures.crash.clean (rw c.from_ref-2.ensures.value at (c.in-Ok-save.ensures.saved clean)) clean).1 in
-    rw (← c.self.view_is) (stores_all (write ∷ []) (c.args.deletion ∷ []) (state g.S.Store k.conn).now.trees (state g.S.Store c.save.new.conn).now.trees (ap (λ kept. kept ∷ []) same) all)
+    let same : c.in-Ok.write.snapshot ≡ c.args.deletion = c.in-Ok.ensures.snapshot ∙ c.into_snapshot.ensures in
+    rw (← c.self.view_is) (one_stores g.S.Store k.conn c.save.new.conn k.failed k.known.items c.in-Ok.write c.self.invariant.0 c.if-self.false c.in-Ok.ensures.fits _ c.from_ref-2.ensures.value c.save.ensures.crash c.args.deletion same (c.in-Ok-save.ensures.saved clean) clean)
 
 pub returns-clause-crash : goal.returns-clause-crash
 returns-clause-crash g c =
     let k = c.self.inside in
-    let write = c.in-Ok.write in
-    let same : write.snapshot ≡ c.args.deletion = c.in-Ok.ensures.snapshot ∙ c.into_snapshot.ensures in
-    rw (← c.self.view_is) (leaves g.S.Store k.conn c.save.new.conn k.failed k.known.items (write ∷ []) c.self.invariant.0 c.if-self.false (alone_fits write c.in-Ok.ensures.fits k.known.items) c.save.ensures.crash.clean (c.args.deletion ∷ []) (ap (λ kept. kept ∷ []) same) (rw c.from_ref-2.ensures.value at c.save.ensures.crash))
+    let same : c.in-Ok.write.snapshot ≡ c.args.deletion = c.in-Ok.ensures.snapshot ∙ c.into_snapshot.ensures in
+    rw (← c.self.view_is) (one_leaves g.S.Store k.conn c.save.new.conn k.failed k.known.items c.in-Ok.write c.self.invariant.0 c.if-self.false c.in-Ok.ensures.fits _ c.from_ref-2.ensures.value c.save.ensures.crash c.args.deletion same)
 
 pub returns-in-Err-save-clause-crash : goal.returns-in-Err-save-clause-crash
 returns-in-Err-save-clause-crash g c =
     let k = c.self.inside in
-    let write = c.in-Ok.write in
-    let same : write.snapshot ≡ c.args.deletion = c.in-Ok.ensures.snapshot ∙ c.into_snapshot.ensures in
-    rw (← c.self.view_is) (leaves g.S.Store k.conn c.save.new.conn k.failed k.known.items (write ∷ []) c.self.invariant.0 c.if-self.false (alone_fits write c.in-Ok.ensures.fits k.known.items) c.save.ensures.crash.clean (c.args.deletion ∷ []) (ap (λ kept. kept ∷ []) same) (rw c.from_ref-2.ensures.value at c.save.ensures.crash))
+    let same : c.in-Ok.write.snapshot ≡ c.args.deletion = c.in-Ok.ensures.snapshot ∙ c.into_snapshot.ensures in
+    rw (← c.self.view_is) (one_leaves g.S.Store k.conn c.save.new.conn k.failed k.known.items c.in-Ok.write c.self.invariant.0 c.if-self.false c.in-Ok.ensures.fits _ c.from_ref-2.ensures.value c.save.ensures.crash c.args.deletion same)
 
 pub returns-in-Err-save-clause-left : goal.returns-in-Err-save-clause-left
 returns-in-Err-save-clause-left g c =
     let k = c.self.inside in
-    let write = c.in-Ok.write in
-    let same : write.snapshot ≡ c.args.deletion = c.in-Ok.ensures.snapshot ∙ c.into_snapshot.ensures in
-    let left = leaves g.S.Store k.conn c.save.new.conn k.failed k.known.items (write ∷ []) c.self.invariant.0 c.if-self.false (alone_fits write c.in-Ok.ensures.fits k.known.items) c.save.ensures.crash.clean (c.args.deletion ∷ []) (ap (λ kept. kept ∷ []) same) (rw c.from_ref-2.ensures.value at c.save.ensures.crash) in
-    rw (← c.self.view_is) (λ _ shown clean db may. left_from (state g.S.Store k.conn) (state g.S.Store c.save.new.conn) (c.args.deletion ∷ []) (λ early. c.self.invariant.0.settled c.if-self.false early shown) left shown clean db may)
+    let same : c.in-Ok.write.snapshot ≡ c.args.deletion = c.in-Ok.ensures.snapshot ∙ c.into_snapshot.ensures in
+    rw (← c.self.view_is) (λ _. one_or_before g.S.Store k.conn c.save.new.conn k.failed k.known.items c.in-Ok.write c.self.invariant.0 c.if-self.false c.in-Ok.ensures.fits _ c.from_ref-2.ensures.value c.save.ensures.crash c.args.deletion same)
 
 pub returns-clause-left : goal.returns-clause-left
 returns-clause-left g c =
     let k = c.self.inside in
-    let write = c.in-Ok.write in
-    let same : write.snapshot ≡ c.args.deletion = c.in-Ok.ensures.snapshot ∙ c.into_snapshot.ensures in
-    let left = leaves g.S.Store k.conn c.save.new.conn k.failed k.known.items (write ∷ []) c.self.invariant.0 c.if-self.false (alone_fits write c.in-Ok.ensures.fits k.known.items) c.save.ensures.crash.clean (c.args.deletion ∷ []) (ap (λ kept. kept ∷ []) same) (rw c.from_ref-2.ensures.value at c.save.ensures.crash) in
-    rw (← c.self.view_is) (λ _ shown clean db may. left_from (state g.S.Store k.conn) (state g.S.Store c.save.new.conn) (c.args.deletion ∷ []) (λ early. c.self.invariant.0.settled c.if-self.false early shown) left shown clean db may)
+    let same : c.in-Ok.write.snapshot ≡ c.args.deletion = c.in-Ok.ensures.snapshot ∙ c.into_snapshot.ensures in
+    rw (← c.self.view_is) (λ _. one_or_before g.S.Store k.conn c.save.new.conn k.failed k.known.items c.in-Ok.write c.self.invariant.0 c.if-self.false c.in-Ok.ensures.fits _ c.from_ref-2.ensures.value c.save.ensures.crash c.args.deletion same)
 
 pub returns-clause-known : goal.returns-clause-known
 returns-clause-known g c =

@@ -10,48 +10,48 @@ use Rattle.position_core.specs.TopicName.{topic_text}
 use Rattle.row_store.specs.Begun.{StandsSoFar, begun_by, begun_of, kept_by}
 use Rattle.row_store.proofs.Standing.{begun_after, has_many, kept_stands}
 use Rattle.row_store.proofs.Unfound.{is_found, nothing_found}
-use Rattle.row_store.proofs.Storing.{kept_through, read_through}
+use Rattle.row_store.proofs.Storing.{holds_through, kept_through}
 use Rattle.row_store.proofs.keeper.Keeper.load.Goals as goal
 
 pub invariant_of-self : goal.invariant_of-self
 invariant_of-self g c =
-    let k = c.self.inside in (
-      kept_through g.S.Store k.conn c.find.new.conn k.failed k.known.items c.self.invariant.0 c.find.ensures.autocommit c.find.ensures.crash.clean c.find.ensures.kept c.find.ensures.was_open c.find.ensures.crash.crash,
-      c.self.invariant.1,
-      read_through g.S.Store k.conn c.find.new.conn k.failed c.reading_for-reading.new.reading (λ working clean shown. (c.reading_for-reading.ensures.stands _ (c.self.invariant.2 working clean shown)).1) c.find.ensures.crash.clean c.find.ensures.kept c.find.ensures.was_open,
-    )
+    let k = c.self.inside in
+    let held = c.self.invariant in
+    let e = c.find.ensures in
+    holds_through g.S.Store k.conn c.find.new.conn k.failed k.known.items c.reading_for-reading.new.reading held.0 held.1
+    (λ working clean shown. (c.reading_for-reading.ensures.stands _ (held.2 working clean shown)).1) e.autocommit e.crash e.kept e.was_open
 
 pub invariant_of-self-in-Ok-Nothing : goal.invariant_of-self-in-Ok-Nothing
 invariant_of-self-in-Ok-Nothing g c =
-    let k = c.self.inside in (
-      kept_through g.S.Store k.conn c.find.new.conn k.failed k.known.items c.self.invariant.0 c.find.ensures.autocommit c.find.ensures.crash.clean c.find.ensures.kept c.find.ensures.was_open c.find.ensures.crash.crash,
-      c.self.invariant.1,
-      read_through g.S.Store k.conn c.find.new.conn k.failed c.reading_for-reading.new.reading (λ working clean shown. (c.reading_for-reading.ensures.stands _ (c.self.invariant.2 working clean shown)).1) c.find.ensures.crash.clean c.find.ensures.kept c.find.ensures.was_open,
-    )
+    let k = c.self.inside in
+    let held = c.self.invariant in
+    let e = c.find.ensures in
+    holds_through g.S.Store k.conn c.find.new.conn k.failed k.known.items c.reading_for-reading.new.reading held.0 held.1
+    (λ working clean shown. (c.reading_for-reading.ensures.stands _ (held.2 working clean shown)).1) e.autocommit e.crash e.kept e.was_open
 
 pub invariant_of-self-in-Ok-BadRows : goal.invariant_of-self-in-Ok-BadRows
 invariant_of-self-in-Ok-BadRows g c =
-    let k = c.self.inside in (
-      kept_through g.S.Store k.conn c.find.new.conn k.failed k.known.items c.self.invariant.0 c.find.ensures.autocommit c.find.ensures.crash.clean c.find.ensures.kept c.find.ensures.was_open c.find.ensures.crash.crash,
-      c.self.invariant.1,
-      read_through g.S.Store k.conn c.find.new.conn k.failed c.reading_for-reading.new.reading (λ working clean shown. (c.reading_for-reading.ensures.stands _ (c.self.invariant.2 working clean shown)).1) c.find.ensures.crash.clean c.find.ensures.kept c.find.ensures.was_open,
-    )
+    let k = c.self.inside in
+    let held = c.self.invariant in
+    let e = c.find.ensures in
+    holds_through g.S.Store k.conn c.find.new.conn k.failed k.known.items c.reading_for-reading.new.reading held.0 held.1
+    (λ working clean shown. (c.reading_for-reading.ensures.stands _ (held.2 working clean shown)).1) e.autocommit e.crash e.kept e.was_open
 
 pub invariant_of-self-in-Err-NoMemory : goal.invariant_of-self-in-Err-NoMemory
 invariant_of-self-in-Err-NoMemory g c =
-    let k = c.self.inside in (
-      kept_through g.S.Store k.conn c.find.new.conn k.failed k.known.items c.self.invariant.0 c.find.ensures.autocommit c.find.ensures.crash.clean c.find.ensures.kept c.find.ensures.was_open c.find.ensures.crash.crash,
-      c.self.invariant.1,
-      read_through g.S.Store k.conn c.find.new.conn k.failed c.reading_for-reading.new.reading (λ working clean shown. (c.reading_for-reading.ensures.stands _ (c.self.invariant.2 working clean shown)).1) c.find.ensures.crash.clean c.find.ensures.kept c.find.ensures.was_open,
-    )
+    let k = c.self.inside in
+    let held = c.self.invariant in
+    let e = c.find.ensures in
+    holds_through g.S.Store k.conn c.find.new.conn k.failed k.known.items c.reading_for-reading.new.reading held.0 held.1
+    (λ working clean shown. (c.reading_for-reading.ensures.stands _ (held.2 working clean shown)).1) e.autocommit e.crash e.kept e.was_open
 
 pub invariant_of-self-in-Err-Store : goal.invariant_of-self-in-Err-Store
 invariant_of-self-in-Err-Store g c =
-    let k = c.self.inside in (
-      kept_through g.S.Store k.conn c.find.new.conn k.failed k.known.items c.self.invariant.0 c.find.ensures.autocommit c.find.ensures.crash.clean c.find.ensures.kept c.find.ensures.was_open c.find.ensures.crash.crash,
-      c.self.invariant.1,
-      read_through g.S.Store k.conn c.find.new.conn k.failed c.reading_for-reading.new.reading (λ working clean shown. (c.reading_for-reading.ensures.stands _ (c.self.invariant.2 working clean shown)).1) c.find.ensures.crash.clean c.find.ensures.kept c.find.ensures.was_open,
-    )
+    let k = c.self.inside in
+    let held = c.self.invariant in
+    let e = c.find.ensures in
+    holds_through g.S.Store k.conn c.find.new.conn k.failed k.known.items c.reading_for-reading.new.reading held.0 held.1
+    (λ working clean shown. (c.reading_for-reading.ensures.stands _ (held.2 working clean shown)).1) e.autocommit e.crash e.kept e.was_open
 
 pub invariant_of-self-in-Ok-More : goal.invariant_of-self-in-Ok-More
 invariant_of-self-in-Ok-More g c =
