@@ -67,7 +67,8 @@ CONSUMERS = [
     ('subscriptionType=Shared&maxRedeliverCount=1000000', 'Shared', 1000), ('subscriptionType=Shared&maxRedeliverCount=0&deadLetterTopic=/', 'Shared', 1000),
     ('subscriptionType=Shared&deadLetterTopic=dead', 'Shared', 1000), ('subscriptionType=Failover&maxRedeliverCount=many&deadLetterTopic=dead', 'Failover', 1000),
     ('subscriptionType=Key_Shared&maxRedeliverCount=3&deadLetterTopic=persistent://a/b/c', 'Key_Shared', 1000),
-    ('subscriptionType=Shared&keySharedRanges=x', 'Shared', 1000),
+    ('subscriptionType=Shared&keySharedRanges=x', 'Shared', 1000), ('subscriptionMode=Durable', 'Exclusive', 1000),
+    ('subscriptionType=Shared&subscriptionMode=NonDurable', 'Shared', 1000),
     *((f'subscriptionType=Key_Shared{ranges}', 'Key_Shared', 1000) for ranges in (
         '', '&keySharedRanges=0-65535', '&keySharedRanges=300-400,007-0009,10-10', '&keySharedRanges=5-5&keySharedRanges=x', '&keySharedRanges=0%2D9%2C20-29')),
 ]
@@ -76,7 +77,7 @@ NO_CONSUMERS = [
     'receiverQueueSize=', 'receiverQueueSize=many&receiverQueueSize=7', 'receiverQueueSize=18446744073709551617', 'ackTimeoutMillis=2147483648',
     'ackTimeoutMillis=4294967296', 'ackTimeoutMillis=-0', 'negativeAckRedeliveryDelay=2147483648', 'priorityLevel=2147483648', 'priorityLevel=-1', 'pullMode=yes',
     'pullMode=', 'pullMode', 'subscriptionInitialPosition=earliest', 'subscriptionInitialPosition=Middle', 'subscriptionType=Shared&maxRedeliverCount=1000001',
-    'subscriptionType=Key_Shared&maxRedeliverCount=-1', 'x=%FF',
+    'subscriptionType=Key_Shared&maxRedeliverCount=-1', 'x=%FF', 'subscriptionMode=', 'subscriptionMode=durable', 'subscriptionMode=Nondurable',
     *(f'subscriptionType=Shared&maxRedeliverCount=1&deadLetterTopic={name}' for name in (
         '', '/', 'a/b', 'a/b/c/d', 'a//c', '/a/b/c', 'persistent://', 'persistent://c', 'persistent://a/b', 'persistent://a/b/c/d', 'non-persistent://a/b/c', 'a%00')),
     *(f'subscriptionType=Key_Shared&keySharedRanges={ranges}' for ranges in (

@@ -88,7 +88,7 @@ BAD = [
     *[(f'another {name}', f'/consumer{T}/s?{more}{name}=x', 400, 20, name, 4002) for more, name in (
         ('', 'subscriptionType'), ('', 'priorityLevel'), ('', 'pullMode'), ('', 'receiverQueueSize'), ('', 'ackTimeoutMillis'),
         ('', 'negativeAckRedeliveryDelay'), ('subscriptionType=Shared&', 'maxRedeliverCount'), ('', 'subscriptionInitialPosition'),
-        ('subscriptionType=Key_Shared&', 'keySharedRanges'))],
+        ('subscriptionType=Key_Shared&', 'keySharedRanges'), ('', 'subscriptionMode'))],
     ('the first of two that are wrong', f'/consumer{T}/s?subscriptionInitialPosition=x&priorityLevel=x', 400, 20, 'priorityLevel', 4002),
     ('a dead-letter topic that is none', f'/consumer{T}/s?subscriptionType=Shared&maxRedeliverCount=1&deadLetterTopic=a%2Fb', 400, 20, 'deadLetterTopic', 4002),
     ('a dead-letter topic that is the topic', f'/consumer{T}/own?subscriptionType=Shared&maxRedeliverCount=1&deadLetterTopic=t', 400, 14, None, 4002),

@@ -10,11 +10,13 @@ use Rattle.delivery_machine.specs.declared.event.Initial.TheVariants.{Latest}
 use Rattle.endpoint_core.specs.declared.faults.Cause.{Cause}
 use Rattle.endpoint_core.specs.declared.consumers.ConsumerEndpoint.{ConsumerEndpoint}
 use Rattle.endpoint_core.specs.declared.consumers.Settings.{Settings}
-use Rattle.endpoint_core.specs.declared.fields.Field.TheVariants.{SubscriptionType, PriorityLevel, PullMode, ReceiverQueueSize, AckTimeoutMillis, NegativeAckRedeliveryDelay, SubscriptionInitialPosition}
+use Rattle.endpoint_core.specs.declared.fields.Field.TheVariants.{SubscriptionType, PriorityLevel, PullMode, ReceiverQueueSize, AckTimeoutMillis, NegativeAckRedeliveryDelay, SubscriptionInitialPosition, SubscriptionMode}
+use Rattle.endpoint_core.specs.declared.modes.Mode.{Mode}
+use Rattle.endpoint_core.specs.declared.modes.Mode.TheVariants.{Durable}
 use Rattle.endpoint_core.specs.Faults.{and_then}
 use Rattle.endpoint_core.specs.Queries.{Parameter, said}
 use Rattle.endpoint_core.specs.Numbers.{number_up_to}
-use Rattle.endpoint_core.specs.Words.{truth_of, kind_of, initial_of}
+use Rattle.endpoint_core.specs.Words.{truth_of, kind_of, initial_of, mode_of}
 use Rattle.endpoint_core.specs.DeadLetters.{death_in}
 use Rattle.endpoint_core.specs.Ranges.{ranges_in}
 
@@ -49,6 +51,9 @@ nack_delay_said query = said NegativeAckRedeliveryDelay 60000 (number_up_to 2147
 abbrev pub initial_said : List Parameter → Result Initial Cause
 initial_said query = said SubscriptionInitialPosition Latest initial_of query
 
+abbrev pub mode_said : List Parameter → Result Mode Cause
+mode_said query = said SubscriptionMode Durable mode_of query
+
 -- the consumer of the topic and the subscription that has these settings
 abbrev pub with_settings : TopicName → List ℕ → Settings → ConsumerEndpoint
 with_settings topic subscription s = record {
@@ -63,6 +68,7 @@ with_settings topic subscription s = record {
   dead_topic = s.dead_topic;
   initial = s.initial;
   ranges = s.ranges;
+  mode = s.mode;
 }
 
 abbrev pub consumer_of : TopicName → List ℕ → List Parameter → Result ConsumerEndpoint Cause
@@ -75,6 +81,7 @@ consumer_of topic subscription query =
     and_then (death_in topic subscription kind query) (λ death.
     and_then (initial_said query) (λ initial.
     and_then (ranges_in kind query) (λ ranges.
+    and_then (mode_said query) (λ mode.
     Ok (record {
       topic = topic;
       subscription = subscription;
@@ -87,4 +94,5 @@ consumer_of topic subscription query =
       dead_topic = death.1;
       initial = initial;
       ranges = ranges;
-    })))))))))
+      mode = mode;
+    }))))))))))

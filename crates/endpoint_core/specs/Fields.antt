@@ -1,7 +1,7 @@
 -- The parameters of a query that may be wrong.
 use Rattle.std.specs.Prelude.{ℕ, List, codes}
 use Rattle.endpoint_core.specs.declared.fields.Field.{Field}
-use Rattle.endpoint_core.specs.declared.fields.Field.TheVariants.{Query, ProducerName, InitialSequenceId, SubscriptionType, PriorityLevel, PullMode, ReceiverQueueSize, AckTimeoutMillis, NegativeAckRedeliveryDelay, MaxRedeliverCount, DeadLetterTopic, SubscriptionInitialPosition, KeySharedRanges}
+use Rattle.endpoint_core.specs.declared.fields.Field.TheVariants.{Query, ProducerName, InitialSequenceId, SubscriptionType, PriorityLevel, PullMode, ReceiverQueueSize, AckTimeoutMillis, NegativeAckRedeliveryDelay, MaxRedeliverCount, DeadLetterTopic, SubscriptionInitialPosition, SubscriptionMode, KeySharedRanges}
 
 -- its name in the query, or a word for the query as a whole
 abbrev pub name_of : Field → List ℕ
@@ -17,4 +17,5 @@ name_of NegativeAckRedeliveryDelay = codes "negativeAckRedeliveryDelay"
 name_of MaxRedeliverCount = codes "maxRedeliverCount"
 name_of DeadLetterTopic = codes "deadLetterTopic"
 name_of SubscriptionInitialPosition = codes "subscriptionInitialPosition"
+name_of SubscriptionMode = codes "subscriptionMode"
 name_of KeySharedRanges = codes "keySharedRanges"

@@ -7,6 +7,8 @@ use Rattle.position_core.specs.declared.kind.Kind.{Kind}
 use Rattle.position_core.specs.declared.kind.Kind.TheVariants.{Exclusive, Failover, Shared, KeyShared}
 use Rattle.delivery_machine.specs.declared.event.Initial.{Initial}
 use Rattle.delivery_machine.specs.declared.event.Initial.TheVariants.{Earliest, Latest}
+use Rattle.endpoint_core.specs.declared.modes.Mode.{Mode}
+use Rattle.endpoint_core.specs.declared.modes.Mode.TheVariants.{Durable, NonDurable}
 
 -- `true` or `false`, in letters of either case
 abbrev pub truth_of : List ℕ → Option Bool
@@ -25,6 +27,11 @@ abbrev pub initial_of : List ℕ → Option Initial
 initial_of text =
     if bytes_eq text (codes "Earliest") then Some Earliest
     else (if bytes_eq text (codes "Latest") then Some Latest else None)
+
+abbrev pub mode_of : List ℕ → Option Mode
+mode_of text =
+    if bytes_eq text (codes "Durable") then Some Durable
+    else (if bytes_eq text (codes "NonDurable") then Some NonDurable else None)
 
 -- a client's producer has a name of 1 to 255 bytes, and none of the broker's own
 abbrev pub is_producer_name : List ℕ → Bool

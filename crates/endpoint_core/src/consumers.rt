@@ -1,15 +1,16 @@
 // A consumer's endpoint.
 ghost use Rattle.std.specs.Prelude.{◌≡◌};
 ghost use Rattle.endpoint_core.specs.Faults.{Gives, map_ok};
-ghost use Rattle.endpoint_core.specs.Consumers.{consumer_of, flow_said, initial_said, kind_said, pulls_said, window_of, window_said, with_settings};
+ghost use Rattle.endpoint_core.specs.Consumers.{consumer_of, flow_said, initial_said, kind_said, mode_said, pulls_said, window_of, window_said, with_settings};
 
 use crate::dead_letters::death_in;
 use crate::faults::Cause;
 use crate::fields::Field;
+use crate::modes::Mode;
 use crate::numbers::number_said;
 use crate::queries::Query;
 use crate::ranges::ranges_in;
-use crate::words::{initial_of, kind_of, truth_of};
+use crate::words::{initial_of, kind_of, mode_of, truth_of};
 use delivery_machine::Initial;
 use position_core::{
     Bounded, Credit, Flow, Kind, Level, Millis, Ranges, RedeliverLimit, SubscriptionName,
@@ -35,6 +36,9 @@ pub struct ConsumerEndpoint {
     pub initial: Initial,
     /// The hashes that it takes, where it says so, in Key_Shared.
     pub ranges: Option<Ranges>,
+    /// Whether the subscription stays when its last consumer has gone. That of a `NonDurable` consumer goes,
+    /// where nobody durable was in it.
+    pub mode: Mode,
 }
 
 fn kind_said(query: &Query) -> Result<Kind, Cause>
@@ -54,6 +58,15 @@ fn initial_said(query: &Query) -> Result<Initial, Cause>
             Field::SubscriptionInitialPosition,
         )),
         None => Ok(Initial::Latest),
+    }
+}
+
+fn mode_said(query: &Query) -> Result<Mode, Cause>
+    ensures { result ≡ mode_said query.now }
+{
+    match query.value_at(Field::SubscriptionMode.name()) {
+        Some(text) => mode_of(text).ok_or(Cause::BadParameter(Field::SubscriptionMode)),
+        None => Ok(Mode::Durable),
     }
 }
 
@@ -116,6 +129,7 @@ struct Settings {
     dead_topic: TopicName,
     initial: Initial,
     ranges: Option<Ranges>,
+    mode: Mode,
 }
 
 fn settings_in(
@@ -134,6 +148,7 @@ fn settings_in(
     let (max_redeliver, dead_topic) = death_in(alloc, topic, subscription, kind, query)?;
     let initial = initial_said(query)?;
     let ranges = ranges_in(alloc, kind, query)?;
+    let mode = mode_said(query)?;
     Ok(Settings {
         kind,
         level,
@@ -144,6 +159,7 @@ fn settings_in(
         dead_topic,
         initial,
         ranges,
+        mode,
     })
 }
 
@@ -166,6 +182,7 @@ fn with_settings(
         dead_topic: settings.dead_topic,
         initial: settings.initial,
         ranges: settings.ranges,
+        mode: settings.mode,
     }
 }
 

@@ -18,6 +18,7 @@ pub enum Field {
     MaxRedeliverCount,
     DeadLetterTopic,
     SubscriptionInitialPosition,
+    SubscriptionMode,
     KeySharedRanges,
 }
 
@@ -39,6 +40,7 @@ impl Field {
             Field::MaxRedeliverCount => "maxRedeliverCount",
             Field::DeadLetterTopic => "deadLetterTopic",
             Field::SubscriptionInitialPosition => "subscriptionInitialPosition",
+            Field::SubscriptionMode => "subscriptionMode",
             Field::KeySharedRanges => "keySharedRanges",
         }
     }

@@ -1,12 +1,13 @@
 // The words that a parameter may be.
 ghost use Rattle.std.specs.Prelude.{◌≡◌, ok_or};
-ghost use Rattle.endpoint_core.specs.Words.{initial_of, is_producer_name, kind_of, producer_name_of, truth_of};
+ghost use Rattle.endpoint_core.specs.Words.{initial_of, is_producer_name, kind_of, mode_of, producer_name_of, truth_of};
 ghost use Rattle.endpoint_core.specs.declared.faults.Cause.TheVariants.{BadParameter};
 ghost use Rattle.endpoint_core.specs.declared.fields.Field.TheVariants.{ProducerName};
 ghost use Rattle.endpoint_core.specs.Faults.{Gives};
 
 use crate::faults::Cause;
 use crate::fields::Field;
+use crate::modes::Mode;
 use delivery_machine::Initial;
 use position_core::{Kind, ProducerName};
 use std::alloc::Global;
@@ -50,6 +51,18 @@ pub fn initial_of(text: &str) -> Option<Initial>
     }
     if text == "Latest" {
         return Some(Initial::Latest);
+    }
+    None
+}
+
+pub fn mode_of(text: &str) -> Option<Mode>
+    ensures { result ≡ mode_of text.now }
+{
+    if text == "Durable" {
+        return Some(Mode::Durable);
+    }
+    if text == "NonDurable" {
+        return Some(Mode::NonDurable);
     }
     None
 }
