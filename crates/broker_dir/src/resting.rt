@@ -46,6 +46,7 @@ fn subscription_of(kept: u64, count: SubscriptionCount) -> SubscriptionSeen {
         acknowledged,
         dead,
         oldest,
+        unused: None,
         delivered: 0,
         redelivered: 0,
         acks: 0,

@@ -59,6 +59,7 @@ fn subscription_by(told: Told, reply: &Reply) -> Option<SubscriptionSeen>
             acknowledged: *acknowledged,
             dead: *dead,
             oldest,
+            unused: None,
             delivered: traffic.sent,
             redelivered: traffic.released,
             acks: traffic.acks,

@@ -105,6 +105,18 @@ fn push_traffic(out: &mut String, program: &ProgramSeen) -> Result<(), AllocErro
     )?;
     push_counter(
         out,
+        "received_bytes_total",
+        "Bytes that came over WebSockets from clients.",
+        program.received,
+    )?;
+    push_counter(
+        out,
+        "sent_bytes_total",
+        "Bytes that went over WebSockets to clients.",
+        program.sent,
+    )?;
+    push_counter(
+        out,
         "sessions_ended_by_silence_total",
         "Sessions that ended since nothing came from their clients.",
         program.silenced,

@@ -140,6 +140,29 @@ fn push_labels(out: &mut String, sub: &SubscriptionSeen) -> Result<(), AllocErro
     out.push_str("\"")
 }
 
+/// Appends for how long nobody has been in a subscription, of each of which that is known; nothing where it is of none.
+fn push_unused(out: &mut String, topics: &[TopicSeen]) -> Result<(), AllocError> {
+    let head = Head::gauge(
+        "subscription_unused_seconds",
+        "For how long nobody has been in the subscription, where that is known.",
+    );
+    let mut has_head = false;
+    for topic in topics {
+        for sub in topic.subscriptions.iter() {
+            if let Some(unused) = sub.unused {
+                if !has_head {
+                    head.push(out)?;
+                    has_head = true;
+                }
+                push_start(out, &head, topic.name.as_str())?;
+                push_labels(out, sub)?;
+                push_end(out, Value::Millis(unused))?;
+            }
+        }
+    }
+    Ok(())
+}
+
 /// Appends all numbers of all subscriptions, as they are at the moment.
 pub(crate) fn push_subscriptions(
     out: &mut String,
@@ -149,5 +172,5 @@ pub(crate) fn push_subscriptions(
     for number in ALL.iter() {
         number.push(out, topics, now)?;
     }
-    Ok(())
+    push_unused(out, topics)
 }

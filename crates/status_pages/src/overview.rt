@@ -116,6 +116,7 @@ fn push_subscription(out: &mut String, sub: &SubscriptionSeen) -> Result<(), All
     push_known(out, "oldest", sub.oldest)?;
     push_number(out, "pending", sub.pending)?;
     push_number(out, "redelivered", sub.redelivered)?;
+    push_known(out, "unused", sub.unused)?;
     push_last(out, "waiting", sub.waiting)
 }
 
@@ -239,8 +240,10 @@ fn push_beginning(out: &mut String, seen: &BrokerSeen) -> Result<(), AllocError>
 
 fn push_counts(out: &mut String, seen: &BrokerSeen) -> Result<(), AllocError> {
     let program = &seen.program;
+    push_number(out, "received", program.received)?;
     push_refusals(out, &program.refusals)?;
     push_rows(out, seen.rows)?;
+    push_number(out, "sent", program.sent)?;
     push_number(out, "sessions", seen.sessions())?;
     push_number(out, "silenced", program.silenced)?;
     push_number(out, "started", program.started)?;

@@ -61,6 +61,8 @@ pub struct SubscriptionSeen {
     pub dead: u64,
     /// When the first message was published that is not acknowledged.
     pub oldest: Option<u64>,
+    /// For how many milliseconds nobody has been in it, where that is known: it is looked at once a minute.
+    pub unused: Option<u64>,
     /// Messages that were sent to a consumer, those that were sent again among them.
     pub delivered: u64,
     /// Messages that were given back, or had waited too long for an acknowledgement.
@@ -173,6 +175,9 @@ pub struct ProgramSeen {
     pub refusals: [u64; FAULTS],
     /// Sessions that ended since nothing came from their clients.
     pub silenced: u64,
+    /// Bytes that came over WebSockets from clients, and bytes that went over them.
+    pub received: u64,
+    pub sent: u64,
     /// How many bytes the database's file has, and the log beside it, where the system tells.
     pub file: Option<u64>,
     pub log: Option<u64>,

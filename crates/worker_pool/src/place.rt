@@ -118,6 +118,8 @@ impl<D: Broker<Doorbell>> Place<D> {
             is_full: disk.is_full,
             refusals: self.refusals.all(rt),
             silenced: self.silenced.load(Ordering::SeqCst),
+            received: 0,
+            sent: 0,
             file: disk.file,
             log: disk.log,
             descriptors: self.process.descriptors(),
