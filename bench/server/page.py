@@ -283,7 +283,7 @@ def opened(browser, url):
     """A row that opens tells of its sessions and its rule, and how to ask for more, and stays open. No letter turns others about."""
     start, name = 1800000000000, 'a\u202eb'
     session = {'address': '192.0.2.1:5', 'number': 7, 'pending': 2, 'role': 'consumer', 'room': 9, 'since': start - 60000, 'subscription': "it's"}
-    topics = [topic_of(name, 3, [sub_of("it's", 3, 1)], rule={'messages': 1000}, sessions=[session])]
+    topics = [topic_of(name, 3, [sub_of("it's", 3, 1, unused=3 * 86400000)], rule={'messages': 1000}, sessions=[session])]
     Stand.seen = made_up(topics, start)
     browser.open(url)
     seen_now(browser, start)
@@ -293,6 +293,7 @@ def opened(browser, url):
     seen_now(browser, start + 2000)
     lines = browser.evaluate('[...document.querySelectorAll(".more div")].map(one => one.textContent)')
     assert any('the last 1,000 messages' in line for line in lines), lines
+    assert any('unused for 3 days' in line for line in lines), lines
     begun = "brokerctl disconnect $'a\\U0000202Eb' 7session 7, a consumer, from 192.0.2.1:5, for 62 seconds, 2 pending, room for 9"
     assert begun in lines, lines
     assert "brokerctl peek $'a\\U0000202Eb' 'it'\\''s'its next messages" in lines, lines

@@ -106,13 +106,13 @@ fn push_traffic(out: &mut String, program: &ProgramSeen) -> Result<(), AllocErro
     push_counter(
         out,
         "received_bytes_total",
-        "Bytes that came over WebSockets from clients.",
+        "Bytes that came from the clients of sessions.",
         program.received,
     )?;
     push_counter(
         out,
         "sent_bytes_total",
-        "Bytes that went over WebSockets to clients.",
+        "Bytes that went to the clients of sessions.",
         program.sent,
     )?;
     push_counter(

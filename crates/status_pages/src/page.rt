@@ -280,7 +280,7 @@ function subEntries({ topic, sub, past, letters }) {
 const words = [short(topic.name), sub.name], [acked, sent, back] = past.rates.map(({ rate }) => say(rate));
 return [
 [`subscription ${alone(sub.name)} of ${alone(topic.name)}`],
-[sums(`${acked} acknowledged, ${sent} delivered and ${back} redelivered a second`, restOf(topic))],
+[sums(`${acked} acknowledged, ${sent} delivered and ${back} redelivered a second`, sub.unused !== undefined && `unused for ${age(sub.unused)}`, restOf(topic))],
 [`${say(sub.delivered)} delivered, ${many(sub.acknowledgements ?? 0, 'acknowledgement')} and ${many(sub.deaths ?? 0, 'death')} since its topic came into memory`],
 [`of the topic, ${ruleOf(topic)}`],
 ...sessionsOf(topic, sub),
@@ -400,7 +400,8 @@ put(get('head'), sums(`Version ${seen.version}`, `up ${age(now - started)} (sinc
 `${many(topics.length - resting, 'topic')} in memory`, resting && `${say(resting)} at rest`, memory && `${bytes(memory)} of memory`,
 database && `the database has ${bytes(database)}`, log && `its log ${bytes(log)}`));
 const refusals = (seen.refusals || []).map(({ fault, count }) => `F${fault} ${say(count)}`).join(', ');
-put(get('counts'), 'Since its start: ' + sums(`${many(seen.silenced || 0, 'session')} ended by silence`, refusals ? `refused ${refusals}` : 'none refused'));
+put(get('counts'), 'Since its start: ' + sums(seen.received !== undefined && `${bytes(seen.received)} from clients`,
+seen.sent !== undefined && `${bytes(seen.sent)} to clients`, `${many(seen.silenced || 0, 'session')} ended by silence`, refusals ? `refused ${refusals}` : 'none refused'));
 }
 
 function show() {
@@ -450,4 +451,4 @@ look();
 
 /// What the browser may do for it, as a `Content-Security-Policy`: run its script, use its style, ask where it came from.
 pub const PAGE_POLICY: &str =
-    "default-src 'none'; script-src 'sha256-f/jn+WPYqbcRn8KSdtAe7l5ZocnW4JgzRtFXdaa17bw='; style-src 'sha256-VcffNi4UDUI0hy6vivduPRLnrIQnjtYoirwWFDrX9F4='; connect-src 'self'; img-src data:; base-uri 'none'; form-action 'none'; frame-ancestors 'none'";
+    "default-src 'none'; script-src 'sha256-vsOQgetBIk58AJybNwZPniI7lguS8iAaptbxWHO6Dmg='; style-src 'sha256-VcffNi4UDUI0hy6vivduPRLnrIQnjtYoirwWFDrX9F4='; connect-src 'self'; img-src data:; base-uri 'none'; form-action 'none'; frame-ancestors 'none'";

@@ -175,7 +175,8 @@ pub struct ProgramSeen {
     pub refusals: [u64; FAULTS],
     /// Sessions that ended since nothing came from their clients.
     pub silenced: u64,
-    /// Bytes that came over WebSockets from clients, and bytes that went over them.
+    /// Bytes that came from the clients of sessions behind the heads of their requests, and bytes that went to them, the answers to
+    /// these among them.
     pub received: u64,
     pub sent: u64,
     /// How many bytes the database's file has, and the log beside it, where the system tells.
