@@ -1,7 +1,7 @@
 #!/usr/bin/env python3
 # What the broker tells of itself at /overview and /metrics, beside what was done: all kinds of subscriptions, messages that
-# are given back, that die and that are moved, duplicates, a seek, trims, clients that come and go. Once all rests, each
-# message of a subscription is acknowledged, waits, is pending or dead. The gate runs it.
+# are given back, that die and that are moved, duplicates, a seek, trims, bytes of clients, clients that come and go. Once all
+# rests, each message of a subscription is acknowledged, waits, is pending or dead. The gate runs it.
 # seen.py PROGRAM [port]
 import calendar
 import http.client
@@ -12,7 +12,7 @@ import subprocess
 import sys
 import time
 
-from client import Broker, Client, consumer, producer, text_of
+from client import Broker, Client, consumer, frame, producer, text_of
 
 program = sys.argv[1]
 port = int(sys.argv[2]) if len(sys.argv) > 2 else 18096
@@ -119,7 +119,7 @@ def nothing_yet():
     assert abs(seen['now'] - time.time() * 1000) < 5000 and 0 <= seen['now'] - seen['started'] < 30000, seen
     assert seen['memory'] > 1 << 20 and seen['stores'] == {'count': 0, 'micros': 0}, seen
     assert seen['rows'] == {'deleted': 0, 'inserted': 0, 'updated': 0}, seen
-    assert seen['refusals'] == [] and seen['silenced'] == 0, seen
+    assert seen['refusals'] == [] and seen['silenced'] == seen['received'] == seen['sent'] == 0, seen
     assert 0 < seen['descriptors'] < seen['mostDescriptors'] and seen.get('cpu', 0) >= 0, seen
     print('ok nothing was done')
 
@@ -146,6 +146,44 @@ def who_is_there():
     ends(looker, reader, writer)
     seen = until('all have gone', lambda seen: seen['sessions'] == 0 and seen['connections'] == 1)
     assert topic_of(seen, 'who')['sessions'] == [] and topic_of(seen, 'who')['producers'] == 0, seen
+
+
+class Tallied(Client):
+    """A client that counts the bytes that come to it, and those that go behind the head of its request."""
+
+    def __init__(self, *given):
+        self.came = self.gone = 0
+        super().__init__(*given)
+
+    def more(self):
+        got = super().more()
+        self.came += len(got)
+        return got
+
+    def send(self, text):
+        self.gone += len(frame(1, text))
+        super().send(text)
+
+    def leave(self):
+        self.gone += len(frame(8, b'..'))
+        super().leave()
+
+
+def bytes_of_clients():
+    """Some MB are published and consumed: the broker counts as many bytes as its clients."""
+    before = overview()
+    writer = Tallied(port, '/ws/v2/producer/persistent/public/default/much')
+    reader = Tallied(port, '/ws/v2/consumer/persistent/public/default/much/s')
+    body, count = text_of(b'x' * 100000), 30
+    for _ in range(count):
+        writer.send(body)
+        assert writer.receive()['result'] == 'ok'
+        ack(reader, reader.receive())
+    ends(reader, writer)
+    received, sent = writer.gone + reader.gone, writer.came + reader.came
+    assert all(count * len(body) <= each < 2 * count * len(body) for each in (received, sent)), (received, sent)
+    until(f'{received} bytes came and {sent} went', lambda seen: seen['sessions'] == 0 and seen['connections'] == 1
+          and (seen['received'] - before['received'], seen['sent'] - before['sent']) == (received, sent))
 
 
 def published_twice(writer):
@@ -333,7 +371,8 @@ def wanted_of(seen):
              ('backups_total', ()): seen['backups']['made'], ('backup_failures_total', ()): seen['backups']['failed'],
              ('open_topics', ()): len(in_memory(seen)), ('resting_topics', ()): len(seen['topics']) - len(in_memory(seen)),
              ('start_time_seconds', ()): seen['started'] / 1000, ('process_start_time_seconds', ()): seen['started'] / 1000,
-             ('sessions_ended_by_silence_total', ()): seen['silenced'], ('process_max_fds', ()): seen['mostDescriptors'],
+             ('sessions_ended_by_silence_total', ()): seen['silenced'], ('received_bytes_total', ()): seen['received'],
+             ('sent_bytes_total', ()): seen['sent'], ('process_max_fds', ()): seen['mostDescriptors'],
              ('topic_loads_total', ()): seen['loads'], ('topic_unloads_total', ()): seen['unloads']}
     found |= {(f'rows_{key}_total', ()): value for key, value in seen['rows'].items()}
     found |= {('refusals_total', (('fault', f'F{each["fault"]}'),)): each['count'] for each in seen['refusals']}
@@ -366,7 +405,9 @@ def metrics_agree(seen):
         oldest = sub_of(topic, labels['subscription']).get('oldest')
         age = (seen['now'] - oldest) / 1000 if oldest else 0
         assert age - 0.001 <= value < age + 5, (labels, value, age)
-    rest = set(got) - set(wanted) - set(ages)
+    unused = {key for key in got if key[0] == 'subscription_unused_seconds'}
+    assert len(unused) == sum('unused' in sub for topic in seen['topics'] for sub in topic['subscriptions']), unused
+    rest = set(got) - set(wanted) - set(ages) - unused
     assert got[('connections', ())] in (1, 2), got
     assert {name for name, _ in rest} == CHANGES, {name for name, _ in rest} ^ CHANGES
     print(f'ok {len(got)} numbers of /metrics')
@@ -435,6 +476,7 @@ broker = Broker(program, port)
 try:
     nothing_yet()
     who_is_there()
+    bytes_of_clients()
     published_twice(producer(port, 'all', '?producerName=one'))
     exclusive()
     failover()

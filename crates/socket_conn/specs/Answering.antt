@@ -23,9 +23,9 @@ module _ {S : Type 0} where
   abbrev pub sent_and_left : (S → Option (List ℕ)) → Answering S → Option (List ℕ)
   sent_and_left contents a = append_known (contents a.stream.inner) (left a)
 
-  -- the response is the same and stays let go: more of it may have gone, and the stream may have had to wait
+  -- the response is the same and stays let go: more of it may have gone and been counted, and the stream may have had to wait
   abbrev pub HasWritten : Answering S → Answering S → Type 0
-  HasWritten old new = new.stream ≡ record old.stream { inner = new.stream.inner; at = new.stream.at; full = new.stream.full }
+  HasWritten old new = new.stream ≡ record old.stream { inner = new.stream.inner; at = new.stream.at; full = new.stream.full; traffic = new.stream.traffic }
 
   -- what a write comes to: the whole has gone; or the stream was asked and took nothing, which it has counted, and not else
   abbrev pub ComesTo : Answering S → Answering S → Answered → Type 0

@@ -1,5 +1,6 @@
 pub mod Faults
 pub mod Waits
+pub mod Traffic
 pub mod Frames
 pub mod Turns
 pub mod State

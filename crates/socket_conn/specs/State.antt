@@ -2,6 +2,7 @@
 use Rattle.std.specs.Prelude.{◌≡◌, ◌⊎◌, ◌+◌, ◌-◌, ◌^◌, ◌&&◌, not, nat_lt, min, length, ℕ, List, Bool, true, false, Option, Some, None}
 use Rattle.std.specs.declared.alloc.Global.{Global}
 use Rattle.socket_conn.specs.Faults.{no_faults, one_more}
+use Rattle.socket_conn.specs.Traffic.{no_traffic}
 use Rattle.socket_conn.specs.Waits.{HasNotWaited, HasWaited}
 use Rattle.socket_conn.specs.declared.conn.SocketConn.{SocketConn}
 use Rattle.tungstenite.specs.Socket.{Socket}
@@ -35,6 +36,7 @@ module _ {S : Type 0} where
         unsent = 0;
         received = 0;
         is_heard = false;
+        taken = no_traffic;
         breach = None;
         faults = no_faults;
       }

@@ -4,6 +4,7 @@ use Rattle.std.specs.IoError.{error_kind}
 use Rattle.std.specs.declared.io.Error.{Error}
 use Rattle.std.specs.declared.io.ErrorKind.TheVariants.{WouldBlock}
 use Rattle.socket_conn.specs.Frames.{walked}
+use Rattle.socket_conn.specs.Traffic.{more_received}
 use Rattle.socket_conn.specs.Waits.{with_wait}
 use Rattle.socket_conn.specs.declared.held.Held.{Held}
 
@@ -17,11 +18,12 @@ IsInTurn left (Ok n) = (0 < left) × (n ≤ left)
 IsInTurn left (Err e) = left ≡ 0 → error_kind e ≡ WouldBlock
 
 module _ {S : Type 0} where
-  -- a stream after a read that gave this, where the one below it is now `inner`. The turn has fewer bytes left by those that came, whose
-  -- frames are counted; that there was nothing to give is counted. Where the turn has none left, the one below was not asked, and that
-  -- alone is counted
+  -- a stream after a read that gave this, where the one below it is now `inner`. The turn has fewer bytes left by those that came, which
+  -- are counted, and so are their frames; that there was nothing to give is counted. Where the turn has none left, the one below was not
+  -- asked, and that alone is counted
   abbrev pub after_read : Held S → (inner : S) → Result ℕ Error → (buf : List ℕ) → Held S
-  after_read d inner (Ok n) buf = record d { inner = inner; left = d.left - n; frames = walked d.frames (take n buf) }
+  after_read d inner (Ok n) buf =
+      record d { inner = inner; left = d.left - n; frames = walked d.frames (take n buf); traffic = more_received n d.traffic }
   after_read d inner (Err e) buf =
       if d.left == 0 then record d { spent = (d.spent + 1) % 2 ^ 64 }
       else record d { inner = inner; dry = with_wait d.dry (error_kind e) }

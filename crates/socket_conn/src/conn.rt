@@ -12,6 +12,7 @@ ghost use Rattle.websocket.specs.CloseCode.{close_code_of};
 use crate::faults::Faults;
 use crate::frames::CountsFrames;
 use crate::outcomes::would_block;
+use crate::traffic::Traffic;
 use crate::waits::CountsWaits;
 use bytes::Bytes;
 use session_links::{Conn, ConnFault, Incoming};
@@ -47,6 +48,8 @@ pub struct SocketConn<S: Read + Write + Drop> {
     received: u32,
     /// Of these, one was a text, a binary message or a pong.
     is_heard: bool,
+    /// What its stream had counted of bytes when that was taken last.
+    taken: Traffic,
     /// The code that the client's breach of the protocol is closed with, once that was met.
     breach: Option<CloseCode>,
     /// How often a read, a flush, a close or the copy of its reason has failed.
@@ -65,6 +68,7 @@ impl<S: Read + Write + Drop> Drop for SocketConn<S> {
             unsent: _,
             received: _,
             is_heard: _,
+            taken: _,
             breach: _,
             faults: _,
         } = self;
@@ -86,6 +90,7 @@ impl<S: Read + Write + CountsWaits + Drop> SocketConn<S> {
             unsent: 0,
             received: 0,
             is_heard: false,
+            taken: Traffic::none(),
             breach: None,
             faults: Faults::none(),
         }

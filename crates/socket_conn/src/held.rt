@@ -1,17 +1,19 @@
 // A stream whose output waits until it is let go, so that a request is accepted only once its session has begun; and which gives
-// so much in a turn at most, so that others have theirs.
+// so much in a turn at most, so that others have theirs. It counts the bytes that come and go.
 ghost use Rattle.std.specs.Prelude.{◌≡◌, ◌≤◌, ◌<◌, ◌-◌, [], true, false, length, drop, IfOk, IsErr, IsTrue};
 ghost use Rattle.std.specs.Io.KnownBytes.{append_known, Keeps, ReadConsumes, WriteAppends};
 ghost use Rattle.std.specs.Io.{ReadsAtMost, WritesAtMost};
 ghost use Rattle.std.specs.IoError.{error_kind};
 ghost use Rattle.socket_conn.specs.Frames.{no_frames, walked};
 ghost use Rattle.socket_conn.specs.Shakes.{IsHeld};
+ghost use Rattle.socket_conn.specs.Traffic.{more_received, no_traffic, sent_up_to, written};
 ghost use Rattle.socket_conn.specs.Turns.{IsInTurn, after_read, most_a_turn};
 ghost use Rattle.socket_conn.specs.Waits.{with_wait, with_waits};
 ghost use Rattle.tungstenite.specs.Config.{HasLimits};
 ghost use Rattle.tungstenite.specs.Socket.{IsFresh};
 
 use crate::frames::{CountsFrames, FrameCount};
+use crate::traffic::Traffic;
 use crate::waits::CountsWaits;
 use std::alloc::Global;
 use std::io;
@@ -23,7 +25,7 @@ const MOST_A_TURN: usize = 262_144;
 
 /// A stream with bytes that go out before all others. As long as it is held, nothing goes out, and a write says that it
 /// would block. It gives so many bytes in a turn at most, and then says that it would block, without asking the stream
-/// below. It counts how often it had to wait, and the frames of what it gave.
+/// below. It counts how often it had to wait, the frames of what it gave, and the bytes of that and of what went.
 #[derive(Drop)]
 pub struct Held<S> {
     inner: S,
@@ -40,6 +42,7 @@ pub struct Held<S> {
     /// How often it gave nothing since these were used up.
     spent: u64,
     frames: FrameCount,
+    traffic: Traffic,
 }
 
 impl<S> Held<S> {
@@ -51,6 +54,7 @@ impl<S> Held<S> {
         ensures at { result.at ≡ 0 }
         ensures turn { result.left ≡ most_a_turn }
         ensures frames { result.frames ≡ no_frames }
+        ensures traffic { result.traffic ≡ no_traffic }
     {
         Held {
             inner,
@@ -62,6 +66,7 @@ impl<S> Held<S> {
             left: MOST_A_TURN,
             spent: 0,
             frames: FrameCount::new(),
+            traffic: Traffic::none(),
         }
     }
 
@@ -79,6 +84,7 @@ impl<S> Held<S> {
             left: _,
             spent: _,
             frames: _,
+            traffic: _,
         } = self;
         inner
     }
@@ -97,6 +103,13 @@ impl<S> Held<S> {
         self.at
     }
 
+    /// How many bytes came and went so far.
+    pub(crate) fn traffic(&self) -> Traffic
+        ensures { result ≡ self.now.traffic }
+    {
+        self.traffic
+    }
+
     /// What waits may go out.
     pub fn let_go(&mut self)
         ensures { self.new ≡ record self.old { is_held = false } }
@@ -111,27 +124,31 @@ impl<S> Held<S> {
         self.left = MOST_A_TURN;
     }
 
-    /// Counts the frames of bytes that were read before.
+    /// Counts bytes that were read before, and their frames.
     fn note_before(&mut self, bytes: &[u8])
-        ensures { self.new ≡ record self.old { frames = walked self.old.frames bytes.now } }
+        ensures { self.new ≡ record self.old { frames = walked self.old.frames bytes.now; traffic = more_received (length bytes.now) self.old.traffic } }
     {
+        self.traffic.note_received(bytes.len());
         self.frames.walk(bytes);
     }
 
     /// It gave these bytes.
     fn note_given(&mut self, bytes: &[u8])
         requires { length bytes.now ≤ self.old.left }
-        ensures { self.new ≡ record self.old { left = self.old.left - length bytes.now; frames = walked self.old.frames bytes.now } }
+        ensures left { self.new.left ≡ self.old.left - length bytes.now }
+        ensures counted { self.new ≡ record self.old { left = self.new.left; frames = walked self.old.frames bytes.now; traffic = more_received (length bytes.now) self.old.traffic } }
     {
+        self.traffic.note_received(bytes.len());
         self.left -= bytes.len();
         self.frames.walk(bytes);
     }
 }
 
 impl<S: Write> Held<S> {
-    /// Whether the first bytes have gone out, which they do once it is let go.
-    fn send_first(&mut self) -> io::Result<bool>
+    /// Hands the stream the first bytes, once it is let go. Whether they have gone out.
+    fn put_first(&mut self) -> io::Result<bool>
         ensures held { self.old.is_held ≡ true → IsErr result × (self.new ≡ self.old) }
+        ensures on { self.old.at ≤ self.new.at }
         ensures bytes { Keeps (append_known (S.contents self.old.inner) (drop self.old.at self.old.first.items))
             (append_known (S.contents self.new.inner) (drop self.new.at self.new.first.items)) }
         ensures gone { IfOk result (λ all. IsTrue all → length self.new.first.items ≤ self.new.at) }
@@ -152,6 +169,35 @@ impl<S: Write> Held<S> {
             Err(error) => Err(error),
         }
     }
+
+    /// Whether the first bytes have gone out, which they do once it is let go. What went of them is counted.
+    fn send_first(&mut self) -> io::Result<bool>
+        ensures held { self.old.is_held ≡ true → IsErr result × (self.new.inner ≡ self.old.inner) × (self.new.at ≡ self.old.at) }
+        ensures bytes { Keeps (append_known (S.contents self.old.inner) (drop self.old.at self.old.first.items))
+            (append_known (S.contents self.new.inner) (drop self.new.at self.new.first.items)) }
+        ensures gone { IfOk result (λ all. IsTrue all → length self.new.first.items ≤ self.new.at) }
+        ensures counted { self.new ≡ sent_up_to self.new.at self.new.inner self.old }
+    {
+        let at = self.at;
+        let all = self.put_first();
+        self.traffic.note_sent(self.at - at);
+        all
+    }
+
+    /// Writes behind the first bytes. What went is counted.
+    fn write_behind(&mut self, buf: &[u8]) -> io::Result<usize>
+        ensures bound { WritesAtMost result buf.now }
+        ensures bytes { WriteAppends (S.contents self.old.inner) (S.contents self.new.inner) result buf.now }
+        ensures counted { self.new ≡ written result (record self.old { inner = self.new.inner }) }
+    {
+        match self.inner.write(buf) {
+            Ok(count) => {
+                self.traffic.note_sent(count);
+                Ok(count)
+            }
+            Err(error) => Err(error),
+        }
+    }
 }
 
 impl<S: Write> Held<S> {
@@ -160,7 +206,7 @@ impl<S: Write> Held<S> {
         ensures bytes { Keeps (append_known (S.contents self.old.inner) (drop self.old.at self.old.first.items))
             (append_known (S.contents self.new.inner) (drop self.new.at self.new.first.items)) }
         ensures gone { IfOk result (λ all. IsTrue all → length self.new.first.items ≤ self.new.at) }
-        ensures counted { self.new ≡ record self.old { inner = self.new.inner; at = self.new.at; full = with_waits self.old.full result } }
+        ensures counted { self.new ≡ record (sent_up_to self.new.at self.new.inner self.old) { full = with_waits self.old.full result } }
     {
         let sent = self.send_first();
         if let Err(error) = &sent {
@@ -170,14 +216,14 @@ impl<S: Write> Held<S> {
     }
 
     fn write_on(&mut self, buf: &[u8]) -> io::Result<usize>
-        ensures same { self.new ≡ record self.old { inner = self.new.inner; at = self.new.at } }
-        ensures held { self.old.is_held ≡ true → IsErr result × (self.new ≡ self.old) }
+        ensures counted { self.new ≡ written result (sent_up_to self.new.at self.new.inner self.old) }
+        ensures held { self.old.is_held ≡ true → IsErr result × (self.new.inner ≡ self.old.inner) × (self.new.at ≡ self.old.at) }
         ensures bound { WritesAtMost result buf.now }
         ensures bytes { WriteAppends (append_known (S.contents self.old.inner) (drop self.old.at self.old.first.items))
             (append_known (S.contents self.new.inner) (drop self.new.at self.new.first.items)) result buf.now }
     {
         match self.send_first() {
-            Ok(true) => self.inner.write(buf),
+            Ok(true) => self.write_behind(buf),
             // Whoever writes tries again at once: the stream has not said that it takes no more.
             Ok(false) => Err(io::Error::from(ErrorKind::Interrupted)),
             Err(error) => Err(error),
@@ -185,8 +231,8 @@ impl<S: Write> Held<S> {
     }
 
     fn flush_on(&mut self) -> io::Result<()>
-        ensures same { self.new ≡ record self.old { inner = self.new.inner; at = self.new.at } }
-        ensures held { self.old.is_held ≡ true → IsErr result × (self.new ≡ self.old) }
+        ensures counted { self.new ≡ sent_up_to self.new.at self.new.inner self.old }
+        ensures held { self.old.is_held ≡ true → IsErr result × (self.new.inner ≡ self.old.inner) × (self.new.at ≡ self.old.at) }
         ensures bytes { Keeps (append_known (S.contents self.old.inner) (drop self.old.at self.old.first.items))
             (append_known (S.contents self.new.inner) (drop self.new.at self.new.first.items)) }
     {
@@ -281,11 +327,11 @@ impl<S: Write> Write for Held<S> {
     ghost contents = { λ d. append_known (S.contents d.inner) (drop d.at d.first.items) };
 
     fn write(&mut self, buf: &[u8]) -> io::Result<usize>
-        ensures held { self.old.is_held ≡ true → IsErr result × (self.new ≡ record self.old { full = self.new.full }) }
+        ensures held { self.old.is_held ≡ true → IsErr result × (self.new.inner ≡ self.old.inner) × (self.new.at ≡ self.old.at) }
         ensures bound { WritesAtMost result buf.now }
         ensures bytes { WriteAppends (append_known (S.contents self.old.inner) (drop self.old.at self.old.first.items))
             (append_known (S.contents self.new.inner) (drop self.new.at self.new.first.items)) result buf.now }
-        ensures counted { self.new ≡ record self.old { inner = self.new.inner; at = self.new.at; full = with_waits self.old.full result } }
+        ensures counted { self.new ≡ record (written result (sent_up_to self.new.at self.new.inner self.old)) { full = with_waits self.old.full result } }
     {
         let wrote = self.write_on(buf);
         if let Err(error) = &wrote {
@@ -295,10 +341,10 @@ impl<S: Write> Write for Held<S> {
     }
 
     fn flush(&mut self) -> io::Result<()>
-        ensures held { self.old.is_held ≡ true → IsErr result × (self.new ≡ record self.old { full = self.new.full }) }
+        ensures held { self.old.is_held ≡ true → IsErr result × (self.new.inner ≡ self.old.inner) × (self.new.at ≡ self.old.at) }
         ensures bytes { Keeps (append_known (S.contents self.old.inner) (drop self.old.at self.old.first.items))
             (append_known (S.contents self.new.inner) (drop self.new.at self.new.first.items)) }
-        ensures counted { self.new ≡ record self.old { inner = self.new.inner; at = self.new.at; full = with_waits self.old.full result } }
+        ensures counted { self.new ≡ record (sent_up_to self.new.at self.new.inner self.old) { full = with_waits self.old.full result } }
     {
         let flushed = self.flush_on();
         if let Err(error) = &flushed {
@@ -323,6 +369,7 @@ pub(crate) fn socket_of<S: Read + Write + Drop>(
     ensures limits { HasLimits result.conn.config config }
     ensures turn { result.stream.left ≡ most_a_turn }
     ensures frames { result.stream.frames ≡ walked no_frames rest.items }
+    ensures traffic { result.stream.traffic ≡ more_received (length rest.items) no_traffic }
 {
     let mut held = Held::new(stream, answer);
     held.note_before(&rest);

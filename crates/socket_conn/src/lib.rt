@@ -10,6 +10,7 @@ mod head;
 mod held;
 mod outcomes;
 mod shaking;
+mod traffic;
 mod waits;
 
 pub use answering::{Answered, Answering};
@@ -19,4 +20,5 @@ pub use frames::CountsFrames;
 pub use head::{Head, Request, Upgrade, read_head};
 pub use held::Held;
 pub use shaking::{Shaken, Shaking};
+pub use traffic::Traffic;
 pub use waits::CountsWaits;

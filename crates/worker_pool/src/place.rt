@@ -17,7 +17,7 @@ use broker_parts::{Broker, Steady, moment};
 use delivery_machine::{Fault, Moment};
 use endpoint_core::{Admitted, Letters};
 use mio::net::TcpStream;
-use socket_conn::{Asked, Held, SocketConn};
+use socket_conn::{Asked, Held, SocketConn, Traffic};
 use status_pages::{BrokerSeen, ProgramSeen};
 use std::alloc::{AllocError, Global};
 use std::io::Eprint;
@@ -64,6 +64,9 @@ pub struct Place<D: Broker<Doorbell>> {
     process: Process,
     /// How many sessions ended since nothing came from their clients.
     silenced: AtomicU64,
+    /// How many bytes came from the clients of sessions, and went to them.
+    received: AtomicU64,
+    sent: AtomicU64,
     /// The topics that are not in memory were counted.
     has_counted: AtomicBool,
 }
@@ -79,6 +82,8 @@ impl<D: Broker<Doorbell>> Drop for Place<D> {
             looks: _,
             process: _,
             silenced: _,
+            received: _,
+            sent: _,
             has_counted: _,
         } = self;
     }
@@ -99,12 +104,20 @@ impl<D: Broker<Doorbell>> Place<D> {
             looks: Mutex::new(()),
             process: Process::new(),
             silenced: AtomicU64::new(0),
+            received: AtomicU64::new(0),
+            sent: AtomicU64::new(0),
             has_counted: AtomicBool::new(false),
         }
     }
 }
 
 impl<D: Broker<Doorbell>> Place<D> {
+    /// Adds what came from the client of a session, and went to it.
+    pub(crate) fn note_traffic(&self, traffic: Traffic) {
+        let _ = self.received.fetch_add(traffic.received, Ordering::SeqCst);
+        let _ = self.sent.fetch_add(traffic.sent, Ordering::SeqCst);
+    }
+
     /// What is seen of the program at the moment, with so many connections.
     fn program_seen<R: Wait>(&self, rt: &R, now: Moment, connections: u64) -> ProgramSeen {
         let disk = self.directory.on_disk(rt);
@@ -118,8 +131,8 @@ impl<D: Broker<Doorbell>> Place<D> {
             is_full: disk.is_full,
             refusals: self.refusals.all(rt),
             silenced: self.silenced.load(Ordering::SeqCst),
-            received: 0,
-            sent: 0,
+            received: self.received.load(Ordering::SeqCst),
+            sent: self.sent.load(Ordering::SeqCst),
             file: disk.file,
             log: disk.log,
             descriptors: self.process.descriptors(),

@@ -112,6 +112,7 @@ pub(crate) fn serve_turn<D: Broker<Doorbell>, R: Wait>(
     match left {
         Some(session) => {
             let _ = conn.flush();
+            place.note_traffic(conn.take_traffic());
             let received = conn.take_received();
             let served = Served {
                 conn,
@@ -125,16 +126,17 @@ pub(crate) fn serve_turn<D: Broker<Doorbell>, R: Wait>(
         None => {
             place.directory.detach(rt, seat);
             drop(presence);
-            see_off(conn);
+            see_off(place, conn);
             (Turned::gone(), None)
         }
     }
 }
 
 /// The last that a client hears, once its seat is free: so it may come again as soon as it hears it.
-fn see_off(mut conn: SocketConn<Held<TcpStream>>) {
+fn see_off<D: Broker<Doorbell>>(place: &Place<D>, mut conn: SocketConn<Held<TcpStream>>) {
     let _ = conn.tell_breach();
     let _ = conn.flush();
+    place.note_traffic(conn.take_traffic());
     drop(conn);
 }
 
@@ -172,6 +174,7 @@ fn dismiss<D: Broker<Doorbell>, R: Wait>(
     place.directory.detach(rt, seat);
     drop(presence);
     turn_away(&mut conn, 4008, fault);
+    place.note_traffic(conn.take_traffic());
     drop(conn);
 }
 

@@ -24,6 +24,7 @@ impl<S: Read + Write + Drop> SocketConn<Held<S>> {
             breach: _,
             faults: _,
             is_heard: _,
+            taken: _,
         } = self;
         socket.into_inner().into_inner()
     }

@@ -1,8 +1,10 @@
 // A connection's turns: what it may read in one, and what came in it.
 ghost use Rattle.std.specs.Prelude.{◌≡◌, false};
+ghost use Rattle.socket_conn.specs.Traffic.{since};
 
 use super::SocketConn;
 use crate::held::Held;
+use crate::traffic::Traffic;
 use std::io::{Read, Write};
 
 impl<S: Read + Write + Drop> SocketConn<S> {
@@ -43,5 +45,16 @@ impl<S: Read + Write + Drop> SocketConn<Held<S>> {
         ensures { self.new ≡ record self.old { socket = self.new.socket } }
     {
         self.socket.get_mut().begin_turn();
+    }
+
+    /// How many bytes came behind the head of the request and went, the answer to it among them, since this was asked last.
+    pub fn take_traffic(&mut self) -> Traffic
+        ensures count { result ≡ since self.old.taken self.old.socket.stream.traffic }
+        ensures taken { self.new ≡ record self.old { taken = self.old.socket.stream.traffic } }
+    {
+        let traffic = self.socket.get_ref().traffic();
+        let taken = traffic.since(self.taken);
+        self.taken = traffic;
+        taken
     }
 }
