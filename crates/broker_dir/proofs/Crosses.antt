@@ -100,7 +100,7 @@ Directory-send T K I B g v o n s k b c = let X = Arc.the_row (Shared.the_row T I
           rule_send,
           (
             as_row_send (Mutex.the_field (Table.the_row T I B g v n)) (search (sendable, crosses, t) depth 20),
-            (as_row_send (Mutex.the_field (Keeper.the_row K I n o)) (search (sendable, crosses, e) depth 20), (d, (closed_send, (uses_send, (counts_send, (steps_send, (as_row_send (Option.the_field Backups.the_row) (search (sendable, crosses, backups_send) depth 20), (as_row_send (Option.the_field DataFiles.the_row) (search (sendable, crosses, files_send) depth 20), (search (sendable, crosses) depth 20, tt))))))))),
+            (as_row_send (Mutex.the_field (Keeper.the_row K I n o)) (search (sendable, crosses, e) depth 20), (d, (closed_send, (uses_send, (counts_send, (steps_send, (as_row_send (Option.the_field Backups.the_row) (search (sendable, crosses, backups_send) depth 20), (as_row_send (Option.the_field DataFiles.the_row) (search (sendable, crosses, files_send) depth 20), (search (sendable, crosses) depth 20, (search (sendable, crosses) depth 20, tt)))))))))),
           ),
         ),
       ),
@@ -116,7 +116,7 @@ Directory-sync T K I B g v o n s k b c = let X = Arc.the_row (Shared.the_row T I
           rule_sync,
           (
             as_row_sync (Mutex.the_field (Table.the_row T I B g v n)) (search (sendable, crosses, t) depth 20),
-            (as_row_sync (Mutex.the_field (Keeper.the_row K I n o)) (search (sendable, crosses, e) depth 20), (d, (closed_sync, (uses_sync, (counts_sync, (steps_sync, (as_row_sync (Option.the_field Backups.the_row) (search (sendable, crosses, backups_sync) depth 20), (as_row_sync (Option.the_field DataFiles.the_row) (search (sendable, crosses, files_sync) depth 20), (search (sendable, crosses) depth 20, tt))))))))),
+            (as_row_sync (Mutex.the_field (Keeper.the_row K I n o)) (search (sendable, crosses, e) depth 20), (d, (closed_sync, (uses_sync, (counts_sync, (steps_sync, (as_row_sync (Option.the_field Backups.the_row) (search (sendable, crosses, backups_sync) depth 20), (as_row_sync (Option.the_field DataFiles.the_row) (search (sendable, crosses, files_sync) depth 20), (search (sendable, crosses) depth 20, (search (sendable, crosses) depth 20, tt)))))))))),
           ),
         ),
       ),

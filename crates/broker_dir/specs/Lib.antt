@@ -2,6 +2,7 @@
 pub mod Answering
 pub mod Coming
 pub mod Deleting
+pub mod Expiring
 pub mod Handing
 pub mod Listing
 pub mod Refusing

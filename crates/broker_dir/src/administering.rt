@@ -1,8 +1,8 @@
 // What an administrator asks of a topic that is more than one event.
-ghost use Rattle.std.specs.Prelude.{◌≡◌, ◌+◌, Err, Ok, IfOk, IfSome, OnErr, Some};
+ghost use Rattle.std.specs.Prelude.{◌≡◌, ◌+◌, Err, Ok, IfOk, IfSome, IsOk, OnErr, Some, true};
 ghost use Rattle.delivery_machine.specs.Places.{snapshot_in};
 ghost use Rattle.delivery_machine.specs.Snapshot.{snapshot_of};
-ghost use Rattle.session_links.specs.Creating.{MayCreate};
+ghost use Rattle.session_links.specs.Creating.{MayCreate, is_leave};
 ghost use Rattle.session_links.specs.Looking.{shown_of};
 ghost use Rattle.session_links.specs.declared.looking.Look.{Look};
 ghost use Rattle.broker_parts.specs.Ends.{refusal_at};
@@ -49,6 +49,27 @@ impl<T: Opened + Drop, J: Naming, B: Bell + Drop> Hold for Inside<T, J, B> {
 
     /// To nobody who sits there. Nobody calls something durable so.
     fn hand(&mut self, event: Event) -> Result<Reply, Fault> {
+        self.hand_event(event)
+    }
+
+    /// The journal begins anew: so there is room for a line, and none of it is taken.
+    fn spare(&mut self) {
+        self.begin_anew();
+    }
+
+    ghost hears = { λ s event reply t step. inl step };
+
+    ghost refuses = { λ s event fault t same. same };
+}
+
+impl<T: Opened + Drop, J: Naming, B: Bell + Drop> Inside<T, J, B> {
+    /// One event of nobody who sits there, by which a subscription may come or go. Nobody calls something durable so (F3).
+    pub(crate) fn hand_event(&mut self, event: Event) -> Result<Reply, Fault>
+        ensures hands_on { HandsOn self.old.topic.cell.cell.state event result self.new.topic.cell.cell.state }
+        ensures leaves { is_leave self.old.topic.cell.cell.state event ≡ true → IsOk result }
+        ensures name { self.new.topic.name ≡ self.old.topic.name }
+        ensures stage { self.new.stage ≡ self.old.stage }
+    {
         if is_storing(&event) {
             drop(event);
             return Err(Fault::NoSession);
@@ -69,17 +90,6 @@ impl<T: Opened + Drop, J: Naming, B: Bell + Drop> Hold for Inside<T, J, B> {
         }
     }
 
-    /// The journal begins anew: so there is room for a line, and none of it is taken.
-    fn spare(&mut self) {
-        self.begin_anew();
-    }
-
-    ghost hears = { λ s event reply t step. inl step };
-
-    ghost refuses = { λ s event fault t same. same };
-}
-
-impl<T: Opened + Drop, J: Naming, B: Bell + Drop> Inside<T, J, B> {
     /// Makes a subscription that goes on from the target. Where the journal is full the topic is to leave.
     fn create<R: Wait>(
         &mut self,

@@ -8,7 +8,7 @@ use crate::attached::Attached;
 use crate::directory::Directory;
 use crate::opening::found_in;
 use crate::topic::Shared;
-use broker_parts::Coming;
+use broker_parts::{Coming, Wants};
 use delivery_machine::{Fault, Opened, TopicName};
 use marks::Naming;
 use row_forms::topic_text;
@@ -75,22 +75,29 @@ pub(crate) enum Left {
 }
 
 impl<T: Opened + Drop, J: Naming, B: Bell + Drop> Shared<T, J, B> {
-    /// Nobody sits at the seat any more. The number is that of the topic's last use.
-    pub(crate) fn leave<R: Wait>(&self, rt: &R, seat: u64, used: u64) -> Left {
+    /// Nobody sits at the seat any more; a subscription may go with it, which is to be stored. The number is that of the topic's last
+    /// use.
+    pub(crate) fn leave<R: Wait>(&self, rt: &R, seat: u64, used: u64) -> (Left, Wants) {
         let mut inside = self.inside.lock(rt);
         inside.exit(rt, seat);
+        let has_dropped = inside.drop_over();
         if self.signs.has_to_go() {
             self.signs.set_to_go(inside.hearers.visitors.any_to_go());
         }
         inside.used = used;
+        let wants = Wants {
+            store: has_dropped && inside.wants_storing(),
+            thread: false,
+        };
         let stage = inside.stage;
-        if inside.wanted.end(stage) {
+        let left = if inside.wanted.end(stage) {
             Left::Ends
         } else if inside.is_blank() {
             Left::Blank
         } else {
             Left::Stays
-        }
+        };
+        (left, wants)
     }
 }
 

@@ -46,12 +46,14 @@ impl<T: Watched + Drop, S: Alter + Drop, J: Naming, B: Bell + Drop> Broker<B>
         Directory::attach(self, rt, name, create, bell)
     }
 
-    /// A topic with nothing in it, of which nothing is stored, leaves with the last one who sat there: so a name is made by what
-    /// is done there, and by no attach. One whose journal is full is seen out once nobody sits there.
+    /// A subscription goes with its last consumer where none of them was durable. A topic with nothing in it, of which nothing is
+    /// stored, leaves with the last one who sat there: so a name is made by what is done there, and by no attach. One whose journal is full is seen out once nobody sits there.
     fn detach<R: Wait>(&self, rt: &R, seat: Attached<T, J, B>) {
         let number = seat.seat;
         let topic = seat.into_topic();
-        match topic.leave(rt, number, self.uses.next()) {
+        let (left, wants) = topic.leave(rt, number, self.uses.next());
+        self.board.grant(rt, &topic, wants);
+        match left {
             Left::Ends => self.board.send(rt, topic),
             Left::Blank => leave_blank(rt, &self.table, &self.counts, topic),
             Left::Stays => drop(topic),

@@ -36,6 +36,8 @@ pub struct Directory<T: Opened + Drop, S: Alter, J: Naming, B: Bell + Drop> {
     pub(crate) files: Option<DataFiles>,
     /// How many bytes the messages of a topic may have together, where that is said.
     pub(crate) most: Option<u64>,
+    /// For how many milliseconds nobody may be in a subscription, where that is said.
+    pub(crate) expire: Option<u64>,
 }
 
 impl<T: Opened + Drop, S: Alter + Drop, J: Naming, B: Bell + Drop> Drop for Directory<T, S, J, B> {
@@ -54,6 +56,7 @@ impl<T: Opened + Drop, S: Alter + Drop, J: Naming, B: Bell + Drop> Drop for Dire
             backups: _,
             files: _,
             most: _,
+            expire: _,
         } = self;
     }
 }
@@ -77,6 +80,7 @@ impl<T: Opened + Drop, S: Alter, J: Naming, B: Bell + Drop> Directory<T, S, J, B
             backups: None,
             files: None,
             most: None,
+            expire: None,
         }
     }
 
@@ -96,6 +100,7 @@ impl<T: Opened + Drop, S: Alter, J: Naming, B: Bell + Drop> Directory<T, S, J, B
             backups: _,
             files: _,
             most: _,
+            expire: _,
         } = self;
         keeper.into_inner()
     }
@@ -109,6 +114,14 @@ impl<T: Opened + Drop, S: Alter, J: Naming, B: Bell + Drop> Directory<T, S, J, B
     /// Its database has these files: where one is lost the store has failed.
     pub fn with_files(mut self, files: DataFiles) -> Self {
         self.files = Some(files);
+        self
+    }
+
+    /// A subscription goes in which nobody has been for more than so many milliseconds.
+    pub fn with_expire(mut self, expire: u64) -> Self
+        ensures { result.expire ≡ Some expire }
+    {
+        self.expire = Some(expire);
         self
     }
 

@@ -8,7 +8,7 @@ use crate::directory::Directory;
 use crate::inside::Inside;
 use crate::table::Table;
 use crate::topic::Shared;
-use crate::unloading::{let_go, unused_at};
+use crate::unloading::{Leaver, let_go, unused_at};
 use broker_parts::{Counts, Guarded, Stage};
 use delivery_machine::{Fault, Opened};
 use marks::Naming;
@@ -87,7 +87,7 @@ fn see_out_at<T: Opened + Drop, S: Alter, J: Naming, B: Bell + Drop, R: Wait>(
     };
     match stored {
         Ok(true) => {
-            if let Some(unused) = unused_at(rt, table, place) {
+            if let Some(unused) = unused_at(rt, table, place, Leaver::Stored) {
                 let_go(rt, keeper, counts, table, unused);
             }
             Ok(())

@@ -9,6 +9,7 @@ mod closing;
 mod deleting;
 mod directory;
 mod errand;
+mod expiring;
 mod inside;
 mod leaving;
 mod named_cell;

@@ -146,22 +146,30 @@ impl<T: Opened + Drop, S: Alter, J: Naming, B: Bell + Drop> Directory<T, S, J, B
         ensures faults { IfErr result (λ fault. (fault ≡ Fault.NoRoom) ⊎ (fault ≡ Fault.NoMemory)) }
     {
         inside.used = self.uses.next();
+        let graves = &mut inside.hearers.graves;
+        self.counts.resting.wake(rt, text.as_str(), graves);
         let open = table.count();
         match seated(rt, self.alloc, &self.board, inside, name, bell, open) {
             Ok(made) => match self.list(rt, table, text, made, room) {
                 Ok(attached) => Ok(attached),
                 Err(fault) => {
-                    forget(rt, &self.keeper, name);
+                    self.forget_opened(rt, name);
                     Err(fault)
                 }
             },
             Err(fault) => {
                 drop(text);
                 drop(room);
-                forget(rt, &self.keeper, name);
+                self.forget_opened(rt, name);
                 Err(fault)
             }
         }
+    }
+
+    /// The topic that was loaded is not open: the keeper lets go of what it knows of it, and it rests on.
+    fn forget_opened<R: Wait>(&self, rt: &R, name: &TopicName) {
+        forget(rt, &self.keeper, name);
+        self.counts.resting.rest_on(rt, name);
     }
 
     /// Lists the topic, for which there is room, and sends the courier there where it is wanted.

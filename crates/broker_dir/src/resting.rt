@@ -46,11 +46,11 @@ fn subscription_of(kept: u64, count: SubscriptionCount) -> SubscriptionSeen {
         acknowledged,
         dead,
         oldest,
-        unused: None,
         delivered: 0,
         redelivered: 0,
         acks: 0,
         deaths: 0,
+        unused: None,
     }
 }
 
@@ -126,13 +126,17 @@ impl<T: Opened + Drop, S: Alter, J: Naming, B: Bell + Drop> Directory<T, S, J, B
         }
     }
 
-    /// A topic that is not in memory, and of which messages may go by their age, is opened: so it is asked to let them go, as those are
-    /// that are open, and leaves again. One a minute.
+    /// A topic that is not in memory, and of which messages may go by their age, or subscriptions that nobody uses, is opened: so it
+    /// is asked to let them go, as those are that are open, and leaves again. One a minute.
     pub(crate) fn wake_due<R: Wait>(&self, rt: &R, rules: &Rules) {
         let Some(now) = rules.moment() else {
             return;
         };
-        if let Some(name) = self.counts.resting.take_due(rt, &self.retention, &now) {
+        if let Some(name) = self
+            .counts
+            .resting
+            .take_due(rt, &self.retention, self.expire, &now)
+        {
             self.open_resting(rt, &name);
             drop(name);
         }

@@ -27,6 +27,7 @@ struct Told {
     name: String,
     oldest: Option<u64>,
     traffic: Traffic,
+    unused: Option<u64>,
 }
 
 /// A subscription by the topic's answer; none where it is no answer to that.
@@ -38,6 +39,7 @@ fn subscription_by(told: Told, reply: &Reply) -> Option<SubscriptionSeen>
         name,
         oldest,
         traffic,
+        unused,
     } = told;
     match reply {
         Reply::Stats {
@@ -59,11 +61,11 @@ fn subscription_by(told: Told, reply: &Reply) -> Option<SubscriptionSeen>
             acknowledged: *acknowledged,
             dead: *dead,
             oldest,
-            unused: None,
             delivered: traffic.sent,
             redelivered: traffic.released,
             acks: traffic.acks,
             deaths: traffic.deaths,
+            unused,
         }),
         _ => {
             drop(name);
@@ -212,6 +214,7 @@ impl<T: Opened + Drop, J: Naming, B: Bell + Drop> Inside<T, J, B> {
             name,
             oldest: oldest_of(snapshot, kept),
             traffic: self.hearers.graves.traffic(&kept.name),
+            unused: self.hearers.graves.unused(&kept.name),
         };
         match self.subscription_seen(&kept.name, told) {
             Ok(Some(sub)) => match seen.push(sub) {

@@ -2,14 +2,7 @@
 ghost use Rattle.std.specs.Prelude.{◌≡◌, ◌-◌, Some};
 ghost use Rattle.broker_dir.specs.Trimming.{most_after, rule_of, trim_by};
 
-use crate::table::Table;
-use crate::topic::Shared;
-use crate::watching::Rules;
-use broker_parts::{Board, Wants};
-use delivery_machine::{Event, KeptAge, KeptMessages, Moment, Opened, Retention};
-use marks::Naming;
-use session_bells::Bell;
-use std::sync::{Arc, Wait};
+use delivery_machine::{Event, KeptAge, KeptMessages, Moment, Retention};
 
 /// How many messages go at a time where none came: their rows are deleted in about a millisecond.
 const FEW: u64 = 64;
@@ -82,32 +75,5 @@ pub(crate) fn trim_by(rule: Retention, now: Option<Moment>, most: u64) -> Option
         Retention::All => None,
         Retention::Messages(count) => trim_to(count, most),
         Retention::Age(age) => trim_older(age, now, most),
-    }
-}
-
-impl<T: Opened + Drop, J: Naming, B: Bell + Drop> Shared<T, J, B> {
-    fn trim<R: Wait>(&self, rt: &R, rules: &Rules) -> Wants {
-        let mut inside = self.inside.lock(rt);
-        inside.trim(rules, 0);
-        Wants {
-            store: inside.wants_storing(),
-            thread: false,
-        }
-    }
-}
-
-impl<T: Opened + Drop, J: Naming, B: Bell + Drop> Table<T, J, B> {
-    /// Each open topic is asked, since messages grow old while nothing is stored.
-    pub(crate) fn trim_each<R: Wait>(
-        &self,
-        rt: &R,
-        board: &Board<Arc<Shared<T, J, B>>>,
-        rules: &Rules,
-    ) {
-        for place in 0..self.count() {
-            if let Some(topic) = self.at(place) {
-                board.grant(rt, topic, topic.trim(rt, rules));
-            }
-        }
     }
 }

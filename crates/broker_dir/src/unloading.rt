@@ -57,11 +57,21 @@ fn longer(one: Option<Unused>, other: Unused) -> Unused
     }
 }
 
-/// The topic at the place, where nobody but the table has it, and what is stored of it is the topic as it is.
+/// A topic that nobody uses, and that may leave.
+#[derive(Clone, Copy, Debug, PartialEq, Eq)]
+pub(crate) enum Leaver {
+    /// What is stored of it is the topic as it is.
+    Stored,
+    /// Nothing is stored of it, and nothing is in it.
+    Blank,
+}
+
+/// The topic at the place, where nobody but the table has it, and it is so.
 pub(crate) fn unused_at<T: Opened + Drop, J: Naming, B: Bell + Drop, R: Wait>(
     rt: &R,
     table: &mut Table<T, J, B>,
     place: usize,
+    leaver: Leaver,
 ) -> Option<Unused>
     ensures same { table.new.list.topics.entries ≡ table.old.list.topics.entries }
     ensures there { IfSome result (λ unused. (unused.sole.place ≡ place) × (place < length table.old.list.topics.entries)) }
@@ -70,28 +80,7 @@ pub(crate) fn unused_at<T: Opened + Drop, J: Naming, B: Bell + Drop, R: Wait>(
         return None;
     };
     match table.at(place) {
-        Some(topic) => match rests_since(rt, topic) {
-            Some(rested) => Some(Unused { sole, rested }),
-            None => None,
-        },
-        None => None,
-    }
-}
-
-/// The same, where nothing is stored of the topic, and nothing is in it.
-fn blank_at<T: Opened + Drop, J: Naming, B: Bell + Drop, R: Wait>(
-    rt: &R,
-    table: &mut Table<T, J, B>,
-    place: usize,
-) -> Option<Unused>
-    ensures same { table.new.list.topics.entries ≡ table.old.list.topics.entries }
-    ensures there { IfSome result (λ unused. (unused.sole.place ≡ place) × (place < length table.old.list.topics.entries)) }
-{
-    let Some(sole) = table.sole_at(place) else {
-        return None;
-    };
-    match table.at(place) {
-        Some(topic) => match rests_blank(rt, topic) {
+        Some(topic) => match rested(rt, topic, leaver) {
             Some(rested) => Some(Unused { sole, rested }),
             None => None,
         },
@@ -109,7 +98,7 @@ fn least_used<T: Opened + Drop, J: Naming, B: Bell + Drop, R: Wait>(
 {
     let mut least = None;
     for place in 0..table.count() {
-        if let Some(unused) = unused_at(rt, table, place) {
+        if let Some(unused) = unused_at(rt, table, place, Leaver::Stored) {
             least = Some(longer(least, unused));
         }
     }
@@ -199,7 +188,7 @@ pub(crate) fn leave_blank<T: Opened + Drop, J: Naming, B: Bell + Drop, R: Wait>(
     let place = table.place_of(&topic.name);
     drop(topic);
     if let Some(place) = place
-        && let Some(Unused { sole, rested }) = blank_at(rt, table, place)
+        && let Some(Unused { sole, rested }) = unused_at(rt, table, place, Leaver::Blank)
     {
         drop(table.remove(sole, rested));
         counts.unload();
@@ -216,7 +205,7 @@ fn unload<T: Opened + Drop, S: Alter, J: Naming, B: Bell + Drop, R: Wait>(
 ) {
     let count = table.count();
     for passed in 0..count {
-        if let Some(unused) = unused_at(rt, table, count - 1 - passed) {
+        if let Some(unused) = unused_at(rt, table, count - 1 - passed, Leaver::Stored) {
             if unused.used() < last {
                 let_go(rt, keeper, counts, table, unused);
             } else {
@@ -228,10 +217,11 @@ fn unload<T: Opened + Drop, S: Alter, J: Naming, B: Bell + Drop, R: Wait>(
 
 impl<T: Opened + Drop, S: Alter, J: Naming, B: Bell + Drop> Directory<T, S, J, B> {
     /// Topics leave that nobody uses, and nobody has used for five minutes, and those whose journals are full; the others are
-    /// asked to trim. It looks at them once a minute.
+    /// asked to let go what is too old or unused. It looks at them once a minute.
     pub(crate) fn look<R: Wait + Clock>(&self, rt: &R, tasks: &mut Tasks<Shared<T, J, B>>) {
         let time = tasks.time;
         if tasks.looks.is_due(time) {
+            let passed = tasks.looks.passed(time);
             let last = tasks.looks.mark(self.uses.made(), time);
             let before = self.counts.unloads();
             let mut table = self.table.lock(rt);
@@ -241,27 +231,23 @@ impl<T: Opened + Drop, S: Alter, J: Naming, B: Bell + Drop> Directory<T, S, J, B
             self.counts.note_unloads(rt, before, took);
             self.see_all_out(rt);
             let rules = self.rules(rt);
+            self.counts.resting.look(rt, passed);
             self.wake_due(rt, &rules);
             let table = self.table.lock(rt);
-            table.trim_each(rt, &self.board, &rules);
+            table.tend_each(rt, &self.board, &self.counts, &rules, passed);
         }
     }
 }
 
-/// The topic's last use, where it may leave.
-fn rests_since<T: Opened + Drop, J: Naming, B: Bell + Drop, R: Wait>(
+/// The topic's last use, where it is so, and so may leave.
+fn rested<T: Opened + Drop, J: Naming, B: Bell + Drop, R: Wait>(
     rt: &R,
     topic: &Shared<T, J, B>,
+    leaver: Leaver,
 ) -> Option<Rested> {
     let inside = topic.inside.lock(rt);
-    inside.rests_since()
-}
-
-/// The topic's last use, where nothing is stored of it, and nothing is in it.
-fn rests_blank<T: Opened + Drop, J: Naming, B: Bell + Drop, R: Wait>(
-    rt: &R,
-    topic: &Shared<T, J, B>,
-) -> Option<Rested> {
-    let inside = topic.inside.lock(rt);
-    inside.rests_blank()
+    match leaver {
+        Leaver::Stored => inside.rests_since(),
+        Leaver::Blank => inside.rests_blank(),
+    }
 }

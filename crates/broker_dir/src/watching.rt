@@ -1,5 +1,5 @@
 // What a directory looks at beside its topics: the time of day, and the database's files.
-ghost use Rattle.std.specs.Prelude.{◌≡◌};
+ghost use Rattle.std.specs.Prelude.{◌≡◌, None};
 
 use crate::directory::Directory;
 use broker_parts::{DataFiles, Lost, OnDisk};
@@ -10,12 +10,13 @@ use sqlite::Alter;
 use std::rt::{Clock, Files};
 use std::sync::Wait;
 
-/// What topics keep that have no rule of their own, and the moment that rules by age go by, where there is one. Only a directory
-/// tells so.
+/// What topics keep that have no rule of their own, the moment that rules by age go by, where there is one, and for how long nobody
+/// may be in a subscription. Only a directory tells so.
 #[derive(Clone, Copy)]
 pub(crate) struct Rules {
     broker: Retention,
     moment: Option<Moment>,
+    expire: Option<u64>,
 }
 
 impl Rules {
@@ -32,12 +33,20 @@ impl Rules {
     {
         self.moment
     }
+
+    /// For how many milliseconds nobody may be in a subscription, where that is said.
+    pub(crate) fn expire(&self) -> Option<u64>
+        ensures { result ≡ self.now.expire }
+    {
+        self.expire
+    }
 }
 
 impl<T: Opened + Drop, S: Alter, J: Naming, B: Bell + Drop> Directory<T, S, J, B> {
     /// The directory's rule, and the moment now. A step of the time of day is told of.
     pub(crate) fn rules<R: Wait + Clock>(&self, rt: &R) -> Rules
-        ensures { result.broker ≡ self.now.retention }
+        ensures broker { result.broker ≡ self.now.retention }
+        ensures expire { result.expire ≡ self.now.expire }
     {
         let (moment, step) = self.steps.look(rt);
         if let Some(step) = step {
@@ -46,16 +55,19 @@ impl<T: Opened + Drop, S: Alter, J: Naming, B: Bell + Drop> Directory<T, S, J, B
         Rules {
             broker: self.retention,
             moment,
+            expire: self.expire,
         }
     }
 
-    /// The directory's rule, where nobody looks at the clock: no message goes by its age.
+    /// The directory's rule, where nobody looks at the clock: nothing goes by its age.
     pub(crate) fn rules_without_age(&self) -> Rules
-        ensures { result.broker ≡ self.now.retention }
+        ensures broker { result.broker ≡ self.now.retention }
+        ensures age { (result.moment ≡ None) × (result.expire ≡ None) }
     {
         Rules {
             broker: self.retention,
             moment: None,
+            expire: None,
         }
     }
 

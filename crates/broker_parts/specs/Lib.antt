@@ -1,4 +1,5 @@
 -- What the contracts of a broker's parts cite.
+pub mod Attendance
 pub mod Bulks
 pub mod Copies
 pub mod Ends

@@ -36,7 +36,7 @@ pub fn since(began: Option<Instant>, ended: Option<Instant>) -> Option<Duration>
 }
 
 /// So many whole milliseconds; the most that there may be where it is longer.
-fn millis_of(length: Duration) -> u64
+pub(crate) fn millis_of(length: Duration) -> u64
     ensures { result ≡ min (as_nanos length / 1_000_000) (2 ^ 64 - 1) }
 {
     u64::try_from(length.as_millis()).unwrap_or(u64::MAX)

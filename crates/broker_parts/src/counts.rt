@@ -2,7 +2,7 @@
 use crate::notices::{Notice, Notices};
 use crate::resting::Resting;
 use crate::steps::Step;
-use delivery_machine::TopicName;
+use delivery_machine::{SubscriptionName, TopicName};
 use status_pages::{Histogram, Rows};
 use std::alloc::Global;
 use std::sync::atomic::{AtomicU64, Ordering};
@@ -114,6 +114,20 @@ impl Counts {
         if let Some(took) = long(took, LONG_MOVE) {
             let topics = self.unloads().saturating_sub(before);
             self.notices.add(rt, Notice::Unload { topics, took });
+        }
+    }
+
+    /// The subscription was dropped, since nobody had been in it for longer than may be.
+    pub fn note_expired<R: Wait>(&self, rt: &R, topic: &TopicName, subscription: SubscriptionName) {
+        match topic.clone() {
+            Ok(topic) => self.notices.add(
+                rt,
+                Notice::Expired {
+                    topic,
+                    subscription,
+                },
+            ),
+            Err(_) => drop(subscription),
         }
     }
 

@@ -91,15 +91,25 @@ fn is_cut(before: Known, found: Known) -> bool
     }
 }
 
-/// How often the log has begun anew: the fourth number of its head, which has 32 bytes. None where it has no head.
+/// How a log begins, as SQLite has it.
+const LOG_HEAD: [u8; 3] = [0x37, 0x7f, 6];
+
+/// How often a log has begun anew, as the fourth number of its head says. None where it is no log's head: what is written after a log
+/// was cut stands behind zeros.
+fn round_in_head(head: &[u8; 32]) -> Option<u64> {
+    if head[..3] == LOG_HEAD[..] {
+        Some(number_in(&head[12..16]))
+    } else {
+        None
+    }
+}
+
+/// How often the log has begun anew. None where it has no head.
 fn round_of<R: Files>(rt: &R, log: &str) -> io::Result<Option<u64>> {
     let mut head = [0; 32];
     let mut file = fs::open(rt, log)?;
     match file.read_exact(&mut head) {
-        Ok(()) => {
-            let [_, _, _, _, _, _, _, _, _, _, _, _, a, b, c, d, ..] = head;
-            Ok(Some(u64::from(u32::from_be_bytes([a, b, c, d]))))
-        }
+        Ok(()) => Ok(round_in_head(&head)),
         Err(error) if error.kind() == ErrorKind::UnexpectedEof => Ok(None),
         Err(error) => Err(error),
     }

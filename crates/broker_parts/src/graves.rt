@@ -1,7 +1,10 @@
-// The subscriptions of a topic, and in which of them letters may lie dead.
-ghost use Rattle.std.specs.Prelude.{◌≡◌, IfErr, IsOk, true};
+// The subscriptions of a topic: in which of them letters may lie dead, who is in them, and what came of what these asked.
+ghost use Rattle.std.specs.Prelude.{◌≡◌, Any, IfErr, IfSome, IsOk, true};
+ghost use Rattle.std.specs.Option.{option_copied};
+ghost use Rattle.broker_parts.specs.Attendance.{is_over, is_unused_for};
 ghost use Rattle.broker_parts.specs.Ends.{is_ending};
 
+use crate::attendance::Attendance;
 use crate::tallies::Traffic;
 use delivery_machine::{Event, Fault, KeptSubscription, Reply, SubscriptionName};
 use std::alloc::Global;
@@ -21,6 +24,7 @@ pub struct Grave {
     /// A courier is under way for it, of which there is one at most.
     has_courier: bool,
     traffic: Traffic,
+    attendance: Attendance,
 }
 
 impl Grave {
@@ -33,6 +37,7 @@ impl Grave {
             is_open,
             has_courier: false,
             traffic: Traffic::new(),
+            attendance: Attendance::new(),
         }
     }
 
@@ -198,6 +203,72 @@ impl Graves {
         match self.graves.iter().find(|grave| grave.name.is(name)) {
             Some(grave) => grave.traffic,
             None => Traffic::new(),
+        }
+    }
+
+    /// A consumer came to the subscription, which it made or found there.
+    pub fn join(&mut self, name: &SubscriptionName, makes: bool, is_durable: bool) {
+        let found = self.place_of(name);
+        if let Some(place) = found
+            && let Some(grave) = self.graves.get_mut(place)
+        {
+            grave.attendance.join(makes, is_durable);
+        }
+    }
+
+    /// A consumer left the subscription.
+    pub fn leave(&mut self, name: &SubscriptionName) {
+        let found = self.place_of(name);
+        if let Some(place) = found
+            && let Some(grave) = self.graves.get_mut(place)
+        {
+            grave.attendance.leave();
+        }
+    }
+
+    /// A subscription that is to go with the last consumer that was in it.
+    pub fn over(&self) -> Option<&SubscriptionName>
+        ensures { IfSome (option_copied result) (λ name. Any (λ grave. (grave.name ≡ name) × (is_over grave.attendance ≡ true)) self.now.graves.items) }
+    {
+        for grave in &self.graves {
+            if grave.attendance.is_over() {
+                return Some(&grave.name);
+            }
+        }
+        None
+    }
+
+    /// They are looked at so many milliseconds after they were last.
+    pub fn look(&mut self, passed: u64) {
+        for grave in self.graves.iter_mut() {
+            grave.attendance.look(passed);
+        }
+    }
+
+    /// The subscription at the place, where nobody has been in it for more than so many milliseconds.
+    pub fn unused_at(&self, place: usize, millis: u64) -> Option<&SubscriptionName>
+        ensures { IfSome (option_copied result) (λ name. Any (λ grave. (grave.name ≡ name) × (is_unused_for millis grave.attendance ≡ true)) self.now.graves.items) }
+    {
+        match self.graves.get(place) {
+            Some(grave) if grave.attendance.is_unused_for(millis) => Some(&grave.name),
+            _ => None,
+        }
+    }
+
+    /// For how many milliseconds nobody has been in the subscription, where that is known.
+    pub fn unused(&self, name: &SubscriptionName) -> Option<u64> {
+        match self.graves.iter().find(|grave| grave.name.is(name)) {
+            Some(grave) => grave.attendance.unused(),
+            None => None,
+        }
+    }
+
+    /// Nobody had been in the subscription of the name for so long before the topic came into memory.
+    pub fn go_on(&mut self, name: &str, unused: Option<u64>) {
+        for grave in self.graves.iter_mut() {
+            if grave.name.as_str() == name {
+                grave.attendance.go_on(unused);
+            }
         }
     }
 

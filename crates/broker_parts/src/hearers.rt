@@ -149,14 +149,37 @@ impl<B: Bell + Drop> Hearers<B> {
             acknowledges,
             name,
         } = prepared;
+        let makes = matches!(change, Change::Begins(_));
         self.tallies.note(ends_producer, reply);
+        self.note_left(seat, asked, reply);
         self.bells.answered(rt, seat, asked, reply);
         self.graves.answered(change, reply);
+        self.note_joined(seat, asked, makes, reply);
         self.note_visitor(seat, name, reply);
         if is_of_subscription(acknowledges, reply)
             && let Some(name) = self.bells.subscription(seat)
         {
             self.graves.note(name, acknowledges, reply);
+        }
+    }
+
+    /// A consumer that has left is in its subscription no more. Its bell tells which that was, as long as it has one.
+    fn note_left(&mut self, seat: u64, asked: &Asked, reply: &Reply) {
+        if matches!(asked, Asked::Leaves(_))
+            && matches!(reply, Reply::Done)
+            && let Some(name) = self.bells.subscription(seat)
+        {
+            self.graves.leave(name);
+        }
+    }
+
+    /// A consumer that has joined is in the subscription, which it may have made.
+    fn note_joined(&mut self, seat: u64, asked: &Asked, makes: bool, reply: &Reply) {
+        if let Asked::Joins(name) = asked
+            && matches!(reply, Reply::Subscribed { .. })
+        {
+            let is_durable = self.visitors.is_durable(seat);
+            self.graves.join(name, makes, is_durable);
         }
     }
 

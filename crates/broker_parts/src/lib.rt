@@ -2,6 +2,7 @@
 //! server asks of it.
 #![tactic(auto)]
 
+mod attendance;
 mod backup;
 mod board;
 mod broker;

@@ -1,6 +1,7 @@
 // When the storing thread looks for topics that nobody uses.
 ghost use Rattle.std.specs.Prelude.{[], ◌++◌, ◌≡◌, ◌∷◌};
 
+use crate::clock::{millis_of, since};
 use crate::pause::Due;
 use std::time::Instant;
 
@@ -9,6 +10,8 @@ use std::time::Instant;
 pub struct Looks {
     due: Option<Due>,
     marks: [u64; 5],
+    /// What the clock showed at the last look, where it could be read.
+    last: Option<Instant>,
 }
 
 impl Looks {
@@ -16,6 +19,7 @@ impl Looks {
         Looks {
             due: None,
             marks: [0; 5],
+            last: None,
         }
     }
 
@@ -34,6 +38,16 @@ impl Looks {
         match self.due {
             Some(due) => due.left(time).is_none(),
             None => false,
+        }
+    }
+
+    /// How many milliseconds have passed since the look before, as far as the clock tells. The look is made now.
+    pub fn passed(&mut self, time: Option<Instant>) -> u64 {
+        let passed = since(self.last, time);
+        self.last = time;
+        match passed {
+            Some(passed) => millis_of(passed),
+            None => 0,
         }
     }
 

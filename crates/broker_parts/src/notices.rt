@@ -1,6 +1,6 @@
 // What an operator wants to know of what the directory did or saw: what took long, and a time of day that was set.
 use crate::steps::Step;
-use delivery_machine::TopicName;
+use delivery_machine::{SubscriptionName, TopicName};
 use std::alloc::Global;
 use std::collections::VecDeque;
 use std::sync::atomic::{AtomicBool, Ordering};
@@ -14,11 +14,25 @@ const MOST: usize = 16;
 #[derive(Drop)]
 pub enum Notice {
     /// One commit of so many rows, from the first row to the disk's answer.
-    Store { took: Duration, rows: u64 },
+    Store {
+        took: Duration,
+        rows: u64,
+    },
     /// A topic came into memory.
-    Load { topic: TopicName, took: Duration },
+    Load {
+        topic: TopicName,
+        took: Duration,
+    },
     /// So many topics that nobody used left memory.
-    Unload { topics: u64, took: Duration },
+    Unload {
+        topics: u64,
+        took: Duration,
+    },
+    /// A subscription was dropped, since nobody had been in it for longer than may be.
+    Expired {
+        topic: TopicName,
+        subscription: SubscriptionName,
+    },
     /// The time of day was set: rules by age wait.
     Step(Step),
 }

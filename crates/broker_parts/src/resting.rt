@@ -1,6 +1,8 @@
 // What was seen last of the topics that are not in memory.
 ghost use Rattle.std.specs.Prelude.{◌≡◌, All, IfOk, true};
 
+use crate::attendance::later;
+use crate::graves::Graves;
 use delivery_machine::{Moment, Retention, TopicName};
 use indexmap::IndexMap;
 use status_pages::{Rule, TopicSeen};
@@ -10,12 +12,14 @@ use std::sync::{Mutex, Wait};
 /// After how long a topic is asked again to let go what is too old, in milliseconds: it may hold some of it still.
 const PAUSE: u64 = 3_600_000;
 
-/// A topic that is not in memory, and when it was last asked to let go what is too old.
+/// A topic that is not in memory, and when it was last asked to let go what is too old or unused.
 #[derive(Drop)]
 struct Rests {
     name: TopicName,
     seen: TopicSeen,
     asked: Option<u64>,
+    /// It has come into memory since.
+    is_open: bool,
 }
 
 impl Rests {
@@ -45,15 +49,44 @@ impl Rests {
     }
 
     /// Whether messages may go by their age at the moment.
-    fn is_due(&self, broker: &Retention, now: u64) -> bool {
+    fn is_old(&self, broker: &Retention, now: u64) -> bool {
         let (Some(oldest), Some(age)) = (self.seen.oldest, self.most_age(broker)) else {
             return false;
         };
-        let may_ask = match self.asked {
-            Some(asked) => now.saturating_sub(asked) >= PAUSE,
-            None => true,
+        now.saturating_sub(oldest) > age && self.is_done_at_front()
+    }
+
+    /// Whether a subscription may go that nobody uses.
+    fn is_unused(&self, expire: Option<u64>) -> bool {
+        let Some(expire) = expire else {
+            return false;
         };
-        may_ask && now.saturating_sub(oldest) > age && self.is_done_at_front()
+        self.seen
+            .subscriptions
+            .iter()
+            .any(|sub| sub.unused.unwrap_or(0) > expire)
+    }
+
+    /// Whether it may be asked at the moment: it is not in memory, where it is asked anyway.
+    fn may_be_asked(&self, now: u64) -> bool {
+        match self.asked {
+            Some(asked) => !self.is_open && now.saturating_sub(asked) >= PAUSE,
+            None => !self.is_open,
+        }
+    }
+
+    /// It is looked at so many milliseconds after it was last: nobody is there.
+    fn look(&mut self, passed: u64) {
+        for sub in self.seen.subscriptions.iter_mut() {
+            sub.unused = later(sub.unused, passed);
+        }
+    }
+
+    /// For how long nobody has been in its subscriptions is known where it comes into memory.
+    fn tell(&self, graves: &mut Graves) {
+        for sub in self.seen.subscriptions.iter() {
+            graves.go_on(sub.name.as_str(), sub.unused);
+        }
     }
 }
 
@@ -103,7 +136,15 @@ impl Resting {
             Some(before) if before.seen.gone == seen.gone => before.asked,
             _ => None,
         };
-        drop(topics.insert(text, Rests { name, seen, asked }));
+        drop(topics.insert(
+            text,
+            Rests {
+                name,
+                seen,
+                asked,
+                is_open: false,
+            },
+        ));
     }
 
     /// Nothing is known of the topic any more.
@@ -129,13 +170,47 @@ impl Resting {
         Ok(others)
     }
 
-    /// A topic of which messages may go by their age at the moment, by its own rule or the broker's. It is asked then, and not again
-    /// for an hour, unless some go.
-    pub fn take_due<R: Wait>(&self, rt: &R, broker: &Retention, now: &Moment) -> Option<TopicName> {
+    /// The topic of the text comes into memory: its subscriptions are unused for as long as they were.
+    pub fn wake<R: Wait>(&self, rt: &R, text: &str, graves: &mut Graves) {
+        let mut topics = self.topics.lock(rt);
+        if let Some(topic) = topics.get_mut(text) {
+            topic.tell(graves);
+            topic.is_open = true;
+        }
+    }
+
+    /// The topic did not come into memory.
+    pub fn rest_on<R: Wait>(&self, rt: &R, name: &TopicName) {
+        let mut topics = self.topics.lock(rt);
+        for topic in topics.values_mut() {
+            if topic.name.is(name) {
+                topic.is_open = false;
+            }
+        }
+    }
+
+    /// They are looked at so many milliseconds after they were last: nobody is there.
+    pub fn look<R: Wait>(&self, rt: &R, passed: u64) {
+        let mut topics = self.topics.lock(rt);
+        for topic in topics.values_mut() {
+            topic.look(passed);
+        }
+    }
+
+    /// A topic of which messages may go by their age at the moment, by its own rule or the broker's, or subscriptions that nobody has
+    /// used for so many milliseconds. It is asked then, and not again for an hour, unless some go.
+    pub fn take_due<R: Wait>(
+        &self,
+        rt: &R,
+        broker: &Retention,
+        expire: Option<u64>,
+        now: &Moment,
+    ) -> Option<TopicName> {
         let mut topics = self.topics.lock(rt);
         for place in 0..topics.len() {
             if let Some(topic) = topics.get_index_mut(place)
-                && topic.is_due(broker, now.millis())
+                && topic.may_be_asked(now.millis())
+                && (topic.is_old(broker, now.millis()) || topic.is_unused(expire))
             {
                 topic.asked = Some(now.millis());
                 return topic.name.clone().ok();

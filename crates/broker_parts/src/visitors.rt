@@ -19,6 +19,8 @@ pub struct Visitor {
     pub role: Role,
     /// When it came.
     pub since: Moment,
+    /// A consumer whose subscription stays after it has gone.
+    pub is_durable: bool,
 }
 
 impl Visitor {
@@ -210,6 +212,14 @@ impl Visitors {
             Some(sitting) => sitting.is_to_go,
             None => false,
         })
+    }
+
+    /// Whether the subscription of the one at the seat stays after it has gone: so it is where nobody said otherwise.
+    pub fn is_durable(&self, seat: u64) -> bool {
+        match self.sitting(seat) {
+            Some(sitting) => sitting.visitor.is_durable,
+            None => true,
+        }
     }
 
     /// Up to which seat somebody may sit who said so.

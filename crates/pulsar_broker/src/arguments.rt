@@ -29,6 +29,8 @@ pub struct Asked<'a> {
     pub most: Option<u64>,
     /// How many bytes of the disk the database may take, where that is said.
     pub disk: Option<u64>,
+    /// For how many milliseconds nobody may be in a subscription, where that is said.
+    pub expire: Option<u64>,
     /// How a refusal is told that is known before the request is accepted.
     pub refusals: Refused,
 }
@@ -43,6 +45,10 @@ const MOST_CONNECTIONS: u64 = 2_305_843_009_213_693_952;
 const MOST_MESSAGES: u64 = 1_048_576;
 
 const MOST_MILLIS: u64 = 253_402_300_799_999;
+
+const MILLIS_A_DAY: u64 = 86_400_000;
+
+const MOST_DAYS: u64 = 36_525;
 
 /// How long a client may be silent: from a second to a day.
 const LEAST_SILENCE: u64 = 1_000;
@@ -99,6 +105,14 @@ fn rule(word: &str) -> Option<Retention> {
     match word.strip_suffix("ms") {
         Some(millis) => age(millis),
         None => messages(word),
+    }
+}
+
+/// For how long nobody may be in a subscription, as `30d` or `86400000ms`.
+fn expiry(word: &str) -> Option<u64> {
+    match word.strip_suffix('d') {
+        Some(days) => Some(number(days, MOST_DAYS)? * MILLIS_A_DAY),
+        None => number(word.strip_suffix("ms")?, MOST_MILLIS),
     }
 }
 
@@ -172,6 +186,7 @@ struct Named<'a> {
     per_address: Option<PerAddress>,
     most: Option<u64>,
     disk: Option<u64>,
+    expire: Option<u64>,
     refusals: Option<Refused>,
 }
 
@@ -200,6 +215,7 @@ impl<'a> Named<'a> {
             per_address: None,
             most: None,
             disk: None,
+            expire: None,
             refusals: None,
         }
     }
@@ -228,6 +244,7 @@ impl<'a> Named<'a> {
             "per-address" => self.per_address = once(self.per_address, per_address(value)?)?,
             "most" => self.most = once(self.most, number(value, MOST_BYTES)?)?,
             "disk" => self.disk = once(self.disk, number(value, MOST_BYTES)?)?,
+            "expire" => self.expire = once(self.expire, expiry(value)?)?,
             "refusals" => self.refusals = once(self.refusals, refusals(value)?)?,
             "silence" => self.patience = once(self.patience, patience(value)?)?,
             _ => return None,
@@ -281,6 +298,7 @@ pub fn read_arguments(words: &[String]) -> Option<Asked<'_>> {
         per_address: named.per_address.unwrap_or(PER_ADDRESS),
         most: named.most,
         disk: named.disk,
+        expire: named.expire,
         refusals: named.refusals.unwrap_or(Refused::Close),
     })
 }

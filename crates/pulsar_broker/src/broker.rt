@@ -69,17 +69,31 @@ fn is_open_to_others(asked: &Asked<'_>, listener: &TcpListener) -> bool {
     }
 }
 
+/// Where the listener is, with the port that was taken; none where the system does not tell, or for want of memory.
+fn place_of(alloc: Global, listener: &TcpListener) -> Option<String> {
+    listener.local_addr().ok()?.to_string(alloc).ok()
+}
+
 /// Says that it was started, and with what.
-fn say_started<R: Eprint + Files>(rt: &R, alloc: Global, asked: &Asked<'_>, is_open: bool) {
+fn say_started<R: Eprint + Files>(
+    rt: &R,
+    alloc: Global,
+    asked: &Asked<'_>,
+    listener: &TcpListener,
+) {
     let Sizes { file, log } = Sizes::of(rt, alloc, asked.database);
+    let place = place_of(alloc, listener);
+    let address = match &place {
+        Some(place) => place.as_str(),
+        None => asked.address,
+    };
     let _ = eprintln!(rt;
-        "level=info msg=\"started\" version={VERSION} database={} bytes={file} log_bytes={log} address={} workers={}",
-        asked.database, asked.address, asked.workers
+        "level=info msg=\"started\" version={VERSION} database={} bytes={file} log_bytes={log} address={address} workers={}",
+        asked.database, asked.workers
     );
-    if is_open {
+    if is_open_to_others(asked, listener) {
         let _ = eprintln!(rt;
-            "level=warn msg=\"open to everybody who reaches this address\" address={}",
-            asked.address
+            "level=warn msg=\"open to everybody who reaches this address\" address={address}"
         );
     }
 }
@@ -113,6 +127,9 @@ fn equipped<S: Alter + Drop, J: Naming>(
     }
     if let Some(most) = asked.most {
         directory = directory.with_most(most);
+    }
+    if let Some(expire) = asked.expire {
+        directory = directory.with_expire(expire);
     }
     Some(directory)
 }
@@ -170,7 +187,7 @@ fn serve_named<
         return Fate::CannotServe;
     };
     let _ = println!(rt; "listening {}", asked.address);
-    say_started(rt, alloc, asked, is_open);
+    say_started(rt, alloc, asked, &listener);
     let limits = Limits {
         workers: asked.workers,
         connections: asked.connections,

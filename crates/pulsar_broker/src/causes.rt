@@ -15,6 +15,8 @@ pub enum Why {
     NoFile,
     /// The system does not open it, or SQLite left a journal beside it, which only SQLite can play back.
     NotOpened,
+    /// The disk has no room beside it.
+    NoRoom,
     Store(Cause),
     /// It was served until then.
     Ended(broker_dir::Why),
@@ -28,6 +30,7 @@ impl fmt::Display for Why {
             Why::NotOpened => f.write_str(
                 "cannot be opened, or has a rollback journal of SQLite beside it",
             ),
+            Why::NoRoom => f.write_str("no room on the disk"),
             Why::Store(cause) => write!(f, "{cause}"),
             Why::Ended(why) => write!(f, "{why}"),
         }

@@ -20,6 +20,7 @@ A topic broker with Apache Pulsar's subscription types, spoken to by JSON over W
                 second: per-address=16384,192,4096 (the default)
   most=bytes    a topic whose messages have so many bytes is full: without it only 1,048,576 messages fill one
   disk=bytes    where the database's file and its log have so many bytes, publishes are refused until there is room again
+  expire=30d    a subscription that nobody has been in for so long, counted from the start on, is dropped
   refusals=http a session that does not begin is answered with a status and why, and not opened and then closed
   silence=a,b   a client that is silent for a is pinged, and ended b later: silence=30000ms,45000ms (the default)
 

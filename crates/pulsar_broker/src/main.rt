@@ -11,15 +11,17 @@ mod sizes;
 
 use arguments::{Asked, IN_MEMORY, read_arguments};
 use broker::{Fate, serve_over};
-use causes::{say_why, why_unopened};
+use causes::{Why, say_why, why_unopened};
 use endpoint_core::Admitted;
-use files::make_private;
+use files::has_room;
 use help::HELP;
+use page_file::prepare;
 use row_schema::{open, open_in_memory};
 use sqlite::Unknown;
 use std::alloc::{AllocError, Global};
 use std::env;
-use std::io::ErrorKind;
+use std::fs::Files;
+use std::io::{Eprint, ErrorKind};
 use std::process::ExitCode;
 use worker_pool::{Rules, VERSION};
 
@@ -101,6 +103,17 @@ fn rules_of(alloc: Global, asked: &Asked<'_>) -> Result<Option<Rules>, AllocErro
     }))
 }
 
+/// Whether the database may be opened: the disk has room beside it, and it has a file, where one can be made. Else it says so.
+fn is_ready<R: Files + Eprint>(rt: &R, alloc: Global, database: &str) -> bool {
+    let has_room = has_room(rt, alloc, database);
+    if has_room {
+        prepare(rt, alloc, database);
+    } else {
+        say_why(rt, database, Why::NoRoom);
+    }
+    has_room
+}
+
 fn main(rt: HostRuntime) -> ExitCode {
     let words = match words(&rt) {
         Ok(words) => words,
@@ -126,8 +139,7 @@ fn main(rt: HostRuntime) -> ExitCode {
                 Fate::CannotServe
             }
         }
-    } else {
-        make_private(&rt, asked.database);
+    } else if is_ready(&rt, rt.alloc(), asked.database) {
         match open(&rt, asked.database, Unknown) {
             Ok(conn) => serve_over(&rt, &asked, rules, conn),
             Err(error) => {
@@ -137,6 +149,9 @@ fn main(rt: HostRuntime) -> ExitCode {
                 Fate::StoreFailed
             }
         }
+    } else {
+        drop(rules);
+        Fate::StoreFailed
     };
     ending(&rt, fate)
 }

@@ -1,5 +1,6 @@
 -- What the contracts of the server cite.
 pub mod Callers
 pub mod Dated
+pub mod Durable
 pub mod Pages
 pub mod Refusing

@@ -2,6 +2,7 @@
 // accepted. So whoever sees its connection open is subscribed, or is a producer of its topic. One whose topic is being opened
 // waits before that.
 ghost use Rattle.std.specs.Prelude.{◌≡◌, None};
+ghost use Rattle.worker_pool.specs.Durable.{is_durable};
 
 use crate::accepting::{accept, session_at};
 use crate::callers::Presence;
@@ -14,7 +15,7 @@ use crate::waiting::Waiting;
 use crate::whence::whence_of;
 use broker_parts::{Broker, Coming, Visitor, Waiter};
 use delivery_machine::{Fault, TopicName};
-use endpoint_core::{Endpoint, route};
+use endpoint_core::{Endpoint, Mode, route};
 use mio::net::TcpStream;
 use socket_conn::{Asked, Held, SocketConn};
 use status_pages::Role;
@@ -53,6 +54,16 @@ impl Wish {
     }
 }
 
+/// Whether what is made of a subscription there stays.
+fn is_durable(endpoint: &Endpoint) -> bool
+    ensures { result ≡ is_durable endpoint.now }
+{
+    match endpoint {
+        Endpoint::Consumer(consumer) => consumer.mode == Mode::Durable,
+        _ => true,
+    }
+}
+
 /// What is wished for; or that there is no memory for that.
 fn wish_of(
     endpoint: &Endpoint,
@@ -83,6 +94,7 @@ fn wish_of(
             is_handed_on: asked.is_forwarded,
             role,
             since: comer.came,
+            is_durable: is_durable(endpoint),
         },
         presence: None,
     })

@@ -1,6 +1,6 @@
 // What an operator reads on standard error: a line for each thing, as `level=.. msg=".." ..`.
 use crate::place::Place;
-use crate::quoted::Quoted;
+use crate::quoted::{Quoted, QuotedName};
 use crate::refusals::Refused;
 use broker_parts::{Broker, Copied, Notice, Whence, moment};
 use delivery_machine::Moment;
@@ -26,6 +26,18 @@ fn say_notice<R: Eprint>(rt: &R, notice: &Notice) {
             let millis = took.as_millis();
             let _ = eprintln!(rt;
                 "level=info msg=\"topics left memory\" topics={topics} millis={millis}"
+            );
+        }
+        Notice::Expired {
+            topic,
+            subscription,
+        } => {
+            let topic = Quoted { topic };
+            let name = QuotedName {
+                name: subscription.as_str(),
+            };
+            let _ = eprintln!(rt;
+                "level=info msg=\"subscription expired\" topic={topic} subscription={name}"
             );
         }
         Notice::Step(step) => {

@@ -76,14 +76,19 @@ fn descriptors<R: Files>(rt: &R) -> Option<u64> {
     Some(fs::metadata(rt, "/proc/self/fd").ok()?.len())
 }
 
+/// One more than what was told stands there; 0 where nothing was.
 fn note(number: &AtomicU64, told: Option<u64>) {
-    number.store(told.unwrap_or(0), Ordering::SeqCst);
+    let one_more = match told {
+        Some(told) => told.saturating_add(1),
+        None => 0,
+    };
+    number.store(one_more, Ordering::SeqCst);
 }
 
 fn noted(number: &AtomicU64) -> Option<u64> {
     match number.load(Ordering::SeqCst) {
         0 => None,
-        number => Some(number),
+        one_more => Some(one_more - 1),
     }
 }
 

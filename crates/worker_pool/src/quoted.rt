@@ -1,4 +1,4 @@
-// A topic's name in a line of the log. Its client chose it, so it may look like more fields of the line, or rule a terminal.
+// Names in a line of the log. A client chose them, so they may look like more fields of the line, or rule a terminal.
 use delivery_machine::TopicName;
 use std::fmt;
 use std::fmt::Write;
@@ -7,6 +7,12 @@ use std::fmt::Write;
 #[derive(Clone, Copy)]
 pub(crate) struct Quoted<'a> {
     pub(crate) topic: &'a TopicName,
+}
+
+/// Another name between quotes.
+#[derive(Clone, Copy)]
+pub(crate) struct QuotedName<'a> {
+    pub(crate) name: &'a str,
 }
 
 /// Writes the text with a backslash before each quote and backslash, and controls by their numbers.
@@ -32,6 +38,14 @@ impl fmt::Display for Quoted<'_> {
         write_escaped(f, self.topic.namespace.as_str())?;
         f.write_str("/")?;
         write_escaped(f, self.topic.topic.as_str())?;
+        f.write_str("\"")
+    }
+}
+
+impl fmt::Display for QuotedName<'_> {
+    fn fmt<W: fmt::Write>(&self, f: &mut fmt::Formatter<W>) -> fmt::Result {
+        f.write_str("\"")?;
+        write_escaped(f, self.name)?;
         f.write_str("\"")
     }
 }

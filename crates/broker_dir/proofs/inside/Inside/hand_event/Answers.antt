@@ -1,5 +1,5 @@
 use Rattle.broker_dir.proofs.MayLeave.{detached}
-use Rattle.broker_dir.proofs.administering.InsideHold.hand.Goals as goal
+use Rattle.broker_dir.proofs.inside.Inside.hand_event.Goals as goal
 
 -- the topic always hears of who leaves
 pub returns-in-Err-clause-leaves : goal.returns-in-Err-clause-leaves

@@ -1,0 +1,2 @@
+-- What the contracts of page_file cite.
+pub mod FirstPage
