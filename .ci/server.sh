@@ -3,7 +3,7 @@
 # with its code, or its status and its words, requests that ask for no WebSocket, who is let in, who floods or is silent, what
 # one address and one topic may have, what comes again and when, also where the clock is set, what is seen of the broker and
 # what is asked of it, what goes and what stays, two topics at once, whoever comes and goes; then kills, a disk that takes no
-# more, and files that are taken away. It wants gcc and Python's own library alone.
+# more, files that are taken away, and those of a new database. It wants gcc and Python's own library alone.
 set -euo pipefail
 cd "$(dirname "$0")/.."
 program=$PWD/crates/pulsar_broker/out/pulsar_broker
@@ -32,6 +32,8 @@ python3 bench/server/seen.py "$program" "$(port)"
 python3 bench/server/resting.py "$program" 300 "$(port)"
 python3 bench/server/administer.py "$program" "$(port)"
 python3 bench/server/keeps.py "$program" "$(port)"
+python3 bench/server/passing.py "$program" "$(port)"
+python3 bench/server/expires.py "$program" "$(port)"
 python3 bench/server/at_once.py "$program" "$(port)"
 python3 bench/server/opens.py "$program" 60 "$(port)"
 python3 bench/server/topics.py "$program" 300 5 "$(port)"
@@ -45,3 +47,4 @@ python3 bench/server/deaths.py "$program" 5 "$(port)"
 python3 bench/server/again.py "$program" 6 "$(port)"
 python3 bench/server/full.py "$program" 6 "$(port)"
 python3 bench/server/gone.py "$program" "$(port)"
+python3 bench/server/made.py "$program" "$(port)"

@@ -121,10 +121,23 @@ def look(folder, found):
     assert whole == [('ok',)], whole
 
 
+def starts_not(folder):
+    """Where the disk has no room a start says so, and nothing else."""
+    def limited():
+        signal.signal(signal.SIGXFSZ, signal.SIG_IGN)
+        resource.setrlimit(resource.RLIMIT_FSIZE, (300_000, 300_000))
+    ended = subprocess.run([program, f'{folder}/broker.db', f'127.0.0.1:{port}', '2'], capture_output=True, timeout=30,
+                           preexec_fn=limited)
+    assert ended.returncode == 3 and ended.stdout == b'', ended
+    assert ended.stderr.decode() == f'{folder}/broker.db: no room on the disk\nstore failed\n', ended
+    assert os.listdir(folder).count('broker.db-room') == 0
+
+
 count, whys, unwell = 0, set(), []
 for turn in range(times):
     folder = tempfile.mkdtemp(prefix='broker-', dir=os.environ.get('ROOM', '.'))
     found, why = fill(folder, LEAST + turn * STEP)
+    starts_not(folder)
     look(folder, found)
     count += sum(len(ids) for ids in found.values())
     whys.add(why)
