@@ -111,7 +111,7 @@ fn rule(word: &str) -> Option<Retention> {
 /// For how long nobody may be in a subscription, as `30d` or `86400000ms`.
 fn expiry(word: &str) -> Option<u64> {
     match word.strip_suffix('d') {
-        Some(days) => Some(number(days, MOST_DAYS)? * MILLIS_A_DAY),
+        Some(days) => number(days, MOST_DAYS)?.checked_mul(MILLIS_A_DAY),
         None => number(word.strip_suffix("ms")?, MOST_MILLIS),
     }
 }
