@@ -1,18 +1,18 @@
 -- The statements on each of the tables of topics.
-use Rattle.std.proofs.Common.{◌≡◌, ℕ, ℤ, pos, List, [], ◌∷◌, codes, Ok, refl, subst, arith}
+use Rattle.std.proofs.Common.{◌≡◌, ℕ, ℤ, pos, List, [], ◌∷◌, codes, Ok, refl, ap, subst, arith}
 use Rattle.sqlite.specs.declared.types.Value.TheVariants.{Null, Int, Text, Blob as Octets}
-use Rattle.sqlite.specs.Order.{Row}
+use Rattle.sqlite.specs.Order.{Row, column}
 use Rattle.sqlite.specs.Term.{lit, col}
 use Rattle.sqlite.specs.State.{State, ExecutesInside}
 use Rattle.sqlite_schema.specs.declared.schema.Column.{Column}
 use Rattle.sqlite.specs.Kind.TheVariants.{Integer, Text as TextKind, Blob}
 use Rattle.row_forms.specs.Schema.{required}
 use Rattle.row_forms.specs.Cells.{TOPIC, ENTRY, SUB, ACK, DEAD, REDELIVERY, AUTHOR, RETENTION}
-use Rattle.row_tables.specs.Goes.{Goes, Clears, Adds, Takes}
-use Rattle.row_tables.proofs.Texts.{equals, clear_topic, clear_topic_is, insert_topic, insert_topic_is, clear_entry, clear_entry_is, insert_entry, insert_entry_is, clear_sub, clear_sub_is, insert_sub, insert_sub_is, clear_ack, clear_ack_is, insert_ack, insert_ack_is, clear_dead, clear_dead_is, insert_dead, insert_dead_is, remove_sub, remove_sub_is, remove_ack, remove_ack_is, remove_dead, remove_dead_is, clear_count, clear_count_is, insert_count, insert_count_is, remove_count, remove_count_is, clear_author, clear_author_is, insert_author, insert_author_is, remove_author, remove_author_is, clear_retention, clear_retention_is, insert_retention, insert_retention_is, remove_retention, remove_retention_is}
+use Rattle.row_tables.specs.Goes.{Goes, Clears, Adds, Takes, Swaps}
+use Rattle.row_tables.proofs.Texts.{equals, clear_topic, clear_topic_is, insert_topic, insert_topic_is, clear_entry, clear_entry_is, insert_entry, insert_entry_is, clear_sub, clear_sub_is, insert_sub, insert_sub_is, clear_ack, clear_ack_is, insert_ack, insert_ack_is, clear_dead, clear_dead_is, insert_dead, insert_dead_is, remove_sub, remove_sub_is, remove_ack, remove_ack_is, set_ack_last, set_ack_last_is, remove_dead, remove_dead_is, clear_count, clear_count_is, insert_count, insert_count_is, remove_count, remove_count_is, clear_author, clear_author_is, insert_author, insert_author_is, remove_author, remove_author_is, clear_retention, clear_retention_is, insert_retention, insert_retention_is, remove_retention, remove_retention_is}
 use Rattle.row_tables.proofs.TableLemmas.{same_text, same_int}
 use Rattle.row_tables.proofs.StatementLemmas.{cast_int}
-use Rattle.row_tables.proofs.PartLemmas.{clears_rows, takes_row, adds_row}
+use Rattle.row_tables.proofs.PartLemmas.{clears_rows, takes_row, swaps_row, adds_row}
 
 abbrev topic_columns : List Column
 topic_columns = required (codes "name") TextKind ∷ required (codes "ledger_size") Integer ∷ required (codes "ledger") Integer ∷ required (codes "ordinal") Integer ∷ []
@@ -74,6 +74,17 @@ pub takes_ack : (topic sub : List ℕ) (first last : ℕ) (old new : State) (cou
     → Goes (Takes ACK ((Text topic ∷ Text sub ∷ Int (pos first) ∷ Int (pos last) ∷ []) ∷ [])) old new
 takes_ack topic sub first last = takes_row 4 (codes "ack") ACK ack_columns (1 ∷ 2 ∷ 3 ∷ []) refl (λ _ _ _. refl) (λ _ all. all.1.1.1.1.0) (λ _ _ all. all.0 (λ e. omega (arith, e))) (λ _. refl) remove_ack (equals 0 ∷ equals 1 ∷ equals 2 ∷ equals 3 ∷ []) remove_ack_is.0 remove_ack_is.1
     (Text topic ∷ Text sub ∷ Int (pos first) ∷ Int (pos last) ∷ []) (λ _. refl) (rw (same_text topic, same_text sub, same_int (pos first), same_int (pos last)) refl)
+
+pub swaps_ack : (topic sub : List ℕ) (first last to : ℕ) (old new : State) (count : ℕ) → count ≡ 1 → ExecutesInside 0 set_ack_last (Text topic ∷ Text sub ∷ Int (pos first) ∷ Int (pos last) ∷ Int (pos to) ∷ []) old new (Ok count)
+    → Goes (Swaps ACK ((Text topic ∷ Text sub ∷ Int (pos first) ∷ Int (pos last) ∷ []) ∷ []) ((Text topic ∷ Text sub ∷ Int (pos first) ∷ Int (pos to) ∷ []) ∷ [])) old new
+swaps_ack topic sub first last to = swaps_row 4 (codes "ack") ACK ack_columns (1 ∷ 2 ∷ 3 ∷ []) refl (λ _ _ _. refl) (λ _ all. all.1.1.1.1.0) (λ _ _ all. all.0 (λ e. omega (arith, e))) (λ _. refl) set_ack_last (equals 0 ∷ equals 1 ∷ equals 2 ∷ equals 3 ∷ []) (col 1 1 ∷ col 1 2 ∷ col 1 3 ∷ col 0 4 ∷ []) set_ack_last_is.0 set_ack_last_is.1
+    (Text topic ∷ Text sub ∷ Int (pos first) ∷ Int (pos last) ∷ Int (pos to) ∷ []) (Text topic ∷ Text sub ∷ Int (pos first) ∷ Int (pos last) ∷ []) (Text topic ∷ Text sub ∷ Int (pos first) ∷ Int (pos to) ∷ []) (λ _. refl)
+    (rw (same_text topic, same_text sub, same_int (pos first), same_int (pos last)) refl)
+    (λ id r is.
+    let a : column r 1 ≡ Text topic = ap (λ (row : Row). column row 0) is in
+    let b : column r 2 ≡ Text sub = ap (λ (row : Row). column row 1) is in
+    let c : column r 3 ≡ Int (pos first) = ap (λ (row : Row). column row 2) is in
+    rw (a, b, c, cast_int (pos first), cast_int (pos to)) refl)
 
 abbrev dead_columns : List Column
 dead_columns = required (codes "topic") TextKind ∷ required (codes "sub") TextKind ∷ required (codes "ordinal") Integer ∷ required (codes "idx") Integer ∷ required (codes "target") TextKind ∷ []

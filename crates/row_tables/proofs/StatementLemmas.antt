@@ -1,5 +1,5 @@
 -- What INSERT of one row, DELETE and UPDATE do to a table with no foreign key, and what SELECT shows of it.
-use Rattle.std.proofs.Common.{◌≡◌, ◌≢◌, ◌⊎◌, inl, inr, negsuc, ℕ, suc, ◌+◌, ◌/◌, ℤ, List, [], ◌∷◌, ◌++◌, length, drop, map, filter, flat_map, cond, slice_get, Bool, true, false, not, Option, Some, None, Ok, Err, Result, refl, sym, ap, subst, ◌∙◌}
+use Rattle.std.proofs.Common.{◌≡◌, ◌≢◌, ◌⊎◌, inl, inr, negsuc, ℕ, suc, ◌+◌, ◌/◌, ℤ, List, [], ◌∷◌, ◌++◌, length, drop, map, filter, flat_map, cond, slice_get, Bool, true, false, not, Option, Some, None, Ok, Err, Result, refl, sym, ap, subst, ◌∙◌, arith}
 use Rattle.std.specs.Prelude.{◌&&◌}
 use Rattle.std.specs.List.{AllByRecursion, list_all}
 use Rattle.std.specs.List.Sorted.{IsPermutation, IsSorted}
@@ -39,7 +39,7 @@ use Rattle.sqlite.specs.Effect.{Database, value_rows}
 use Rattle.sqlite.specs.Does.{Tally, Does, OnTable, OnRows, WritesRows}
 use Rattle.sqlite.specs.Rows.{Written, Task}
 use Rattle.sqlite.specs.declared.run.Mode.{Mode}
-use Rattle.sqlite.proofs.Callers.{one_step}
+use Rattle.sqlite.proofs.Callers.{one_step, one_permutation}
 use Rattle.row_forms.specs.Schema.{table_of}
 use Rattle.row_forms.specs.Cells.{width, cells, bodies, but_topic, is_of}
 use Rattle.row_tables.proofs.Texts.{alone, matching, matching_most}
@@ -217,21 +217,69 @@ module _ (tree : ℕ) (tests project : List Term) (order : List (Term × Key)) (
       × (rows ≡ map (λ o. o.1) outs) × IsSorted (output_cmp (matching tree tests project order)) outs
   finds a = finds_most (lit (Int (negsuc 0))) a
 
+module _ (tree : ℕ) (tests anew : List Term) (values : Row) (passes : Row → Bool) (db seen : Trees) (rows : List Row) (test : IsTestBy tree tests values passes) (same : seen tree ≡ db tree) (keyed : AreKeyed (db tree))
+    (h : IsSureAnswer (matching tree tests (col 1 0 ∷ anew) []) seen values rows) where
+  abbrev passing : Row → Bool
+  passing r = passes (cells (width tree) r)
+
+  abbrev show : Row → Output
+  show = shows (col 1 0 ∷ anew) [] values
+
+  -- the rows that a DELETE or an UPDATE takes out, by their rowids, and how many they are
+  takes_out : (outs : List Output) × IsPermutation (map show (filter passing (db tree))) outs × (rows ≡ map (λ o. o.1) outs)
+      × (without_all (db tree) (ids_of rows) ≡ filter (λ r. not (passing r)) (db tree)) × (length rows ≡ length (filter passing (db tree)))
+  takes_out =
+      let found = finds tree tests (col 1 0 ∷ anew) [] values passes seen rows test (h Null) in
+      let here = subst (λ all. IsPermutation (map show (filter passing all)) found.0) same found.1 in
+      let id = λ (o : Output). id_in (rowid o.1) in
+      let ids : ids_of rows ≡ map id found.0 = ap ids_of found.2 ∙ map-map _ _ found.0 in (
+        found.0,
+        here,
+        found.2,
+        removed passing (db tree) keyed (ids_of rows) (subst (IsPermutation _) (sym ids) (subst (λ xs. IsPermutation xs (map id found.0)) (map-map id show (filter passing (db tree))) (IsPermutation-map id _ _ here))),
+        ap length found.2 ∙ length-map found.0 (λ (o : Output). o.1) ∙ length_permutation _ _ here ∙ length-map (filter passing (db tree)) show,
+      )
+
 -- the rows that a DELETE takes, and how many they are
 pub leaves : (tree : ℕ) (tests : List Term) (values : Row) (passes : Row → Bool) (db seen : Trees) (rows : List Row) → IsTestBy tree tests values passes → seen tree ≡ db tree → AreKeyed (db tree)
     → IsSureAnswer (matching tree tests (col 1 0 ∷ []) []) seen values rows
     → (bodies tree (without_all (db tree) (ids_of rows)) ≡ filter (λ b. not (passes b)) (bodies tree (db tree))) × (length rows ≡ length (filter passes (bodies tree (db tree))))
 leaves tree tests values passes db seen rows test same keyed h =
-    let found = finds tree tests (col 1 0 ∷ []) [] values passes seen rows test (h Null) in
     let p = λ (r : Row). passes (cells (width tree) r) in
-    let show = shows (col 1 0 ∷ []) [] values in
-    let here = subst (λ all. IsPermutation (map show (filter p all)) found.0) same found.1 in
-    let id = λ (o : Output). id_in (rowid o.1) in
-    let ids : ids_of rows ≡ map id found.0 = ap ids_of found.2 ∙ map-map _ _ found.0 in
-    let gone = removed p (db tree) keyed (ids_of rows) (subst (IsPermutation _) (sym ids) (subst (λ xs. IsPermutation xs (map id found.0)) (map-map id show (filter p (db tree))) (IsPermutation-map id _ _ here))) in
-    let many : length rows ≡ length (filter p (db tree)) = ap length found.2 ∙ length-map found.0 (λ (o : Output). o.1) ∙ length_permutation _ _ here ∙ length-map (filter p (db tree)) show in (
-      ap (bodies tree) gone ∙ sym (filter-map (λ b. not (passes b)) (cells (width tree)) (db tree)),
-      many ∙ sym (length-map (filter p (db tree)) (cells (width tree))) ∙ ap length (sym (filter-map passes (cells (width tree)) (db tree))),
+    let out = takes_out tree tests [] values passes db seen rows test same keyed h in (
+      ap (bodies tree) out.3 ∙ sym (filter-map (λ b. not (passes b)) (cells (width tree)) (db tree)),
+      out.4 ∙ sym (length-map (filter p (db tree)) (cells (width tree))) ∙ ap length (sym (filter-map passes (cells (width tree)) (db tree))),
+    )
+
+-- the row that an UPDATE puts in the place of another: it has its rowid
+abbrev pub remade : Table → List Term → Row → Row → Row
+remade table anew values r = cast_row table (column r 0 ∷ eval_all anew (values ∷ r ∷ []))
+
+alone_in : (rows : List Row) → length rows ≡ 1 → (r : Row) × (rows ≡ r ∷ [])
+alone_in [] one = absurd (omega (arith, one))
+alone_in (r ∷ []) one = (r, refl)
+alone_in (r ∷ s ∷ rows) one = absurd (omega (arith, one))
+
+-- the one row that an UPDATE takes, and what it leaves
+pub replaces : (tree : ℕ) (table : Table) (tests anew : List Term) (values : Row) (passes : Row → Bool) (db seen : Trees) (rows after : List Row) → IsTestBy tree tests values passes → seen tree ≡ db tree → AreKeyed (db tree)
+    → IsSureAnswer (matching tree tests (col 1 0 ∷ col 1 0 ∷ anew) []) seen values rows → length rows ≡ 1
+    → are_fresh (without_all (db tree) (ids_of rows)) (numbered Given (without_all (db tree) (ids_of rows)) (map (λ s. cast_row table (drop 1 s)) rows)) ≡ true
+    → after ≡ put_all (without_all (db tree) (ids_of rows)) (numbered Given (without_all (db tree) (ids_of rows)) (map (λ s. cast_row table (drop 1 s)) rows))
+    → (r : Row) × (filter (λ r. passes (cells (width tree) r)) (db tree) ≡ r ∷ []) × (is_taken (filter (λ r. not (passes (cells (width tree) r))) (db tree)) (remade table anew values r) ≡ false)
+    × (after ≡ put_row (remade table anew values r) (filter (λ r. not (passes (cells (width tree) r))) (db tree)))
+replaces tree table tests anew values passes db seen rows after test same keyed h one fresh put =
+    let out = takes_out tree tests (col 1 0 ∷ anew) values passes db seen rows test same keyed h in
+    let rest = filter (λ r. not (passes (cells (width tree) r))) (db tree) in
+    let only = alone_in (filter (λ r. passes (cells (width tree) r)) (db tree)) (sym out.4 ∙ one) in
+    let show = shows (col 1 0 ∷ col 1 0 ∷ anew) [] values in
+    let outs : out.0 ≡ show only.0 ∷ [] = one_permutation (show only.0) out.0 (subst (λ xs. IsPermutation (map show xs) out.0) only.1 out.1) in
+    let is : rows ≡ (column only.0 0 ∷ column only.0 0 ∷ eval_all anew (values ∷ only.0 ∷ [])) ∷ [] = out.2 ∙ ap (map (λ (o : Output). o.1)) outs in
+    let news = λ (left given : List Row). numbered Given left (map (λ s. cast_row table (drop 1 s)) given) in
+    let free = subst (λ given. are_fresh rest (news rest given) ≡ true) is (subst (λ left. are_fresh left (news left rows) ≡ true) out.3 fresh) in (
+      only.0,
+      only.1,
+      fresh_one (is_taken rest (remade table anew values only.0)) free,
+      put ∙ ap (λ left. put_all left (news left rows)) out.3 ∙ ap (λ given. put_all rest (news rest given)) is,
     )
 
 -- the first column is the topic

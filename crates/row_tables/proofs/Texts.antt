@@ -10,7 +10,7 @@ use Rattle.sqlite_value.specs.Keys.{ascending}
 use Rattle.sqlite_schema.specs.declared.program.Program.{Program}
 use Rattle.sqlite.specs.Query.{Query, inner, end}
 use Rattle.sqlite.specs.Source.TheVariants.{Values}
-use Rattle.sqlite.specs.Command.TheVariants.{Insert, Delete, Select}
+use Rattle.sqlite.specs.Command.TheVariants.{Insert, Delete, Update, Select}
 use Rattle.sqlite_tied.specs.Compute.{everything}
 use Rattle.sqlite.specs.Listing.{understood, reads_listing}
 use Rattle.sqlite.proofs.Callers.{IsPlain, command_of}
@@ -185,6 +185,13 @@ remove_ack = codes "DELETE FROM ack WHERE topic = ?1 AND sub = ?2 AND first = ?3
 pub remove_ack_is : (command_of (understood schema_9 remove_ack) ≡ Delete 4 (alone (matching 7 (equals 0 ∷ equals 1 ∷ equals 2 ∷ equals 3 ∷ []) (col 1 0 ∷ []) []))) × IsPlain (understood schema_9 remove_ack)
 unfolding understood everything
 remove_ack_is = (refl, (refl, refl))
+
+abbrev pub set_ack_last : List ℕ
+set_ack_last = codes "UPDATE ack SET last = ?5 WHERE topic = ?1 AND sub = ?2 AND first = ?3 AND last = ?4"
+
+pub set_ack_last_is : (command_of (understood schema_9 set_ack_last) ≡ Update 4 (alone (matching 7 (equals 0 ∷ equals 1 ∷ equals 2 ∷ equals 3 ∷ []) (col 1 0 ∷ col 1 0 ∷ col 1 1 ∷ col 1 2 ∷ col 1 3 ∷ col 0 4 ∷ []) []))) × IsPlain (understood schema_9 set_ack_last)
+unfolding understood everything
+set_ack_last_is = (refl, (refl, refl))
 
 abbrev pub remove_dead : List ℕ
 remove_dead = codes "DELETE FROM dead WHERE topic = ?1 AND sub = ?2 AND ordinal = ?3 AND idx = ?4 AND target = ?5"

@@ -42,6 +42,11 @@ pub record Takes (tree : ℕ) (gone : List Row) (old new : Trees) : Type 0 where
   pub rows : (stay : List Row) → IsPermutation (gone ++ stay) (bodies tree (old tree)) → IsPermutation stay (bodies tree (new tree))
   pub others : SpareOthers tree old new
 
+-- rows go from one table, where they stood, and others come: the rest stays
+pub record Swaps (tree : ℕ) (gone news : List Row) (old new : Trees) : Type 0 where
+  pub rows : (stay : List Row) → IsPermutation (gone ++ stay) (bodies tree (old tree)) → IsPermutation (news ++ stay) (bodies tree (new tree))
+  pub others : SpareOthers tree old new
+
 -- the rows of a topic in one table are these; those of other topics and of other tables are as they were
 pub record Sets (tree : ℕ) (topic : List ℕ) (news : List Row) (old new : Trees) : Type 0 where
   pub own : HasIn tree topic news new

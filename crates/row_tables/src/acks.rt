@@ -5,11 +5,11 @@ ghost use Rattle.sqlite.specs.Held.{state};
 ghost use Rattle.row_forms.specs.Cells.{ACK};
 ghost use Rattle.row_forms.specs.Changes.{ack_cells};
 ghost use Rattle.row_tables.specs.Ready.{IsReady};
-ghost use Rattle.row_tables.specs.Goes.{Goes, Stays, Clears, Adds, Takes, Shows};
+ghost use Rattle.row_tables.specs.Goes.{Goes, Stays, Clears, Adds, Takes, Swaps, Shows};
 ghost use Rattle.row_tables.specs.Ordered.{AreSortedBy};
 
 use crate::numbers::{placed, took_one};
-use row_forms::AckRow;
+use row_forms::{AckRow, Place};
 use sqlite::{Alter, Error, Row, Transaction, params};
 
 /// Adds the row of a run.
@@ -38,6 +38,27 @@ pub fn remove<S: Alter>(tx: &mut Transaction<'_, S>, topic: &str, row: &AckRow) 
     let count = tx.execute(
         "DELETE FROM ack WHERE topic = ?1 AND sub = ?2 AND first = ?3 AND last = ?4",
         params![topic, row.sub.as_str(), first, last],
+    )?;
+    took_one(count)
+}
+
+/// The run of a row gets another last place. An error where there is no such row.
+pub fn set_last<S: Alter>(
+    tx: &mut Transaction<'_, S>,
+    topic: &str,
+    row: &AckRow,
+    last: Place,
+) -> Result<(), Error>
+    ensures same_reference { tx.new.conn.ghost_name ≡ tx.old.conn.ghost_name }
+    ensures survives { Survives (state S.Store tx.old.conn.now) (state S.Store tx.new.conn.now) (λ _. ⊥) }
+    ensures done { HasCleanDisk (state S.Store tx.new.conn.now) → OnOk result (Goes (Swaps ACK (ack_cells topic.now row.now ∷ []) (ack_cells topic.now (record row.now { last = last }) ∷ [])) (state S.Store tx.old.conn.now) (state S.Store tx.new.conn.now)) }
+{
+    let first = placed(row.first)?;
+    let was = placed(row.last)?;
+    let last = placed(last)?;
+    let count = tx.execute(
+        "UPDATE ack SET last = ?5 WHERE topic = ?1 AND sub = ?2 AND first = ?3 AND last = ?4",
+        params![topic, row.sub.as_str(), first, was, last],
     )?;
     took_one(count)
 }
