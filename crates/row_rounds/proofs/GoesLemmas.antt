@@ -15,11 +15,14 @@ use Rattle.sqlite.proofs.Callers.{survives_begin}
 use Rattle.sqlite_trees.specs.declared.store.Store.{Ghosts}
 use Rattle.row_forms.specs.Schema.{schema_9}
 use Rattle.position_core.specs.declared.message.Entry.{Entry}
+use Rattle.row_forms.specs.declared.change.AckRow.{AckRow}
 use Rattle.row_forms.specs.Cells.{ENTRY, bodies}
+use Rattle.row_forms.specs.Changes.{ack_cells}
+use Rattle.row_forms.specs.Places.{number_of}
 use Rattle.row_forms.specs.Forms.{entry_row, entry_rows}
 use Rattle.row_tables.specs.Ready.{IsReady}
 use Rattle.row_rounds.specs.Rounds.{Via}
-use Rattle.row_tables.specs.Goes.{Goes, Saves, SpareOthers, Adds, Takes}
+use Rattle.row_tables.specs.Goes.{Goes, Saves, SpareOthers, Adds, Takes, Swaps}
 
 pub goes_then : (P Q R : Trees → Trees → Type 0) → ((x y z : Trees) → P x y → Q y z → R x z) → (a b c : State) → Goes P a b → Goes Q b c → Goes R a c
 goes_then P Q R both a b c p q = record {
@@ -35,8 +38,11 @@ pub then_ok : {E : Type 0} {A : Type 0} (r : Result A E) (P Q R : Trees → Tree
 then_ok (Ok x) P Q R both a b c p q = goes_then P Q R both a b c p q
 then_ok (Err e) P Q R both a b c p q = tt
 
+pub goes_by : (P R : Trees → Trees → Type 0) → ((x z : Trees) → P x z → R x z) → (a c : State) → Goes P a c → Goes R a c
+goes_by P R f a c p = record { running = p.running; shown = p.shown; was_shown = p.was_shown; committed = p.committed; does = λ ready. let one = p.does ready in (one.0, f _ _ one.1) }
+
 pub goes_weaker : {E : Type 0} {A : Type 0} (r : Result A E) (P R : Trees → Trees → Type 0) → ((x z : Trees) → P x z → R x z) → (a c : State) → OnOk r (Goes P a c) → OnOk r (Goes R a c)
-goes_weaker (Ok x) P R f a c p = record { running = p.running; shown = p.shown; was_shown = p.was_shown; committed = p.committed; does = λ ready. let one = p.does ready in (one.0, f _ _ one.1) }
+goes_weaker (Ok x) P R f a c p = goes_by P R f a c p
 goes_weaker (Err e) P R f a c p = tt
 
 -- ---- one table
@@ -64,6 +70,30 @@ takes_then tree first later x y z p q = record {
   others = spares_then tree x y z p.others q.others;
 }
 
+pub takes_adds : (tree : ℕ) (gone news : List Row) (x y z : Trees) → Takes tree gone x y → Adds tree news y z → Swaps tree gone news x z
+takes_adds tree gone news x y z p q = record {
+  rows = λ stay same. IsPermutation-trans _ _ _ (IsPermutation-append_right news stay (bodies tree (y tree)) (p.rows stay same)) q.rows;
+  others = spares_then tree x y z p.others q.others;
+}
+
+pub takes_alone : (tree : ℕ) (gone : List Row) (x z : Trees) → Takes tree gone x z → Swaps tree gone [] x z
+takes_alone tree gone x z p = record { rows = p.rows; others = p.others }
+
+pub adds_alone : (tree : ℕ) (news : List Row) (x z : Trees) → Adds tree news x z → Swaps tree [] news x z
+adds_alone tree news x z p = record { rows = λ stay same. IsPermutation-trans _ _ _ (IsPermutation-append_right news stay (bodies tree (x tree)) same) p.rows; others = p.others }
+
+swaps_then : (tree : ℕ) (gone news later more : List Row) (x y z : Trees) → Swaps tree gone news x y → Swaps tree later more y z → Swaps tree (gone ++ later) (news ++ more) x z
+swaps_then tree gone news later more x y z p q = record {
+  rows = λ stay same.
+      let first : IsPermutation (news ++ (later ++ stay)) (bodies tree (y tree)) = p.rows (later ++ stay) (subst (λ l. IsPermutation l (bodies tree (x tree))) (append_assoc gone later stay) same) in
+      let then : IsPermutation (more ++ (news ++ stay)) (bodies tree (z tree)) = q.rows (news ++ stay) (IsPermutation-trans _ _ _ (past later news stay) first) in
+      subst (λ l. IsPermutation l (bodies tree (z tree))) (sym (append_assoc news more stay)) (IsPermutation-trans _ _ _ (past news more stay) then);
+  others = spares_then tree x y z p.others q.others;
+}
+  where
+    past : (a b c : List Row) → IsPermutation (a ++ (b ++ c)) (b ++ (a ++ c))
+    past a b c = subst (λ l. IsPermutation l (b ++ (a ++ c))) (append_assoc a b c) (subst (IsPermutation ((a ++ b) ++ c)) (append_assoc b a c) (IsPermutation-append_left c (a ++ b) (b ++ a) (IsPermutation-append_comm a b)))
+
 -- ---- a list of rows, one after the other
 
 module _ {R : Type 0} (tree : ℕ) (f : R → Row) (rows : List R) (i : ℕ) (row : R) (low : i < length rows) (is : row ≡ get_or rows i row) where
@@ -75,6 +105,38 @@ module _ {R : Type 0} (tree : ℕ) (f : R → Row) (rows : List R) (i : ℕ) (ro
 
   pub takes_more : (x y z : Trees) → Takes tree (map f (take i rows)) x y → Takes tree (f row ∷ []) y z → Takes tree (map f (take (i + 1) rows)) x z
   takes_more x y z p q = subst (λ rs. Takes tree rs x z) (sym one_more) (takes_then tree _ _ x y z p q)
+
+-- the first rows, and then those that are left
+swaps_more : {R : Type 0} (tree : ℕ) (f : R → Row) (gone news later more gone_all news_all : List R) → gone ++ later ≡ gone_all → news ++ more ≡ news_all
+    → (x y z : Trees) → Swaps tree (map f gone) (map f news) x y → Swaps tree (map f later) (map f more) y z → Swaps tree (map f gone_all) (map f news_all) x z
+swaps_more tree f gone news later more gone_all news_all goes comes x y z p q =
+    let both = swaps_then tree (map f gone) (map f news) (map f later) (map f more) x y z p q in
+    subst (λ rs. Swaps tree rs (map f news_all) x z) (sym (map-append f gone later) ∙ ap (map f) goes) (subst (λ rs. Swaps tree (map f gone ++ map f later) rs x z) (sym (map-append f news more) ∙ ap (map f) comes) both)
+
+-- whoever then writes the rows that are left has written all
+abbrev pub Leaves : {R : Type 0} → ℕ → (R → Row) → (gone news later more : List R) → Trees → Trees → Type 0
+Leaves tree f gone news later more x y = (z : Trees) → Swaps tree (map f later) (map f more) y z → Swaps tree (map f gone) (map f news) x z
+
+pub leaves_all : {R : Type 0} (tree : ℕ) (f : R → Row) (gone news later more : List R) → gone ≡ later → news ≡ more → (s : State) → Goes (Leaves tree f gone news later more) s s
+leaves_all tree f gone news later more goes comes s = record {
+  running = λ h. h;
+  shown = λ h. h;
+  was_shown = λ h. h;
+  committed = λ h. refl;
+  does = λ ready. (ready, λ z p. rw (goes, comes) p);
+}
+
+pub leaves_none : {R : Type 0} (tree : ℕ) (f : R → Row) (gone news later more : List R) → later ≡ [] → more ≡ [] → (x y : Trees) → Leaves tree f gone news later more x y → Swaps tree (map f gone) (map f news) x y
+leaves_none tree f gone news later more goes comes x y p =
+    p y (record { rows = λ stay same. subst (λ rs. IsPermutation (map f rs ++ stay) (bodies tree (y tree))) (sym comes) (subst (λ rs. IsPermutation (map f rs ++ stay) (bodies tree (y tree))) goes same); others = spares_none tree y })
+
+pub leaves_less : {R : Type 0} (tree : ℕ) (f : R → Row) (gone news later more first second last_gone last_news : List R) → first ++ last_gone ≡ later → second ++ last_news ≡ more
+    → (x y z : Trees) → Leaves tree f gone news later more x y → Swaps tree (map f first) (map f second) y z → Leaves tree f gone news last_gone last_news x z
+leaves_less tree f gone news later more first second last_gone last_news goes comes x y z p q end r = p end (swaps_more tree f first second last_gone last_news later more goes comes y z end q r)
+
+-- a run that gets another's last place has its row, where both are of one subscription and begin at one place
+pub grown_cells : (topic : List ℕ) (old new : AckRow) → old.sub ≡ new.sub → number_of old.first ≡ number_of new.first → ack_cells topic (record old { last = new.last }) ≡ ack_cells topic new
+grown_cells topic old new sub first = rw (sub, first) refl
 
 -- ---- the messages from a place on
 

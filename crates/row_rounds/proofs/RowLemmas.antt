@@ -101,22 +101,22 @@ own_permuted topic xs rows same =
     all_pass (r ∷ rs) = elim (cases_Bool (is_of topic r)) [ inl e ↦ rw e (e, all_pass rs) | inr e ↦ rw e (all_pass rs) ]
 
 -- some of the topic's rows go, and rows of it come
-pub becomes_by : (topic : List ℕ) (olds news gone more : List Row) → AreOf topic more → IsDifference olds news gone more → (old mid new : List Row) → IsPermutation olds (of_topic topic old)
-    → ((stay : List Row) → IsPermutation (gone ++ stay) old → IsPermutation stay mid) → IsPermutation (more ++ mid) new → Becomes topic news old new
-becomes_by topic olds news gone more own d old mid new had takes adds =
+pub becomes_by : (topic : List ℕ) (olds news gone more : List Row) → AreOf topic more → IsDifference olds news gone more → (old new : List Row) → IsPermutation olds (of_topic topic old)
+    → ((stay : List Row) → IsPermutation (gone ++ stay) old → IsPermutation (more ++ stay) new) → Becomes topic news old new
+becomes_by topic olds news gone more own d old new had swaps =
     let stay = d.0 in
     let rest = but_topic topic old in
     let was : IsPermutation (gone ++ stay) (of_topic topic old) = IsPermutation-trans _ _ _ d.1 had in
     let stay_own : AreOf topic stay = own_back topic gone stay (own_permuted topic (gone ++ stay) old was) in
     let whole : IsPermutation ((gone ++ stay) ++ rest) old = IsPermutation-trans _ _ _ (IsPermutation-append_left rest (gone ++ stay) (of_topic topic old) was) (IsPermutation-sym _ _ (IsPermutation-filter_both (is_of topic) (λ r. not (is_of topic r)) (λ r. refl) old)) in
-    let left : IsPermutation (stay ++ rest) mid = takes (stay ++ rest) (subst (λ l. IsPermutation l old) (append_assoc gone stay rest) whole) in
-    let all : IsPermutation (more ++ (stay ++ rest)) new = IsPermutation-trans _ _ _ (IsPermutation-append_right more (stay ++ rest) mid left) adds in
+    let all : IsPermutation (more ++ (stay ++ rest)) new = swaps (stay ++ rest) (subst (λ l. IsPermutation l old) (append_assoc gone stay rest) whole) in
     let b = around topic (more ++ stay) old new (own_front topic more stay own stay_own) (subst (λ l. IsPermutation l new) (sym (append_assoc more stay rest)) all) in
     (IsPermutation-trans _ _ _ (IsPermutation-sym _ _ d.2) b.0, b.1)
 
 -- rows of the topic come
 pub becomes_more : (topic : List ℕ) (olds more : List Row) → AreOf topic more → (old new : List Row) → IsPermutation olds (of_topic topic old) → IsPermutation (more ++ old) new → Becomes topic (olds ++ more) old new
-becomes_more topic olds more own old new had adds = becomes_by topic olds (olds ++ more) [] more own (olds, IsPermutation-refl olds, IsPermutation-append_comm more olds) old old new had (λ stay same. same) adds
+becomes_more topic olds more own old new had adds = becomes_by topic olds (olds ++ more) [] more own (olds, IsPermutation-refl olds, IsPermutation-append_comm more olds) old new had
+    (λ stay same. IsPermutation-trans _ _ _ (IsPermutation-append_right more stay old same) adds)
 
 -- the rows of the topic that pass a test leave
 pub becomes_cut : (topic : List ℕ) (p : Row → Bool) (olds old new : List Row) → IsPermutation olds (of_topic topic old) → new ≡ filter (λ r. not (is_of topic r && p r)) old → Becomes topic (filter (λ r. not (p r)) olds) old new

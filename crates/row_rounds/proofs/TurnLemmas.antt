@@ -16,7 +16,7 @@ use Rattle.row_forms.specs.Cells.{TOPIC, ENTRY, SUB, ACK, DEAD, REDELIVERY, AUTH
 use Rattle.row_forms.specs.Forms.{TopicRows, topic_row, entry_rows}
 use Rattle.row_forms.specs.Standing.{Has, HasIn, KeepsOthers}
 use Rattle.row_forms.specs.Changes.{IsDifference, sub_cells, ack_cells, dead_cells, count_cells, author_cells, retention_cells}
-use Rattle.row_tables.specs.Goes.{SpareOthers, Clears, Adds, Takes}
+use Rattle.row_tables.specs.Goes.{SpareOthers, Clears, Adds, Swaps}
 use Rattle.row_tables.proofs.TableLemmas.{text_same}
 use Rattle.row_rounds.specs.Rounds.{Via, MayCut, MayWriteTopic, Changes, Empties}
 use Rattle.row_rounds.proofs.GoesLemmas.{spares_none, spares_then}
@@ -152,14 +152,10 @@ empties_by topic x y z p q =
 
 -- ---- a change
 
-abbrev Swaps : ℕ → List Row → List Row → Trees → Trees → Type 0
-Swaps tree gone more = Via (Takes tree gone) (Adds tree more)
-
 swaps_next : (topic : List ℕ) (rows : Rows) (tree : ℕ) (olds news gone more : List Row) (x y z : Trees) → AreOf topic more → IsDifference olds news gone more → BecomesAll topic rows x y → HasIn tree topic olds y → Swaps tree gone more y z
     → BecomesAll topic (put tree news rows) x z
 swaps_next topic rows tree olds news gone more x y z own d before had p =
-    next topic rows tree news x y z before (spares_then tree y p.0 z p.1.others p.2.others)
-    (becomes_by topic olds news gone more own d (bodies tree (y tree)) (bodies tree (p.0 tree)) (bodies tree (z tree)) had p.1.rows p.2.rows)
+    next topic rows tree news x y z before p.others (becomes_by topic olds news gone more own d (bodies tree (y tree)) (bodies tree (z tree)) had p.rows)
 
 topic_spare : (other : Bool) (topic : List ℕ) (row : Row) (x z : Trees) → MayWriteTopic other topic row x z → SpareOthers TOPIC x z
 topic_spare false topic row x z p = subst (SpareOthers TOPIC x) (sym p) (spares_none TOPIC x)

@@ -5,12 +5,13 @@ ghost use Rattle.sqlite.specs.State.{HasCleanDisk, Survives};
 ghost use Rattle.sqlite.specs.Held.{state};
 ghost use Rattle.row_forms.specs.Cells.{SUB, ACK, DEAD, REDELIVERY, AUTHOR, RETENTION};
 ghost use Rattle.row_forms.specs.Changes.{sub_cells, ack_cells, dead_cells, count_cells, author_cells, retention_cells};
-ghost use Rattle.row_tables.specs.Goes.{Goes, Adds, Takes};
+ghost use Rattle.row_tables.specs.Goes.{Goes, Adds, Takes, Swaps};
 ghost use Rattle.row_rounds.specs.Rounds.{Via};
 
+use crate::runs;
 use delivery_machine::Author;
-use row_forms::{AckRow, Change, CountRow, DeadRow, Difference, RetentionRow, SubRow};
-use row_tables::{acks, authors, counts, deads, retentions, subs};
+use row_forms::{Change, CountRow, DeadRow, Difference, RetentionRow, SubRow};
+use row_tables::{authors, counts, deads, retentions, subs};
 use sqlite::{Alter, Error, Transaction};
 
 /// What has a row in one of the tables.
@@ -41,20 +42,6 @@ impl Listed for SubRow {
 
     fn remove<S: Alter>(&self, tx: &mut Transaction<'_, S>, topic: &str) -> Result<(), Error> {
         subs::remove(tx, topic, self)
-    }
-}
-
-impl Listed for AckRow {
-    ghost tree = { ACK };
-
-    ghost cells = { ack_cells };
-
-    fn add<S: Alter>(&self, tx: &mut Transaction<'_, S>, topic: &str) -> Result<(), Error> {
-        acks::add(tx, topic, self)
-    }
-
-    fn remove<S: Alter>(&self, tx: &mut Transaction<'_, S>, topic: &str) -> Result<(), Error> {
-        acks::remove(tx, topic, self)
     }
 }
 
@@ -151,7 +138,7 @@ fn write_rows<S: Alter, R: Listed>(
 ) -> Result<(), Error>
     ensures same_reference { tx.new.conn.ghost_name ≡ tx.old.conn.ghost_name }
     ensures survives { Survives (state S.Store tx.old.conn.now) (state S.Store tx.new.conn.now) (λ _. ⊥) }
-    ensures done { HasCleanDisk (state S.Store tx.new.conn.now) → OnOk result (Goes (Via (Takes R.tree (map (R.cells topic.now) rows.now.gone.items)) (Adds R.tree (map (R.cells topic.now) rows.now.news.items))) (state S.Store tx.old.conn.now) (state S.Store tx.new.conn.now)) }
+    ensures done { HasCleanDisk (state S.Store tx.new.conn.now) → OnOk result (Goes (Swaps R.tree (map (R.cells topic.now) rows.now.gone.items) (map (R.cells topic.now) rows.now.news.items)) (state S.Store tx.old.conn.now) (state S.Store tx.new.conn.now)) }
 {
     remove_all(tx, topic, &rows.gone)?;
     add_all(tx, topic, &rows.news)
@@ -166,10 +153,10 @@ fn write_subscriptions<S: Alter>(
 ) -> Result<(), Error>
     ensures same_reference { tx.new.conn.ghost_name ≡ tx.old.conn.ghost_name }
     ensures survives { Survives (state S.Store tx.old.conn.now) (state S.Store tx.new.conn.now) (λ _. ⊥) }
-    ensures done { HasCleanDisk (state S.Store tx.new.conn.now) → OnOk result (Goes (Via (Via (Takes SUB (map (sub_cells topic.now) change.now.subs.gone.items)) (Adds SUB (map (sub_cells topic.now) change.now.subs.news.items))) (Via (Via (Takes ACK (map (ack_cells topic.now) change.now.acks.gone.items)) (Adds ACK (map (ack_cells topic.now) change.now.acks.news.items))) (Via (Via (Takes DEAD (map (dead_cells topic.now) change.now.deads.gone.items)) (Adds DEAD (map (dead_cells topic.now) change.now.deads.news.items))) (Via (Takes REDELIVERY (map (count_cells topic.now) change.now.counts.gone.items)) (Adds REDELIVERY (map (count_cells topic.now) change.now.counts.news.items)))))) (state S.Store tx.old.conn.now) (state S.Store tx.new.conn.now)) }
+    ensures done { HasCleanDisk (state S.Store tx.new.conn.now) → OnOk result (Goes (Via (Swaps SUB (map (sub_cells topic.now) change.now.subs.gone.items) (map (sub_cells topic.now) change.now.subs.news.items)) (Via (Swaps ACK (map (ack_cells topic.now) change.now.acks.gone.items) (map (ack_cells topic.now) change.now.acks.news.items)) (Via (Swaps DEAD (map (dead_cells topic.now) change.now.deads.gone.items) (map (dead_cells topic.now) change.now.deads.news.items)) (Swaps REDELIVERY (map (count_cells topic.now) change.now.counts.gone.items) (map (count_cells topic.now) change.now.counts.news.items))))) (state S.Store tx.old.conn.now) (state S.Store tx.new.conn.now)) }
 {
     write_rows(tx, topic, &change.subs)?;
-    write_rows(tx, topic, &change.acks)?;
+    runs::write(tx, topic, &change.acks)?;
     write_rows(tx, topic, &change.deads)?;
     write_rows(tx, topic, &change.counts)
 }
@@ -183,7 +170,7 @@ pub fn write<S: Alter>(
 ) -> Result<(), Error>
     ensures same_reference { tx.new.conn.ghost_name ≡ tx.old.conn.ghost_name }
     ensures survives { Survives (state S.Store tx.old.conn.now) (state S.Store tx.new.conn.now) (λ _. ⊥) }
-    ensures done { HasCleanDisk (state S.Store tx.new.conn.now) → OnOk result (Goes (Via (Via (Via (Takes SUB (map (sub_cells topic.now) change.now.subs.gone.items)) (Adds SUB (map (sub_cells topic.now) change.now.subs.news.items))) (Via (Via (Takes ACK (map (ack_cells topic.now) change.now.acks.gone.items)) (Adds ACK (map (ack_cells topic.now) change.now.acks.news.items))) (Via (Via (Takes DEAD (map (dead_cells topic.now) change.now.deads.gone.items)) (Adds DEAD (map (dead_cells topic.now) change.now.deads.news.items))) (Via (Takes REDELIVERY (map (count_cells topic.now) change.now.counts.gone.items)) (Adds REDELIVERY (map (count_cells topic.now) change.now.counts.news.items)))))) (Via (Via (Takes AUTHOR (map (author_cells topic.now) change.now.authors.gone.items)) (Adds AUTHOR (map (author_cells topic.now) change.now.authors.news.items))) (Via (Takes RETENTION (map (retention_cells topic.now) change.now.retentions.gone.items)) (Adds RETENTION (map (retention_cells topic.now) change.now.retentions.news.items))))) (state S.Store tx.old.conn.now) (state S.Store tx.new.conn.now)) }
+    ensures done { HasCleanDisk (state S.Store tx.new.conn.now) → OnOk result (Goes (Via (Via (Swaps SUB (map (sub_cells topic.now) change.now.subs.gone.items) (map (sub_cells topic.now) change.now.subs.news.items)) (Via (Swaps ACK (map (ack_cells topic.now) change.now.acks.gone.items) (map (ack_cells topic.now) change.now.acks.news.items)) (Via (Swaps DEAD (map (dead_cells topic.now) change.now.deads.gone.items) (map (dead_cells topic.now) change.now.deads.news.items)) (Swaps REDELIVERY (map (count_cells topic.now) change.now.counts.gone.items) (map (count_cells topic.now) change.now.counts.news.items))))) (Via (Swaps AUTHOR (map (author_cells topic.now) change.now.authors.gone.items) (map (author_cells topic.now) change.now.authors.news.items)) (Swaps RETENTION (map (retention_cells topic.now) change.now.retentions.gone.items) (map (retention_cells topic.now) change.now.retentions.news.items)))) (state S.Store tx.old.conn.now) (state S.Store tx.new.conn.now)) }
 {
     write_subscriptions(tx, topic, change)?;
     write_rows(tx, topic, &change.authors)?;

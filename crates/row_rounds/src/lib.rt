@@ -6,6 +6,7 @@ mod differences;
 mod messages;
 mod reading;
 mod room;
+mod runs;
 mod saving;
 
 pub use reading::read_sides;
