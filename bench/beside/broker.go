@@ -23,6 +23,7 @@ type Broker struct {
 func (b *Broker) Name() string      { return "broker" }
 func (b *Broker) Has(Feature) bool  { return true }
 func (b *Broker) Process() *Process { return b.process }
+func (b *Broker) Address() string   { return b.address }
 
 func (b *Broker) Start(folder string) (err error) {
 	if b.address, err = freeAddress(); err != nil {

@@ -44,7 +44,7 @@ func (s Sizes) beside(system System, _ string) ([]float64, error) {
 	if err != nil {
 		return nil, err
 	}
-	published, err := s.synchronous(system, "")
+	published, err := s.waiting(s.payload)(system, "")
 	if err != nil {
 		return nil, err
 	}

@@ -12,11 +12,12 @@ import (
 	"time"
 )
 
-// Where the clients' libraries come from.
+// Where the clients' libraries come from, and the compiler of the one in C.
 var libraries = []struct{ name, pack string }{
 	{"redigo", "golang-github-gomodule-redigo-dev"},
 	{"amqp091-go", "golang-github-rabbitmq-amqp091-go-dev"},
 	{"gorilla/websocket", "golang-github-gorilla-websocket-dev"},
+	{"gcc", "gcc"},
 }
 
 func machine() string {

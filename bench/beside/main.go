@@ -14,22 +14,25 @@ import (
 
 // A Run is what the flags ask for.
 type Run struct {
-	program, room string
-	turns         int
-	patience      time.Duration
-	only          string
-	sizes         Sizes
+	program, lean, room string
+	turns               int
+	patience            time.Duration
+	only, systems       string
+	sizes               Sizes
 }
 
 func flags() *Run {
 	run := &Run{}
 	s := &run.sizes
 	flag.StringVar(&run.program, "program", "", "the broker's program")
+	flag.StringVar(&run.lean, "lean", "", "the client in C")
 	flag.StringVar(&run.room, "room", ".", "the folder under which each system has its own")
 	flag.IntVar(&run.turns, "turns", 3, "how often all is measured")
 	flag.DurationVar(&run.patience, "patience", 20*time.Minute, "after how long a measure has failed")
 	flag.StringVar(&run.only, "only", "", "the numbers of the measures, as 1,2; all where it is empty")
-	flag.IntVar(&s.count, "count", 2000, "publishes that wait, one at a time")
+	flag.StringVar(&run.systems, "systems", "Redis,RabbitMQ,broker,Redis-lean,broker-lean",
+		"those that are measured; lean is by the client in C")
+	flag.IntVar(&s.count, "count", 10000, "publishes that wait, one at a time")
 	flag.IntVar(&s.backlog, "backlog", 50000, "messages that are published at once, and consumed")
 	flag.IntVar(&s.paced, "paced", 1000, "messages end to end")
 	flag.IntVar(&s.perSecond, "rate", 200, "how many of them a second")
@@ -37,7 +40,7 @@ func flags() *Run {
 	flag.IntVar(&s.stored, "stored", 1000000, "messages that are kept over a restart")
 	flag.IntVar(&s.crowd, "crowd", 1000, "idle consumers")
 	flag.IntVar(&s.payload, "payload", 1024, "bytes of a message")
-	flag.IntVar(&s.small, "small", 100, "bytes of a message that is kept over a restart")
+	flag.IntVar(&s.small, "small", 100, "bytes of a small message, and of those that are kept over a restart")
 	flag.IntVar(&s.keys, "keys", 10000, "keys of Key_Shared")
 	flag.IntVar(&s.unanswered, "unanswered", 1000, "publishes without an answer")
 	flag.IntVar(&s.ofEight, "of-eight", 100, "publishes without an answer at each of the eight topics")
@@ -65,10 +68,31 @@ func (r *Run) measures() []Measure {
 	return some
 }
 
+// The systems that were asked for.
+func (r *Run) asked() ([]System, error) {
+	redis, broker := &Redis{}, &Broker{program: r.program}
+	all := map[string]System{}
+	for _, system := range []System{redis, &Rabbit{}, broker, &Lean{redis, r.lean}, &Lean{broker, r.lean}} {
+		all[system.Name()] = system
+	}
+	var some []System
+	for _, name := range strings.Split(r.systems, ",") {
+		system, known := all[name]
+		if !known {
+			return nil, fmt.Errorf("there is no system %q", name)
+		}
+		some = append(some, system)
+	}
+	return some, nil
+}
+
 // Measures everything in turns, and in each turn each measure at one system after the other, so that what else the
 // machine does meets them alike.
 func (r *Run) all(folder string) error {
-	systems := []System{&Redis{}, &Rabbit{}, &Broker{program: r.program}}
+	systems, err := r.asked()
+	if err != nil {
+		return err
+	}
 	costs, err := textCosts(r.sizes.payload)
 	if err != nil {
 		return err
@@ -96,7 +120,7 @@ func (r *Run) all(folder string) error {
 
 // Measures at a system that has a folder of its own for it.
 func (r *Run) one(folder string, measure Measure, system System, results *Results) error {
-	if !system.Has(measure.needs) {
+	if !measure.has(system) {
 		return nil
 	}
 	own := filepath.Join(folder, system.Name())
@@ -113,7 +137,10 @@ func (r *Run) one(folder string, measure Measure, system System, results *Result
 		return err
 	}
 	results.versions[system.Name()] = version
-	values, err := measure.do(system, own)
+	values, err := measure.at(system, own)
+	if err == nil && len(values) != len(measure.rows) {
+		err = fmt.Errorf("there are %d numbers for %d rows", len(values), len(measure.rows))
+	}
 	if err != nil {
 		return system.Process().explained(err)
 	}

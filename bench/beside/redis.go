@@ -21,6 +21,7 @@ type Redis struct {
 func (r *Redis) Name() string              { return "Redis" }
 func (r *Redis) Has(feature Feature) bool  { return feature == Nothing }
 func (r *Redis) Process() *Process         { return r.process }
+func (r *Redis) Address() string           { return r.address }
 func (r *Redis) dial() (redis.Conn, error) { return redis.Dial("tcp", r.address) }
 
 func (r *Redis) Start(folder string) (err error) {

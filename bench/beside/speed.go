@@ -5,20 +5,22 @@ import (
 	"time"
 )
 
-func (s Sizes) synchronous(system System, _ string) ([]float64, error) {
-	if err := system.Prepare(topic, Exclusive); err != nil {
-		return nil, err
+func (s Sizes) waiting(payload int) func(System, string) ([]float64, error) {
+	return func(system System, _ string) ([]float64, error) {
+		if err := system.Prepare(topic, Exclusive); err != nil {
+			return nil, err
+		}
+		publisher, err := system.Publisher(topic, 1)
+		if err != nil {
+			return nil, err
+		}
+		defer publisher.Close()
+		took, err := publishTimes(publisher, s.count, payload)
+		if err != nil {
+			return nil, err
+		}
+		return []float64{took.part(50), took.part(99), took.part(99.9)}, nil
 	}
-	publisher, err := system.Publisher(topic, 1)
-	if err != nil {
-		return nil, err
-	}
-	defer publisher.Close()
-	took, err := publishTimes(publisher, s.count, s.payload)
-	if err != nil {
-		return nil, err
-	}
-	return []float64{took.part(50), took.part(99)}, nil
 }
 
 // Fills a topic, and consumes it.

@@ -56,13 +56,14 @@ func (r *Results) Table() string {
 	for _, system := range r.systems {
 		fmt.Fprintf(&out, " %s |", system.Name())
 	}
-	fmt.Fprintf(&out, " broker / Redis |\n|---|---|---|%s---:|\n", strings.Repeat("---:|", len(r.systems)))
+	fmt.Fprintf(&out, " broker / Redis | the same, lean |\n|---|---|---|%s---:|---:|\n", strings.Repeat("---:|", len(r.systems)))
 	for _, row := range r.rows {
 		fmt.Fprintf(&out, "| %s | %s | %s |", row.number, row.label, row.unit)
 		for _, system := range r.systems {
 			fmt.Fprintf(&out, " %s |", shown(r.median(row, system.Name())))
 		}
-		fmt.Fprintf(&out, " %s |\n", shown(r.median(row, "broker")/r.median(row, "Redis")))
+		fmt.Fprintf(&out, " %s |", shown(r.median(row, "broker")/r.median(row, "Redis")))
+		fmt.Fprintf(&out, " %s |\n", shown(r.median(row, "broker-lean")/r.median(row, "Redis-lean")))
 	}
 	return out.String()
 }
