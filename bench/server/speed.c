@@ -1,6 +1,7 @@
 // How fast the broker is, by a client that costs little: publishes, deliveries, eight topics at once, and a backlog.
-// cc -O2 -pthread -o speed speed.c; pulsar_broker FOLDER/broker.db 127.0.0.1:PORT 4 & ./speed PORT FOLDER [BYTES]
-// BYTES is the size of each payload, 1,024 where it is not said.
+// cc -O2 -pthread -o speed speed.c; pulsar_broker FOLDER/broker.db 127.0.0.1:PORT 4 & ./speed PORT FOLDER [BYTES [PART..]]
+// BYTES is the size of each payload, 1,024 where it is not said. A part is waiting, paced, through, topics or piped; all are
+// measured where none is named.
 #define _GNU_SOURCE
 #include <arpa/inet.h>
 #include <fcntl.h>
@@ -15,7 +16,7 @@
 #include <time.h>
 #include <unistd.h>
 
-enum { MOST_PAYLOAD = 5000, MOST = 4096, PAUSE = 5000, COUNT = 1000, FRAME_ROOM = 8192 };
+enum { MOST_PAYLOAD = 5000, MOST = 10000, PAUSE = 5000, COUNT = 1000, FRAME_ROOM = 8192 };
 enum { EIGHT = 8, TURNS = 5, EACH = 3000 };
 enum { BACKLOG = 50000, UNANSWERED = 1000 };
 
@@ -44,10 +45,10 @@ static int compare(const void *a, const void *b) {
     return (x > y) - (x < y);
 }
 
-// The time below which so many hundredths of the times are.
-static double part(double *times, int count, int hundredths) {
+// The time below which so many thousandths of the times are.
+static double part(double *times, int count, int thousandths) {
     qsort(times, count, sizeof *times, compare);
-    return times[count * hundredths / 100];
+    return times[count * thousandths / 1000];
 }
 
 static void send_all(int socket, const char *bytes, size_t count) {
@@ -245,9 +246,9 @@ static void rates(void) {
         eight[i] = rate(EIGHT, i);
         quotient[i] = eight[i] / one[i];
     }
-    double middle = part(quotient, TURNS, 50);
+    double middle = part(quotient, TURNS, 500);
     printf("1 publisher: %.0f a second; %d publishers on %d topics: %.0f a second, %.2f times (%.2f to %.2f)\n",
-           part(one, TURNS, 50), EIGHT, EIGHT, part(eight, TURNS, 50), middle, quotient[0], quotient[TURNS - 1]);
+           part(one, TURNS, 500), EIGHT, EIGHT, part(eight, TURNS, 500), middle, quotient[0], quotient[TURNS - 1]);
 }
 
 // Publishes a second of one publisher, of whose texts some may be unanswered.
@@ -294,27 +295,57 @@ static double drain(const char *topic) {
     return BACKLOG * 1e6 / took;
 }
 
-int main(int count, char **words) {
-    if (count != 3 && count != 4) fail("usage: speed PORT FOLDER [BYTES]");
-    port = atoi(words[1]);
-    if (count == 4) payload = atoi(words[3]);
-    if (payload < 1 || payload > MOST_PAYLOAD) fail("payloads have 1 to 5000 bytes");
-    setvbuf(stdout, NULL, _IOLBF, 0);
+// Publishes one after the other, each of which waits for its answer.
+static void waiting(const char *folder) {
     double times[MOST];
-    syncs(words[2], COUNT, 0, times);
-    double disk = part(times, COUNT, 50);
-    syncs(words[2], COUNT, PAUSE, times);
-    printf("fdatasync: p50 %.0f us; every 5 ms %.0f us\n", disk, part(times, COUNT, 50));
+    syncs(folder, COUNT, 0, times);
+    double disk = part(times, COUNT, 500);
     publishes("warm", 200, 0, times);
-    publishes("alone", COUNT, 0, times);
-    double alone = part(times, COUNT, 50);
-    printf("publish of %d bytes, answered: p50 %.0f us, %.0f us more than fdatasync\n", payload, alone, alone - disk);
+    publishes("alone", MOST, 0, times);
+    double alone = part(times, MOST, 500);
+    printf("fdatasync: p50 %.0f us\n", disk);
+    printf("publish of %d bytes, answered: p50 %.0f us, p99 %.0f us, p99.9 %.0f us; p50 %.0f us more than fdatasync\n",
+           payload, alone, part(times, MOST, 990), part(times, MOST, 999), alone - disk);
+}
+
+static void paced(const char *folder) {
+    double times[COUNT];
+    syncs(folder, COUNT, PAUSE, times);
+    double disk = part(times, COUNT, 500);
     publishes("paced", COUNT, PAUSE, times);
-    printf("the same every 5 ms: p50 %.0f us\n", part(times, COUNT, 50));
+    printf("every 5 ms: fdatasync p50 %.0f us, publish p50 %.0f us\n", disk, part(times, COUNT, 500));
+}
+
+static void through(void) {
+    double times[COUNT];
     deliveries(times);
-    printf("end to end at 200 a second: p50 %.0f us, p99 %.0f us\n", part(times, COUNT, 50), part(times, COUNT, 99));
-    rates();
-    printf("up to %d unanswered: %.0f publishes a second", UNANSWERED, fill("backlog"));
-    printf("; a backlog of %d: %.0f messages a second\n", BACKLOG, drain("backlog"));
+    printf("end to end at 200 a second: p50 %.0f us, p99 %.0f us\n", part(times, COUNT, 500), part(times, COUNT, 990));
+}
+
+static void piped(void) {
+    double filling = fill("backlog");
+    printf("up to %d unanswered: %.0f publishes a second; a backlog of %d: %.0f messages a second\n", UNANSWERED, filling,
+           BACKLOG, drain("backlog"));
+}
+
+// Whether a part is among those that are named, which all are where none is.
+static int is_asked(const char *part, char **parts) {
+    if (!*parts) return 1;
+    while (*parts && strcmp(*parts, part)) parts++;
+    return *parts != NULL;
+}
+
+int main(int count, char **words) {
+    if (count < 3) fail("usage: speed PORT FOLDER [BYTES [PART..]]");
+    port = atoi(words[1]);
+    if (count > 3) payload = atoi(words[3]);
+    if (payload < 1 || payload > MOST_PAYLOAD) fail("payloads have 1 to 5000 bytes");
+    char **parts = words + (count > 3 ? 4 : 3);
+    setvbuf(stdout, NULL, _IOLBF, 0);
+    if (is_asked("waiting", parts)) waiting(words[2]);
+    if (is_asked("paced", parts)) paced(words[2]);
+    if (is_asked("through", parts)) through();
+    if (is_asked("topics", parts)) rates();
+    if (is_asked("piped", parts)) piped();
     return 0;
 }
