@@ -33,6 +33,7 @@ until grep -q listening "$room/tmp/said"; do
     kill -0 "$broker" 2> /dev/null || { cat "$room/tmp/said" >&2; exit 1; }
     sleep 0.1
 done
+grep -q jemalloc "/proc/$broker/maps"
 within brokerctl publish my-topic hello
 got=$(within brokerctl consume my-topic my-sub --count 1)
 [ "$got" = hello ]
