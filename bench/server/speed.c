@@ -251,8 +251,8 @@ static void rates(void) {
            part(one, TURNS, 500), EIGHT, EIGHT, part(eight, TURNS, 500), middle, quotient[0], quotient[TURNS - 1]);
 }
 
-// Publishes a second of one publisher, of whose texts some may be unanswered.
-static double fill(const char *topic) {
+// Publishes a second of one publisher, of whose texts some may be unanswered; and how long each took until its answer was read.
+static double fill(const char *topic, double *times) {
     struct client client;
     char bytes[FRAME_ROOM];
     size_t length = publish_frame(bytes);
@@ -260,10 +260,11 @@ static double fill(const char *topic) {
     double before = now_us();
     for (int asked = 0, answered = 0; answered < BACKLOG;) {
         if (asked < BACKLOG && asked - answered < UNANSWERED) {
+            times[asked++] = now_us();
             send_all(client.socket, bytes, length);
-            asked++;
         } else {
             receive_ok(&client);
+            times[answered] = now_us() - times[answered];
             answered++;
         }
     }
@@ -323,9 +324,12 @@ static void through(void) {
 }
 
 static void piped(void) {
-    double filling = fill("backlog");
+    static double times[BACKLOG];
+    double filling = fill("backlog", times);
     printf("up to %d unanswered: %.0f publishes a second; a backlog of %d: %.0f messages a second\n", UNANSWERED, filling,
            BACKLOG, drain("backlog"));
+    printf("of these publishes, answered: p50 %.0f us, p99 %.0f us, p99.9 %.0f us\n", part(times, BACKLOG, 500),
+           part(times, BACKLOG, 990), part(times, BACKLOG, 999));
 }
 
 // Whether a part is among those that are named, which all are where none is.
