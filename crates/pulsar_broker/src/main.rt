@@ -25,6 +25,9 @@ use std::io::{Eprint, ErrorKind};
 use std::process::ExitCode;
 use worker_pool::{Rules, VERSION};
 
+/// How many pages the database's log has before it is copied into the file: 4 MB, where pages are small.
+const FRAMES: usize = 4_000;
+
 /// Why there are no words to read.
 #[derive(Clone, Copy)]
 enum Unread {
@@ -140,7 +143,7 @@ fn main(rt: HostRuntime) -> ExitCode {
             }
         }
     } else if is_ready(&rt, rt.alloc(), asked.database) {
-        match open(&rt, asked.database, Unknown) {
+        match open(&rt, asked.database, Unknown, FRAMES) {
             Ok(conn) => serve_over(&rt, &asked, rules, conn),
             Err(error) => {
                 drop(rules);
