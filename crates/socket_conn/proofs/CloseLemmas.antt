@@ -3,10 +3,10 @@ use Rattle.std.proofs.Common.{◌≡◌, ◌≤◌, ◌++◌, ◌∙◌, ℕ, Li
 use Rattle.std.proofs.lemmas.Bool.{and_parts}
 use Rattle.std.specs.Prelude.{nat_lt}
 use Rattle.socket_conn.specs.State.{says_close}
-use Rattle.socket_conn.specs.Talks.{SendsClose, IsCloseFrame}
+use Rattle.socket_conn.specs.Talks.{SendsClose, IsCloseFrame, IsRefused}
 use Rattle.socket_conn.specs.declared.conn.SocketConn.{SocketConn}
 use Rattle.tungstenite.proofs.SocketLemmas.{appends-chain}
-use Rattle.tungstenite.specs.Failure.{IsIo, WriteFails}
+use Rattle.tungstenite.specs.Failure.{IsIo}
 use Rattle.tungstenite.specs.Socket.{Socket, Flushed, Writes}
 use Rattle.tungstenite.specs.declared.error.Error.{Error}
 use Rattle.tungstenite.specs.declared.error.Error.TheVariants as Why
@@ -105,13 +105,12 @@ module _ {S : Type 0} where
         same_input = f.4 ∙ s.same_input;
       }
 
-  -- where the protocol takes it, only want of memory or of room keeps it back
+  -- where the protocol takes it, only want of memory keeps it back
   pub kept_back : (old new : Socket S) (code : CloseCode) (n : ℕ) (reason : List ℕ) → code ≡ close_code_of n → can_write old.conn.state ≡ true
       → is_allowed (close_code_of n) ≡ true → length reason ≤ 123 → (e : Error) → ¬ (IsIo e)
-      → WriteFails (write_step old.conn (close (Some (code, reason)))) e → (e ≡ Why.WriteBufferFull → new ≡ old) → (e ≡ Why.OutOfMemory → new ≡ old) → new ≡ old
-  kept_back old new code n reason is writes may short e other (inl full) f m = f full
-  kept_back old new code n reason is writes may short (Why.Io cause) other (inr (inl out)) f m = absurd (other tt)
-  kept_back old new code n reason is writes may short Why.OutOfMemory other (inr (inl out)) f m = m refl
-  kept_back old new code n reason is writes may short e other (inr (inl out)) f m = absurd out
-  kept_back old new code n reason is writes may short e other (inr (inr (x, fails, gives))) f m =
+      → IsRefused (write_step old.conn (close (Some (code, reason)))) e → (e ≡ Why.OutOfMemory → new ≡ old) → new ≡ old
+  kept_back old new code n reason is writes may short (Why.Io cause) other (inl out) m = absurd (other tt)
+  kept_back old new code n reason is writes may short Why.OutOfMemory other (inl out) m = m refl
+  kept_back old new code n reason is writes may short e other (inl out) m = absurd out
+  kept_back old new code n reason is writes may short e other (inr (x, fails, gives)) m =
       absurd (no_failure old.conn.state old.conn n reason x writes may short (subst (λ k. write_step old.conn (close (Some (k, reason))) ≡ Err x) is fails))

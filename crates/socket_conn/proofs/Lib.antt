@@ -4,3 +4,4 @@ pub mod HeadsLemmas
 pub mod ShakesLemmas
 mod HeldLemmas
 mod FramesLemmas
+mod FramedLemmas

@@ -1,11 +1,10 @@
 -- What came of a request.
-use Rattle.std.proofs.Common.{◌≡◌, ◌≤◌, ◌+◌, ◌++◌, false, ◌∙◌, [], ◌∷◌, ℕ, List, length, take, drop, Option, None, Some, inl, inr, refl, sym, ap, subst, append_assoc, arith, zero-add, add-zero, suc-add}
+use Rattle.std.proofs.Common.{◌≡◌, ◌≤◌, ◌+◌, ◌++◌, ◌∙◌, [], ◌∷◌, ℕ, List, length, take, drop, Option, None, Some, inl, inr, refl, sym, ap, subst, append_assoc, arith, zero-add, add-zero, suc-add}
 use Rattle.std.proofs.lemmas.List.{take-take, take-append-le, append-nil}
 use Rattle.std.specs.Io.KnownBytes.{Consumes, Keeps}
-use Rattle.std.specs.declared.alloc.Global.{Global}
 use Rattle.std.proofs.KnownBytes.{Consumes-nil, Consumes-trans}
 use Rattle.socket_conn.specs.Heads.{IsUpgrade, MayCome}
-use Rattle.socket_conn.specs.Shakes.{Begins, HasHeard, HasLooked, IsHeld, IsLimited, Judges, Shakes, most_message}
+use Rattle.socket_conn.specs.Shakes.{Begins, HasHeard, HasLooked, IsHeld, IsLimited, Judges, Shakes}
 use Rattle.socket_conn.specs.State.{begun}
 use Rattle.socket_conn.specs.declared.conn.SocketConn.{SocketConn}
 use Rattle.socket_conn.specs.declared.head.Upgrade.{Upgrade}
@@ -14,11 +13,9 @@ use Rattle.socket_conn.specs.declared.shaking.Shaken.{Shaken}
 use Rattle.socket_conn.specs.declared.shaking.Shaken.TheVariants.{Open, Plain, Waits, Failed}
 use Rattle.socket_conn.specs.declared.shaking.Shaking.{Shaking}
 use Rattle.tungstenite.proofs.SocketLemmas.{take-nil}
-use Rattle.tungstenite.specs.Config.{HasLimits}
 use Rattle.tungstenite.specs.Socket.{Socket, IsFresh}
-use Rattle.tungstenite.specs.declared.protocol.WebSocketConfig.{WebSocketConfig as Config}
 use Rattle.websocket.specs.declared.protocol.config.Role.TheVariants.{Server}
-use Rattle.websocket.specs.declared.protocol.config.WebSocketConfig.{WebSocketConfig as FrameConfig}
+use Rattle.websocket.specs.declared.protocol.config.WebSocketConfig.{WebSocketConfig}
 
 -- behind what was kept, the rest is what follows it
 behind : (old more : List ℕ) (n : ℕ) → take (length old + n) (old ++ more) ≡ old ++ take n more
@@ -58,14 +55,13 @@ nothing_more (Some x) None h = absurd h
 nothing_more (Some x) (Some y) h = sym h
 
 -- the limits of a socket are those that it was given
-pub limited : (given : Config) (config : FrameConfig) → HasLimits config given → given.max_message_size ≡ Some most_message → given.max_frame_size ≡ Some most_message
-    → given.accept_unmasked_frames ≡ false → IsLimited config
-limited given config same message frame masked = (same.0 ∙ message, same.1 ∙ frame, same.2 ∙ masked)
+pub limited : (given config : WebSocketConfig) → config ≡ given → IsLimited given → IsLimited config
+limited given config same limits = rw same limits
 
 module _ {S : Type 0} where
-  pub begins : (alloc : Global) (u : Upgrade) (stream : S) (rest : List ℕ) (socket : Socket (Held S)) (conn : SocketConn (Held S)) → conn ≡ begun alloc socket
+  pub begins : (u : Upgrade) (stream : S) (rest : List ℕ) (socket : Socket (Held S)) (conn : SocketConn (Held S)) → conn ≡ begun socket
       → IsHeld stream u.answer.items socket.stream → socket.input ≡ rest → IsFresh (record socket { input = [] }) socket.stream Server → IsLimited socket.conn.config → Begins u stream rest conn
-  begins alloc u stream rest socket conn is held left fresh limits = rw is record { begun = refl; answer = held; rest = left; fresh = fresh; limits = limits }
+  begins u stream rest socket conn is held left fresh limits = rw is record { begun = refl; answer = held; rest = left; fresh = fresh; limits = limits }
 
   pub opens : (old : Shaking S) (u : Upgrade) (stream : S) (rest : List ℕ) (shaken : Shaken S) → IsUpgrade old.head.items u → stream ≡ old.stream.inner → rest ≡ drop u.len old.head.items
       → ((conn : SocketConn (Held S)) × (shaken ≡ Open conn u.asked) × Begins u stream rest conn) → Judges old shaken

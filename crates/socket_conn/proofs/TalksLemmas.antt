@@ -1,9 +1,7 @@
 -- What a call of the socket comes to.
 use Rattle.std.proofs.Common.{◌≡◌, ◌++◌, ◌∙◌, [], ℕ, List, Bool, true, false, Option, None, Some, Result, Ok, Err, MatchBool, refl, sym, ap, subst, inl, inr, append_assoc}
 use Rattle.std.specs.Io.KnownBytes.{Appends, append_known}
-use Rattle.socket_conn.specs.Talks.{SendsText, IsTextFrame, ComesTo, ErrorComesTo, GivenComesTo, MessageComesTo, GivesSigns, WaitedSince, Takes, counted, ReadsError, ReadsMessage, ReadsOnce, Receives, WouldWait, SaysClosed, breach_of}
-use Rattle.socket_conn.specs.Faults.{after_copy}
-use Rattle.socket_conn.specs.declared.faults.Faults.{Faults}
+use Rattle.socket_conn.specs.Talks.{Brings, SendsText, IsTextFrame, IsOutcome, ReadsAs, ComesTo, ErrorComesTo, GivenComesTo, MessageComesTo, GivesSigns, WaitedSince, Takes, counted, ReadsError, ReadsMessage, ReadsOnce, Receives, WouldWait, SaysClosed, breach_of}
 use Rattle.socket_conn.specs.State.{over, emptied, ended, failed, noting}
 use Rattle.socket_conn.specs.declared.outcomes.Came.{Came}
 use Rattle.socket_conn.specs.declared.outcomes.Signs.{Signs}
@@ -88,11 +86,6 @@ wait-is-io Why.OutOfMemory h = absurd h
 
 -- ---- of a read
 
--- of an error there is no copy
-pub copied_nothing : (signs : Signs) (error : Error) (came : Came) (f : Faults) → ErrorComesTo signs error came → f ≡ after_copy came f
-copied_nothing signs error Came.Lost f comes = absurd comes
-copied_nothing signs error came f comes = refl
-
 -- a breach is none of the others
 breach-waits : (error : Error) (code : CloseCode) → breach_of error ≡ Some code → ¬ (WouldWait error)
 breach-waits (Why.Protocol cause) code h = λ w. w
@@ -106,7 +99,19 @@ breach-is-no-close Why.Utf8 code h = λ w. w
 breach-is-no-close (Why.Capacity cause) code h = λ w. w
 breach-is-no-close error code h = cc
 
+-- where the one side does not hold, the other does in its own way
+other_side : (side : Bool) (A B C : Type 0) → (B → C) → MatchBool side A B → MatchBool side A C
+other_side true A B C f is = is
+other_side false A B C f is = f is
+
 module _ {S : Type 0} where
+  -- what a read comes to, by the message that it gave
+  pub brings : (remaining : S → Option (List ℕ)) (signs : Signs) (old new : Socket S) (read : Result Came Error) (came : Came)
+      → ReadsAs remaining old new read → IsOutcome signs read came → Brings remaining signs old new came
+  brings remaining signs old new (Ok got) came (message, reads, comes) is =
+      (Ok message, reads, other_side signs.is_over _ _ _ (λ same. subst (MessageComesTo message) (sym same) comes) is)
+  brings remaining signs old new (Err error) came reads is = (Err error, reads, is)
+
   -- what is noted of an error
   noted : (error : Error) (code : Option CloseCode) → breach_of error ≡ code → (c : SocketConn S) → noting code c ≡ noting (breach_of error) c
   noted error code is c = ap (λ k. noting k c) (sym is)

@@ -17,11 +17,6 @@ abbrev pub after : {A E : Type 0} → Result A E → Faults → Faults
 after (Ok a) f = f
 after (Err e) f = one_more f
 
--- the count after the copy of a message that came to this
-abbrev pub after_copy : Came → Faults → Faults
-after_copy Lost f = one_more f
-after_copy came f = f
-
 -- the count after a read that came to this
 abbrev pub after_read : Came → Faults → Faults
 after_read Lost f = one_more f

@@ -32,7 +32,7 @@ module _ {S : Type 0} where
 
   -- the request opens a connection that has just begun, over this stream: the answer waits, and what came behind the head is to be read
   pub record Begins (u : Upgrade) (stream : S) (left : List ℕ) (conn : SocketConn (Held S)) : Type 0 where
-    pub begun : conn ≡ begun conn.alloc conn.socket
+    pub begun : conn ≡ begun conn.socket
     pub answer : IsHeld stream u.answer.items conn.socket.stream
     pub rest : conn.socket.input ≡ left
     pub fresh : IsFresh (record conn.socket { input = [] }) conn.socket.stream Server

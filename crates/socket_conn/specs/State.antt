@@ -1,6 +1,5 @@
 -- What a connection keeps beside its socket, and what each call makes of that.
 use Rattle.std.specs.Prelude.{◌≡◌, ◌⊎◌, ◌+◌, ◌-◌, ◌^◌, ◌&&◌, not, nat_lt, min, length, ℕ, List, Bool, true, false, Option, Some, None}
-use Rattle.std.specs.declared.alloc.Global.{Global}
 use Rattle.socket_conn.specs.Faults.{no_faults, one_more}
 use Rattle.socket_conn.specs.Traffic.{no_traffic}
 use Rattle.socket_conn.specs.Waits.{HasNotWaited, HasWaited}
@@ -24,10 +23,9 @@ module _ {S : Type 0} where
   says_close c code = not c.is_lost && can_write c.socket.conn.state && is_allowed code
 
   -- at its beginning: there may be something to read, and nothing was received or is unsent
-  abbrev pub begun : Global → Socket S → SocketConn S
-  begun alloc socket =
+  abbrev pub begun : Socket S → SocketConn S
+  begun socket =
       record {
-        alloc = alloc;
         socket = socket;
         is_open = true;
         is_lost = false;
@@ -44,6 +42,10 @@ module _ {S : Type 0} where
   -- the same, where its socket has come to this
   abbrev pub over : Socket S → SocketConn S → SocketConn S
   over socket c = record c { socket = socket }
+
+  -- the same, where the stream of its socket has come to this
+  abbrev pub over_stream : S → SocketConn S → SocketConn S
+  over_stream stream c = over (record c.socket { stream = stream }) c
 
   -- given up: the next receive says that the client has gone
   abbrev pub hung_up : SocketConn S → SocketConn S

@@ -16,16 +16,19 @@ use Rattle.tungstenite.specs.declared.error.Error.{Error}
 use Rattle.tungstenite.specs.declared.error.Error.TheVariants as Why
 use Rattle.tungstenite.specs.declared.message.Message.{Message}
 use Rattle.tungstenite.specs.declared.message.Message.TheVariants as Kind
+use Rattle.tungstenite.specs.Failure.{IsOutside, of_frame}
 use Rattle.tungstenite.specs.Socket.{Socket, Run, Runs, Replies, EndsWith, Flushed, Reads, content_of}
+use Rattle.websocket.specs.declared.error.Error.{Error as FrameError}
 use Rattle.websocket.specs.declared.protocol.config.Role.{Role}
 use Rattle.websocket.specs.declared.protocol.frame.coding.CloseCode.{CloseCode}
 use Rattle.websocket.specs.declared.protocol.frame.coding.CloseCode.TheVariants.{Protocol, Invalid, Size}
 use Rattle.websocket.specs.declared.protocol.frame.coding.Data.TheVariants as Data
 use Rattle.websocket.specs.declared.protocol.frame.coding.OpCode.TheVariants as Op
+use Rattle.websocket.specs.declared.protocol.message.Received.{Received}
 use Rattle.websocket.specs.declared.protocol.state.WebSocketState.TheVariants.{Active, ClosedByUs}
 use Rattle.websocket.specs.declared.protocol.frame.coding.Control.TheVariants as Control
-use Rattle.websocket.specs.Connection.{IsMaskOf, whole_header}
-use Rattle.websocket.specs.Content.{close_payload}
+use Rattle.websocket.specs.Connection.{Effect, IsMaskOf, whole_header}
+use Rattle.websocket.specs.Content.{close_payload, received_content}
 use Rattle.websocket.specs.Frame.{encode_frame}
 
 -- ---- what a read gave
@@ -98,6 +101,23 @@ MessageComesTo message (Came.Breaks code) = ⊥
 MessageComesTo message Came.Lost = IsData message
 MessageComesTo message Came.Fails = ⊥
 
+-- what the bytes of a text or a binary message come to: to themselves, where there was memory for them
+abbrev pub IsDataOf : List ℕ → Came → Type 0
+IsDataOf bytes (Came.Text copy) = copy.items ≡ bytes
+IsDataOf bytes Came.Lost = ⊤
+IsDataOf bytes came = ⊥
+
+-- what a message comes to that lies in this input
+abbrev pub ComesFrom : List ℕ → Received → Came → Type 0
+ComesFrom input received came =
+    (message : Message) × (content_of message ≡ received_content input received) × MessageComesTo message came
+
+-- what a frame comes to that gave this, read from this input
+abbrev pub GivesAs : List ℕ → Option Received → Option Came → Type 0
+GivesAs input None given = given ≡ None
+GivesAs input (Some received) None = ⊥
+GivesAs input (Some received) (Some came) = ComesFrom input received came
+
 -- what it comes to that the stream would have to wait: it has given all that it may in a turn; or it had nothing to give; or it was
 -- not asked, which is a failure
 abbrev pub WaitComesTo : Signs → Came → Type 0
@@ -127,7 +147,20 @@ GivenComesTo signs (Err error) came = ErrorComesTo signs error came
 abbrev pub ComesTo : Signs → Result Message Error → Came → Type 0
 ComesTo signs given came = MatchBool signs.is_over (came ≡ Came.Breaks Size) (GivenComesTo signs given came)
 
+-- the same of a read whose message has come to this, or which gave this error
+abbrev pub IsGiven : Signs → Result Came Error → Came → Type 0
+IsGiven signs (Ok came) outcome = outcome ≡ came
+IsGiven signs (Err error) outcome = ErrorComesTo signs error outcome
+
+abbrev pub IsOutcome : Signs → Result Came Error → Came → Type 0
+IsOutcome signs read outcome = MatchBool signs.is_over (outcome ≡ Came.Breaks Size) (IsGiven signs read outcome)
+
 module _ {S : Type 0} where
+  -- a read of the socket gave a message that has come to this, or this error
+  abbrev pub ReadsAs : (remaining : S → Option (List ℕ)) → Socket S → Socket S → Result Came Error → Type 0
+  ReadsAs remaining old new (Ok came) = (message : Message) × Reads remaining old new (Ok message) × MessageComesTo message came
+  ReadsAs remaining old new (Err error) = Reads remaining old new (Err error)
+
   -- all that waited to be sent left, and then one message was read: the bytes that the stream gave, behind those kept from
   -- before, begin with a run of frames, of which the last ends this message, and no other ends one
   abbrev pub ReadsMessage : (remaining contents : S → Option (List ℕ)) → Socket S → Socket S → Message → Type 0
@@ -246,6 +279,10 @@ module _ {S : Type 0} where
 
 -- ---- what was sent
 
+-- why a write failed: the stream did, or memory, or the protocol does not take it
+abbrev pub IsRefused : Result Effect FrameError → Error → Type 0
+IsRefused step e = IsOutside e ⊎ ((x : FrameError) × (step ≡ Err x) × (e ≡ of_frame x))
+
 -- the one frame that carries a text whole, under some mask of the role
 abbrev pub IsTextFrame : Role → List ℕ → List ℕ → Type 0
 IsTextFrame role words frame =
@@ -285,9 +322,8 @@ module _ {S : Type 0} where
     pub last : new.conn ≡ record old.conn { state = ClosedByUs }
     pub same_input : new.input ≡ old.input
 
-  -- the frame of this code and reason was said; or the connection is lost, since that failed, or a copy of the reason alone did
+  -- the frame of this code and reason was said; or the connection is lost, since that failed
   abbrev pub Closes : (contents : S → Option (List ℕ)) → SocketConn S → SocketConn S → CloseCode → List ℕ → Type 0
   Closes contents old new code reason =
       (SendsClose contents old.socket new.socket code reason × (new ≡ over new.socket old))
-      ⊎ (((new.socket ≡ old.socket) ⊎ SendsClose contents old.socket new.socket code [])
-      × (new ≡ lost (record old { socket = new.socket; faults = new.faults })) × HasFailed old new)
+      ⊎ ((new ≡ lost (record old { faults = new.faults })) × HasFailed old new)

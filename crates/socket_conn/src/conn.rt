@@ -1,25 +1,22 @@
 // A session's connection over a WebSocket.
 ghost use Rattle.std.specs.Prelude.{Bool, ◌≡◌, ◌≤◌, ◌⊎◌, length, IfOk, OnOk, OnErr, Ok, Err, Some, None, [], true, false, IsErr, IsTrue};
 ghost use Rattle.session_links.specs.Links.{Tells, goes_on, receipt_of, same, with_close, with_receipt, with_sent};
-ghost use Rattle.tungstenite.specs.Content.{text as Text};
-ghost use Rattle.tungstenite.specs.Socket.{Flushed, Writes, content_of};
+ghost use Rattle.tungstenite.specs.Socket.{Flushed, Writes};
 ghost use Rattle.websocket.specs.Connection.{write_step};
-ghost use Rattle.websocket.specs.Content.{ping};
+ghost use Rattle.websocket.specs.Content.{message_content, ping};
 ghost use Rattle.socket_conn.specs.State.{Flushes, StaysOrBlocks, begun, blocked, ended, hung_up, is_roomy, says_close, with_unsent};
 ghost use Rattle.socket_conn.specs.Talks.{Closes, Receives, SendsText, WaitedSince};
 ghost use Rattle.websocket.specs.CloseCode.{close_code_of};
 
 use crate::faults::Faults;
+use crate::framed::Framed;
 use crate::frames::CountsFrames;
 use crate::outcomes::would_block;
 use crate::traffic::Traffic;
 use crate::waits::CountsWaits;
-use bytes::Bytes;
 use session_links::{Conn, ConnFault, Incoming};
-use std::alloc::{AllocError, Global};
 use std::io::{Read, Write};
-use tungstenite::{Message, NoMask, WebSocket};
-use websocket::protocol::CloseCode;
+use websocket::protocol::{CloseCode, Message};
 
 mod closing;
 mod receiving;
@@ -32,8 +29,7 @@ const MOST_UNSENT: usize = 65_536;
 /// A connection over a WebSocket, on a stream that does not block. Output that the stream does not take is kept, and goes
 /// on when `flush` is called; meanwhile nothing is read.
 pub struct SocketConn<S: Read + Write + Drop> {
-    alloc: Global,
-    socket: WebSocket<S, NoMask>,
+    socket: Framed<S>,
     /// It may be called.
     is_open: bool,
     /// The stream has failed, or the client has gone: the next call says so.
@@ -59,7 +55,6 @@ pub struct SocketConn<S: Read + Write + Drop> {
 impl<S: Read + Write + Drop> Drop for SocketConn<S> {
     fn drop(self) {
         let SocketConn {
-            alloc: _,
             socket: _,
             is_open: _,
             is_lost: _,
@@ -77,11 +72,10 @@ impl<S: Read + Write + Drop> Drop for SocketConn<S> {
 
 impl<S: Read + Write + CountsWaits + Drop> SocketConn<S> {
     /// After the handshake. The stream may hold a text already.
-    pub fn new(alloc: Global, socket: WebSocket<S, NoMask>) -> Self
-        ensures { result ≡ begun alloc socket }
+    pub(crate) fn new(socket: Framed<S>) -> Self
+        ensures { result ≡ begun socket }
     {
         SocketConn {
-            alloc,
             socket,
             is_open: true,
             is_lost: false,
@@ -108,13 +102,6 @@ impl<S: Read + Write + CountsWaits + Drop> SocketConn<S> {
         ensures { result ≡ self.now.is_readable }
     {
         self.is_readable
-    }
-
-    /// Something has come.
-    pub fn note_readable(&mut self)
-        ensures { self.new ≡ record self.old { is_readable = true } }
-    {
-        self.is_readable = true;
     }
 
     /// Whether the stream did not take all output.
@@ -165,16 +152,10 @@ impl<S: Read + Write + CountsWaits + Drop> SocketConn<S> {
         self.socket.get_ref().times_full() != full
     }
 
-    fn text_of(&self, text: &str) -> Result<Message, AllocError>
-        ensures { IfOk result (λ message. content_of message ≡ Text text.now) }
-    {
-        Message::text(self.alloc, text)
-    }
-
     /// Writes the message. What the stream does not take waits.
-    fn write(&mut self, message: Message) -> Result<(), ConnFault>
+    fn write(&mut self, message: Message<'_>) -> Result<(), ConnFault>
         ensures state { StaysOrBlocks S.full self.old self.new }
-        ensures wrote { OnOk result (Writes S.contents self.old.socket self.new.socket (write_step self.old.socket.conn (content_of message))) }
+        ensures wrote { OnOk result (Writes S.contents self.old.socket self.new.socket (write_step self.old.socket.conn (message_content message.entry))) }
     {
         let full = self.socket.get_ref().times_full();
         match self.socket.write(message) {
@@ -206,10 +187,7 @@ impl<S: Read + Write + CountsWaits + Drop> SocketConn<S> {
         ensures state { StaysOrBlocks S.full self.old self.new }
         ensures wrote { OnOk result (SendsText S.contents self.old.socket self.new.socket text.now) }
     {
-        match self.text_of(text) {
-            Ok(message) => self.write(message),
-            Err(_) => Err(ConnFault),
-        }
+        self.write(Message::Text(text))
     }
 }
 
@@ -223,7 +201,7 @@ impl<S: Read + Write + CountsWaits + Drop> SocketConn<S> {
         if self.is_lost {
             return Err(ConnFault);
         }
-        self.write(Message::Ping(Bytes::new()))
+        self.write(Message::Ping(&[]))
     }
 }
 
@@ -255,7 +233,7 @@ impl<S: Read + Write + CountsWaits + CountsFrames + Drop> Conn for SocketConn<S>
         if !self.is_readable || !self.flush() {
             return Ok(Incoming::Nothing);
         }
-        let what = self.faults.read(self.alloc, &mut self.socket, dry, spent);
+        let what = self.faults.read(&mut self.socket, dry, spent);
         self.take(what)
     }
 

@@ -1,19 +1,20 @@
 // How often what a connection asked for has failed.
-ghost use Rattle.std.specs.Prelude.{◌≡◌, [], IfErr, IfOk, OnOk};
+ghost use Rattle.std.specs.Prelude.{◌≡◌, [], IfErr, OnOk};
 ghost use Rattle.socket_conn.specs.Faults.{after, after_read, no_faults, one_more};
-ghost use Rattle.socket_conn.specs.Talks.{Brings, GivesSigns};
-ghost use Rattle.tungstenite.specs.Failure.{IsIo, WriteFails};
-ghost use Rattle.tungstenite.specs.Socket.{Flushed, Writes, content_of};
-ghost use Rattle.tungstenite.specs.declared.error.Error.TheVariants.{WriteBufferFull, OutOfMemory};
+ghost use Rattle.socket_conn.specs.Talks.{Brings, GivesSigns, IsRefused};
+ghost use Rattle.tungstenite.specs.Failure.{IsIo};
+ghost use Rattle.tungstenite.specs.Socket.{Flushed, Writes};
+ghost use Rattle.tungstenite.specs.declared.error.Error.TheVariants.{OutOfMemory};
 ghost use Rattle.websocket.specs.Connection.{write_step};
+ghost use Rattle.websocket.specs.Content.{message_content};
 
+use crate::framed::Framed;
 use crate::frames::CountsFrames;
 use crate::outcomes::{Came, Signs, is_io, outcome_of, signs_since};
 use crate::waits::CountsWaits;
-use bytes::ByteStr;
-use std::alloc::{AllocError, Global};
 use std::io::{Read, Write};
-use tungstenite::{Error, Message, NoMask, WebSocket};
+use tungstenite::Error;
+use websocket::protocol::Message;
 
 /// How often what a connection asked for has failed: so nobody gives it up, or keeps a frame back, that has not tried.
 #[derive(Clone, Copy)]
@@ -37,7 +38,7 @@ impl Faults {
     /// Hands the stream of the socket the output that waits.
     pub(crate) fn flush<S: Read + Write + Drop>(
         &mut self,
-        socket: &mut WebSocket<S, NoMask>,
+        socket: &mut Framed<S>,
     ) -> Result<(), Error>
         ensures sent { Flushed S.contents socket.old socket.new }
         ensures empty { OnOk result (socket.new.output ≡ []) }
@@ -55,12 +56,11 @@ impl Faults {
     /// Puts the message into the output of the socket. What the stream does not take waits there.
     pub(crate) fn put<S: Read + Write + Drop>(
         &mut self,
-        socket: &mut WebSocket<S, NoMask>,
-        message: Message,
+        socket: &mut Framed<S>,
+        message: Message<'_>,
     ) -> Result<(), Error>
-        ensures put { OnOk result (Writes S.contents socket.old socket.new (write_step socket.old.conn (content_of message))) }
-        ensures failed { IfErr result (λ e. WriteFails (write_step socket.old.conn (content_of message)) e × ¬ (IsIo e)) }
-        ensures full { IfErr result (λ e. e ≡ WriteBufferFull → socket.new ≡ socket.old) }
+        ensures put { OnOk result (Writes S.contents socket.old socket.new (write_step socket.old.conn (message_content message.entry))) }
+        ensures failed { IfErr result (λ e. IsRefused (write_step socket.old.conn (message_content message.entry)) e × ¬ (IsIo e)) }
         ensures memory { IfErr result (λ e. e ≡ OutOfMemory → socket.new ≡ socket.old) }
         ensures counted { self.new ≡ after result self.old }
     {
@@ -81,8 +81,7 @@ impl Faults {
     /// Reads the socket once. Its stream had counted so often that it was dry, and that its turn was spent.
     pub(crate) fn read<S: Read + Write + CountsWaits + CountsFrames + Drop>(
         &mut self,
-        alloc: Global,
-        socket: &mut WebSocket<S, NoMask>,
+        socket: &mut Framed<S>,
         dry: u64,
         spent: u64,
     ) -> Came
@@ -91,39 +90,10 @@ impl Faults {
     {
         let read = socket.read();
         let signs = signs_since(socket, dry, spent);
-        let came = outcome_of(alloc, self, &read, signs);
-        drop(read);
-        if matches!(came, Came::Fails | Came::Breaks(_)) {
+        let came = outcome_of(read, signs);
+        if matches!(came, Came::Lost | Came::Fails | Came::Breaks(_)) {
             self.count();
         }
         came
-    }
-
-    /// A copy of the bytes.
-    pub(crate) fn bytes(&mut self, alloc: Global, bytes: &[u8]) -> Result<Vec<u8>, AllocError>
-        ensures copy { IfOk result (λ copy. copy.items ≡ bytes.now) }
-        ensures counted { self.new ≡ after result self.old }
-    {
-        match Vec::from_slice(alloc, bytes) {
-            Ok(copy) => Ok(copy),
-            Err(error) => {
-                self.count();
-                Err(error)
-            }
-        }
-    }
-
-    /// A copy of the text.
-    pub(crate) fn copy(&mut self, alloc: Global, text: &str) -> Result<ByteStr, AllocError>
-        ensures copy { IfOk result (λ copy. copy ≡ text.now) }
-        ensures counted { self.new ≡ after result self.old }
-    {
-        match ByteStr::copy_from_str(alloc, text) {
-            Ok(copy) => Ok(copy),
-            Err(error) => {
-                self.count();
-                Err(error)
-            }
-        }
     }
 }

@@ -1,31 +1,35 @@
 // A stream whose output waits until it is let go, so that a request is accepted only once its session has begun; and which gives
-// so much in a turn at most, so that others have theirs. It counts the bytes that come and go.
+// so much in a turn at most, so that others have theirs. It counts the bytes that come and go, and does not ask in vain.
 ghost use Rattle.std.specs.Prelude.{◌≡◌, ◌≤◌, ◌<◌, ◌-◌, [], true, false, length, drop, IfOk, IsErr, IsTrue};
-ghost use Rattle.std.specs.Io.KnownBytes.{append_known, Keeps, ReadConsumes, WriteAppends};
-ghost use Rattle.std.specs.Io.{ReadsAtMost, WritesAtMost};
+ghost use Rattle.std.specs.Io.KnownBytes.{append_known, Keeps, WriteAppends};
+ghost use Rattle.std.specs.Io.{WritesAtMost};
 ghost use Rattle.std.specs.IoError.{error_kind};
 ghost use Rattle.socket_conn.specs.Frames.{no_frames, walked};
 ghost use Rattle.socket_conn.specs.Shakes.{IsHeld};
 ghost use Rattle.socket_conn.specs.Traffic.{more_received, no_traffic, sent_up_to, written};
-ghost use Rattle.socket_conn.specs.Turns.{IsInTurn, after_read, most_a_turn};
+ghost use Rattle.socket_conn.specs.Turns.{begun_turn, most_a_turn, told};
 ghost use Rattle.socket_conn.specs.Waits.{with_wait, with_waits};
-ghost use Rattle.tungstenite.specs.Config.{HasLimits};
 ghost use Rattle.tungstenite.specs.Socket.{IsFresh};
+ghost use Rattle.websocket.specs.declared.protocol.config.Role.TheVariants.{Server};
 
+use crate::framed::Framed;
 use crate::frames::{CountsFrames, FrameCount};
 use crate::traffic::Traffic;
 use crate::waits::CountsWaits;
 use std::alloc::Global;
 use std::io;
 use std::io::{ErrorKind, Read, Write};
-use tungstenite::{NoMask, Role, WebSocket, WebSocketConfig};
+use websocket::protocol::WebSocketConfig;
+
+mod reading;
 
 /// How many bytes a turn reads at most.
 const MOST_A_TURN: usize = 262_144;
 
 /// A stream with bytes that go out before all others. As long as it is held, nothing goes out, and a write says that it
 /// would block. It gives so many bytes in a turn at most, and then says that it would block, without asking the stream
-/// below. It counts how often it had to wait, the frames of what it gave, and the bytes of that and of what went.
+/// below. So it does too where that one gave less than it was asked for, and tells of what comes later. It counts how often it
+/// had to wait, the frames of what it gave, and the bytes of that and of what went.
 #[derive(Drop)]
 pub struct Held<S> {
     inner: S,
@@ -41,6 +45,10 @@ pub struct Held<S> {
     left: usize,
     /// How often it gave nothing since these were used up.
     spent: u64,
+    /// Whoever serves it is told of all that comes from now on, and of its end.
+    is_told: bool,
+    /// All that had come was given: until more is told of, or the turn is over, it has nothing to give.
+    is_drained: bool,
     frames: FrameCount,
     traffic: Traffic,
 }
@@ -53,6 +61,7 @@ impl<S> Held<S> {
         ensures first { result.first ≡ first }
         ensures at { result.at ≡ 0 }
         ensures turn { result.left ≡ most_a_turn }
+        ensures told { (result.is_told ≡ false) × (result.is_drained ≡ false) }
         ensures frames { result.frames ≡ no_frames }
         ensures traffic { result.traffic ≡ no_traffic }
     {
@@ -65,6 +74,8 @@ impl<S> Held<S> {
             dry: 0,
             left: MOST_A_TURN,
             spent: 0,
+            is_told: false,
+            is_drained: false,
             frames: FrameCount::new(),
             traffic: Traffic::none(),
         }
@@ -83,6 +94,8 @@ impl<S> Held<S> {
             dry: _,
             left: _,
             spent: _,
+            is_told: _,
+            is_drained: _,
             frames: _,
             traffic: _,
         } = self;
@@ -119,9 +132,19 @@ impl<S> Held<S> {
 
     /// A turn begins, in which it gives as many bytes as in any other.
     pub fn begin_turn(&mut self)
-        ensures { self.new ≡ record self.old { left = most_a_turn } }
+        ensures { self.new ≡ begun_turn self.old }
     {
         self.left = MOST_A_TURN;
+        self.is_drained = false;
+    }
+
+    /// There may be something to give; and whether its end had not come yet, so that of this too, and of all else that comes from
+    /// now on, it will be told.
+    pub fn tell(&mut self, is_told: bool)
+        ensures { self.new ≡ told is_told self.old }
+    {
+        self.is_told = is_told;
+        self.is_drained = false;
     }
 
     /// Counts bytes that were read before, and their frames.
@@ -129,17 +152,6 @@ impl<S> Held<S> {
         ensures { self.new ≡ record self.old { frames = walked self.old.frames bytes.now; traffic = more_received (length bytes.now) self.old.traffic } }
     {
         self.traffic.note_received(bytes.len());
-        self.frames.walk(bytes);
-    }
-
-    /// It gave these bytes.
-    fn note_given(&mut self, bytes: &[u8])
-        requires { length bytes.now ≤ self.old.left }
-        ensures left { self.new.left ≡ self.old.left - length bytes.now }
-        ensures counted { self.new ≡ record self.old { left = self.new.left; frames = walked self.old.frames bytes.now; traffic = more_received (length bytes.now) self.old.traffic } }
-    {
-        self.traffic.note_received(bytes.len());
-        self.left -= bytes.len();
         self.frames.walk(bytes);
     }
 }
@@ -283,46 +295,6 @@ impl<S> CountsFrames for Held<S> {
     }
 }
 
-impl<S: Read> Held<S> {
-    /// Reads no more than the turn has left.
-    fn read_within(&mut self, buf: &mut [u8]) -> io::Result<usize>
-        requires { 0 < self.old.left }
-        ensures bound { ReadsAtMost result buf.new }
-        ensures bytes { ReadConsumes (S.remaining self.old.inner) (S.remaining self.new.inner) result buf.new }
-        ensures within { IfOk result (λ n. n ≤ self.old.left) }
-        ensures same { self.new ≡ record self.old { inner = self.new.inner } }
-    {
-        let most = self.left.min(buf.len());
-        self.inner.read(&mut buf[..most])
-    }
-}
-
-impl<S: Read> Read for Held<S> {
-    ghost remaining = { λ d. S.remaining d.inner };
-
-    fn read(&mut self, buf: &mut [u8]) -> io::Result<usize>
-        ensures bound { ReadsAtMost result buf.new }
-        ensures bytes { ReadConsumes (S.remaining self.old.inner) (S.remaining self.new.inner) result buf.new }
-        ensures turn { IsInTurn self.old.left result }
-        ensures counted { self.new ≡ after_read self.old self.new.inner result buf.new }
-    {
-        if self.left == 0 {
-            self.spent = self.spent.wrapping_add(1);
-            return Err(io::Error::from(ErrorKind::WouldBlock));
-        }
-        match self.read_within(buf) {
-            Ok(count) => {
-                self.note_given(&buf[..count]);
-                Ok(count)
-            }
-            Err(error) => {
-                self.dry = counted(self.dry, &error);
-                Err(error)
-            }
-        }
-    }
-}
-
 impl<S: Write> Write for Held<S> {
     ghost contents = { λ d. append_known (S.contents d.inner) (drop d.at d.first.items) };
 
@@ -362,16 +334,16 @@ pub(crate) fn socket_of<S: Read + Write + Drop>(
     answer: Vec<u8>,
     rest: Vec<u8>,
     config: WebSocketConfig,
-) -> WebSocket<Held<S>, NoMask>
+) -> Framed<Held<S>>
     ensures input { result.input ≡ rest.items }
     ensures answer { IsHeld stream answer.items result.stream }
-    ensures fresh { IsFresh (record result { input = [] }) result.stream Role.Server }
-    ensures limits { HasLimits result.conn.config config }
+    ensures fresh { IsFresh (record result { input = [] }) result.stream Server }
+    ensures limits { result.conn.config ≡ config }
     ensures turn { result.stream.left ≡ most_a_turn }
     ensures frames { result.stream.frames ≡ walked no_frames rest.items }
     ensures traffic { result.stream.traffic ≡ more_received (length rest.items) no_traffic }
 {
     let mut held = Held::new(stream, answer);
     held.note_before(&rest);
-    WebSocket::from_partially_read(alloc, held, NoMask, rest, Role::Server, Some(config))
+    Framed::new(alloc, held, rest, config)
 }

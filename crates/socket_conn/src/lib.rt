@@ -5,6 +5,7 @@ mod answering;
 mod asked;
 mod conn;
 mod faults;
+mod framed;
 mod frames;
 mod head;
 mod held;

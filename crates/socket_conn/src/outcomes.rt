@@ -1,16 +1,16 @@
 // What a read of the socket came to.
-ghost use Rattle.std.specs.Prelude.{◌≡◌, MatchBool, IsTrue, ◌↔◌};
-ghost use Rattle.socket_conn.specs.Faults.{after_copy};
-ghost use Rattle.socket_conn.specs.Talks.{ComesTo, ErrorComesTo, GivenComesTo, GivesSigns, MessageComesTo, WaitComesTo, WouldWait};
+ghost use Rattle.std.specs.Prelude.{◌≡◌, IfOk, MatchBool, IsTrue, ◌↔◌};
+ghost use Rattle.socket_conn.specs.Talks.{ComesFrom, ErrorComesTo, GivesSigns, IsDataOf, IsGiven, IsOutcome, WaitComesTo, WouldWait};
 ghost use Rattle.tungstenite.specs.Failure.{IsIo};
+ghost use Rattle.websocket.specs.Content.{IsPayloadInside, IsReceivedInside, payload_bytes};
 
-use crate::faults::Faults;
+use crate::framed::Framed;
 use crate::frames::CountsFrames;
 use crate::waits::CountsWaits;
-use std::alloc::Global;
+use std::alloc::{AllocError, Global};
 use std::io::ErrorKind;
-use tungstenite::{Error, Message, NoMask, WebSocket};
-use websocket::protocol::CloseCode;
+use tungstenite::Error;
+use websocket::protocol::{CloseCode, Payload, Received};
 
 /// What a read came to.
 #[derive(Drop)]
@@ -44,7 +44,7 @@ pub(crate) struct Signs {
 
 /// What the stream of the socket tells, which had counted so often before that it was dry, and that its turn was spent.
 pub(crate) fn signs_since<S: CountsWaits + CountsFrames + Drop>(
-    socket: &WebSocket<S, NoMask>,
+    socket: &Framed<S>,
     dry: u64,
     spent: u64,
 ) -> Signs
@@ -74,22 +74,39 @@ pub(crate) fn is_io(error: &Error) -> bool
     matches!(error, Error::Io(_))
 }
 
-fn message_in(alloc: Global, faults: &mut Faults, message: &Message) -> Came
-    ensures comes { MessageComesTo message.now result }
-    ensures counted { faults.new ≡ after_copy result faults.old }
+/// The bytes of a message: those that were put together from parts as they are, and a copy of those that lie in the input.
+fn bytes_of(alloc: Global, payload: Payload, input: &[u8]) -> Result<Vec<u8>, AllocError>
+    requires { IsPayloadInside input.now payload }
+    ensures { IfOk result (λ bytes. bytes.items ≡ payload_bytes input.now payload) }
 {
-    match message {
-        Message::Text(text) => match faults.bytes(alloc, text.as_str().as_bytes()) {
-            Ok(bytes) => Came::Text(bytes),
-            Err(_) => Came::Lost,
-        },
-        Message::Binary(bytes) => match faults.bytes(alloc, bytes.as_slice()) {
-            Ok(bytes) => Came::Text(bytes),
-            Err(_) => Came::Lost,
-        },
-        Message::Ping(_) => Came::Ping,
-        Message::Pong(_) => Came::Pong,
-        Message::Close(_) => Came::Closes,
+    match payload {
+        Payload::Input(span) => Vec::from_slice(alloc, span.of(input)),
+        Payload::Assembled(bytes) => Ok(bytes),
+    }
+}
+
+/// What a text or a binary message comes to.
+fn data_of(alloc: Global, payload: Payload, input: &[u8]) -> Came
+    requires { IsPayloadInside input.now payload }
+    ensures { IsDataOf (payload_bytes input.now payload) result }
+{
+    match bytes_of(alloc, payload, input) {
+        Ok(bytes) => Came::Text(bytes),
+        Err(_) => Came::Lost,
+    }
+}
+
+/// What a message comes to that lies in the input.
+pub(crate) fn came_of(alloc: Global, received: Received, input: &[u8]) -> Came
+    requires { IsReceivedInside input.now received }
+    ensures { ComesFrom input.now received result }
+{
+    match received {
+        Received::Text(payload) => data_of(alloc, payload, input),
+        Received::Binary(payload) => data_of(alloc, payload, input),
+        Received::Ping(_) => Came::Ping,
+        Received::Pong(_) => Came::Pong,
+        Received::Close(_) => Came::Closes,
     }
 }
 
@@ -123,30 +140,22 @@ fn failure_of(error: &Error, signs: Signs) -> Came
     }
 }
 
-#[tactic(auto, using(crate::proofs::TalksLemmas::copied_nothing))]
-fn given_of(alloc: Global, faults: &mut Faults, read: &Result<Message, Error>, signs: Signs) -> Came
-    ensures comes { GivenComesTo signs read.now result }
-    ensures counted { faults.new ≡ after_copy result faults.old }
+fn given_of(read: Result<Came, Error>, signs: Signs) -> Came
+    ensures { IsGiven signs read result }
 {
     match read {
-        Ok(message) => message_in(alloc, faults, message),
-        Err(error) => failure_of(error, signs),
+        Ok(came) => came,
+        Err(error) => failure_of(&error, signs),
     }
 }
 
-/// What a read comes to. A message of too many frames is too long, whatever was read before it. A copy that failed is counted.
-pub(crate) fn outcome_of(
-    alloc: Global,
-    faults: &mut Faults,
-    read: &Result<Message, Error>,
-    signs: Signs,
-) -> Came
-    ensures comes { ComesTo signs read.now result }
-    ensures counted { faults.new ≡ after_copy result faults.old }
+/// What a read comes to. A message of too many frames is too long, whatever was read.
+pub(crate) fn outcome_of(read: Result<Came, Error>, signs: Signs) -> Came
+    ensures { IsOutcome signs read result }
 {
     if signs.is_over {
         Came::Breaks(CloseCode::Size)
     } else {
-        given_of(alloc, faults, read, signs)
+        given_of(read, signs)
     }
 }

@@ -12,10 +12,7 @@ use crate::held::{Held, socket_of};
 use crate::waits::CountsWaits;
 use std::alloc::{AllocError, Global};
 use std::io::{Read, Write};
-use tungstenite::WebSocketConfig;
-
-/// How many bytes one read asks for. Each connection keeps so many, so they decide the memory of an idle one.
-const READ_SIZE: usize = 16_384;
+use websocket::protocol::WebSocketConfig;
 
 /// The longest message. A text may have 2,097,152 bytes; a longer one is answered, not cut off, up to this.
 const MOST_BYTES: usize = 4_194_304;
@@ -78,7 +75,6 @@ fn config() -> WebSocketConfig
     ensures masked { result.accept_unmasked_frames ≡ false }
 {
     WebSocketConfig::default()
-        .read_buffer_size(READ_SIZE)
         .max_message_size(Some(MOST_BYTES))
         .max_frame_size(Some(MOST_BYTES))
 }
@@ -97,7 +93,7 @@ fn opened<S: Read + Write + Drop>(
         len: _,
     } = upgrade;
     let socket = socket_of(alloc, stream, answer, rest, config());
-    Shaken::Open(SocketConn::new(alloc, socket), asked)
+    Shaken::Open(SocketConn::new(socket), asked)
 }
 
 impl<S: Read + Write + Drop> Shaking<S> {

@@ -8,11 +8,9 @@ ghost use Rattle.websocket.specs.CloseCode.{close_code_of};
 ghost use Rattle.websocket.specs.Connection.{close_step};
 
 use super::SocketConn;
-use bytes::ByteStr;
 use session_links::ConnFault;
 use std::io::{Read, Write};
-use tungstenite::{CloseFrame, Message};
-use websocket::protocol::CloseCode;
+use websocket::protocol::{CloseCode, CloseFrame, Message};
 
 impl<S: Read + Write + Drop> SocketConn<S> {
     /// Tells a client that broke the protocol so, by a close with the code (RFC 6455, section 7.4.1): 1002 for broken
@@ -33,10 +31,7 @@ impl<S: Read + Write + Drop> SocketConn<S> {
         ensures same { self.new ≡ record self.old { socket = self.new.socket } }
         ensures wrote { OnOk result (Writes S.contents self.old.socket self.new.socket (close_step self.old.socket.conn (Some (code, [])))) }
     {
-        let frame = Some(CloseFrame {
-            code,
-            reason: ByteStr::new(),
-        });
+        let frame = Some(CloseFrame { code, reason: "" });
         match self.socket.close(frame) {
             Ok(()) => Ok(()),
             Err(error) => {
@@ -47,11 +42,11 @@ impl<S: Read + Write + Drop> SocketConn<S> {
     }
 
     /// Says the last frame. What the stream does not take waits.
-    fn say_close(&mut self, code: u16, reason: ByteStr) -> Result<(), ConnFault>
+    fn say_close(&mut self, code: u16, reason: &str) -> Result<(), ConnFault>
         requires says { says_close self.old (close_code_of code) ≡ true }
-        requires short { length reason ≤ 123 }
+        requires short { length reason.now ≤ 123 }
         ensures same { self.new ≡ record self.old { socket = self.new.socket; faults = after result self.old.faults } }
-        ensures ok { OnOk result (SendsClose S.contents self.old.socket self.new.socket (close_code_of code) reason) }
+        ensures ok { OnOk result (SendsClose S.contents self.old.socket self.new.socket (close_code_of code) reason.now) }
         ensures err { OnErr result (self.new.socket ≡ self.old.socket) }
     {
         match self.put_close(code, reason) {
@@ -74,11 +69,11 @@ impl<S: Read + Write + Drop> SocketConn<S> {
         }
     }
 
-    fn put_close(&mut self, code: u16, reason: ByteStr) -> Result<(), ConnFault>
+    fn put_close(&mut self, code: u16, reason: &str) -> Result<(), ConnFault>
         requires says { says_close self.old (close_code_of code) ≡ true }
-        requires short { length reason ≤ 123 }
+        requires short { length reason.now ≤ 123 }
         ensures same { self.new ≡ record self.old { socket = self.new.socket; faults = after result self.old.faults } }
-        ensures ok { OnOk result (SendsClose S.contents self.old.socket self.new.socket (close_code_of code) reason) }
+        ensures ok { OnOk result (SendsClose S.contents self.old.socket self.new.socket (close_code_of code) reason.now) }
         ensures err { OnErr result (self.new.socket ≡ self.old.socket) }
     {
         let code = CloseCode::from(code);
@@ -92,23 +87,14 @@ impl<S: Read + Write + Drop> SocketConn<S> {
         }
     }
 
-    /// Says why it is closed. It is lost where there is no memory for that; where there is none for the reason, the code is
-    /// said alone.
+    /// Says why it is closed. It is lost where there is no memory for that.
     pub(super) fn close_with(&mut self, code: u16, reason: &str)
         requires says { says_close self.old (close_code_of code) ≡ true }
         requires short { length reason.now ≤ 123 }
         ensures { Closes S.contents self.old self.new (close_code_of code) reason.now }
     {
-        match self.faults.copy(self.alloc, reason) {
-            Ok(reason) => {
-                if self.say_close(code, reason).is_err() {
-                    self.is_lost = true;
-                }
-            }
-            Err(_) => {
-                let _ = self.say_close(code, ByteStr::new());
-                self.is_lost = true;
-            }
+        if self.say_close(code, reason).is_err() {
+            self.is_lost = true;
         }
     }
 

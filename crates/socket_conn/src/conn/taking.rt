@@ -13,7 +13,6 @@ impl<S: Read + Write + Drop> SocketConn<Held<S>> {
         ensures { result ≡ self.socket.stream.inner }
     {
         let SocketConn {
-            alloc: _,
             socket,
             is_open: _,
             is_lost: _,

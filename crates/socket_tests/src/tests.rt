@@ -1,0 +1,5 @@
+// Connections over streams in memory.
+mod play;
+mod scripted;
+mod sending;
+mod turns;
