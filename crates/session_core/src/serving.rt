@@ -11,6 +11,7 @@ use crate::ending::{close_conn, say_last};
 use crate::session::Session;
 use crate::stop::Stop;
 use delivery_machine::Moment;
+use json::Scratch;
 use position_core::Bounded;
 use session_links::{Caller, Conn};
 
@@ -21,6 +22,7 @@ impl Session {
     /// A turn but for its end.
     fn serve_open<C: Conn, K: Caller>(
         &mut self,
+        scratch: &mut Scratch,
         conn: &mut C,
         caller: &mut K,
         now: Moment,
@@ -29,7 +31,7 @@ impl Session {
         requires { C.is_open conn.old ≡ true }
         ensures { (asking : C) × ServesOpen self.old now most (C.exchange conn.old) (K.calls caller.old) (result_err result) self.new (C.exchange conn.new) (K.calls caller.new) (C.is_open conn.new) (C.has_room conn.new) (C.exchange asking) (C.has_room asking) }
     {
-        match self.take_texts(conn, caller, now, most) {
+        match self.take_texts(scratch, conn, caller, now, most) {
             Ok(()) => {}
             Err(stop) => return Err(stop),
         }
@@ -80,8 +82,11 @@ pub fn leave<K: Caller>(session: Session, caller: &mut K)
 /// Where all that the connection and the caller told so far is the life of the session at its endpoint, it is so afterwards,
 /// up to its end: with `open`, this says of a session's whole life what was received and sent, what was asked, and how it
 /// ended (`specs/Lives.antt`).
+///
+/// The scratch is what texts are read in: whoever serves sessions keeps one and lends it to each turn.
 pub fn serve<C: Conn, K: Caller>(
     session: Session,
+    scratch: &mut Scratch,
     conn: &mut C,
     caller: &mut K,
     now: Moment,
@@ -93,7 +98,7 @@ pub fn serve<C: Conn, K: Caller>(
     ensures lives { KeepsLife session (C.exchange conn.old) (K.calls caller.old) result (C.exchange conn.new) (K.calls caller.new) }
 {
     let mut session = session;
-    match session.serve_open(conn, caller, now, most.get()) {
+    match session.serve_open(scratch, conn, caller, now, most.get()) {
         Ok(()) => {
             session.rest(now, conn.has_room());
             Some(session)
@@ -111,6 +116,7 @@ pub fn serve<C: Conn, K: Caller>(
 /// Serves a session for one turn that takes one text.
 pub fn turn<C: Conn, K: Caller>(
     session: Session,
+    scratch: &mut Scratch,
     conn: &mut C,
     caller: &mut K,
     now: Moment,
@@ -121,7 +127,7 @@ pub fn turn<C: Conn, K: Caller>(
     ensures lives { KeepsLife session (C.exchange conn.old) (K.calls caller.old) result (C.exchange conn.new) (K.calls caller.new) }
 {
     match TextCount::new(1) {
-        Some(one) => serve(session, conn, caller, now, one),
+        Some(one) => serve(session, scratch, conn, caller, now, one),
         None => unreachable!(),
     }
 }

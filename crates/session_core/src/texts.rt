@@ -7,6 +7,7 @@ ghost use Rattle.session_core.specs.Steps.{TakesNext, TakesReply, TakesSeen, Tak
 use crate::session::Session;
 use crate::stop::Stop;
 use delivery_machine::{Event, Moment};
+use json::Scratch;
 use session_links::{Caller, Conn, Incoming, Request, ask_for};
 use session_texts::{
     Asking, Context, Outcome, answer_of_seen, number_after, outcome_of, read_text,
@@ -67,11 +68,17 @@ impl Session {
         self.waiting.push_back_reserved(answer_of_seen(seen));
     }
 
-    fn take_text<K: Caller>(&mut self, caller: &mut K, now: Moment, text: &[u8]) -> Result<(), Stop>
+    fn take_text<K: Caller>(
+        &mut self,
+        scratch: &mut Scratch,
+        caller: &mut K,
+        now: Moment,
+        text: &[u8],
+    ) -> Result<(), Stop>
         requires { deque_len self.old.waiting < deque_capacity self.old.waiting }
         ensures { TakesText self.old now text.now (K.calls caller.old) (result_err result) self.new (K.calls caller.new) }
     {
-        let Ok(asking) = read_text(self.alloc, &self.party, now, self.next, text) else {
+        let Ok(asking) = read_text(self.alloc, scratch, &self.party, now, self.next, text) else {
             return Err(Stop::wants_memory());
         };
         match asking {
@@ -91,6 +98,7 @@ impl Session {
     /// Takes a text that came.
     fn take_came<K: Caller>(
         &mut self,
+        scratch: &mut Scratch,
         caller: &mut K,
         now: Moment,
         text: &[u8],
@@ -99,7 +107,7 @@ impl Session {
         ensures ok { IfOk result (λ what. (what ≡ Received.Text) × TakesText self.old now text.now (K.calls caller.old) None self.new (K.calls caller.new)) }
         ensures err { IfErr result (λ stop. TakesText self.old now text.now (K.calls caller.old) (Some stop) self.new (K.calls caller.new)) }
     {
-        match self.take_text(caller, now, text) {
+        match self.take_text(scratch, caller, now, text) {
             Ok(()) => Ok(Received::Text),
             Err(stop) => Err(stop),
         }
@@ -108,6 +116,7 @@ impl Session {
     /// Receives once, and takes what came.
     fn take_next<C: Conn, K: Caller>(
         &mut self,
+        scratch: &mut Scratch,
         conn: &mut C,
         caller: &mut K,
         now: Moment,
@@ -123,7 +132,7 @@ impl Session {
         }
         match conn.receive() {
             Ok(Incoming::Nothing) => Ok(Received::Nothing),
-            Ok(Incoming::Text(text)) => self.take_came(caller, now, text.as_slice()),
+            Ok(Incoming::Text(text)) => self.take_came(scratch, caller, now, text.as_slice()),
             Ok(Incoming::Gone) => Err(Stop::Gone),
             Err(_) => Err(Stop::Gone),
         }
@@ -132,6 +141,7 @@ impl Session {
     /// Takes up to so many texts.
     pub(crate) fn take_texts<C: Conn, K: Caller>(
         &mut self,
+        scratch: &mut Scratch,
         conn: &mut C,
         caller: &mut K,
         now: Moment,
@@ -141,7 +151,7 @@ impl Session {
         ensures { TakesTexts self.old now most (C.exchange conn.old) (K.calls caller.old) (result_err result) self.new (C.exchange conn.new) (K.calls caller.new) (C.is_open conn.new) }
     {
         for _ in 0..most {
-            match self.take_next(conn, caller, now) {
+            match self.take_next(scratch, conn, caller, now) {
                 Ok(Received::Text) => {}
                 Ok(Received::Nothing) => return Ok(()),
                 Err(stop) => return Err(stop),

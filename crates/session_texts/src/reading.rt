@@ -13,6 +13,7 @@ use crate::close::Close;
 use crate::context::Context;
 use crate::party::Party;
 use delivery_machine::{Body, ConsumerNumber, Event, Fault, Moment, ProducerNumber};
+use json::Scratch;
 use position_core::Content;
 use session_links::Request;
 use std::alloc::{AllocError, Global};
@@ -68,6 +69,7 @@ fn publish(
 
 fn read_producers(
     alloc: Global,
+    scratch: &mut Scratch,
     producer: ProducerNumber,
     now: Moment,
     next: Option<i64>,
@@ -75,7 +77,7 @@ fn read_producers(
 ) -> Result<Asking, AllocError>
     ensures { IfOk result (λ asking. asking ≡ asks_publish producer now next (publish_of text.now).context (publish_of text.now).content) }
 {
-    let said = read_publish(alloc, text)?;
+    let said = read_publish(alloc, scratch, text)?;
     let context = Context::new(said.context);
     match said.content {
         Ok(content) => publish(alloc, producer, now, next, context, content),
@@ -103,14 +105,14 @@ fn event_of_command(consumer: ConsumerNumber, now: Moment, command: Command) -> 
 }
 
 fn read_consumers(
-    alloc: Global,
+    scratch: &mut Scratch,
     consumer: ConsumerNumber,
     now: Moment,
     text: &[u8],
 ) -> Result<Asking, AllocError>
     ensures { IfOk result (λ asking. asking ≡ asks_command consumer now (command_of text.now)) }
 {
-    let command = match read_command(alloc, text)? {
+    let command = match read_command(scratch, text)? {
         Ok(command) => command,
         Err(fault) => return Ok(Asking::Closes(Close::unreadable(fault))),
     };
@@ -186,9 +188,11 @@ fn read_administrators(alloc: Global, text: &[u8]) -> Result<Asking, AllocError>
     }
 }
 
-/// What the text asks for, of the party, at the moment; `next` is the number of the next publish.
+/// What the text asks for, of the party, at the moment; `next` is the number of the next publish. Texts with escapes are
+/// written to the scratch, which is kept from one text to the next.
 pub fn read_text(
     alloc: Global,
+    scratch: &mut Scratch,
     party: &Party,
     now: Moment,
     next: Option<i64>,
@@ -197,11 +201,13 @@ pub fn read_text(
     ensures { IfOk result (λ asking. asking ≡ asks party.now now next text.now) }
 {
     match party {
-        Party::Producer { number, first: _ } => read_producers(alloc, *number, now, next, text),
+        Party::Producer { number, first: _ } => {
+            read_producers(alloc, scratch, *number, now, next, text)
+        }
         Party::Consumer {
             number,
             subscription: _,
-        } => read_consumers(alloc, *number, now, text),
+        } => read_consumers(scratch, *number, now, text),
         Party::Admin => read_administrators(alloc, text),
     }
 }

@@ -1,9 +1,11 @@
 pub mod Admins
 pub mod Answers
+pub mod CommandFields
 pub mod Commands
 pub mod Deliveries
 pub mod Ids
 pub mod Laws
 pub mod Peeks
+pub mod PublishFields
 pub mod Publishes
 pub mod Statistics

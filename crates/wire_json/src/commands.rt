@@ -1,15 +1,18 @@
 // What a consumer's text stands for.
-ghost use Rattle.std.specs.Prelude.{◌≡◌, IfOk, Some};
-ghost use Rattle.serde_json.specs.View.{view};
+ghost use Rattle.std.specs.Prelude.{◌≡◌, IfOk, option_and_then, option_map};
+ghost use Rattle.serde_json.specs.Find.{as_number, as_u64};
 ghost use Rattle.json_values.specs.Fields.{ok_as};
 ghost use Rattle.json_values.specs.Objects.{between};
-ghost use Rattle.wire_json.specs.Commands.{command_in, command_named, command_of, id_from, message_in, permits_in};
+ghost use Rattle.wire_json.specs.CommandFields.{command_seen, message_from, named, permits_from, seen_in};
+ghost use Rattle.wire_json.specs.Commands.{command_of};
+ghost use Rattle.json_glances.specs.Glances.{seen_as};
 ghost use Rattle.wire_json.specs.Ids.{id_of};
 
-use json_values::{object_of, text_at, whole_at};
+use crate::command_fields::{CommandFields, command_fields};
+use json::Scratch;
+use json_glances::Glance;
 use position_core::{Fault, Permits, Position};
-use serde_json::Value;
-use std::alloc::{AllocError, Global};
+use std::alloc::AllocError;
 use value_texts::read_id;
 
 /// What a consumer asks for.
@@ -38,12 +41,12 @@ pub(crate) fn id_of(text: &str) -> Option<Position>
 }
 
 /// The position that a field says.
-fn message_in(object: &Value) -> Result<Position, Fault>
-    ensures { result ≡ message_in (view object.now) }
+fn message_in(fields: &CommandFields<'_>) -> Result<Position, Fault>
+    ensures { result ≡ message_from (seen_in fields.now) }
 {
-    match text_at("messageId", object) {
-        Some(text) => id_of(text).ok_or(Fault::BadId),
-        None => Err(Fault::BadJson),
+    match fields.message_id {
+        Some(Glance::Text(text)) => id_of(text).ok_or(Fault::BadId),
+        _ => Err(Fault::BadJson),
     }
 }
 
@@ -56,64 +59,73 @@ fn permits_from(number: u64) -> Option<Permits>
     Permits::new(number as u32)
 }
 
-/// For how many messages a permit is.
-fn permits_in(object: &Value) -> Result<Permits, Fault>
-    ensures { result ≡ permits_in (view object.now) }
+fn whole_of(seen: Option<Glance<'_>>) -> Option<u64>
+    ensures { result ≡ option_and_then as_u64 (option_and_then as_number (option_map seen_as seen.entry)) }
 {
-    match whole_at("permitMessages", object) {
+    match seen {
+        Some(Glance::Number(number)) => number.as_u64(),
+        _ => None,
+    }
+}
+
+/// For how many messages a permit is.
+fn permits_in(fields: &CommandFields<'_>) -> Result<Permits, Fault>
+    ensures { result ≡ permits_from (seen_in fields.now) }
+{
+    match whole_of(fields.permit_messages) {
         Some(number) => permits_from(number).ok_or(Fault::BadJson),
         None => Err(Fault::BadJson),
     }
 }
 
-fn permit_in(object: &Value) -> Result<Command, Fault>
-    ensures { result ≡ ok_as Command.Permit (permits_in (view object.now)) }
+fn permit_in(fields: &CommandFields<'_>) -> Result<Command, Fault>
+    ensures { result ≡ ok_as Command.Permit (permits_from (seen_in fields.now)) }
 {
-    match permits_in(object) {
+    match permits_in(fields) {
         Ok(permits) => Ok(Command::Permit(permits)),
         Err(fault) => Err(fault),
     }
 }
 
-fn acknowledge_in(object: &Value) -> Result<Command, Fault>
-    ensures { result ≡ ok_as Command.Acknowledge (message_in (view object.now)) }
+fn acknowledge_in(fields: &CommandFields<'_>) -> Result<Command, Fault>
+    ensures { result ≡ ok_as Command.Acknowledge (message_from (seen_in fields.now)) }
 {
-    match message_in(object) {
+    match message_in(fields) {
         Ok(position) => Ok(Command::Acknowledge(position)),
         Err(fault) => Err(fault),
     }
 }
 
-fn acknowledge_up_to_in(object: &Value) -> Result<Command, Fault>
-    ensures { result ≡ ok_as Command.AcknowledgeUpTo (message_in (view object.now)) }
+fn acknowledge_up_to_in(fields: &CommandFields<'_>) -> Result<Command, Fault>
+    ensures { result ≡ ok_as Command.AcknowledgeUpTo (message_from (seen_in fields.now)) }
 {
-    match message_in(object) {
+    match message_in(fields) {
         Ok(position) => Ok(Command::AcknowledgeUpTo(position)),
         Err(fault) => Err(fault),
     }
 }
 
-fn negative_acknowledge_in(object: &Value) -> Result<Command, Fault>
-    ensures { result ≡ ok_as Command.NegativeAcknowledge (message_in (view object.now)) }
+fn negative_acknowledge_in(fields: &CommandFields<'_>) -> Result<Command, Fault>
+    ensures { result ≡ ok_as Command.NegativeAcknowledge (message_from (seen_in fields.now)) }
 {
-    match message_in(object) {
+    match message_in(fields) {
         Ok(position) => Ok(Command::NegativeAcknowledge(position)),
         Err(fault) => Err(fault),
     }
 }
 
 /// The command of the type.
-fn command_named(name: &str, object: &Value) -> Result<Command, Fault>
-    ensures { result ≡ command_named name.now (view object.now) }
+fn command_named(name: &str, fields: &CommandFields<'_>) -> Result<Command, Fault>
+    ensures { result ≡ named name.now (seen_in fields.now) }
 {
     if name == "acknowledgeCumulative" {
-        return acknowledge_up_to_in(object);
+        return acknowledge_up_to_in(fields);
     }
     if name == "negativeAcknowledge" {
-        return negative_acknowledge_in(object);
+        return negative_acknowledge_in(fields);
     }
     if name == "permit" {
-        return permit_in(object);
+        return permit_in(fields);
     }
     if name == "isEndOfTopic" {
         Ok(Command::IsEndOfTopic)
@@ -123,27 +135,25 @@ fn command_named(name: &str, object: &Value) -> Result<Command, Fault>
 }
 
 /// The command of an object. A type that is null is none.
-fn command_in(object: &Value) -> Result<Command, Fault>
-    ensures { result ≡ command_in (Some (view object.now)) }
+fn command_in(fields: &CommandFields<'_>) -> Result<Command, Fault>
+    ensures { result ≡ command_seen (seen_in fields.now) }
 {
-    let Some(value) = object.get("type") else {
-        return acknowledge_in(object);
-    };
-    if value.is_null() {
-        return acknowledge_in(object);
-    }
-    match value.as_str() {
-        Some(name) => command_named(name, object),
-        None => Err(Fault::BadJson),
+    match fields.kind {
+        None | Some(Glance::Null) => acknowledge_in(fields),
+        Some(Glance::Text(name)) => command_named(name, fields),
+        Some(_) => Err(Fault::BadJson),
     }
 }
 
-/// Reads what a consumer sent.
-pub fn read_command(alloc: Global, text: &[u8]) -> Result<Result<Command, Fault>, AllocError>
+/// Reads what a consumer sent. Texts with escapes are written to the scratch, which is kept from one reading to the next.
+pub fn read_command(
+    scratch: &mut Scratch,
+    text: &[u8],
+) -> Result<Result<Command, Fault>, AllocError>
     ensures { IfOk result (λ said. said ≡ command_of text.now) }
 {
-    match object_of(alloc, text)? {
-        Some(object) => Ok(command_in(&object)),
+    match command_fields(scratch, text)? {
+        Some(fields) => Ok(command_in(&fields)),
         None => Ok(Err(Fault::BadJson)),
     }
 }

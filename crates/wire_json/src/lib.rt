@@ -4,10 +4,12 @@
 mod admin_values;
 mod admins;
 mod answers;
+mod command_fields;
 mod commands;
 mod deliveries;
 mod laws;
 mod peeks;
+mod publish_fields;
 mod publishes;
 mod statistics;
 

@@ -1,10 +1,17 @@
 // What a producer's text stands for.
-ghost use Rattle.std.specs.Prelude.{◌≡◌, Some, None, Ok, Err, IfOk, option_map, string_bytes};
+ghost use Rattle.std.specs.Prelude.{◌≡◌, Some, None, Ok, Err, IfOk, option_and_then, option_map, string_bytes};
+ghost use Rattle.serde_json.specs.Data.{string};
+ghost use Rattle.serde_json.specs.Find.{as_str};
 ghost use Rattle.serde_json.specs.View.{view};
-ghost use Rattle.json_values.specs.Fields.{ok_as};
-ghost use Rattle.wire_json.specs.Publishes.{content_from, content_in, context_in, key_in, payload_from, payload_in, properties_in, publish_of, reading_of};
+ghost use Rattle.json_values.specs.Fields.{ok_as, word_of};
+ghost use Rattle.json_glances.specs.Glances.{seen_as};
+ghost use Rattle.wire_json.specs.PublishFields.{content_seen, context_from, key_from, properties_from, reading_seen, seen_in};
+ghost use Rattle.wire_json.specs.Publishes.{content_from, payload_from, publish_of};
 
-use json_values::{bytes_of, object_of, pairs_in, text_at, word};
+use crate::publish_fields::{PublishFields, publish_fields};
+use json::Scratch;
+use json_glances::Glance;
+use json_values::{bytes_of, pairs_in, word};
 use position_core::{Content, Fault, Key, Payload, Properties};
 use serde_json::Value;
 use std::alloc::{AllocError, Global};
@@ -21,18 +28,28 @@ pub struct PublishReading {
     pub content: Result<Content, Fault>,
 }
 
-fn context_of(alloc: Global, object: &Value) -> Result<Result<Option<String>, Fault>, AllocError>
-    ensures { IfOk result (λ said. ok_as (option_map string_bytes) said ≡ context_in (view object.now)) }
+fn word_of(alloc: Global, seen: Glance<'_>) -> Result<Option<String>, AllocError>
+    ensures { IfOk result (λ found. option_map string_bytes found ≡ word_of (seen_as seen.entry)) }
 {
-    let Some(value) = object.get("context") else {
-        return Ok(Ok(None));
-    };
-    if value.is_null() {
-        return Ok(Ok(None));
+    match seen {
+        Glance::Text(text) => Ok(Some(String::from_str(alloc, text)?)),
+        Glance::Number(number) => word(alloc, &Value::Number(number)),
+        Glance::Null | Glance::Truth(_) | Glance::Other => Ok(None),
     }
-    match word(alloc, value)? {
-        Some(context) => Ok(Ok(Some(context))),
-        None => Ok(Err(Fault::BadJson)),
+}
+
+fn context_of(
+    alloc: Global,
+    context: Option<Glance<'_>>,
+) -> Result<Result<Option<String>, Fault>, AllocError>
+    ensures { IfOk result (λ said. ok_as (option_map string_bytes) said ≡ context_from (option_map seen_as context.entry)) }
+{
+    match context {
+        None | Some(Glance::Null) => Ok(Ok(None)),
+        Some(seen) => match word_of(alloc, seen)? {
+            Some(context) => Ok(Ok(Some(context))),
+            None => Ok(Err(Fault::BadJson)),
+        },
     }
 }
 
@@ -45,27 +62,21 @@ fn payload_from(alloc: Global, text: &str) -> Result<Result<Payload, Fault>, All
     }
 }
 
-fn payload_of(alloc: Global, object: &Value) -> Result<Result<Payload, Fault>, AllocError>
-    ensures { IfOk result (λ said. said ≡ payload_in (view object.now)) }
+fn payload_of(
+    alloc: Global,
+    payload: Option<Glance<'_>>,
+) -> Result<Result<Payload, Fault>, AllocError>
+    ensures { IfOk result (λ said. said ≡ payload_from (option_and_then as_str (option_map seen_as payload.entry))) }
 {
-    match text_at("payload", object) {
-        Some(text) => payload_from(alloc, text),
-        None => Ok(Err(Fault::BadJson)),
+    match payload {
+        Some(Glance::Text(text)) => payload_from(alloc, text),
+        _ => Ok(Err(Fault::BadJson)),
     }
 }
 
-fn key_of(alloc: Global, object: &Value) -> Result<Result<Option<Key>, Fault>, AllocError>
-    ensures { IfOk result (λ said. said ≡ key_in (view object.now)) }
+fn key_from(alloc: Global, text: &str) -> Result<Result<Option<Key>, Fault>, AllocError>
+    ensures { IfOk result (λ said. said ≡ key_from (Some (string text.now))) }
 {
-    let Some(value) = object.get("key") else {
-        return Ok(Ok(None));
-    };
-    if value.is_null() {
-        return Ok(Ok(None));
-    }
-    let Some(text) = value.as_str() else {
-        return Ok(Err(Fault::BadJson));
-    };
     if text.len() > MOST_KEY_BYTES {
         return Ok(Err(Fault::BadJson));
     }
@@ -75,10 +86,23 @@ fn key_of(alloc: Global, object: &Value) -> Result<Result<Option<Key>, Fault>, A
     }
 }
 
-fn properties_of(alloc: Global, object: &Value) -> Result<Result<Properties, Fault>, AllocError>
-    ensures { IfOk result (λ said. said ≡ properties_in (view object.now)) }
+fn key_of(alloc: Global, key: Option<Glance<'_>>) -> Result<Result<Option<Key>, Fault>, AllocError>
+    ensures { IfOk result (λ said. said ≡ key_from (option_map seen_as key.entry)) }
 {
-    let Some(value) = object.get("properties") else {
+    match key {
+        None | Some(Glance::Null) => Ok(Ok(None)),
+        Some(Glance::Text(text)) => key_from(alloc, text),
+        Some(_) => Ok(Err(Fault::BadJson)),
+    }
+}
+
+fn properties_of(
+    alloc: Global,
+    properties: Option<&Value>,
+) -> Result<Result<Properties, Fault>, AllocError>
+    ensures { IfOk result (λ said. said ≡ properties_from (option_map (λ value. view value.now) properties.entry)) }
+{
+    let Some(value) = properties else {
         return Ok(Ok(Properties::none(alloc)));
     };
     if value.is_null() {
@@ -95,13 +119,13 @@ fn properties_of(alloc: Global, object: &Value) -> Result<Result<Properties, Fau
 
 fn content_with_key(
     alloc: Global,
-    object: &Value,
+    fields: &PublishFields<'_>,
     payload: Payload,
     key: Option<Key>,
 ) -> Result<Result<Content, Fault>, AllocError>
-    ensures { IfOk result (λ said. said ≡ content_from (Ok payload) (Ok key) (properties_in (view object.now))) }
+    ensures { IfOk result (λ said. said ≡ content_from (Ok payload) (Ok key) (properties_from (seen_in fields.now).properties)) }
 {
-    match properties_of(alloc, object)? {
+    match properties_of(alloc, fields.properties.as_ref())? {
         Ok(properties) => Ok(Ok(Content {
             key,
             properties,
@@ -113,22 +137,25 @@ fn content_with_key(
 
 fn content_with_payload(
     alloc: Global,
-    object: &Value,
+    fields: &PublishFields<'_>,
     payload: Payload,
 ) -> Result<Result<Content, Fault>, AllocError>
-    ensures { IfOk result (λ said. said ≡ content_from (Ok payload) (key_in (view object.now)) (properties_in (view object.now))) }
+    ensures { IfOk result (λ said. said ≡ content_from (Ok payload) (key_from (seen_in fields.now).key) (properties_from (seen_in fields.now).properties)) }
 {
-    match key_of(alloc, object)? {
-        Ok(key) => content_with_key(alloc, object, payload, key),
+    match key_of(alloc, fields.key)? {
+        Ok(key) => content_with_key(alloc, fields, payload, key),
         Err(fault) => Ok(Err(fault)),
     }
 }
 
-fn content_of(alloc: Global, object: &Value) -> Result<Result<Content, Fault>, AllocError>
-    ensures { IfOk result (λ said. said ≡ content_in (view object.now)) }
+fn content_of(
+    alloc: Global,
+    fields: &PublishFields<'_>,
+) -> Result<Result<Content, Fault>, AllocError>
+    ensures { IfOk result (λ said. said ≡ content_seen (seen_in fields.now)) }
 {
-    match payload_of(alloc, object)? {
-        Ok(payload) => content_with_payload(alloc, object, payload),
+    match payload_of(alloc, fields.payload)? {
+        Ok(payload) => content_with_payload(alloc, fields, payload),
         Err(fault) => Ok(Err(fault)),
     }
 }
@@ -144,24 +171,28 @@ fn refused() -> PublishReading
     }
 }
 
-fn reading_in(alloc: Global, object: &Value) -> Result<PublishReading, AllocError>
-    ensures { IfOk result (λ said. reading_of (Some (view object.now)) ≡ record { context = option_map string_bytes said.context; content = said.content }) }
+fn reading_in(alloc: Global, fields: &PublishFields<'_>) -> Result<PublishReading, AllocError>
+    ensures { IfOk result (λ said. reading_seen (seen_in fields.now) ≡ record { context = option_map string_bytes said.context; content = said.content }) }
 {
-    match context_of(alloc, object)? {
+    match context_of(alloc, fields.context)? {
         Ok(context) => Ok(PublishReading {
             context,
-            content: content_of(alloc, object)?,
+            content: content_of(alloc, fields)?,
         }),
         Err(_) => Ok(refused()),
     }
 }
 
-/// Reads what a producer sent.
-pub fn read_publish(alloc: Global, text: &[u8]) -> Result<PublishReading, AllocError>
+/// Reads what a producer sent. Texts with escapes are written to the scratch, which is kept from one reading to the next.
+pub fn read_publish(
+    alloc: Global,
+    scratch: &mut Scratch,
+    text: &[u8],
+) -> Result<PublishReading, AllocError>
     ensures { IfOk result (λ said. publish_of text.now ≡ record { context = option_map string_bytes said.context; content = said.content }) }
 {
-    match object_of(alloc, text)? {
-        Some(object) => reading_in(alloc, &object),
+    match publish_fields(alloc, scratch, text)? {
+        Some(fields) => reading_in(alloc, &fields),
         None => Ok(refused()),
     }
 }

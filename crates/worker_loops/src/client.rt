@@ -4,6 +4,7 @@ use crate::house::{After, Asking, Comer, House, Time, Turned};
 use crate::post::Doorbell;
 use crate::rounds::SHAKING;
 use crate::silence::{Hearing, Silence};
+use json::Scratch;
 use mio::net::TcpStream;
 use socket_conn::{Answered, Answering, Asked, Held, Shaken, Shaking, SocketConn};
 use std::alloc::Global;
@@ -77,10 +78,10 @@ impl<G: Drop> Client<G> {
         }
     }
 
-    /// Something has come from it.
-    pub(crate) fn note_readable<H: House<Guest = G>>(&mut self, house: &H) {
+    /// Something has come from it, and whether its end has.
+    pub(crate) fn note_readable<H: House<Guest = G>>(&mut self, house: &H, ends: bool) {
         match &mut self.stage {
-            Stage::Open(guest) => house.note_readable(guest),
+            Stage::Open(guest) => house.note_readable(guest, ends),
             Stage::Shaking(_) => {}
             Stage::Answering(_) => {}
             Stage::Gone => {}
@@ -135,15 +136,18 @@ impl<G: Drop> Client<G> {
         &mut self,
         rt: &R,
         alloc: Global,
+        scratch: &mut Scratch,
         house: &H,
         now: Time,
         connections: u64,
     ) -> Turned {
         self.bell.hear();
         match mem::replace(&mut self.stage, Stage::Gone) {
-            Stage::Shaking(shaking) => self.shake(rt, alloc, house, shaking, now, connections),
+            Stage::Shaking(shaking) => {
+                self.shake(rt, alloc, scratch, house, shaking, now, connections)
+            }
             Stage::Answering(answering) => self.answer_on(answering),
-            Stage::Open(guest) => self.turn(rt, house, guest, now, connections),
+            Stage::Open(guest) => self.turn(rt, scratch, house, guest, now, connections),
             Stage::Gone => Turned::gone(),
         }
     }
@@ -153,6 +157,7 @@ impl<G: Drop> Client<G> {
         &mut self,
         rt: &R,
         alloc: Global,
+        scratch: &mut Scratch,
         house: &H,
         shaking: Shaking<TcpStream>,
         now: Time,
@@ -168,7 +173,7 @@ impl<G: Drop> Client<G> {
                     drop(asked);
                     self.answer_on(Answering::start(conn.into_stream(), response))
                 }
-                None => self.enter(rt, alloc, house, conn, asked, now, connections),
+                None => self.enter(rt, alloc, scratch, house, conn, asked, now, connections),
             },
             Shaken::Plain(stream, request) => {
                 let asking = Asking {
@@ -187,6 +192,7 @@ impl<G: Drop> Client<G> {
         &mut self,
         rt: &R,
         alloc: Global,
+        scratch: &mut Scratch,
         house: &H,
         conn: SocketConn<Held<TcpStream>>,
         asked: Asked,
@@ -200,7 +206,7 @@ impl<G: Drop> Client<G> {
         let guest = house.enter(rt, alloc, conn, &asked, comer, &self.bell);
         drop(asked);
         match guest {
-            Some(guest) => self.turn(rt, house, guest, now, connections),
+            Some(guest) => self.turn(rt, scratch, house, guest, now, connections),
             None => Turned::gone(),
         }
     }
@@ -249,12 +255,13 @@ impl<G: Drop> Client<G> {
     fn turn<H: House<Guest = G>, R: Wait + Eprint>(
         &mut self,
         rt: &R,
+        scratch: &mut Scratch,
         house: &H,
         guest: G,
         now: Time,
         connections: u64,
     ) -> Turned {
-        let (turned, guest) = house.turn(rt, guest, now, connections);
+        let (turned, guest) = house.turn(rt, scratch, guest, now, connections);
         if let Some(guest) = guest {
             self.come_to(Stage::Open(guest));
         }

@@ -6,6 +6,7 @@ use crate::putter::Newcomer;
 use crate::rounds::{Now, STEPS};
 use crate::timers::Timers;
 use delivery_machine::Moment;
+use json::Scratch;
 use mio::{Interest, Poll, Token};
 use slab::Slab;
 use socket_conn::Shaking;
@@ -24,6 +25,8 @@ pub(crate) struct Crowd<G: Drop> {
     timers: Timers,
     /// How many texts were taken since this was asked last.
     made: u64,
+    /// What texts are read in, one after another.
+    scratch: Scratch,
 }
 
 /// The connection, once the poll tells of it under the token.
@@ -74,6 +77,7 @@ impl<G: Drop> Crowd<G> {
             due: Vec::new(alloc),
             timers: Timers::new(alloc),
             made: 0,
+            scratch: Scratch::new(alloc),
         }
     }
 
@@ -107,10 +111,16 @@ impl<G: Drop> Crowd<G> {
         }
     }
 
-    /// The socket is ready.
-    pub(crate) fn note<H: House<Guest = G>>(&mut self, house: &H, token: usize, is_readable: bool) {
+    /// The socket is ready, and whether its end has come.
+    pub(crate) fn note<H: House<Guest = G>>(
+        &mut self,
+        house: &H,
+        token: usize,
+        is_readable: bool,
+        ends: bool,
+    ) {
         if is_readable && let Some(client) = self.clients.get_mut(token) {
-            client.note_readable(house);
+            client.note_readable(house, ends);
         }
         self.make_due(token);
     }
@@ -186,7 +196,14 @@ impl<G: Drop> Crowd<G> {
         };
         client.is_due = false;
         let connections = post.all_connections() as u64;
-        let turned = client.serve(rt, self.alloc, house, now.time, connections);
+        let turned = client.serve(
+            rt,
+            self.alloc,
+            &mut self.scratch,
+            house,
+            now.time,
+            connections,
+        );
         if turned.heard {
             client.note_heard(now.millis);
         }
@@ -274,7 +291,7 @@ impl<G: Drop> Crowd<G> {
         for token in 0..self.clients.capacity() {
             if let Some(client) = self.clients.get_mut(token) {
                 let connections = post.all_connections() as u64;
-                let _ = client.serve(rt, self.alloc, house, *now, connections);
+                let _ = client.serve(rt, self.alloc, &mut self.scratch, house, *now, connections);
                 self.remove(post, token);
             }
         }

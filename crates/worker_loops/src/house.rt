@@ -4,6 +4,7 @@ ghost use Rattle.std.specs.Prelude.{◌≡◌, None, false};
 use crate::post::Doorbell;
 use crate::silence::Patience;
 use delivery_machine::Moment;
+use json::Scratch;
 use mio::net::TcpStream;
 use socket_conn::{Asked, Held, Request, SocketConn};
 use std::alloc::Global;
@@ -136,8 +137,9 @@ pub trait House {
     /// The response to a request that asks for no WebSocket, as it goes out: whole, with its head. None for want of memory.
     fn answer<R: Wait>(&self, rt: &R, alloc: Global, asking: Asking) -> Option<Vec<u8>>;
 
-    /// The guest's socket has something to read.
-    fn note_readable(&self, guest: &mut Self::Guest);
+    /// The guest's socket has something to read, and whether its end has come: if not, this is said anew of all that comes
+    /// from now on.
+    fn note_readable(&self, guest: &mut Self::Guest, ends: bool);
 
     /// Asks the guest's client for a sign of life. False where the connection is lost.
     fn ping(&self, guest: &mut Self::Guest) -> bool;
@@ -145,10 +147,12 @@ pub trait House {
     /// The guest's client was silent for so many milliseconds, and has gone, which its next turn tells it.
     fn hang_up<R: Eprint>(&self, rt: &R, guest: &mut Self::Guest, silent: u64);
 
-    /// One turn of a guest, of whom there are so many, who is given back where it has not ended.
+    /// One turn of a guest, of whom there are so many, who is given back where it has not ended. Its texts are read in the
+    /// worker's scratch.
     fn turn<R: Wait + Eprint>(
         &self,
         rt: &R,
+        scratch: &mut Scratch,
         guest: Self::Guest,
         now: Time,
         connections: u64,

@@ -94,6 +94,13 @@ impl Post {
         newcomers
     }
 
+    /// Whether a bell was rung that the worker has not taken.
+    pub(crate) fn has_rung<R: Wait>(&self, rt: &R) -> bool {
+        let mut guard = self.rung.lock(rt);
+        let rung = &mut *guard;
+        !rung.tokens.is_empty()
+    }
+
     /// Whether the worker may sleep, since nothing was rung. From then on it is woken.
     pub(crate) fn may_sleep<R: Wait>(&self, rt: &R) -> bool {
         let mut guard = self.rung.lock(rt);

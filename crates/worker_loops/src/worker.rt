@@ -138,6 +138,37 @@ impl<G: Drop> Worker<G> {
         }
     }
 
+    /// Asks what time it is.
+    fn look_at_clock<H: House<Guest = G>, R: Wait + Clock>(&mut self, rt: &R, house: &H) {
+        self.now = house.time(rt, self.now);
+        self.rounds.look(rt);
+    }
+
+    /// Serves those that are due, and stores what they left.
+    fn serve_and_store<H: House<Guest = G>, R: Wait + Clock + Eprint>(
+        &mut self,
+        rt: &R,
+        house: &H,
+    ) {
+        self.welcome(rt);
+        self.serve(rt, house);
+        self.store(rt, house);
+    }
+
+    /// The same, and once more where bells were rung meanwhile: so what was stored is answered before the poll asks the
+    /// system.
+    fn serve_and_answer<H: House<Guest = G>, R: Wait + Clock + Eprint>(
+        &mut self,
+        rt: &R,
+        house: &H,
+    ) {
+        self.serve_and_store(rt, house);
+        if self.post.has_rung(rt) {
+            self.look_at_clock(rt, house);
+            self.serve_and_store(rt, house);
+        }
+    }
+
     /// How long to sleep: not at all where there is something to do.
     fn pause<R: Wait + Clock>(&mut self, rt: &R) -> Option<Duration> {
         if self.crowd.has_due() || !self.post.may_sleep(rt) {
@@ -172,13 +203,13 @@ impl<G: Drop> Worker<G> {
         let pause = self.pause(rt);
         self.poll.poll(&mut self.events, pause)?;
         self.post.wakes(rt);
-        self.now = house.time(rt, self.now);
-        self.rounds.look(rt);
+        self.look_at_clock(rt, house);
         for event in self.events.iter() {
             let token = event.token();
             if token != WAKER {
-                let is_readable = event.is_readable() || event.is_read_closed() || event.is_error();
-                self.crowd.note(house, token.0, is_readable);
+                let ends = event.is_read_closed() || event.is_error();
+                let is_readable = event.is_readable() || ends;
+                self.crowd.note(house, token.0, is_readable, ends);
             }
         }
         self.look(rt, house);
@@ -197,12 +228,9 @@ impl<G: Drop> Worker<G> {
         house: &H,
         door: &Door,
     ) -> io::Result<()> {
-        self.now = house.time(rt, self.now);
-        self.rounds.look(rt);
+        self.look_at_clock(rt, house);
         for _ in rt.forever() {
-            self.welcome(rt);
-            self.serve(rt, house);
-            self.store(rt, house);
+            self.serve_and_answer(rt, house);
             if house.is_closed() {
                 self.crowd.give_up(rt, house, &*self.post, &self.now);
                 return Ok(());

@@ -3,6 +3,7 @@ use crate::place::Place;
 use crate::serving::{Served, serve_turn};
 use crate::waiting::{Waiting, wait_turn};
 use broker_parts::{Broker, Whence};
+use json::Scratch;
 use std::io::Eprint;
 use std::sync::Wait;
 use worker_loops::{Doorbell, Time, Turned};
@@ -16,10 +17,16 @@ pub enum Guest<X: Drop> {
 }
 
 impl<X: Drop> Guest<X> {
-    pub(crate) fn note_readable(&mut self) {
-        match self {
-            Guest::Serves(served) => served.conn.note_readable(),
-            Guest::Waits(waiting) => waiting.conn.note_readable(),
+    /// Its socket has something to read. Where its end has not come, the poll tells of all that comes from now on.
+    pub(crate) fn note_readable(&mut self, ends: bool) {
+        let conn = match self {
+            Guest::Serves(served) => &mut served.conn,
+            Guest::Waits(waiting) => &mut waiting.conn,
+        };
+        if ends {
+            conn.note_readable();
+        } else {
+            conn.note_data();
         }
     }
 
@@ -51,13 +58,14 @@ impl<X: Drop> Guest<X> {
 /// One turn of a connection that was let in. Gives it back where it has not ended.
 pub(crate) fn turn<D: Broker<Doorbell>, R: Wait + Eprint>(
     rt: &R,
+    scratch: &mut Scratch,
     place: &Place<D>,
     guest: Guest<D::Seat>,
     now: Time,
     connections: u64,
 ) -> (Turned, Option<Guest<D::Seat>>) {
     match guest {
-        Guest::Serves(served) => serve_turn(rt, place, served, now, connections),
+        Guest::Serves(served) => serve_turn(rt, scratch, place, served, now, connections),
         Guest::Waits(waiting) => wait_turn(rt, place, waiting),
     }
 }

@@ -16,6 +16,7 @@ use crate::refusing::Refused;
 use broker_parts::{Broker, Steady, moment};
 use delivery_machine::{Fault, Moment};
 use endpoint_core::{Admitted, Letters};
+use json::Scratch;
 use mio::net::TcpStream;
 use socket_conn::{Asked, Held, SocketConn, Traffic};
 use status_pages::{BrokerSeen, ProgramSeen};
@@ -271,8 +272,8 @@ impl<D: Broker<Doorbell>> House for Place<D> {
         self.page(rt, alloc, now, connections, asked).ok()
     }
 
-    fn note_readable(&self, guest: &mut Guest<D::Seat>) {
-        guest.note_readable();
+    fn note_readable(&self, guest: &mut Guest<D::Seat>, ends: bool) {
+        guest.note_readable(ends);
     }
 
     fn ping(&self, guest: &mut Guest<D::Seat>) -> bool {
@@ -288,11 +289,12 @@ impl<D: Broker<Doorbell>> House for Place<D> {
     fn turn<R: Wait + Eprint>(
         &self,
         rt: &R,
+        scratch: &mut Scratch,
         guest: Guest<D::Seat>,
         now: Time,
         connections: u64,
     ) -> (Turned, Option<Guest<D::Seat>>) {
-        turn(rt, self, guest, now, connections)
+        turn(rt, scratch, self, guest, now, connections)
     }
 
     fn help<R: Wait + Clock + Eprint>(&self, rt: &R, made: u64) {

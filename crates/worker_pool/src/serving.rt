@@ -6,6 +6,7 @@ use crate::guest::Guest;
 use crate::place::Place;
 use broker_parts::{Broker, Whence};
 use delivery_machine::Fault;
+use json::Scratch;
 use mio::net::TcpStream;
 use session_bells::Rest;
 use session_core::{Session, TextCount, leave, serve};
@@ -86,6 +87,7 @@ impl<X: Drop> Served<X> {
 /// One turn of a session. Gives it back where it has not ended.
 pub(crate) fn serve_turn<D: Broker<Doorbell>, R: Wait>(
     rt: &R,
+    scratch: &mut Scratch,
     place: &Place<D>,
     served: Served<D::Seat>,
     now: Time,
@@ -103,7 +105,14 @@ pub(crate) fn serve_turn<D: Broker<Doorbell>, R: Wait>(
     let left = {
         let mut caller = Desk::at(rt, place, &seat, now.day, connections);
         if conn.is_open() {
-            serve(session, &mut conn, &mut caller, now.steady, most_texts())
+            serve(
+                session,
+                scratch,
+                &mut conn,
+                &mut caller,
+                now.steady,
+                most_texts(),
+            )
         } else {
             drop(session);
             None

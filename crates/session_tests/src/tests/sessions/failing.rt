@@ -5,6 +5,7 @@ use super::watched::Watched;
 use crate::tests::{expect_count, push};
 use delivery_machine::{Event, Moment};
 use endpoint_core::{Endpoint, Letters, route};
+use json::Scratch;
 use session_core::{Session, TextCount, open, serve};
 use session_links::{Incoming, Line, Request};
 use std::mem;
@@ -16,6 +17,7 @@ struct Scene {
     desk: Desk,
     conn: Watched,
     session: Option<Session>,
+    scratch: Scratch,
 }
 
 impl Scene {
@@ -24,6 +26,7 @@ impl Scene {
             desk: filled_desk(rt),
             conn: Watched::new(rt.alloc(), at, fails),
             session: None,
+            scratch: Scratch::new(rt.alloc()),
         }
     }
 
@@ -54,7 +57,14 @@ impl Scene {
         if self.conn.is_open()
             && let Some(session) = self.session.take()
         {
-            let session = serve(session, &mut self.conn, &mut self.desk, now, most);
+            let session = serve(
+                session,
+                &mut self.scratch,
+                &mut self.conn,
+                &mut self.desk,
+                now,
+                most,
+            );
             drop(mem::replace(&mut self.session, session));
         }
     }

@@ -81,6 +81,39 @@ open
 }
 
 #[test]
+fn texts_say_what_their_last_members_say(rt: HostRuntime) {
+    check(
+        &rt,
+        "open /ws/v2/producer/persistent/public/default/t?producerName=p
+text {\"payload\":\"%\",\"context\":\"a\",\"payload\":\"aGk=\"}
+text {\"context\":\"b\",\"payload\":\"aGk=\",\"more\":{\"deep\":[1,{\"x\":null}]},\"more\":2}
+text {\"context\":\"c\",\"payload\":\"aGk=\",\"more\":1e999}
+text {\"context\":\"\\u0064\\n\",\"payload\":\"aGk\\u003d\"}
+text {\"context\":null,\"payload\":\"aGk=\",\"key\":\"k\",\"properties\":{\"p\":[1],\"p\":\"q\",\"n\":1,\"t\":true,\"z\":null}}
+text {\"context\":\"e\",\"payload\":\"aGk=\",\"properties\":{\"p\":\"q\",\"p\":[1]}}
+text {\"context\":-7,\"payload\":\"aGk=\"}
+text {\"context\":1.5,\"payload\":\"aGk=\"}
+text {\"payload\":\"aGk=\"}{}
+text [{\"payload\":\"aGk=\"}]
+serve 1000
+stored
+serve 1001",
+        "{\"context\":\"a\",\"messageId\":\"CAAQAA==\",\"result\":\"ok\"}
+{\"context\":\"b\",\"messageId\":\"CAAQAQ==\",\"result\":\"ok\"}
+{\"errorMsg\":\"Failed to deserialize from JSON\",\"result\":\"send-error:3\"}
+{\"context\":\"d\\n\",\"messageId\":\"CAAQAg==\",\"result\":\"ok\"}
+{\"messageId\":\"CAAQAw==\",\"result\":\"ok\"}
+{\"context\":\"e\",\"errorMsg\":\"Failed to deserialize from JSON\",\"result\":\"send-error:3\"}
+{\"context\":\"-7\",\"messageId\":\"CAAQBA==\",\"result\":\"ok\"}
+{\"errorMsg\":\"Failed to deserialize from JSON\",\"result\":\"send-error:3\"}
+{\"errorMsg\":\"Failed to deserialize from JSON\",\"result\":\"send-error:3\"}
+{\"errorMsg\":\"Failed to deserialize from JSON\",\"result\":\"send-error:3\"}
+open
+",
+    );
+}
+
+#[test]
 fn a_connection_without_room_keeps_its_answers(rt: HostRuntime) {
     check(
         &rt,

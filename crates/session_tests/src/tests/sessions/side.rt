@@ -2,6 +2,7 @@
 use crate::tests::this_topic;
 use delivery_machine::{Event, Moment, Reply};
 use endpoint_core::{Endpoint, Letters, route};
+use json::Scratch;
 use plain_topic::PlainTopic;
 use position_core::LedgerSize;
 use session_core::{Session, TextCount, open, serve};
@@ -44,6 +45,7 @@ pub(crate) fn asked(desk: &mut Desk, event: Event) -> Reply {
 pub(crate) struct Side {
     pub(crate) conn: ListConn,
     pub(crate) session: Option<Session>,
+    scratch: Scratch,
 }
 
 impl Side {
@@ -51,6 +53,7 @@ impl Side {
         Side {
             conn: ListConn::new(rt.alloc()),
             session: None,
+            scratch: Scratch::new(rt.alloc()),
         }
     }
 
@@ -77,7 +80,7 @@ impl Side {
         if self.conn.is_open()
             && let Some(session) = self.session.take()
         {
-            let session = serve(session, &mut self.conn, desk, now, most);
+            let session = serve(session, &mut self.scratch, &mut self.conn, desk, now, most);
             drop(mem::replace(&mut self.session, session));
         }
     }

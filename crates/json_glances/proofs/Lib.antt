@@ -1,0 +1,4 @@
+pub mod Opened
+pub mod Taken
+pub mod Turns
+pub mod Values
