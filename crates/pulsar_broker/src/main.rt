@@ -25,8 +25,9 @@ use std::io::{Eprint, ErrorKind};
 use std::process::ExitCode;
 use worker_pool::{Rules, VERSION};
 
-/// How many pages the database's log has before it is copied into the file: 4 MB, where pages are small.
-const FRAMES: usize = 4_000;
+/// How many pages the database's log has before it is copied into the file. With more of them the copies are rarer, and
+/// each holds up commits for longer.
+const FRAMES: usize = 1_000;
 
 /// Why there are no words to read.
 #[derive(Clone, Copy)]
